@@ -1,0 +1,9 @@
+pub mod Unread
+pub mod Grammar
+pub mod Items
+pub mod Spelling
+pub mod Reading
+pub mod Faults
+pub mod Texts
+pub mod Laws
+pub mod Kinds
