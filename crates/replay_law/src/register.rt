@@ -1,0 +1,79 @@
+//! A register of one number.
+ghost use Rattle.std.specs.Prelude.{◌≡◌, ℕ, ◌<◌, ◌^◌, Option, Some, None, List, ◌++◌, OnOk, OnErr, IfOk};
+ghost use Rattle.replay_law.specs.Register.{after, register_text, same_register};
+
+use crate::replay::{Replayable, StepFault};
+use std::alloc::{AllocError, Global};
+
+/// What is asked of the register.
+#[derive(Clone, Copy, Debug, PartialEq, Eq, Drop)]
+pub enum Call {
+    Read,
+    Write(u64),
+}
+
+/// What it answered.
+#[derive(Clone, Copy, Debug, PartialEq, Eq, Drop)]
+pub enum Outcome {
+    Value(u64),
+    Done,
+}
+
+/// One number, at first 0.
+#[derive(Clone, Copy, Debug, PartialEq, Eq)]
+pub struct Register {
+    pub value: u64,
+}
+
+impl Replayable for Register {
+    type Setting = ();
+
+    type Call = Call;
+
+    type Outcome = Outcome;
+
+    type Undo = u64;
+
+    ghost is_state = { λ r. r.value < 2 ^ 64 };
+
+    ghost start = { λ _. record { value = 0 } };
+
+    ghost next = { λ _ r _ call outcome. after r call outcome };
+
+    ghost undoes = { λ undo _ before. undo ≡ before.value };
+
+    ghost printed = { λ r. register_text r };
+
+    ghost print_tells = { same_register };
+
+    fn opening(_alloc: Global, _setting: &()) -> Result<Self, AllocError> {
+        Ok(Register { value: 0 })
+    }
+
+    fn step(
+        &mut self,
+        _alloc: Global,
+        _setting: &(),
+        _number: u64,
+        call: &Call,
+        outcome: &Outcome,
+    ) -> Result<u64, StepFault> {
+        let before = self.value;
+        match (*call, *outcome) {
+            (Call::Read, Outcome::Value(answered)) if answered == before => Ok(before),
+            (Call::Write(value), Outcome::Done) => {
+                self.value = value;
+                Ok(before)
+            }
+            _ => Err(StepFault::NotAllowed),
+        }
+    }
+
+    fn undo(self, _alloc: Global, undo: u64) -> Result<Self, AllocError> {
+        Ok(Register { value: undo })
+    }
+
+    fn print_state(&self, _alloc: Global, out: &mut Vec<u8>) -> Result<(), AllocError> {
+        out.extend_from_slice(&self.value.to_be_bytes())
+    }
+}

@@ -1,0 +1,50 @@
+//! Runs of steps from the state before any.
+ghost use Rattle.std.specs.Prelude.{◌≡◌, ℕ, List, [], ◌∷◌, map, Option, Some, None, IsSome, OnOk};
+ghost use Rattle.replay_law.specs.Run.{Taken, state_after, IsFirstIllegal, EveryEraRuns};
+ghost use Rattle.replay_law.specs.Steps.{taken_of};
+
+use crate::replay::{Replayable, StepFault};
+use std::alloc::{AllocError, Global};
+use thiserror::Error;
+
+/// A numbered call with its outcome, both lent.
+#[derive(Drop)]
+pub struct Step<'a, C, O> {
+    pub number: u64,
+    pub call: &'a C,
+    pub outcome: &'a O,
+}
+
+/// Why a run was refused.
+#[derive(Clone, Copy, Debug, PartialEq, Eq, Drop, Error)]
+pub enum RunFault {
+    /// The first step without a next state has this number.
+    #[error("step {0} isn't allowed")]
+    Illegal(u64),
+    /// A growth was refused.
+    #[error("out of memory")]
+    NoMemory,
+}
+
+/// Whether each of these steps has a next state, from the state before any.
+pub fn run_steps<R: Replayable>(
+    alloc: Global,
+    setting: &R::Setting,
+    steps: &[Step<'_, R::Call, R::Outcome>],
+) -> Result<(), RunFault>
+    ensures ok { OnOk result (IsSome (state_after (R.next setting.now) (R.start setting.now) (map taken_of steps.now))) }
+    ensures eras { OnOk result (EveryEraRuns (R.next setting.now) (R.start setting.now)
+        (record { steps = map taken_of steps.now; kept = 0 } ∷ [])) }
+    ensures illegal { (number : ℕ) → result ≡ Err (RunFault.Illegal number)
+        → IsFirstIllegal (R.next setting.now) (R.start setting.now) (map taken_of steps.now) number }
+{
+    let mut state = R::opening(alloc, setting).map_err(|_| RunFault::NoMemory)?;
+    for step in steps {
+        match state.step(alloc, setting, step.number, step.call, step.outcome) {
+            Ok(_) => {}
+            Err(StepFault::NotAllowed) => return Err(RunFault::Illegal(step.number)),
+            Err(StepFault::NoMemory) => return Err(RunFault::NoMemory),
+        }
+    }
+    Ok(())
+}
