@@ -1,0 +1,162 @@
+//! Byte strings with a bound: handles, names and file data. A contract sees each as the list of its bytes.
+
+ghost use Rattle.std.specs.Prelude.{◌≡◌, ◌≤◌, ◌<◌, ◌^◌, IfOk, length, nat_eq};
+ghost use Rattle.std.specs.Cmp.{partial_equiv_from_equiv};
+ghost use Rattle.std.specs.Cmp.Lexicographic.{pointwise};
+ghost use Rattle.std.proofs.lemmas.Cmp.{nat_list_eq_equiv};
+
+use std::alloc::{AllocError, Global};
+use std::marker::Model;
+
+/// The most bytes of a file handle (RFC 1813, section 2.4, `NFS3_FHSIZE`).
+pub const HANDLE_LIMIT: usize = 64;
+
+/// A file handle, `nfs_fh3`: at most 64 bytes that only the server understands.
+#[derive(Debug, Drop)]
+pub struct FileHandle {
+    bytes: Vec<u8>,
+}
+
+impl Model for FileHandle {
+    ghost use Rattle.std.specs.Prelude.{◌≤◌, List, ℕ, length};
+
+    ghost Value = { List ℕ };
+
+    ghost view = { λ h. h.bytes.items };
+
+    ghost invariant = { λ h. length h.bytes.items ≤ 64 };
+}
+
+impl FileHandle {
+    /// The handle of these bytes.
+    pub fn from_slice(alloc: Global, bytes: &[u8]) -> Result<FileHandle, AllocError>
+        requires { length bytes.now ≤ 64 }
+        ensures { IfOk result (λ h. h ≡ bytes.now) }
+    {
+        Ok(FileHandle {
+            bytes: Vec::from_slice(alloc, bytes)?,
+        })
+    }
+
+    /// Its bytes.
+    pub fn as_slice(&self) -> &[u8]
+        ensures value { result.now ≡ self.now }
+        ensures bound { length self.now ≤ 64 }
+    {
+        self.bytes.as_slice()
+    }
+}
+
+/// A name in a directory, `filename3`: below 2^32 bytes, with no rule on which.
+#[derive(Debug, Drop)]
+pub struct Name {
+    text: Vec<u8>,
+}
+
+impl Model for Name {
+    ghost use Rattle.std.specs.Prelude.{◌<◌, ◌^◌, List, ℕ, length};
+
+    ghost Value = { List ℕ };
+
+    ghost view = { λ n. n.text.items };
+
+    ghost invariant = { λ n. length n.text.items < 2 ^ 32 };
+}
+
+impl Name {
+    /// The name of these bytes.
+    pub fn from_slice(alloc: Global, bytes: &[u8]) -> Result<Name, AllocError>
+        requires { length bytes.now < 2 ^ 32 }
+        ensures { IfOk result (λ n. n ≡ bytes.now) }
+    {
+        Ok(Name {
+            text: Vec::from_slice(alloc, bytes)?,
+        })
+    }
+
+    /// Its bytes.
+    pub fn as_slice(&self) -> &[u8]
+        ensures value { result.now ≡ self.now }
+        ensures bound { length self.now < 2 ^ 32 }
+    {
+        self.text.as_slice()
+    }
+}
+
+/// What is read from a file or written to it, `opaque data<>`: below 2^32 bytes.
+#[derive(Debug, Drop)]
+pub struct Data {
+    content: Vec<u8>,
+}
+
+impl Model for Data {
+    ghost use Rattle.std.specs.Prelude.{◌<◌, ◌^◌, List, ℕ, length};
+
+    ghost Value = { List ℕ };
+
+    ghost view = { λ d. d.content.items };
+
+    ghost invariant = { λ d. length d.content.items < 2 ^ 32 };
+}
+
+impl Data {
+    /// The data of these bytes.
+    pub fn from_slice(alloc: Global, bytes: &[u8]) -> Result<Data, AllocError>
+        requires { length bytes.now < 2 ^ 32 }
+        ensures { IfOk result (λ d. d ≡ bytes.now) }
+    {
+        Ok(Data {
+            content: Vec::from_slice(alloc, bytes)?,
+        })
+    }
+
+    /// Its bytes.
+    pub fn as_slice(&self) -> &[u8]
+        ensures value { result.now ≡ self.now }
+        ensures bound { length self.now < 2 ^ 32 }
+    {
+        self.content.as_slice()
+    }
+}
+
+impl PartialEq for FileHandle {
+    ghost eq = { λ a b. pointwise nat_eq a b };
+
+    ghost laws = { partial_equiv_from_equiv nat_list_eq_equiv };
+
+    fn eq(&self, other: &Self) -> bool {
+        self.bytes == other.bytes
+    }
+}
+
+impl Eq for FileHandle {
+    ghost laws = { nat_list_eq_equiv };
+}
+
+impl PartialEq for Name {
+    ghost eq = { λ a b. pointwise nat_eq a b };
+
+    ghost laws = { partial_equiv_from_equiv nat_list_eq_equiv };
+
+    fn eq(&self, other: &Self) -> bool {
+        self.text == other.text
+    }
+}
+
+impl Eq for Name {
+    ghost laws = { nat_list_eq_equiv };
+}
+
+impl PartialEq for Data {
+    ghost eq = { λ a b. pointwise nat_eq a b };
+
+    ghost laws = { partial_equiv_from_equiv nat_list_eq_equiv };
+
+    fn eq(&self, other: &Self) -> bool {
+        self.content == other.content
+    }
+}
+
+impl Eq for Data {
+    ghost laws = { nat_list_eq_equiv };
+}
