@@ -1,0 +1,4 @@
+pub mod Values
+pub mod Heads
+pub mod Messages
+pub mod Views
