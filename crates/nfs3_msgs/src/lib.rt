@@ -1,0 +1,17 @@
+//! The arguments and results of NFS version 3 (RFC 1813, section 3.3) as bytes: read, with the first item at
+//! fault where they are none, and written in one spelling.
+#![tactic(auto)]
+
+mod attributes;
+mod bytes;
+mod calls;
+mod fault;
+mod messages;
+mod replies;
+mod value;
+
+pub use fault::{Kind, MessageFault};
+pub use messages::{put_args, put_result, read_args, read_result};
+
+#[cfg(test)]
+mod tests;

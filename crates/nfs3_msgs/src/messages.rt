@@ -1,0 +1,191 @@
+//! The arguments and the result of a procedure, by its number. A further procedure is a grammar and a text in
+//! `specs`, an `XdrValue` for its arguments and one for its success, and an arm in each function here.
+
+ghost use Rattle.std.specs.Prelude.{◌≡◌, ◌++◌, ℕ, IfOk, OnOk, OnErr};
+ghost use Rattle.xdr_records.specs.Reading.{item_here};
+ghost use Rattle.xdr_records.specs.Items.{end_at};
+ghost use Rattle.nfs3_types.specs.declared.calls.NfsCall.{NfsCall};
+ghost use Rattle.nfs3_types.specs.declared.replies.NfsReply.{NfsReply};
+ghost use Rattle.nfs3_msgs.specs.declared.fault.Kind.{Kind};
+ghost use Rattle.nfs3_msgs.specs.Told.{kind_of, Reads, IsButForMemory};
+ghost use Rattle.nfs3_msgs.specs.Messages.{arguments, IsArguments, IsArgumentsFault, arguments_of, procedure_of_call, arguments_text, CallFits};
+ghost use Rattle.nfs3_msgs.specs.Messages.{results, IsResult, IsResultFault, result_of, procedure_of_reply, result_text, ReplyFits};
+
+use crate::fault::{Kind, MessageFault};
+use crate::value::{XdrValue, fault_at};
+use nfs3_types::{
+    Answer, CreateArguments, CreateSuccess, FileAttributes, NfsCall, NfsReply, ReadArguments,
+    ReadSuccess, WccData, WriteArguments, WriteSuccess,
+};
+use std::alloc::{AllocError, Global};
+use xdr_records::Reader;
+
+// No message of this procedure is read.
+fn not_judged(reader: &Reader<'_>) -> MessageFault
+    ensures { result ≡ MessageFault.BadMessage reader.now.at Kind.NotJudged }
+{
+    MessageFault::BadMessage {
+        at: reader.offset(),
+        kind: Kind::NotJudged,
+    }
+}
+
+// The arguments of a procedure at the front of what is left.
+#[tactic(auto, unfolding(crate::specs::Messages::arguments))]
+fn read_call(
+    alloc: Global,
+    procedure: u32,
+    reader: &mut Reader<'_>,
+) -> Result<NfsCall, MessageFault>
+    ensures { Reads (arguments procedure) reader.old reader.new result }
+{
+    match procedure {
+        6 => Ok(NfsCall::Read(ReadArguments::read(alloc, reader)?)),
+        7 => Ok(NfsCall::Write(WriteArguments::read(alloc, reader)?)),
+        8 => Ok(NfsCall::Create(CreateArguments::read(alloc, reader)?)),
+        _ => Err(not_judged(reader)),
+    }
+}
+
+// The result of a procedure at the front of what is left.
+#[tactic(auto, unfolding(crate::specs::Messages::results))]
+fn read_reply(
+    alloc: Global,
+    procedure: u32,
+    reader: &mut Reader<'_>,
+) -> Result<NfsReply, MessageFault>
+    ensures { Reads (results procedure) reader.old reader.new result }
+{
+    match procedure {
+        6 => Ok(NfsReply::Read(Answer::<ReadSuccess, Option<FileAttributes>>::read(
+            alloc, reader,
+        )?)),
+        7 => Ok(NfsReply::Write(Answer::<WriteSuccess, WccData>::read(alloc, reader)?)),
+        8 => Ok(NfsReply::Create(Answer::<CreateSuccess, WccData>::read(alloc, reader)?)),
+        _ => Err(not_judged(reader)),
+    }
+}
+
+// Nothing stands behind the last item.
+fn ended(reader: &Reader<'_>) -> Result<(), MessageFault>
+    ensures { IsButForMemory result (item_here kind_of reader.now.at (end_at reader.now)) }
+{
+    let at = reader.offset();
+    reader.done().map_err(|fault| fault_at(at, fault))
+}
+
+// The arguments of a procedure, all of the bytes.
+fn all_arguments(alloc: Global, procedure: u32, bytes: &[u8]) -> Result<NfsCall, MessageFault>
+    ensures { IsButForMemory result (arguments_of procedure bytes.now) }
+{
+    let mut reader = Reader::new(bytes);
+    let call = read_call(alloc, procedure, &mut reader)?;
+    ended(&reader)?;
+    Ok(call)
+}
+
+// The result of a procedure, all of the bytes.
+fn all_results(alloc: Global, procedure: u32, bytes: &[u8]) -> Result<NfsReply, MessageFault>
+    ensures { IsButForMemory result (result_of procedure bytes.now) }
+{
+    let mut reader = Reader::new(bytes);
+    let reply = read_reply(alloc, procedure, &mut reader)?;
+    ended(&reader)?;
+    Ok(reply)
+}
+
+/// The call of a procedure whose arguments the bytes are, all of them. Nothing is allocated for bytes that
+/// are not there.
+pub fn read_args(alloc: Global, procedure: u32, bytes: &[u8]) -> Result<NfsCall, MessageFault>
+    // What is read is spelled by the bytes.
+    ensures found { IfOk result (λ call. IsArguments procedure bytes.now call) }
+    // What the bytes spell is read, memory aside.
+    ensures only { (call : NfsCall) → IsArguments procedure bytes.now call → IsButForMemory result (Ok call) }
+    // A fault is that of the first item at fault.
+    ensures fault { (at : ℕ) (kind : Kind) → result ≡ Err (MessageFault.BadMessage at kind)
+        → IsArgumentsFault procedure bytes.now at kind }
+    // Where an item is at fault, it is named, memory aside.
+    ensures named { (at : ℕ) (kind : Kind) → IsArgumentsFault procedure bytes.now at kind
+        → IsButForMemory result (Err (record { at = at; kind = kind })) }
+    // The same, as it is computed.
+    ensures exact { IsButForMemory result (arguments_of procedure bytes.now) }
+{
+    all_arguments(alloc, procedure, bytes)
+}
+
+/// The reply of a procedure whose result the bytes are, all of them. Nothing is allocated for bytes that
+/// are not there.
+pub fn read_result(alloc: Global, procedure: u32, bytes: &[u8]) -> Result<NfsReply, MessageFault>
+    // What is read is spelled by the bytes.
+    ensures found { IfOk result (λ reply. IsResult procedure bytes.now reply) }
+    // What the bytes spell is read, memory aside.
+    ensures only { (reply : NfsReply) → IsResult procedure bytes.now reply → IsButForMemory result (Ok reply) }
+    // A fault is that of the first item at fault.
+    ensures fault { (at : ℕ) (kind : Kind) → result ≡ Err (MessageFault.BadMessage at kind)
+        → IsResultFault procedure bytes.now at kind }
+    // Where an item is at fault, it is named, memory aside.
+    ensures named { (at : ℕ) (kind : Kind) → IsResultFault procedure bytes.now at kind
+        → IsButForMemory result (Err (record { at = at; kind = kind })) }
+    // The same, as it is computed.
+    ensures exact { IsButForMemory result (result_of procedure bytes.now) }
+{
+    all_results(alloc, procedure, bytes)
+}
+
+// Appends the arguments of a call, or a part of them.
+#[tactic(auto, unfolding(crate::specs::Messages::arguments_text, crate::specs::Messages::CallFits))]
+fn put_call(out: &mut Vec<u8>, call: &NfsCall) -> Result<(), AllocError>
+    ensures ok { OnOk result (out.new.items ≡ out.old.items ++ arguments_text call.now) }
+    ensures fits { OnOk result (CallFits call.now) }
+{
+    match call {
+        NfsCall::Read(arguments) => arguments.put(out),
+        NfsCall::Write(arguments) => arguments.put(out),
+        NfsCall::Create(arguments) => arguments.put(out),
+    }
+}
+
+// Appends a result, or a part of it.
+#[tactic(auto, unfolding(crate::specs::Messages::result_text, crate::specs::Messages::ReplyFits))]
+fn put_reply(out: &mut Vec<u8>, reply: &NfsReply) -> Result<(), AllocError>
+    ensures ok { OnOk result (out.new.items ≡ out.old.items ++ result_text reply.now) }
+    ensures fits { OnOk result (ReplyFits reply.now) }
+{
+    match reply {
+        NfsReply::Read(answer) => answer.put(out),
+        NfsReply::Write(answer) => answer.put(out),
+        NfsReply::Create(answer) => answer.put(out),
+    }
+}
+
+/// Appends the arguments of a call in the one spelling that is written, whose padding is zero.
+#[tactic(auto, using(crate::specs::Spelled::call_spelled, crate::proofs::ReadsBack::call_reads_back))]
+pub fn put_args(out: &mut Vec<u8>, call: &NfsCall) -> Result<(), AllocError>
+    ensures ok { OnOk result (out.new.items ≡ out.old.items ++ arguments_text call.now) }
+    ensures err { OnErr result (out.new.items ≡ out.old.items) }
+    // What is written spells the call, and is read back as it.
+    ensures spelled { OnOk result
+        (IsArguments (procedure_of_call call.now) (arguments_text call.now) call.now) }
+    ensures reads_back { OnOk result
+        (arguments_of (procedure_of_call call.now) (arguments_text call.now) ≡ Ok call.now) }
+{
+    let mut text = Vec::new(*out.allocator());
+    put_call(&mut text, call)?;
+    out.extend_from_slice(&text)
+}
+
+/// Appends a result in the one spelling that is written, whose padding is zero.
+#[tactic(auto, using(crate::specs::Spelled::reply_spelled, crate::proofs::ReadsBack::reply_reads_back))]
+pub fn put_result(out: &mut Vec<u8>, reply: &NfsReply) -> Result<(), AllocError>
+    ensures ok { OnOk result (out.new.items ≡ out.old.items ++ result_text reply.now) }
+    ensures err { OnErr result (out.new.items ≡ out.old.items) }
+    // What is written spells the reply, and is read back as it.
+    ensures spelled { OnOk result
+        (IsResult (procedure_of_reply reply.now) (result_text reply.now) reply.now) }
+    ensures reads_back { OnOk result
+        (result_of (procedure_of_reply reply.now) (result_text reply.now) ≡ Ok reply.now) }
+{
+    let mut text = Vec::new(*out.allocator());
+    put_reply(&mut text, reply)?;
+    out.extend_from_slice(&text)
+}
