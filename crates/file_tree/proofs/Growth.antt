@@ -1,0 +1,186 @@
+-- where the change of a step puts a node
+use Rattle.std.proofs.Common.{◌≡◌, ℕ, inl, inr, Bool, true, false, cond, List, [], ◌∷◌, ◌++◌, take, Option, Some, None, refl, sym, subst, ltb→lt, T}
+use Rattle.std.specs.Prelude.{◌&&◌, ◌==◌, IsSome, option_and_then, ⊤, find}
+use Rattle.std.specs.FinMap as map
+use Rattle.std.specs.FinMap.Entries as es
+use Rattle.std.specs.Ordering.{is_eq}
+use Rattle.std.proofs.lemmas.Cmp.{tied_itself}
+use Rattle.nfs3_types.specs.declared.calls.CreateMode.{CreateMode}
+use Rattle.nfs3_types.specs.declared.calls.CreateMode.TheVariants.{Unchecked, Guarded, Exclusive}
+use Rattle.nfs3_types.specs.declared.calls.StableHow.{StableHow}
+use Rattle.nfs3_types.specs.declared.calls.ReadArguments.{ReadArguments}
+use Rattle.nfs3_types.specs.declared.calls.WriteArguments.{WriteArguments}
+use Rattle.nfs3_types.specs.declared.calls.CreateArguments.{CreateArguments}
+use Rattle.nfs3_types.specs.declared.calls.NfsCall.{NfsCall}
+use Rattle.nfs3_types.specs.declared.calls.NfsCall.TheVariants as calls
+use Rattle.nfs3_types.specs.declared.replies.Answer.TheVariants.{Done}
+use Rattle.nfs3_types.specs.declared.replies.ReadSuccess.{ReadSuccess}
+use Rattle.nfs3_types.specs.declared.replies.NfsReply.{NfsReply}
+use Rattle.nfs3_types.specs.declared.replies.NfsReply.TheVariants as replies
+use Rattle.nfs3_types.specs.declared.replies.Outcome.{Outcome}
+use Rattle.nfs3_types.specs.declared.replies.Outcome.TheVariants.{Received, Taken}
+use Rattle.file_tree.specs.declared.change.Change.{Change}
+use Rattle.file_tree.specs.declared.change.Change.TheVariants.{Keep, Put}
+use Rattle.file_tree.specs.declared.node.Node.{Node}
+use Rattle.file_tree.specs.declared.node.File.{File}
+use Rattle.file_tree.specs.declared.node.Content.{Content}
+use Rattle.file_tree.specs.declared.node.Content.TheVariants as contents
+use Rattle.file_tree.specs.Tree.{Names, Tree, path_cmp, entry_of}
+use Rattle.file_tree.specs.Binding.{Bindings, object_of, gives_object}
+use Rattle.file_tree.specs.Live.{FileEntry, live_entry, as_directory, directory_of, as_file, file_of}
+use Rattle.file_tree.specs.Sound.{IsSound}
+use Rattle.file_tree.specs.Success.{is_plain, made_by, set_size, create_over, create_present, create_at, create_change, write_at, write_change, read_is_right, read_change, change_received, change_taken, change_of}
+use Rattle.file_tree.proofs.Entries.{path_total}
+use Rattle.file_tree.proofs.Soundness.{FitsAt, GrowsAt, sound_put}
+
+-- ---- values of chains
+
+chained : {A B : Type 0} (f : A → Option B) (o : Option A) (y : B) → option_and_then f o ≡ Some y → (x : A) × (o ≡ Some x) × (f x ≡ Some y)
+chained f None y e = absurd (cc)
+chained f (Some x) y e = (x, refl, e)
+
+passed : {A : Type 0} (b : Bool) (o : Option A) (y : A) → cond b o None ≡ Some y → (b ≡ true) × (o ≡ Some y)
+passed true o y e = (refl, e)
+passed false o y e = absurd (cc)
+
+same_some : {A : Type 0} (x y : A) → Some x ≡ Some y → x ≡ y
+same_some x y e = cc
+
+both_pass : (a b : Bool) → (a && b) ≡ true → (a ≡ true) × (b ≡ true)
+both_pass true b e = (refl, e)
+both_pass false b e = absurd (cc)
+
+-- ---- what a handle names stands
+
+found_stands : (test : Names × Node → Bool) (xs : List (Names × Node)) (e : Names × Node) → find test xs ≡ Some e → IsSome (es.find path_cmp e.0 xs)
+found_stands test [] e h = absurd (cc)
+found_stands test (x ∷ xs) e h = go (test x) h (λ later. found_stands test xs e later) where
+  skip : (b : Bool) → IsSome (es.find path_cmp e.0 xs) → IsSome (cond b (Some x.1) (es.find path_cmp e.0 xs))
+  skip true later = refl
+  skip false later = later
+
+  at_once : (y : Names × Node) → x ≡ y → IsSome (cond (is_eq (path_cmp y.0 x.0)) (Some x.1) (es.find path_cmp y.0 xs))
+  at_once y same = subst (λ (z : Names × Node). IsSome (cond (is_eq (path_cmp z.0 x.0)) (Some x.1) (es.find path_cmp z.0 xs))) same
+      (subst (λ r. IsSome (cond (is_eq r) (Some x.1) (es.find path_cmp x.0 xs))) (sym (tied_itself path_total x.0)) refl)
+
+  go : (b : Bool) → cond b (Some x) (find test xs) ≡ Some e → (find test xs ≡ Some e → IsSome (es.find path_cmp e.0 xs)) → IsSome (es.find path_cmp e.0 (x ∷ xs))
+  go true is later = at_once e (cc)
+  go false is later = skip (is_eq (path_cmp e.0 x.0)) (later is)
+
+live_stands : (binds : Bindings) (tree : Tree) (handle : List ℕ) (e : Names × Node) → live_entry binds tree handle ≡ Some e → IsSome (map.get tree e.0)
+live_stands binds tree handle e h =
+    let found = chained (entry_of tree) (object_of binds handle) e h in
+    subst IsSome (sym (map.get-entries tree e.0)) (found_stands (λ x. x.1.object == found.0) (map.entries tree) e found.2)
+
+directory_path : (path : Names) (content : Content) (p : Names) → as_directory path content ≡ Some p → path ≡ p
+directory_path path contents.Directory p e = cc
+directory_path path (contents.File _) p e = absurd (cc)
+directory_path path (contents.Link _) p e = absurd (cc)
+
+directory_stands : (binds : Bindings) (tree : Tree) (handle : List ℕ) (p : Names) → directory_of binds tree handle ≡ Some p → IsSome (map.get tree p)
+directory_stands binds tree handle p h =
+    let live = chained (λ e. as_directory e.0 e.1.content) (live_entry binds tree handle) p h in
+    subst (λ q. IsSome (map.get tree q)) (directory_path live.0.0 live.0.1.content p live.2) (live_stands binds tree handle live.0 live.1)
+
+file_path : (path : Names) (object : ℕ) (content : Content) (f : FileEntry) → as_file path object content ≡ Some f → path ≡ f.path
+file_path path object contents.Directory f e = absurd (cc)
+file_path path object (contents.File _) f e = cc
+file_path path object (contents.Link _) f e = absurd (cc)
+
+file_stands : (binds : Bindings) (tree : Tree) (handle : List ℕ) (f : FileEntry) → file_of binds tree handle ≡ Some f → IsSome (map.get tree f.path)
+file_stands binds tree handle f h =
+    let live = chained (λ e. as_file e.0 e.1.object e.1.content) (live_entry binds tree handle) f h in
+    subst (λ q. IsSome (map.get tree q)) (file_path live.0.0 live.0.1.object live.0.1.content f live.2) (live_stands binds tree handle live.0 live.1)
+
+-- ---- a change at a path that stands
+
+abbrev IsAt : Names → Change → Type 0
+IsAt path Keep = ⊤
+IsAt path (Put p _) = p ≡ path
+
+abbrev pub ChangeFits : Tree → Change → Type 0
+ChangeFits tree Keep = ⊤
+ChangeFits tree (Put path _) = FitsAt tree path
+
+fits_at : (tree : Tree) (path : Names) (c : Change) → IsSome (map.get tree path) → IsAt path c → ChangeFits tree c
+fits_at tree path Keep there at = tt
+fits_at tree path (Put p node) there at = inl (subst (λ q. IsSome (map.get tree q)) (sym at) there)
+
+keeps : (path : Names) (o : Option Change) (c : Change) → o ≡ Some Keep → o ≡ Some c → IsAt path c
+keeps path o c is e = let same : Keep ≡ c = cc in subst (IsAt path) same tt
+
+puts : (path : Names) (o : Option Change) (node : Node) (c : Change) → o ≡ Some (Put path node) → o ≡ Some c → IsAt path c
+puts path o node c is e = let same : Put path node ≡ c = cc in subst (IsAt path) same refl
+
+set_size_at : (path : Names) (object : ℕ) (file : File) (size : Option ℕ) (c : Change) → set_size path object file size ≡ Some c → IsAt path c
+set_size_at path object file None c e = keeps path _ c refl e
+set_size_at path object file (Some size) c e = puts path _ _ c refl (passed _ _ c e).1
+
+create_over_at : (mode : CreateMode) (path : Names) (object : ℕ) (file : File) (c : Change) → create_over mode path object file ≡ Some c → IsAt path c
+create_over_at (Unchecked attributes) path object file c e = set_size_at path object file attributes.size c e
+create_over_at (Guarded attributes) path object file c e = absurd (cc)
+create_over_at (Exclusive verifier) path object file c e = keeps path _ c refl (passed (made_by file.verifier verifier) (Some Keep) c e).1
+
+create_present_at : (binds : Bindings) (mode : CreateMode) (handle : Option (List ℕ)) (path : Names) (object : ℕ) (content : Content) (c : Change)
+    → create_present binds mode handle path object content ≡ Some c → IsAt path c
+create_present_at binds mode handle path object contents.Directory c e = absurd (cc)
+create_present_at binds mode handle path object (contents.File file) c e =
+    create_over_at mode path object file c (passed (gives_object binds handle object) (create_over mode path object file) c e).1
+create_present_at binds mode handle path object (contents.Link _) c e = absurd (cc)
+
+create_at_fits : (binds : Bindings) (tree : Tree) (number : ℕ) (mode : CreateMode) (handle : Option (List ℕ)) (directory : Names) (name : List ℕ) (o : Option Node) (c : Change)
+    → IsSome (map.get tree directory) → map.get tree (directory ++ name ∷ []) ≡ o → create_at binds tree number mode handle (directory ++ name ∷ []) o ≡ Some c → ChangeFits tree c
+create_at_fits binds tree number mode handle directory name None c stands is e =
+    let tests = passed _ _ c e in
+    let room = (both_pass _ _ (both_pass _ _ (both_pass _ _ tests.0).0).0).1 in
+    let grows : GrowsAt tree (directory ++ name ∷ []) = record { room = ltb→lt _ _ (subst T (sym room) tt); directory = directory; name = name; parts = refl; stands = stands } in
+    subst (ChangeFits tree) (same_some _ c tests.1) (inr grows)
+create_at_fits binds tree number mode handle directory name (Some node) c stands is e =
+    fits_at tree (directory ++ name ∷ []) c (subst IsSome (sym is) refl) (create_present_at binds mode handle (directory ++ name ∷ []) node.object node.content c e)
+
+create_fits : (binds : Bindings) (tree : Tree) (number : ℕ) (call : CreateArguments) (handle : Option (List ℕ)) (c : Change) → create_change binds tree number call handle ≡ Some c → ChangeFits tree c
+create_fits binds tree number call handle c e =
+    let found = chained _ (directory_of binds tree call.place.directory) c e in
+    let path = found.0 ++ call.place.name ∷ [] in
+    create_at_fits binds tree number call.mode handle found.0 call.place.name (map.get tree path) c (directory_stands binds tree call.place.directory found.0 found.1) refl
+    (passed (is_plain call.place.name) _ c found.2).1
+
+write_at_at : (b : Bool) (within : Bool) (path : Names) (node : Node) (c : Change) → cond b (Some Keep) (cond within (Some (Put path node)) None) ≡ Some c → IsAt path c
+write_at_at true within path node c e = keeps path _ c refl e
+write_at_at false within path node c e = puts path _ node c refl (passed within (Some (Put path node)) c e).1
+
+write_fits : (binds : Bindings) (tree : Tree) (call : WriteArguments) (count : ℕ) (level : Option StableHow) (c : Change) → write_change binds tree call count level ≡ Some c → ChangeFits tree c
+write_fits binds tree call count level c e =
+    let found = chained _ (file_of binds tree call.file) c e in
+    fits_at tree found.0.path c (file_stands binds tree call.file found.0 found.1) (write_at_at _ _ found.0.path _ c (passed _ (write_at found.0 call.offset (take count call.bytes)) c found.2).1)
+
+read_fits : (binds : Bindings) (tree : Tree) (call : ReadArguments) (success : ReadSuccess) (c : Change) → read_change binds tree call success ≡ Some c → ChangeFits tree c
+read_fits binds tree call success c e =
+    let found = chained _ (file_of binds tree call.file) c e in
+    fits_at tree found.0.path c (file_stands binds tree call.file found.0 found.1) (keeps found.0.path _ c refl (passed (read_is_right found.0.file.bytes call success) (Some Keep) c found.2).1)
+
+no_change : (tree : Tree) (c : Change) → ◌≡◌ {A = Option Change} None (Some c) → ChangeFits tree c
+no_change tree c e = absurd (cc)
+
+received_fits : (binds : Bindings) (tree : Tree) (number : ℕ) (call : NfsCall) (reply : NfsReply) (c : Change) → change_received binds tree number call reply ≡ Some c → ChangeFits tree c
+received_fits binds tree number (calls.Read call) (replies.Read (Done success)) c e = read_fits binds tree call success c e
+received_fits binds tree number (calls.Write call) (replies.Write (Done success)) c e = write_fits binds tree call success.count (Some success.level) c e
+received_fits binds tree number (calls.Create call) (replies.Create (Done success)) c e = create_fits binds tree number call success.object c e
+received_fits binds tree number _ _ c e = no_change tree c e
+
+taken_fits : (binds : Bindings) (tree : Tree) (number : ℕ) (call : NfsCall) (count : Option ℕ) (c : Change) → change_taken binds tree number call count ≡ Some c → ChangeFits tree c
+taken_fits binds tree number (calls.Read call) count c e = no_change tree c e
+taken_fits binds tree number (calls.Write call) None c e = no_change tree c e
+taken_fits binds tree number (calls.Write call) (Some count) c e = write_fits binds tree call count None c e
+taken_fits binds tree number (calls.Create call) None c e = create_fits binds tree number call None c e
+taken_fits binds tree number (calls.Create call) (Some _) c e = no_change tree c e
+
+-- a step's change puts a node where one stands, or, where there is room, in a directory
+pub change_fits : (binds : Bindings) (tree : Tree) (number : ℕ) (call : NfsCall) (outcome : Outcome) (c : Change) → change_of binds tree number call outcome ≡ Some c → ChangeFits tree c
+change_fits binds tree number call (Received reply) c e = received_fits binds tree number call reply c e
+change_fits binds tree number call (Taken count) c e = taken_fits binds tree number call count c e
+
+-- so a step that puts a node keeps a tree sound
+pub sound_step : (binds : Bindings) (tree : Tree) (number : ℕ) (call : NfsCall) (outcome : Outcome) (path : Names) (node : Node)
+    → IsSound tree → change_of binds tree number call outcome ≡ Some (Put path node) → IsSound (map.insert tree path node)
+sound_step binds tree number call outcome path node sound e = sound_put tree path node sound (change_fits binds tree number call outcome (Put path node) e)

@@ -1,0 +1,5 @@
+pub mod Entries
+pub mod Printing
+pub mod Soundness
+pub mod Growth
+pub mod Undoing

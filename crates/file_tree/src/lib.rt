@@ -1,0 +1,18 @@
+//! The file tree that the calls of NFS version 3 act on, and the tree after a call with its outcome.
+#![tactic(auto)]
+
+pub mod binds;
+pub mod bytes;
+pub mod change;
+pub mod content;
+mod create;
+mod live;
+pub mod node;
+mod nodes;
+mod print;
+mod read;
+mod success;
+#[cfg(test)]
+mod tests;
+pub mod tree;
+mod write;

@@ -1,0 +1,83 @@
+//! What a handle names in a tree.
+
+ghost use Rattle.std.specs.Prelude.{◌≡◌};
+ghost use Rattle.std.specs.Option.{option_copied, option_map};
+ghost use Rattle.file_tree.specs.Nodes.{tree_of};
+ghost use Rattle.file_tree.specs.Live.{live_entry, directory_of, file_of};
+ghost use Rattle.file_tree.specs.Binding.{gives_object};
+
+use crate::binds::Binds;
+use crate::bytes::Path;
+use crate::node::{Content, File, Node};
+use crate::nodes::{Nodes, entry_of};
+use nfs3_types::FileHandle;
+
+/// A file with its place and its object.
+#[derive(Drop)]
+pub(crate) struct FileEntry<'a> {
+    pub(crate) path: &'a Path,
+    pub(crate) object: u64,
+    pub(crate) file: &'a File,
+}
+
+/// Where the object that a handle names stands.
+pub(crate) fn live_entry<'a>(
+    binds: &Binds,
+    nodes: &'a Nodes,
+    handle: &FileHandle,
+) -> Option<(&'a Path, &'a Node)>
+    ensures { option_map (λ e. (e.0.now, e.1.now)) result ≡ live_entry binds.now (tree_of nodes.now) handle.now }
+{
+    match binds.object(handle.as_slice()) {
+        Some(object) => entry_of(nodes, object),
+        None => None,
+    }
+}
+
+/// The path of the directory that a handle names.
+pub(crate) fn directory_of<'a>(
+    binds: &Binds,
+    nodes: &'a Nodes,
+    handle: &FileHandle,
+) -> Option<&'a Path>
+    ensures { option_copied result ≡ directory_of binds.now (tree_of nodes.now) handle.now }
+{
+    let (path, node) = live_entry(binds, nodes, handle)?;
+    match node.content {
+        Content::Directory => Some(path),
+        Content::File(_) | Content::Link(_) => None,
+    }
+}
+
+/// The file that a handle names.
+pub(crate) fn file_of<'a>(
+    binds: &Binds,
+    nodes: &'a Nodes,
+    handle: &FileHandle,
+) -> Option<FileEntry<'a>>
+    ensures { option_map (λ e. record { path = e.path.now; object = e.object; file = e.file.now }) result
+        ≡ file_of binds.now (tree_of nodes.now) handle.now }
+{
+    let (path, node) = live_entry(binds, nodes, handle)?;
+    match &node.content {
+        Content::File(file) => Some(FileEntry {
+            path,
+            object: node.object,
+            file,
+        }),
+        Content::Directory | Content::Link(_) => None,
+    }
+}
+
+/// Whether a reply that gives this handle, if any, gives one of this object.
+pub(crate) fn gives_object(binds: &Binds, handle: &Option<FileHandle>, object: u64) -> bool
+    ensures { result ≡ gives_object binds.now handle.now object }
+{
+    let Some(handle) = handle else {
+        return true;
+    };
+    match binds.object(handle.as_slice()) {
+        Some(named) => named == object,
+        None => false,
+    }
+}

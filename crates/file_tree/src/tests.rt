@@ -1,0 +1,230 @@
+ghost use Rattle.std.specs.Prelude.{IfOk};
+ghost use Rattle.file_tree.specs.Undo.{TakesBack};
+
+use crate::binds::Binds;
+use crate::change::Undo;
+use crate::tree::FileTree;
+use nfs3_types::{
+    Answer, CreateArguments, CreateMode, CreateSuccess, Data, DirectoryName, FileHandle, Name,
+    NfsCall, NfsReply, Outcome, ReadArguments, ReadSuccess, SetAttributes, SetTime, StableHow,
+    Verifier, WccData, WriteArguments, WriteSuccess,
+};
+use replay_law::replay::{Replayable, StepFault};
+use replay_law::run::{RunFault, Step, run_steps};
+use std::alloc::{AllocError, Global};
+use std::test::Fail;
+
+const NO_CHANGES: WccData = WccData {
+    before: None,
+    after: None,
+};
+
+/// The tree of one file `abc` at the name `a`.
+const ONE_FILE: [u8; 56] = [
+    0, 0, 0, 2, 0, 0, 0, 0, 0, 0, 0, 0, 0, 0, 0, 0, 0, 0, 0, 2, 0, 0, 0, 1, 0, 0, 0, 1, 97, 0, 0,
+    0, 0, 0, 0, 0, 0, 0, 0, 1, 0, 0, 0, 1, 0, 0, 0, 3, 97, 98, 99, 0, 0, 0, 0, 0,
+];
+
+/// The handle of one byte.
+fn handle(alloc: Global, byte: u8) -> Result<FileHandle, AllocError> {
+    FileHandle::from_slice(alloc, &[byte])
+}
+
+/// CREATE of `a` in the root, unchecked.
+fn create(alloc: Global, size: Option<u64>) -> Result<NfsCall, AllocError> {
+    let place = DirectoryName {
+        directory: handle(alloc, 0)?,
+        name: Name::from_slice(alloc, b"a")?,
+    };
+    let mode = CreateMode::Unchecked(SetAttributes {
+        mode: None,
+        user: None,
+        group: None,
+        size,
+        access_time: SetTime::Keep,
+        modify_time: SetTime::Keep,
+    });
+    Ok(NfsCall::Create(CreateArguments { place, mode }))
+}
+
+/// Its success with this handle.
+fn created(alloc: Global, byte: u8) -> Result<Outcome, AllocError> {
+    let success = CreateSuccess {
+        object: Some(handle(alloc, byte)?),
+        attributes: None,
+        wcc: NO_CHANGES,
+    };
+    Ok(Outcome::Received(NfsReply::Create(Answer::Done(success))))
+}
+
+/// WRITE to the file of handle aa, FILE_SYNC.
+fn write(alloc: Global, offset: u64, added: &[u8; 3]) -> Result<NfsCall, AllocError> {
+    Ok(NfsCall::Write(WriteArguments {
+        file: handle(alloc, 0xaa)?,
+        offset,
+        count: 3,
+        level: StableHow::FileSync,
+        bytes: Data::from_slice(alloc, added)?,
+    }))
+}
+
+/// Its success.
+fn wrote(count: u32, level: StableHow) -> Outcome {
+    Outcome::Received(NfsReply::Write(Answer::Done(WriteSuccess {
+        wcc: NO_CHANGES,
+        count,
+        level,
+        verifier: Verifier { value: 1 },
+    })))
+}
+
+/// READ of ten bytes of the file of handle aa from its start.
+fn read(alloc: Global) -> Result<NfsCall, AllocError> {
+    Ok(NfsCall::Read(ReadArguments {
+        file: handle(alloc, 0xaa)?,
+        offset: 0,
+        count: 10,
+    }))
+}
+
+/// Its success.
+fn got(alloc: Global, bytes: &[u8], eof: bool) -> Result<Outcome, AllocError> {
+    let bytes = Data::from_slice(alloc, &bytes[..bytes.len().min(10)])?;
+    let success = ReadSuccess {
+        attributes: None,
+        count: bytes.as_slice().len() as u32,
+        eof,
+        bytes,
+    };
+    Ok(Outcome::Received(NfsReply::Read(Answer::Done(success))))
+}
+
+/// The root's handle 00, and aa for object 1.
+fn binds(alloc: Global) -> Result<Binds, AllocError> {
+    let mut binds = Binds::of_root(alloc, &[0])?;
+    binds.push(alloc, &[0xaa], 1)?;
+    Ok(binds)
+}
+
+/// CREATE of `a`, a WRITE of these three bytes at an offset, and a READ that gives these bytes.
+fn placed(
+    alloc: Global,
+    offset: u64,
+    added: &[u8; 3],
+    bytes: &[u8],
+    eof: bool,
+) -> Result<Vec<(NfsCall, Outcome)>, AllocError> {
+    let mut placed = Vec::new(alloc);
+    placed.push((create(alloc, None)?, created(alloc, 0xaa)?))?;
+    placed.push((write(alloc, offset, added)?, wrote(3, StableHow::FileSync)))?;
+    placed.push((read(alloc)?, got(alloc, bytes, eof)?))?;
+    Ok(placed)
+}
+
+/// The run of these, numbered from 1.
+fn run(alloc: Global, placed: &[(NfsCall, Outcome)]) -> Result<Result<(), RunFault>, AllocError> {
+    let mut steps = Vec::new(alloc);
+    for (number, (call, outcome)) in (1..).zip(placed) {
+        steps.push(Step {
+            number,
+            call,
+            outcome,
+        })?;
+    }
+    Ok(run_steps::<FileTree>(alloc, &binds(alloc)?, steps.as_slice()))
+}
+
+/// One step.
+fn step(
+    alloc: Global,
+    tree: &mut FileTree,
+    binds: &Binds,
+    number: u64,
+    call: NfsCall,
+    outcome: Outcome,
+) -> Result<Undo, StepFault>
+    ensures { IfOk result (λ undo. TakesBack undo tree.new tree.old) }
+{
+    tree.step(alloc, binds, number, &call, &outcome)
+}
+
+#[test]
+fn a_written_file_is_read(rt: HostRuntime) -> Result<(), Fail> {
+    let alloc = rt.alloc();
+    assert_eq!(rt;
+        run(alloc, &placed(alloc, 0, b"abc", b"abc", true)?)?,
+        Ok(())
+    );
+    assert_eq!(rt;
+        run(alloc, &placed(alloc, 0, b"abc", b"abc", false)?)?,
+        Err(RunFault::Illegal(3))
+    );
+    assert_eq!(rt;
+        run(alloc, &placed(alloc, 0, b"abc", b"ab", true)?)?,
+        Err(RunFault::Illegal(3))
+    );
+    assert_eq!(rt;
+        run(alloc, &placed(alloc, 0, b"abc", b"ab", false)?)?,
+        Ok(())
+    );
+    Ok(())
+}
+
+#[test]
+fn a_gap_is_filled_with_zeros(rt: HostRuntime) -> Result<(), Fail> {
+    let alloc = rt.alloc();
+    assert_eq!(rt;
+        run(alloc, &placed(alloc, 2, b"xyz", b"\0\0xyz", true)?)?,
+        Ok(())
+    );
+    assert_eq!(rt;
+        run(alloc, &placed(alloc, 16_777_214, b"xyz", b"", true)?)?,
+        Err(RunFault::Illegal(2))
+    );
+    Ok(())
+}
+
+#[test]
+fn one_file_is_printed_and_taken_back(rt: HostRuntime) -> Result<(), Fail> {
+    let alloc = rt.alloc();
+    let binds = binds(alloc)?;
+    let mut tree = FileTree::opening(alloc, &binds)?;
+    let _made = step(
+        alloc,
+        &mut tree,
+        &binds,
+        1,
+        create(alloc, None)?,
+        created(alloc, 0xaa)?,
+    )?;
+    let done = wrote(3, StableHow::FileSync);
+    let undo = step(alloc, &mut tree, &binds, 2, write(alloc, 0, b"abc")?, done)?;
+    let mut out = Vec::new(alloc);
+    tree.print_state(alloc, &mut out)?;
+    assert_eq!(rt; out.as_slice(), ONE_FILE.as_slice());
+    let before = tree.undo(alloc, undo)?;
+    out.clear();
+    before.print_state(alloc, &mut out)?;
+    assert_eq!(rt; out.len(), 52);
+    Ok(())
+}
+
+#[test]
+fn a_handle_is_bound(rt: HostRuntime) -> Result<(), Fail> {
+    let alloc = rt.alloc();
+    let binds = Binds::new(alloc, &[0], &[(Vec::from_slice(alloc, &[0xaa])?, 2)])?;
+    assert_eq!(rt; binds.object(&[0]), Some(0));
+    assert_eq!(rt; binds.object(&[0xaa]), Some(2));
+    assert_eq!(rt; binds.object(&[1]), None);
+    let mut tree = FileTree::opening(alloc, &binds)?;
+    let refused = step(
+        alloc,
+        &mut tree,
+        &binds,
+        1,
+        create(alloc, Some(3))?,
+        created(alloc, 0xaa)?,
+    );
+    assert_eq!(rt; refused.err(), Some(StepFault::NotAllowed));
+    Ok(())
+}

@@ -1,0 +1,120 @@
+//! The file tree, stepped by the calls of a history and taken back.
+
+ghost use Rattle.std.specs.Prelude.{◌≡◌, ℕ, Option, Some, None, List, ◌++◌, ◌≤◌, OnOk, OnErr, IfOk, length};
+ghost use Rattle.std.specs.FinMap as map;
+ghost use Rattle.file_tree.specs.Tree.{opening};
+ghost use Rattle.file_tree.specs.Undo.{TakesBack};
+ghost use Rattle.file_tree.specs.Sound.{IsSound};
+ghost use Rattle.file_tree.specs.Success.{next_tree};
+ghost use Rattle.file_tree.specs.Printed.{tree_text, IsPrintable};
+ghost use Rattle.file_tree.specs.Unprinted.{same_text};
+
+use crate::binds::Binds;
+use crate::bytes::Path;
+use crate::change::{Change, Undo, undo_of};
+use crate::node::Node;
+use crate::nodes::{Nodes, put, remove, root_alone};
+use crate::print::put_tree;
+use crate::success::change_of;
+use nfs3_types::{NfsCall, Outcome};
+use replay_law::replay::{Replayable, StepFault};
+use std::alloc::{AllocError, Global};
+use std::marker::Model;
+
+/// A file tree. Contracts see it as a finite map from paths to nodes.
+#[derive(Debug, Drop)]
+pub struct FileTree {
+    nodes: Nodes,
+}
+
+impl Model for FileTree {
+    ghost use Rattle.file_tree.specs.Tree.{Tree};
+
+    ghost Value = { Tree };
+
+    ghost use Rattle.std.specs.FinMap as map;
+    ghost use Rattle.std.specs.Coded.{coded_list, coded_ℕ};
+    ghost use Rattle.file_tree.specs.contracts.node.Node as node;
+
+    ghost coded = { map.code (coded_list (coded_list coded_ℕ)) node.the_row.coded };
+
+    ghost use Rattle.file_tree.specs.Nodes.{tree_of};
+    ghost use Rattle.file_tree.specs.Sound.{IsSound};
+
+    ghost view = { λ t. tree_of t.nodes };
+
+    ghost invariant = { λ t. IsSound (tree_of t.nodes) };
+}
+
+impl FileTree {
+    /// Puts a node at a path.
+    fn put(&mut self, alloc: Global, path: Path, node: Node) -> Result<Undo, AllocError>
+        requires { IsSound (map.insert self.old path node) }
+        ensures ok { OnOk result (self.new ≡ map.insert self.old path node) }
+        ensures undo { IfOk result (λ undo. TakesBack undo self.new self.old) }
+        ensures err { OnErr result (self.new ≡ self.old) }
+    {
+        let place = path.copy(alloc)?;
+        let before = put(&mut self.nodes, path, node)?;
+        Ok(undo_of(place, before))
+    }
+}
+
+impl Replayable for FileTree {
+    type Setting = Binds;
+
+    type Call = NfsCall;
+
+    type Outcome = Outcome;
+
+    type Undo = Undo;
+
+    ghost is_state = { IsPrintable };
+
+    ghost start = { λ _. opening };
+
+    ghost next = { λ binds tree number call outcome. next_tree binds tree number call outcome };
+
+    ghost undoes = { λ undo after before. TakesBack undo after before };
+
+    ghost printed = { tree_text };
+
+    ghost print_tells = { same_text };
+
+    fn opening(alloc: Global, _setting: &Binds) -> Result<Self, AllocError> {
+        Ok(FileTree {
+            nodes: root_alone(alloc)?,
+        })
+    }
+
+    fn step(
+        &mut self,
+        alloc: Global,
+        setting: &Binds,
+        number: u64,
+        call: &NfsCall,
+        outcome: &Outcome,
+    ) -> Result<Undo, StepFault> {
+        match change_of(alloc, setting, &self.nodes, number, call, outcome)? {
+            Change::Keep => Ok(Undo::Nothing),
+            Change::Put(path, node) => self.put(alloc, path, node).map_err(|_| StepFault::NoMemory),
+        }
+    }
+
+    fn undo(mut self, _alloc: Global, undo: Undo) -> Result<Self, AllocError> {
+        match undo {
+            Undo::Nothing => {}
+            Undo::Restore(path, node) => {
+                put(&mut self.nodes, path, node)?;
+            }
+            Undo::Remove(path) => remove(&mut self.nodes, &path),
+        }
+        Ok(self)
+    }
+
+    fn print_state(&self, alloc: Global, out: &mut Vec<u8>) -> Result<(), AllocError> {
+        let mut text = Vec::new(alloc);
+        put_tree(&mut text, &self.nodes)?;
+        out.extend_from_slice(text.as_slice())
+    }
+}

@@ -1,0 +1,92 @@
+//! What a successful WRITE makes of a tree (RFC 1813, section 3.3.7).
+
+ghost use Rattle.std.specs.Prelude.{◌≡◌, ◌<◌, ◌^◌, length};
+ghost use Rattle.file_tree.specs.Nodes.{tree_of};
+ghost use Rattle.file_tree.specs.Answers.{Answers};
+ghost use Rattle.file_tree.specs.Success.{level_rank, reaches, write_at, write_change};
+
+use crate::binds::Binds;
+use crate::bytes::Bytes;
+use crate::change::Change;
+use crate::content::{front, is_within_limit, written};
+use crate::live::{FileEntry, file_of};
+use crate::node::{Content, File, Node};
+use crate::nodes::Nodes;
+use nfs3_types::{StableHow, WriteArguments};
+use replay_law::replay::StepFault;
+use std::alloc::Global;
+
+/// How much a level promises.
+fn rank(level: StableHow) -> u8
+    ensures { result ≡ level_rank level }
+{
+    match level {
+        StableHow::Unstable => 0,
+        StableHow::DataSync => 1,
+        StableHow::FileSync => 2,
+    }
+}
+
+/// Whether the answered level, if any, promises at least what was asked.
+fn reaches(asked: StableHow, answered: Option<StableHow>) -> bool
+    ensures { result ≡ reaches asked answered }
+{
+    match answered {
+        None => true,
+        Some(level) => rank(asked) <= rank(level),
+    }
+}
+
+/// These bytes go to the file at the offset.
+fn write_at(
+    alloc: Global,
+    entry: FileEntry<'_>,
+    offset: u64,
+    added: &[u8],
+) -> Result<Change, StepFault>
+    requires { length added.now < 2 ^ 32 }
+    ensures { Answers result (write_at (record { path = entry.entry.path.now; object = entry.entry.object; file = entry.entry.file.now }) offset added.now) }
+{
+    if added.is_empty() {
+        return Ok(Change::Keep);
+    }
+    let bytes = entry.file.bytes.as_slice();
+    if !is_within_limit(bytes.len(), offset, added.len()) {
+        return Err(StepFault::NotAllowed);
+    }
+    let bytes = written(alloc, bytes, offset as usize, added).map_err(|_| StepFault::NoMemory)?;
+    let path = entry.path.copy(alloc).map_err(|_| StepFault::NoMemory)?;
+    let content = Content::File(File {
+        bytes: Bytes::from_vec(bytes),
+        verifier: entry.file.verifier,
+    });
+    Ok(Change::Put(
+        path,
+        Node {
+            object: entry.object,
+            content,
+        },
+    ))
+}
+
+/// What the call makes of the tree, where it wrote this count of bytes and reached this level.
+pub(crate) fn write_change(
+    alloc: Global,
+    binds: &Binds,
+    nodes: &Nodes,
+    call: &WriteArguments,
+    count: u32,
+    level: Option<StableHow>,
+) -> Result<Change, StepFault>
+    ensures { Answers result (write_change binds.now (tree_of nodes.now) call.now count level) }
+{
+    let Some(entry) = file_of(binds, nodes, &call.file) else {
+        return Err(StepFault::NotAllowed);
+    };
+    let asked = call.bytes.as_slice();
+    if count <= call.count && count as usize <= asked.len() && reaches(call.level, level) {
+        write_at(alloc, entry, call.offset, front(asked, count as usize))
+    } else {
+        Err(StepFault::NotAllowed)
+    }
+}
