@@ -1,0 +1,9 @@
+use Rattle.std.proofs.Common.{◌≡◌, ◌+◌, ◌≤◌, ◌++◌, length}
+use Rattle.certificate.specs.Draft.{AreBinds, IsReadUpTo}
+use Rattle.certificate.proofs.reading.read_certificate.Given as goal
+
+abbrev pub invariant-loop-words : goal.invariant-loop-words
+invariant-loop-words l = IsReadUpTo l.text l.draft l.rest l.number
+
+abbrev pub decreases-loop-words : goal.decreases-loop-words
+decreases-loop-words l = length l.rest

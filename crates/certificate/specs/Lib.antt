@@ -1,0 +1,4 @@
+pub mod Plan
+pub mod CertificateText
+pub mod Line
+pub mod Draft

@@ -1,0 +1,13 @@
+//! The certificate of a history: the object that each handle names, one serial order of its calls, and for
+//! each crash the part of the order that survived. `docs/FORMATS.md` says how it is written as text.
+#![tactic(auto)]
+
+mod line;
+mod plan;
+mod reading;
+
+pub use plan::{Bind, BindList, Certificate, EraPlan, EraPlanList, Place, PlaceList};
+pub use reading::{TextFault, read_certificate};
+
+#[cfg(test)]
+mod tests;

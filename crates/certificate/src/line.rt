@@ -1,0 +1,112 @@
+//! One line of a certificate.
+
+ghost use Rattle.std.specs.Prelude.{◌≡◌, ◌<◌, ◌≤◌, ◌++◌, ◌∷◌, length, decimal, IfOk, IfSome};
+ghost use Rattle.hex.specs.Hex.{encode_lower};
+ghost use Rattle.certificate.specs.CertificateText.{bind_words, HasHandle};
+ghost use Rattle.certificate.specs.Line.{IsLine};
+
+use crate::plan::{Bind, Place};
+use hex::FromHexError;
+use itoa::Buffer;
+use nfs3_types::{FileHandle, HANDLE_LIMIT};
+use std::alloc::{AllocError, Global};
+
+/// What a line says.
+#[derive(Debug, Drop)]
+pub enum Line {
+    Witness,
+    Bind(Bind),
+    Place(Place),
+    End,
+}
+
+/// What stands before and behind the first place of a byte.
+pub fn split_at_byte(text: &[u8], byte: u8) -> Option<(&[u8], &[u8])>
+    ensures { IfSome result (λ p. text.now ≡ p.0.now ++ byte ∷ p.1.now) }
+{
+    let at = text.iter().position(|b| *b == byte)?;
+    Some((&text[..at], &text[at + 1..]))
+}
+
+/// What stands behind a front.
+fn behind<'a>(text: &'a [u8], front: &[u8]) -> Option<&'a [u8]>
+    ensures { IfSome result (λ rest. text.now ≡ front.now ++ rest.now) }
+{
+    text.strip_prefix(front)
+}
+
+/// The number that the digits write, where they are its decimal digits without a zero in front.
+fn number_of(digits: &[u8]) -> Option<u64>
+    ensures { IfSome result (λ n. digits.now ≡ decimal n) }
+{
+    let text = str::from_utf8(digits).ok()?;
+    let number = text.parse::<u64>().ok()?;
+    let mut buffer = Buffer::new();
+    if buffer.format(number).as_bytes() == digits {
+        Some(number)
+    } else {
+        None
+    }
+}
+
+/// The handle that the text writes in lower case hexadecimal, where it has 1 to 64 bytes.
+fn handle_of(alloc: Global, text: &[u8]) -> Result<Option<FileHandle>, AllocError>
+    ensures { IfOk result (λ o. IfSome o (λ h. (text.now ≡ encode_lower h) × (0 < length h) × (length h ≤ 64))) }
+{
+    if text.len() > 2 * HANDLE_LIMIT {
+        return Ok(None);
+    }
+    let bytes = match hex::decode(alloc, text) {
+        Ok(bytes) => bytes,
+        Err(FromHexError::OutOfMemory) => return Err(AllocError),
+        Err(_) => return Ok(None),
+    };
+    if bytes.is_empty() || bytes.len() > HANDLE_LIMIT {
+        return Ok(None);
+    }
+    if hex::encode(alloc, bytes.as_slice())?.as_bytes() != text {
+        return Ok(None);
+    }
+    Ok(Some(FileHandle::from_slice(alloc, bytes.as_slice())?))
+}
+
+/// The bind that the words behind `bind` give.
+fn bind_of(alloc: Global, words: &[u8]) -> Result<Option<Bind>, AllocError>
+    ensures { IfOk result (λ o. IfSome o (λ b. (words.now ≡ encode_lower b.handle ++ (32 ∷ decimal b.object)) × HasHandle b)) }
+{
+    let Some((handle, object)) = split_at_byte(words, b' ') else {
+        return Ok(None);
+    };
+    let Some(object) = number_of(object) else {
+        return Ok(None);
+    };
+    match handle_of(alloc, handle)? {
+        Some(handle) => Ok(Some(Bind { handle, object })),
+        None => Ok(None),
+    }
+}
+
+/// What a line without its line feed says, where it is one that a certificate may have.
+pub fn read_line(alloc: Global, words: &[u8]) -> Result<Option<Line>, AllocError>
+    ensures { IfOk result (λ o. IfSome o (λ l. IsLine words.now l)) }
+{
+    if words == b"witness 1".as_slice() {
+        return Ok(Some(Line::Witness));
+    }
+    if words == b"end".as_slice() {
+        return Ok(Some(Line::End));
+    }
+    if let Some(words) = behind(words, b"bind ") {
+        return match bind_of(alloc, words)? {
+            Some(bind) => Ok(Some(Line::Bind(bind))),
+            None => Ok(None),
+        };
+    }
+    if let Some(digits) = behind(words, b"place ") {
+        return match number_of(digits) {
+            Some(number) => Ok(Some(Line::Place(Place::Answered(number)))),
+            None => Ok(None),
+        };
+    }
+    Ok(None)
+}
