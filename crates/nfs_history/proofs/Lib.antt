@@ -1,0 +1,5 @@
+pub mod EventLoop
+pub mod FileLaws
+pub mod MatchingSteps
+pub mod Unanswered
+pub mod HistoryLaws

@@ -1,0 +1,111 @@
+-- A history: what each of its calls was, when it began and ended, and how it came out (Herlihy and Wing 1990,
+-- section 2; the calls are those of RFC 1813, section 3.3).
+use Rattle.std.specs.Prelude.{◌≡◌, ◌≢◌, ◌==◌, ◌&&◌, not, nat_lt, ℕ, ◌+◌, Bool, true, false, if◌then◌else◌, List, [], ◌∷◌, length, Option, Some, None, option_map, unwrap_or}
+use Rattle.nfs3_types.specs.declared.calls.NfsCall.{NfsCall}
+use Rattle.nfs3_types.specs.declared.calls.NfsCall.TheVariants as calls
+use Rattle.nfs3_types.specs.declared.calls.CreateMode.{CreateMode}
+use Rattle.nfs3_types.specs.declared.calls.CreateMode.TheVariants as modes
+use Rattle.nfs3_types.specs.declared.replies.Answer.{Answer}
+use Rattle.nfs3_types.specs.declared.replies.Answer.TheVariants as answers
+use Rattle.nfs3_types.specs.declared.replies.NfsReply.{NfsReply}
+use Rattle.nfs3_types.specs.declared.replies.NfsReply.TheVariants as replies
+use Rattle.nfs3_types.specs.declared.replies.Outcome.{Outcome}
+use Rattle.nfs3_types.specs.declared.replies.Outcome.TheVariants as outcomes
+use Rattle.rpc_reader.specs.Values.{CallValue, ReplyValue}
+use Rattle.rpc_reader.specs.Values.Body.{success}
+use Rattle.rpc_reader.specs.Messages.{IsCall, IsReply}
+use Rattle.nfs3_msgs.specs.Messages.{IsArguments, IsResult}
+use Rattle.nfs_history.specs.declared.fault.Which.{Which}
+use Rattle.nfs_history.specs.declared.fault.Which.TheVariants as which
+use Rattle.nfs_history.specs.declared.history.Meaning.{Meaning}
+use Rattle.nfs_history.specs.declared.history.Meaning.TheVariants as meanings
+use Rattle.nfs_history.specs.declared.history.RecordedCall.{RecordedCall}
+use Rattle.nfs_history.specs.declared.history.History.{History}
+use Rattle.nfs_history.specs.Event.{Event, Recording}
+use Rattle.nfs_history.specs.Calls.{ReplyEvent, CallEvent, calls_of, eras_from, xid_of}
+use Rattle.nfs_history.specs.Standing.{EachMayFollow}
+
+-- the most bytes of a file
+abbrev pub file_limit : ℕ
+file_limit = 16777216
+
+abbrev pub is_failed : {S F : Type 0} → Answer S F → Bool
+is_failed (answers.Done s) = false
+is_failed (answers.Failed status f) = true
+
+abbrev pub reply_failed : NfsReply → Bool
+reply_failed (replies.Read answer) = is_failed answer
+reply_failed (replies.Write answer) = is_failed answer
+reply_failed (replies.Create answer) = is_failed answer
+
+-- a call that was answered by a failure
+abbrev pub failed : Option Outcome → Bool
+failed (Some (outcomes.Received reply)) = reply_failed reply
+failed (Some (outcomes.Taken count)) = false
+failed None = false
+
+-- the size that a CREATE asks for
+abbrev pub asked_size : CreateMode → ℕ
+asked_size (modes.Unchecked attributes) = unwrap_or attributes.size 0
+asked_size (modes.Guarded attributes) = unwrap_or attributes.size 0
+asked_size (modes.Exclusive verifier) = 0
+
+-- what of a call lies outside the model: the count of a WRITE that isn't its data's length, and a file over the
+-- limit, but for a call that was answered by a failure
+abbrev pub outside : NfsCall → Option Outcome → Option Which
+outside (calls.Read a) outcome = None
+outside (calls.Write a) outcome =
+    if not (a.count == length a.bytes) then Some which.CountDiffers
+    else (if (nat_lt 0 a.count && nat_lt file_limit (a.offset + a.count)) && not (failed outcome) then Some which.TooFar else None)
+outside (calls.Create a) outcome =
+    if nat_lt file_limit (asked_size a.mode) && not (failed outcome) then Some which.TooFar else None
+
+-- how a call of a procedure came out: with the result that the reply to it holds
+abbrev pub CameOut : ℕ → Option ReplyEvent → Option Outcome → Type 0
+CameOut procedure None outcome = outcome ≡ None
+CameOut procedure (Some event) outcome =
+    (reply : ReplyValue) × (results : List ℕ) × (answer : NfsReply) × IsReply event.message reply × (reply.body ≡ success results) × IsResult procedure results answer × (outcome ≡ Some (outcomes.Received answer))
+
+-- the call is one of NFS version 3 (RFC 1813, section 3), with a credential that doesn't hide its arguments (not
+-- RPCSEC_GSS, flavor 6)
+pub record IsCallOfNfs (head : CallValue) (call : NfsCall) : Type 0 where
+  pub program : head.program ≡ 100003
+  pub version : head.version ≡ 3
+  pub credential : head.flavor ≢ 6
+  pub arguments : IsArguments head.procedure head.args call
+
+-- a judged call, and how it came out
+pub record IsJudged (event : CallEvent) (call : NfsCall) (outcome : Option Outcome) : Type 0 where
+  pub head : CallValue
+  pub is_call : IsCall event.message head
+  pub of_nfs : IsCallOfNfs head call
+  pub came_out : CameOut head.procedure event.answer outcome
+  pub inside : outside call outcome ≡ None
+
+-- No call is unjudged yet: another procedure or program isn't read, nor is a call that got no result.
+abbrev pub Means : CallEvent → Meaning → Option Outcome → Type 0
+Means event (meanings.Judged call) outcome = IsJudged event call outcome
+Means event meanings.Unjudged outcome = ⊥
+
+-- what is known of a call
+pub record IsRecorded (event : CallEvent) (call : RecordedCall) : Type 0 where
+  pub lane : call.lane ≡ event.lane
+  pub xid : call.xid ≡ xid_of event.message
+  pub begin : call.begin ≡ event.begin
+  pub «end» : call.«end» ≡ option_map (λ reply. reply.number) event.answer
+  pub era : call.era ≡ event.era
+  pub means : Means event call.meaning call.outcome
+
+-- each call of the list is what is known of that event's
+abbrev pub AreRecorded : List CallEvent → List RecordedCall → Type 0
+AreRecorded [] [] = Unit {0}
+AreRecorded [] (call ∷ calls) = ⊥
+AreRecorded (event ∷ events) [] = ⊥
+AreRecorded (event ∷ events) (call ∷ calls) = IsRecorded event call × AreRecorded events calls
+
+-- the history of a recording
+pub record IsHistory (seen : Recording) (history : History) : Type 0 where
+  pub follow : EachMayFollow [] seen.events
+  pub root : history.root ≡ seen.root
+  pub eras : history.eras ≡ eras_from 1 seen.events
+  pub calls : AreRecorded (calls_of seen.events) history.calls

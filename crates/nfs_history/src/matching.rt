@@ -1,0 +1,73 @@
+//! Calls and the replies that answer them.
+
+ghost use Rattle.std.specs.Prelude.{◌≡◌, IfOk, map};
+ghost use Rattle.nfs_history.specs.Calls.{xid_of, calls_of};
+ghost use Rattle.nfs_history.specs.Matching.{seen_call};
+ghost use Rattle.nfs_history.specs.FileReading.{event_values};
+ghost use Rattle.nfs_history.specs.Standing.{AreMessages};
+
+use crate::file::SeenEvent;
+use byteorder::{BigEndian, ByteOrder};
+use indexmap::IndexMap;
+use std::alloc::{AllocError, Global};
+
+/// A reply, with the number of its event.
+#[derive(Clone, Copy, Debug)]
+pub struct SeenReply<'a> {
+    pub number: u64,
+    pub message: &'a [u8],
+}
+
+/// A call, with the number of its event and the reply that answers it.
+#[derive(Clone, Copy, Debug)]
+pub struct SeenCall<'a> {
+    pub lane: u32,
+    pub message: &'a [u8],
+    pub begin: u64,
+    pub answer: Option<SeenReply<'a>>,
+}
+
+/// The transaction number of a message: its first word, or 0 where there is none.
+#[tactic(auto, unfolding(crate::specs::Calls::xid_of, xdr_records::specs::Items::word_of))]
+pub fn transaction(message: &[u8]) -> u32
+    ensures { result ≡ xid_of message.now }
+{
+    if message.len() < 4 {
+        0
+    } else {
+        BigEndian::read_u32(message)
+    }
+}
+
+/// The calls among the events, in order, each with the first reply behind it on its lane that has its
+/// transaction number. It goes from the last event to the first, so that a call finds its reply met.
+pub fn matched_calls<'a>(
+    alloc: Global,
+    events: &[SeenEvent<'a>],
+) -> Result<Vec<SeenCall<'a>>, AllocError>
+    requires { AreMessages (event_values events.now) }
+    ensures { IfOk result (λ v. map seen_call v.items ≡ calls_of (event_values events.now)) }
+{
+    let mut replies: IndexMap<(u32, u32), SeenReply<'a>> = IndexMap::new(alloc);
+    let mut calls = Vec::new(alloc);
+    for index in (0..events.len()).rev() {
+        let number = index as u64 + 1;
+        match events[index] {
+            SeenEvent::Call { lane, message } => {
+                let answer = replies.get(&(lane, transaction(message))).copied();
+                calls.push(SeenCall {
+                    lane,
+                    message,
+                    begin: number,
+                    answer,
+                })?;
+            }
+            SeenEvent::Reply { lane, message } => {
+                replies.insert((lane, transaction(message)), SeenReply { number, message })?;
+            }
+            SeenEvent::Close { .. } | SeenEvent::Crash => {}
+        }
+    }
+    calls.reverse();
+    Ok(calls)
+}
