@@ -1,0 +1,243 @@
+-- A plan has its shape exactly where no fault of the shape is found.
+use Rattle.std.proofs.Common.{◌≡◌, ◌≢◌, ◌==◌, ◌&&◌, ◌||◌, ℕ, zero, suc, ◌+◌, ◌<◌, ◌≤◌, Bool, true, false, not, cond, IsTrue, List, [], ◌∷◌, ◌++◌, length, find, All, Option, Some, None, IfSome, is_some, Result, Ok, Err, OnOk, unwrap_or, nat_eq, nat_lt, refl, sym, ap, subst, ◌∙◌, arith, inl, inr, add-zero}
+use Rattle.std.specs.List.{AllByRecursion, list_any, slice_get}
+use Rattle.std.proofs.lemmas.List.Elements.{All-from_recursion}
+use Rattle.std.proofs.lemmas.List.Recursion.{or_push}
+use Rattle.std.proofs.lemmas.Option.{slice_get_within, slice_get_cases, none-some, same_Some}
+use Rattle.std.proofs.lemmas.Bool.{false≢true, true≢false, not-false, not_from_true, or_parts, or_from, and_parts, and_from, eqb-false, ne_eqb, eqb-true, eq-eqb, ltb-false, le-ltb, cond-false, cond-true, false_from_ne_true}
+use Rattle.nfs_history.specs.declared.history.RecordedCall.{RecordedCall}
+use Rattle.nfs_history.specs.Precedence.{call_at}
+use Rattle.certificate.specs.declared.plan.EraPlan.{EraPlan}
+use Rattle.order_check.specs.declared.places.OrderedPlace.{OrderedPlace}
+use Rattle.order_check.specs.declared.fault.Fault.{Fault}
+use Rattle.order_check.specs.declared.fault.Fault.TheVariants as faults
+use Rattle.order_check.specs.declared.fault.CheckFault.{CheckFault}
+use Rattle.order_check.specs.Places.{order_from, number_of, passes, is_known, is_of_era, is_placeable, is_judged, is_answered}
+use Rattle.order_check.specs.Shape.{is_named, NameDifferentCalls, HasShape}
+use Rattle.order_check.specs.FirstFault.{at_place, failing, repeat_behind, missing_from, bad_cut_from, or_else, shape_fault_of_order, shape_fault, IsCheck}
+
+-- a choice of a value or of another answer is none exactly where the test fails and the other answer is none
+not_chosen : {X : Type 0} (b : Bool) (x : X) (other : Option X) → cond b (Some x) other ≡ None → (b ≡ false) × (other ≡ None)
+not_chosen true x other none = absurd (none-some x (sym none))
+not_chosen false x other none = (refl, none)
+
+skipped : {X : Type 0} (b : Bool) (x : X) (other : Option X) → b ≡ false → other ≡ None → cond b (Some x) other ≡ None
+skipped b x other is none = cond-false b (Some x) other is ∙ none
+
+-- where no place fails a test, each passes, and the other way round
+module _ (test : OrderedPlace → Bool) where
+  pub none_failing : (order : List OrderedPlace) → failing test order ≡ None → AllByRecursion (λ p. IsTrue (test p)) order
+  none_failing [] none = tt
+  none_failing (p ∷ order) none =
+    let h = not_chosen (not (test p)) p (failing test order) none in (not-false (test p) h.0, none_failing order h.1)
+
+  pub all_pass : (order : List OrderedPlace) → AllByRecursion (λ p. IsTrue (test p)) order → failing test order ≡ None
+  all_pass [] all = refl
+  all_pass (p ∷ order) all = skipped (not (test p)) p (failing test order) (not_from_true (test p) all.0) (all_pass order all.1)
+
+-- a number behind which a call stands is one of theirs
+within : (calls : List RecordedCall) (n : ℕ) → is_some (call_at calls n) ≡ true → (0 < n) × (n ≤ length calls)
+within calls zero known = absurd (false≢true known)
+within calls (suc n) known =
+    elim (slice_get_cases calls n).1 [ inl w ↦ (omega arith, omega (arith, w.1)) | inr w ↦ absurd (false≢true (sym (ap is_some w.1) ∙ known)) ]
+
+all_within : (calls : List RecordedCall) (order : List OrderedPlace) → AllByRecursion (λ p. IsTrue (is_known calls p)) order
+    → AllByRecursion (λ p. (0 < number_of p) × (number_of p ≤ length calls)) order
+all_within calls [] known = tt
+all_within calls (p ∷ order) known = (within calls (number_of p) known.0, all_within calls order known.1)
+
+pub numbers_within : (calls : List RecordedCall) (order : List OrderedPlace) → failing (is_known calls) order ≡ None
+    → All (λ p. (0 < number_of p) × (number_of p ≤ length calls)) order
+numbers_within calls order none =
+    All-from_recursion (λ p. (0 < number_of p) × (number_of p ≤ length calls)) order (all_within calls order (none_failing (is_known calls) order none))
+
+-- what passes a test is there
+passes_some : (test : RecordedCall → Bool) (o : Option RecordedCall) → passes test o ≡ true → is_some o ≡ true
+passes_some test None passed = passed
+passes_some test (Some call) passed = refl
+
+all_known : (calls : List RecordedCall) (order : List OrderedPlace) → AllByRecursion (λ p. IsTrue (is_of_era calls p)) order
+    → AllByRecursion (λ p. IsTrue (is_known calls p)) order
+all_known calls [] all = tt
+all_known calls (p ∷ order) all = (passes_some _ (call_at calls (number_of p)) all.0, all_known calls order all.1)
+
+-- one more place names its call
+named_push : (before : List OrderedPlace) (p : OrderedPlace) (n : ℕ) → is_named (before ++ p ∷ []) n ≡ (is_named before n || (number_of p == n))
+named_push before p n = or_push (λ order. is_named order n) (λ q. number_of q == n) refl (λ _ _. refl) before p
+
+apart : (before : List OrderedPlace) (p : OrderedPlace) (order : List OrderedPlace) → AllByRecursion (λ q. is_named (before ++ p ∷ []) (number_of q) ≡ false) order
+    → AllByRecursion (λ q. is_named before (number_of q) ≡ false) order × AllByRecursion (λ q. number_of q ≢ number_of p) order
+apart before p [] all = (tt, tt)
+apart before p (q ∷ order) all =
+    let n = number_of q in
+    let h = or_parts (is_named before n) (number_of p == n) (sym (named_push before p n) ∙ all.0) in
+    let rest = apart before p order all.1 in
+    ((h.0, rest.0), (λ same. eqb-false (number_of p) n h.1 (sym same), rest.1))
+
+joined : (before : List OrderedPlace) (p : OrderedPlace) (order : List OrderedPlace) → AllByRecursion (λ q. is_named before (number_of q) ≡ false) order
+    → AllByRecursion (λ q. number_of q ≢ number_of p) order → AllByRecursion (λ q. is_named (before ++ p ∷ []) (number_of q) ≡ false) order
+joined before p [] all others = tt
+joined before p (q ∷ order) all others =
+    let n = number_of q in
+    (named_push before p n ∙ or_from (is_named before n) (number_of p == n) all.0 (ne_eqb (number_of p) n (λ same. others.0 (sym same))), joined before p order all.1 others.1)
+
+none_repeated : (before order : List OrderedPlace) → repeat_behind before order ≡ None
+    → AllByRecursion (λ q. is_named before (number_of q) ≡ false) order × NameDifferentCalls order
+none_repeated before [] none = (tt, tt)
+none_repeated before (p ∷ order) none =
+    let h = not_chosen (is_named before (number_of p)) p (repeat_behind (before ++ p ∷ []) order) none in
+    let rest = none_repeated (before ++ p ∷ []) order h.1 in
+    let parts = apart before p order rest.0 in
+    ((h.0, parts.0), (parts.1, rest.1))
+
+no_repeat : (before order : List OrderedPlace) → AllByRecursion (λ q. is_named before (number_of q) ≡ false) order → NameDifferentCalls order
+    → repeat_behind before order ≡ None
+no_repeat before [] unnamed different = refl
+no_repeat before (p ∷ order) unnamed different =
+    skipped (is_named before (number_of p)) p (repeat_behind (before ++ p ∷ []) order) unnamed.0
+        (no_repeat (before ++ p ∷ []) order (joined before p order unnamed.1 different.0) different.1)
+
+none_named : (order : List OrderedPlace) → AllByRecursion (λ q. is_named [] (number_of q) ≡ false) order
+none_named [] = tt
+none_named (p ∷ order) = (refl, none_named order)
+
+-- of calls that are numbered from n on, each answered judged one is placed
+abbrev Complete : ℕ → List RecordedCall → List OrderedPlace → Type 0
+Complete n calls order = (k : ℕ) (call : RecordedCall) → slice_get calls k ≡ Some call → IsTrue (is_judged call.meaning && is_answered call) → is_named order (n + k) ≡ true
+
+-- an answered judged call that isn't left out is named
+kept : (asked named : Bool) → (asked && not named) ≡ false → asked ≡ true → named ≡ true
+kept true true left asked = refl
+kept true false left asked = absurd (true≢false left)
+kept false named left asked = absurd (false≢true asked)
+
+not_left : (asked named : Bool) → (asked ≡ true → named ≡ true) → (asked && not named) ≡ false
+not_left true named h = rw h refl
+not_left false named h = refl
+
+none_missing : (n : ℕ) (calls : List RecordedCall) (order : List OrderedPlace) → missing_from n calls order ≡ None → Complete n calls order
+none_missing n [] order none k call there asked = absurd (none-some call there)
+none_missing n (first ∷ calls) order none zero call there asked =
+    let h = not_chosen ((is_judged first.meaning && is_answered first) && not (is_named order n)) (faults.Missing n) (missing_from (n + 1) calls order) none in
+    let same = same_Some first call there in
+    let asked_first : (is_judged first.meaning && is_answered first) ≡ true = rw same asked in
+    rw add-zero (kept (is_judged first.meaning && is_answered first) (is_named order n) h.0 asked_first)
+none_missing n (first ∷ calls) order none (suc k) call there asked =
+    let h = not_chosen ((is_judged first.meaning && is_answered first) && not (is_named order n)) (faults.Missing n) (missing_from (n + 1) calls order) none in
+    let e : n + suc k ≡ (n + 1) + k = omega arith in
+    rw e (none_missing (n + 1) calls order h.1 k call there asked)
+
+no_missing : (n : ℕ) (calls : List RecordedCall) (order : List OrderedPlace) → Complete n calls order → missing_from n calls order ≡ None
+no_missing n [] order complete = refl
+no_missing n (first ∷ calls) order complete =
+    let asked = is_judged first.meaning && is_answered first in
+    let here : asked ≡ true → is_named order n ≡ true = λ h. let e : n ≡ n + 0 = omega arith in rw e (complete 0 first refl h) in
+    let later : Complete (n + 1) calls order = λ k call there h. let e : (n + 1) + k ≡ n + suc k = omega arith in rw e (complete (suc k) call there h) in
+    skipped (asked && not (is_named order n)) (faults.Missing n) (missing_from (n + 1) calls order) (not_left asked (is_named order n) here) (no_missing (n + 1) calls order later)
+
+kept_within : (cut : Option ℕ) (most : ℕ) → unwrap_or cut 0 ≤ most → IfSome cut (λ count. count ≤ most)
+kept_within None most h = tt
+kept_within (Some count) most h = h
+
+within_kept : (cut : Option ℕ) (most : ℕ) → IfSome cut (λ count. count ≤ most) → unwrap_or cut 0 ≤ most
+within_kept None most h = omega arith
+within_kept (Some count) most h = h
+
+none_cut : (e : ℕ) (plan : List EraPlan) → bad_cut_from e plan ≡ None → AllByRecursion (λ era. IfSome era.cut (λ count. count ≤ length era.places)) plan
+none_cut e [] none = tt
+none_cut e (era ∷ plan) none =
+    let most = length era.places in
+    let h = not_chosen (nat_lt most (unwrap_or era.cut 0)) (faults.BadCut e) (bad_cut_from (e + 1) plan) none in
+    (kept_within era.cut most (ltb-false most (unwrap_or era.cut 0) h.0), none_cut (e + 1) plan h.1)
+
+no_cut : (e : ℕ) (plan : List EraPlan) → AllByRecursion (λ era. IfSome era.cut (λ count. count ≤ length era.places)) plan → bad_cut_from e plan ≡ None
+no_cut e [] cuts = refl
+no_cut e (era ∷ plan) cuts =
+    let most = length era.places in
+    skipped (nat_lt most (unwrap_or era.cut 0)) (faults.BadCut e) (bad_cut_from (e + 1) plan) (le-ltb most (unwrap_or era.cut 0) (within_kept era.cut most cuts.0)) (no_cut (e + 1) plan cuts.1)
+
+neither : (found other : Option Fault) → or_else found other ≡ None → (found ≡ None) × (other ≡ None)
+neither None other none = (refl, none)
+neither (Some fault) other none = absurd (none-some fault (sym none))
+
+or_none : (found other : Option Fault) → found ≡ None → other ≡ None → or_else found other ≡ None
+or_none found other first second = rw first second
+
+nowhere : (fault : ℕ → Fault) (place : Option OrderedPlace) → at_place fault place ≡ None → place ≡ None
+nowhere fault None none = refl
+nowhere fault (Some p) none = absurd (none-some (fault (number_of p)) (sym none))
+
+at_none : (fault : ℕ → Fault) (place : Option OrderedPlace) → place ≡ None → at_place fault place ≡ None
+at_none fault place none = rw none refl
+
+-- by the number of a call
+named_call : (calls : List RecordedCall) (order : List OrderedPlace) → Complete 1 calls order
+    → (n : ℕ) (call : RecordedCall) → call_at calls n ≡ Some call → IsTrue (is_judged call.meaning && is_answered call) → IsTrue (is_named order n)
+named_call calls order complete zero call there asked = absurd (none-some call there)
+named_call calls order complete (suc k) call there asked = let e : suc k ≡ 1 + k = omega arith in rw e (complete k call there asked)
+
+shape_of_order : (eras : ℕ) (calls : List RecordedCall) (plan : List EraPlan) → length plan ≡ eras → shape_fault_of_order calls plan (order_from 1 plan) ≡ None → HasShape eras calls plan
+shape_of_order eras calls plan as_many none =
+    let order = order_from 1 plan in
+    let cut = bad_cut_from 1 plan in
+    let absent = or_else (missing_from 1 calls order) cut in
+    let wrong = or_else (at_place faults.NotToPlace (failing (is_placeable calls) order)) absent in
+    let twice = or_else (at_place faults.Twice (repeat_behind [] order)) wrong in
+    let era = or_else (at_place faults.WrongEra (failing (is_of_era calls) order)) twice in
+    let a = neither (at_place faults.Unknown (failing (is_known calls) order)) era none in
+    let b = neither (at_place faults.WrongEra (failing (is_of_era calls) order)) twice a.1 in
+    let c = neither (at_place faults.Twice (repeat_behind [] order)) wrong b.1 in
+    let d = neither (at_place faults.NotToPlace (failing (is_placeable calls) order)) absent c.1 in
+    let e = neither (missing_from 1 calls order) cut d.1 in
+    record {
+      as_many_eras = as_many;
+      of_their_eras = none_failing (is_of_era calls) order (nowhere faults.WrongEra (failing (is_of_era calls) order) b.0);
+      once = (none_repeated [] order (nowhere faults.Twice (repeat_behind [] order) c.0)).1;
+      right = none_failing (is_placeable calls) order (nowhere faults.NotToPlace (failing (is_placeable calls) order) d.0);
+      complete = named_call calls order (none_missing 1 calls order e.0);
+      cuts = none_cut 1 plan e.1;
+    }
+
+no_fault_of_order : (eras : ℕ) (calls : List RecordedCall) (plan : List EraPlan) → HasShape eras calls plan → shape_fault_of_order calls plan (order_from 1 plan) ≡ None
+no_fault_of_order eras calls plan shape =
+    let order = order_from 1 plan in
+    let complete : Complete 1 calls order = λ k call there asked. let e : 1 + k ≡ suc k = omega arith in rw e (shape.complete (suc k) call there asked) in
+    or_none _ _ (at_none faults.Unknown (failing (is_known calls) order) (all_pass (is_known calls) order (all_known calls order shape.of_their_eras)))
+    (or_none _ _ (at_none faults.WrongEra (failing (is_of_era calls) order) (all_pass (is_of_era calls) order shape.of_their_eras))
+    (or_none _ _ (at_none faults.Twice (repeat_behind [] order) (no_repeat [] order (none_named order) shape.once))
+    (or_none _ _ (at_none faults.NotToPlace (failing (is_placeable calls) order) (all_pass (is_placeable calls) order shape.right))
+    (or_none (missing_from 1 calls order) (bad_cut_from 1 plan) (no_missing 1 calls order complete) (no_cut 1 plan shape.cuts)))))
+
+-- a choice between the order's faults and another fault
+chosen : (b : Bool) (found : Option Fault) (fault : Fault) → cond b found (Some fault) ≡ None → (b ≡ true) × (found ≡ None)
+chosen true found fault none = (refl, none)
+chosen false found fault none = absurd (none-some fault (sym none))
+
+pub shape_from_none : (eras : ℕ) (calls : List RecordedCall) (plan : List EraPlan) → shape_fault eras calls plan ≡ None → HasShape eras calls plan
+shape_from_none eras calls plan none =
+    let h = chosen (length plan == eras) (shape_fault_of_order calls plan (order_from 1 plan)) faults.WrongEras none in
+    shape_of_order eras calls plan (eqb-true (length plan) eras h.0) h.1
+
+pub none_from_shape : (eras : ℕ) (calls : List RecordedCall) (plan : List EraPlan) → HasShape eras calls plan → shape_fault eras calls plan ≡ None
+none_from_shape eras calls plan shape =
+    cond-true (length plan == eras) (shape_fault_of_order calls plan (order_from 1 plan)) (Some faults.WrongEras) (eq-eqb (length plan) eras shape.as_many_eras) ∙ no_fault_of_order eras calls plan shape
+
+-- what the places' check answered is what the whole plan's check answers
+pub whole_check : (eras : ℕ) (calls : List RecordedCall) (plan : List EraPlan) (result : Result (Unit {0}) CheckFault)
+    (calls_read : List RecordedCall) (plan_read : List EraPlan) (order order_read : List OrderedPlace)
+    → calls_read ≡ calls → plan_read ≡ plan → order_read ≡ order → order ≡ order_from 1 plan_read → length plan_read ≡ eras
+    → IsCheck result (shape_fault_of_order calls_read plan_read order_read) → IsCheck result (shape_fault eras calls plan)
+whole_check eras calls plan result calls_read plan_read order order_read same_calls same_plan same_order is_order as_many checked =
+    let e : shape_fault_of_order calls_read plan_read order_read ≡ shape_fault_of_order calls plan (order_from 1 plan) = rw (same_order, is_order, same_calls, same_plan) refl in
+    let whole : shape_fault eras calls plan ≡ shape_fault_of_order calls plan (order_from 1 plan) =
+        cond-true (length plan == eras) (shape_fault_of_order calls plan (order_from 1 plan)) (Some faults.WrongEras) (eq-eqb (length plan) eras (ap length (sym same_plan) ∙ as_many)) in
+    subst (λ found. IsCheck result found) (e ∙ sym whole) checked
+
+pub shape_on_ok : (eras : ℕ) (calls : List RecordedCall) (plan : List EraPlan) (result : Result (Unit {0}) CheckFault)
+    → IsCheck result (shape_fault eras calls plan) → OnOk result (HasShape eras calls plan)
+shape_on_ok eras calls plan (Ok done) none = shape_from_none eras calls plan none
+shape_on_ok eras calls plan (Err fault) found = tt
+
+pub shape_only : (eras : ℕ) (calls : List RecordedCall) (plan : List EraPlan) (result : Result (Unit {0}) CheckFault)
+    → IsCheck result (shape_fault eras calls plan) → HasShape eras calls plan → IsCheck result None
+shape_only eras calls plan result found shape = subst (λ fault. IsCheck result fault) (none_from_shape eras calls plan shape) found

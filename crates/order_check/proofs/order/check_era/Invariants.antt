@@ -1,0 +1,7 @@
+use Rattle.std.proofs.Common.{take}
+use Rattle.order_check.specs.Order.{RespectsOrder, BeganLastIfAny}
+use Rattle.order_check.proofs.OrderLaws.{InOrderSoFar}
+use Rattle.order_check.proofs.order.check_era.Given as goal
+
+abbrev pub invariant-loop-place : goal.invariant-loop-place
+invariant-loop-place l = InOrderSoFar l.calls (take l.place-index l.places) l.latest

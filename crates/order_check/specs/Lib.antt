@@ -1,0 +1,4 @@
+pub mod Places
+pub mod Shape
+pub mod FirstFault
+pub mod Order

@@ -1,0 +1,12 @@
+//! Whether a certificate has the shape of a history's plan, and whether its order respects the order in which
+//! calls ended and began.
+#![tactic(auto)]
+
+mod fault;
+mod order;
+mod places;
+mod shape;
+
+pub use fault::{CheckFault, Fault};
+pub use order::check_order;
+pub use shape::check_shape;

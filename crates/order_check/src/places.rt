@@ -1,0 +1,108 @@
+//! The places of a certificate as one serial order, and how a call may be placed.
+
+ghost use Rattle.std.specs.Prelude.{◌≡◌, ◌++◌, map, IfOk};
+ghost use Rattle.order_check.specs.Places.{order_from, number_of, may_place, may_take, is_known, is_of_era, is_placeable};
+
+use certificate::{EraPlan, Place};
+use nfs3_types::NfsCall;
+use nfs_history::{Meaning, RecordedCall, find_call};
+use std::alloc::{AllocError, Global};
+
+/// A place, and the era in which it stands.
+#[derive(Clone, Copy, Debug, PartialEq, Eq)]
+pub struct OrderedPlace {
+    pub era: u64,
+    pub place: Place,
+}
+
+impl OrderedPlace {
+    ghost use Rattle.std.specs.Prelude.{◌≡◌};
+    ghost use Rattle.order_check.specs.Places.{number_of};
+
+    /// The number of the call that stands there.
+    pub fn number(&self) -> u64
+        ensures { result ≡ number_of self.now }
+    {
+        match self.place {
+            Place::Answered(number) | Place::Taken(number, _) => number,
+        }
+    }
+}
+
+/// Whether a call that changes the tree may be taken as done, with this count of bytes.
+fn may_be_taken(meaning: &Meaning, count: Option<u32>) -> bool
+    ensures { result ≡ may_take meaning.now count }
+{
+    match (meaning, count) {
+        (Meaning::Judged(NfsCall::Write(write)), Some(count)) => {
+            count as usize <= write.bytes.as_slice().len()
+        }
+        (Meaning::Judged(NfsCall::Create(_)), None) => true,
+        _ => false,
+    }
+}
+
+/// Whether a call may be placed so.
+fn may_stand(place: Place, call: &RecordedCall) -> bool
+    ensures { result ≡ may_place place call.now }
+{
+    match place {
+        Place::Answered(_) => {
+            matches!(call.meaning, Meaning::Judged(_)) && call.outcome.is_some()
+        }
+        Place::Taken(_, count) => call.end.is_none() && may_be_taken(&call.meaning, count),
+    }
+}
+
+/// Whether a place names a call.
+pub fn names_call(calls: &[RecordedCall], place: &OrderedPlace) -> bool
+    ensures { result ≡ is_known calls.now place.now }
+{
+    find_call(calls, place.number()).is_some()
+}
+
+/// Whether the call of a place is of its era.
+pub fn stands_in_era(calls: &[RecordedCall], place: &OrderedPlace) -> bool
+    ensures { result ≡ is_of_era calls.now place.now }
+{
+    match find_call(calls, place.number()) {
+        Some(call) => call.era <= place.era && place.era <= call.era,
+        None => false,
+    }
+}
+
+/// Whether the call of a place may be placed so.
+pub fn stands_right(calls: &[RecordedCall], place: &OrderedPlace) -> bool
+    ensures { result ≡ is_placeable calls.now place.now }
+{
+    match find_call(calls, place.number()) {
+        Some(call) => may_stand(place.place, call),
+        None => false,
+    }
+}
+
+/// The places of the eras, one after the other.
+pub fn serial_order(alloc: Global, eras: &[EraPlan]) -> Result<Vec<OrderedPlace>, AllocError>
+    ensures { IfOk result (λ v. v.items ≡ order_from 1 eras.now) }
+{
+    let mut order = Vec::new(alloc);
+    for (index, era) in eras.iter().enumerate() {
+        push_places(&mut order, index as u64 + 1, era.places.as_slice())?;
+    }
+    Ok(order)
+}
+
+/// The places of one era behind those of the eras ahead.
+fn push_places(
+    order: &mut Vec<OrderedPlace>,
+    era: u64,
+    places: &[Place],
+) -> Result<(), AllocError>
+    ensures { IfOk result (λ _. order.new.items ≡ order.old.items ++ map (λ place. record { era = era; place = place }) places.now) }
+{
+    order.reserve(places.len())?;
+    for place in places {
+        order.push(OrderedPlace { era, place: *place })?;
+    }
+    Ok(())
+}

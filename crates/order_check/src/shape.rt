@@ -1,0 +1,145 @@
+//! Whether a plan has the shape that a history asks for.
+
+ghost use Rattle.std.specs.Prelude.{◌≡◌, ◌<◌, ◌≤◌, length, [], None, All, IfOk, OnOk};
+ghost use Rattle.std.specs.Option.{option_copied};
+ghost use Rattle.order_check.specs.Places.{number_of, is_known, is_of_era, is_placeable};
+ghost use Rattle.order_check.specs.Shape.{HasShape};
+ghost use Rattle.order_check.specs.FirstFault.{failing, missing_from, bad_cut_from, repeat_behind, shape_fault, shape_fault_of_order, Marks, IsCheck};
+
+use crate::fault::{CheckFault, Fault};
+use crate::places::{OrderedPlace, names_call, serial_order, stands_in_era, stands_right};
+use certificate::{Certificate, EraPlan};
+use nfs_history::{History, Meaning, RecordedCall};
+use std::alloc::{AllocError, Global};
+
+/// The first place that names no call.
+fn unknown<'a>(calls: &[RecordedCall], order: &'a [OrderedPlace]) -> Option<&'a OrderedPlace>
+    ensures { option_copied result ≡ failing (is_known calls.now) order.now }
+{
+    order.iter().find(|place| !names_call(calls, place))
+}
+
+/// The first place whose call is of another era.
+fn wrong_era<'a>(calls: &[RecordedCall], order: &'a [OrderedPlace]) -> Option<&'a OrderedPlace>
+    ensures { option_copied result ≡ failing (is_of_era calls.now) order.now }
+{
+    order.iter().find(|place| !stands_in_era(calls, place))
+}
+
+/// The first place whose call may not be placed so.
+fn not_to_place<'a>(calls: &[RecordedCall], order: &'a [OrderedPlace]) -> Option<&'a OrderedPlace>
+    ensures { option_copied result ≡ failing (is_placeable calls.now) order.now }
+{
+    order.iter().find(|place| !stands_right(calls, place))
+}
+
+/// The first answered judged call that isn't named, where `named` tells of each call whether it is.
+fn missing(calls: &[RecordedCall], order: &[OrderedPlace], named: &[bool]) -> Option<Fault>
+    requires { Marks order.now named.now (length calls.now) }
+    ensures { result ≡ missing_from 1 calls.now order.now }
+{
+    for (index, call) in calls.iter().enumerate() {
+        let judged = matches!(call.meaning, Meaning::Judged(_));
+        if judged && call.outcome.is_some() && !named[index] {
+            return Some(Fault::Missing(index as u64 + 1));
+        }
+    }
+    None
+}
+
+/// The first era that keeps more places than it has.
+fn bad_cut(eras: &[EraPlan]) -> Option<Fault>
+    ensures { result ≡ bad_cut_from 1 eras.now }
+{
+    for (index, era) in eras.iter().enumerate() {
+        if (era.places.as_slice().len() as u64) < era.cut.unwrap_or(0) {
+            return Some(Fault::BadCut(index as u64 + 1));
+        }
+    }
+    None
+}
+
+/// What goes over the places once: of each call, whether some place names it.
+#[derive(Debug, Drop)]
+struct Marking {
+    named: Vec<bool>,
+    /// The first place whose call a place before it names; the marks stop there.
+    repeat: Option<OrderedPlace>,
+}
+
+fn mark_calls(
+    alloc: Global,
+    calls: usize,
+    order: &[OrderedPlace],
+) -> Result<Marking, AllocError>
+    requires { All (λ p. (0 < number_of p) × (number_of p ≤ calls)) order.now }
+    ensures repeat { IfOk result (λ m. m.repeat ≡ repeat_behind [] order.now) }
+    ensures marks { IfOk result (λ m. m.repeat ≡ None → Marks order.now m.named.items calls) }
+{
+    let mut named = vec![in alloc; false; calls]?;
+    for place in order {
+        let index = place.number() as usize - 1;
+        if named[index] {
+            return Ok(Marking {
+                named,
+                repeat: Some(*place),
+            });
+        }
+        named[index] = true;
+    }
+    Ok(Marking {
+        named,
+        repeat: None,
+    })
+}
+
+/// The shape of an order whose plan has the right number of eras.
+fn check_places(
+    alloc: Global,
+    calls: &[RecordedCall],
+    eras: &[EraPlan],
+    order: &[OrderedPlace],
+) -> Result<(), CheckFault>
+    ensures { IsCheck result (shape_fault_of_order calls.now eras.now order.now) }
+{
+    if let Some(place) = unknown(calls, order) {
+        return Err(CheckFault::No(Fault::Unknown(place.number())));
+    }
+    if let Some(place) = wrong_era(calls, order) {
+        return Err(CheckFault::No(Fault::WrongEra(place.number())));
+    }
+    let marking = mark_calls(alloc, calls.len(), order)?;
+    if let Some(place) = marking.repeat {
+        return Err(CheckFault::No(Fault::Twice(place.number())));
+    }
+    if let Some(place) = not_to_place(calls, order) {
+        return Err(CheckFault::No(Fault::NotToPlace(place.number())));
+    }
+    if let Some(fault) = missing(calls, order, marking.named.as_slice()) {
+        return Err(CheckFault::No(fault));
+    }
+    match bad_cut(eras) {
+        Some(fault) => Err(CheckFault::No(fault)),
+        None => Ok(()),
+    }
+}
+
+/// Whether the plan has the shape that the history asks for.
+pub fn check_shape(
+    alloc: Global,
+    history: &History,
+    certificate: &Certificate,
+) -> Result<(), CheckFault>
+    // The first fault.
+    ensures exact { IsCheck result (shape_fault history.now.eras history.now.calls certificate.now.eras) }
+    ensures ok { OnOk result (HasShape history.now.eras history.now.calls certificate.now.eras) }
+    // A plan that has the shape is refused for want of memory alone.
+    ensures only { HasShape history.now.eras history.now.calls certificate.now.eras → IsCheck result None }
+{
+    let eras = certificate.eras.as_slice();
+    if eras.len() as u64 != history.eras {
+        return Err(CheckFault::No(Fault::WrongEras));
+    }
+    let order = serial_order(alloc, eras)?;
+    check_places(alloc, history.calls.as_slice(), eras, order.as_slice())
+}
