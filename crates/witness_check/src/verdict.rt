@@ -1,0 +1,92 @@
+//! The verdict on a history and a certificate.
+
+ghost use Rattle.std.specs.Prelude.{◌≡◌, OnOk, Ok};
+ghost use Rattle.witness_check.specs.Witness.{IsWitness, AreAccepted};
+
+use crate::run::run_era;
+use certificate::{Certificate, TextFault, read_certificate};
+use nfs_history::{History, HistoryFault, read_history};
+use order_check::{CheckFault, Fault, check_order, check_shape};
+use std::alloc::{AllocError, Global};
+
+/// What is found of a history and a certificate.
+#[derive(Clone, Copy, Debug, PartialEq, Eq)]
+pub enum Verdict {
+    /// The certificate is a witness: its serial order is a legal one.
+    Yes,
+    /// It isn't, for this fault.
+    No(Fault),
+}
+
+/// What is found of a history file and a certificate text.
+#[derive(Clone, Copy, Debug, PartialEq, Eq)]
+pub enum FileVerdict {
+    /// The certificate is a witness of the history.
+    Yes,
+    /// It isn't, for this fault.
+    No(Fault),
+    /// The first text is no history; never for want of memory.
+    BadHistory(HistoryFault),
+    /// The second text is no certificate; never for want of memory.
+    BadText(TextFault),
+}
+
+/// The shape, then the order, then the run.
+fn check_parts(
+    alloc: Global,
+    history: &History,
+    certificate: &Certificate,
+) -> Result<(), CheckFault>
+    ensures ok { OnOk result (IsWitness history.now certificate.now) }
+{
+    check_shape(alloc, history, certificate)?;
+    check_order(history, certificate).map_err(CheckFault::No)?;
+    let [era] = certificate.eras.as_slice() else {
+        return Err(CheckFault::No(Fault::WrongEras));
+    };
+    run_era(
+        alloc,
+        history,
+        certificate.binds.as_slice(),
+        era.places.as_slice(),
+    )
+}
+
+/// Whether the certificate is a witness of the history. A history of several eras isn't judged yet.
+pub fn check(
+    alloc: Global,
+    history: &History,
+    certificate: &Certificate,
+) -> Result<Verdict, AllocError>
+    ensures yes { result ≡ Ok Verdict.Yes → IsWitness history.now certificate.now }
+{
+    match check_parts(alloc, history, certificate) {
+        Ok(()) => Ok(Verdict::Yes),
+        Err(CheckFault::No(fault)) => Ok(Verdict::No(fault)),
+        Err(CheckFault::NoMemory) => Err(AllocError),
+    }
+}
+
+/// The verdict on two texts; the history is read first.
+pub fn check_files(
+    alloc: Global,
+    history: &[u8],
+    certificate: &[u8],
+) -> Result<FileVerdict, AllocError>
+    ensures yes { result ≡ Ok FileVerdict.Yes → AreAccepted history.now certificate.now }
+{
+    let history = match read_history(alloc, history) {
+        Ok(history) => history,
+        Err(HistoryFault::NoMemory) => return Err(AllocError),
+        Err(fault) => return Ok(FileVerdict::BadHistory(fault)),
+    };
+    let certificate = match read_certificate(alloc, certificate) {
+        Ok(certificate) => certificate,
+        Err(TextFault::NoMemory) => return Err(AllocError),
+        Err(fault) => return Ok(FileVerdict::BadText(fault)),
+    };
+    match check(alloc, &history, &certificate)? {
+        Verdict::Yes => Ok(FileVerdict::Yes),
+        Verdict::No(fault) => Ok(FileVerdict::No(fault)),
+    }
+}
