@@ -3,3 +3,4 @@ pub mod FileLaws
 pub mod MatchingSteps
 pub mod Unanswered
 pub mod HistoryLaws
+pub mod LaterLaws

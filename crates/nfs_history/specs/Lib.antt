@@ -6,3 +6,4 @@ pub mod Matching
 pub mod Precedence
 pub mod Standing
 pub mod History
+pub mod Later

@@ -4,6 +4,7 @@ ghost use Rattle.std.specs.Prelude.{IfOk};
 ghost use Rattle.nfs_history.specs.Event.{Recording};
 ghost use Rattle.nfs_history.specs.HistoryFile.{HistoryFile};
 ghost use Rattle.nfs_history.specs.History.{IsHistory};
+ghost use Rattle.nfs_history.specs.Later.{AreJudgedNow};
 
 use crate::checking::check_events;
 use crate::fault::HistoryFault;
@@ -18,7 +19,8 @@ use std::alloc::Global;
 /// The history that a file holds. The first fault is named: those of the file, then those of its events, then
 /// those of its calls. The bytes of messages are not copied, but for what the calls and results own.
 pub fn read_history(alloc: Global, bytes: &[u8]) -> Result<History, HistoryFault>
-    ensures { IfOk result (λ history. (seen : Recording) × HistoryFile bytes.now seen × IsHistory seen history) }
+    ensures { IfOk result (λ history. (seen : Recording)
+        × HistoryFile bytes.now seen × AreJudgedNow seen.events × IsHistory seen history) }
 {
     let recording = read_file(alloc, bytes)?;
     let events = recording.events.as_slice();

@@ -100,6 +100,64 @@ fn each_fault_has_its_name(rt: HostRuntime) -> Result<(), Fail> {
 }
 
 #[test]
+fn the_first_fault_decides(rt: HostRuntime) -> Result<(), Fail> {
+    // Bytes behind the last event, ahead of an event that isn't judged yet; that, ahead of a bad head; a bad head,
+    // ahead of one that comes later; a head that can't be read, ahead of a call without its reply; a sealed call,
+    // ahead of its arguments; those, ahead of the result.
+    let rows = [
+        ([(19, 5), (355, 0xa4)], HistoryFault::Trailing),
+        ([(39, 1), (355, 0xa4)], HistoryFault::NotYet(5)),
+        ([(39, 1), (135, 0)], HistoryFault::BadRpc(1)),
+        ([(135, 0), (131, 9)], HistoryFault::BadRpc(2)),
+        (
+            [(251, 4), (380, 1)],
+            HistoryFault::Outside(2, Which::CountDiffers),
+        ),
+        ([(367, 6), (380, 1)], HistoryFault::Sealed(3)),
+        ([(380, 1), (443, 2)], HistoryFault::BadArgs(3)),
+    ];
+    for ([(at, byte), (other, more)], fault) in rows {
+        let mut bytes = patched(rt.alloc(), at, byte)?;
+        assert!(rt; other < bytes.len());
+        bytes[other] = more;
+        assert_eq!(rt;
+            fault_of(read_history(rt.alloc(), bytes.as_slice())),
+            Some(fault),
+            "at {at}"
+        );
+    }
+    Ok(())
+}
+
+#[test]
+fn a_fault_prints_its_name_and_values(rt: HostRuntime) -> Result<(), Fail> {
+    let rows = [
+        (HistoryFault::BadMagic, "BadMagic"),
+        (HistoryFault::TooLarge, "TooLarge"),
+        (HistoryFault::Truncated, "Truncated"),
+        (HistoryFault::BadEvent(1), "BadEvent 1"),
+        (HistoryFault::Trailing, "Trailing"),
+        (HistoryFault::LaneClosed(2), "LaneClosed 2"),
+        (HistoryFault::BadRpc(3), "BadRpc 3"),
+        (HistoryFault::XidInUse(4), "XidInUse 4"),
+        (HistoryFault::NoSuchCall(5), "NoSuchCall 5"),
+        (HistoryFault::Sealed(6), "Sealed 6"),
+        (HistoryFault::BadArgs(7), "BadArgs 7"),
+        (HistoryFault::BadResult(8), "BadResult 8"),
+        (
+            HistoryFault::Outside(9, Which::CountDiffers),
+            "Outside 9 CountDiffers",
+        ),
+        (HistoryFault::Outside(9, Which::TooFar), "Outside 9 TooFar"),
+        (HistoryFault::NotYet(10), "NotYet 10"),
+    ];
+    for (fault, text) in rows {
+        assert_eq!(rt; fault.to_string(rt.alloc())?.as_str(), text);
+    }
+    Ok(())
+}
+
+#[test]
 fn a_transaction_number_is_free_again_once_it_is_answered(rt: HostRuntime) -> Result<(), Fail> {
     let call = &EXAMPLE[20..116];
     let reply = &EXAMPLE[116..180];

@@ -19,6 +19,7 @@ returns c =
     let recorded : map seen_call c.as_slice.result.now ≡ calls_of (event_values c.in_ok-recording.recording.events.items) = ap (map seen_call) c.as_slice.ensures.value ∙ c.in_ok-calls.ensures ∙ ap calls_of events in (
       seen,
       c.in_ok-recording.ensures.found,
+      rw events at c.in_ok-refuse_later_events.ensures,
       record {
         follow = follow;
         root = c.in_ok-from_slice.ensures;
