@@ -1,9 +1,9 @@
 -- A running last begin finds the first early place, and none where the places respect the order.
-use Rattle.std.proofs.Common.{◌≡◌, ℕ, ◌+◌, ◌<◌, ◌≤◌, List, [], ◌∷◌, ◌++◌, length, take, drop, get_or, Option, Some, None, Result, Ok, Err, IsOk, refl, sym, ap, subst, ◌∙◌, arith, append_assoc, append-nil}
+use Rattle.std.proofs.Common.{◌≡◌, ℕ, ◌+◌, ◌<◌, ◌≤◌, List, [], ◌∷◌, ◌++◌, length, take, drop, get_or, Option, Some, None, refl, sym, ap, subst, ◌∙◌, arith, append_assoc}
 use Rattle.std.specs.List.{AllByRecursion}
 use Rattle.std.proofs.lemmas.List.{take_more, take-append-drop, at_drop_more}
 use Rattle.nfs_history.specs.declared.history.RecordedCall.{RecordedCall}
-use Rattle.nfs_history.specs.Precedence.{begin_of, end_of, Precedes}
+use Rattle.nfs_history.specs.Precedence.{begin_of, Precedes}
 use Rattle.certificate.specs.declared.plan.Place.{Place}
 use Rattle.certificate.specs.declared.plan.EraPlan.{EraPlan}
 use Rattle.certificate.specs.Plan.{call_of}
@@ -37,24 +37,24 @@ module _ (calls : List RecordedCall) where
   -- every place began by the time of the one that began last
   all_by : (places : List Place) (number : ℕ) → BeganLast calls places number → AllByRecursion (λ p. begin_of calls (call_of p) ≤ begin_of calls number) places
   all_by places number last =
-    let By : Place → Type 0 = λ p. begin_of calls (call_of p) ≤ begin_of calls number in
-    let ahead : AllByRecursion By last.ahead = all_weaker (λ p. begin_of calls (call_of p) < begin_of calls number) By (λ p h. omega arith) last.ahead last.after_those_ahead in
-    let same : call_of last.latest ≡ number = last.named in
-    let here : By last.latest = rw same (omega arith) in
-    subst (AllByRecursion By) (sym last.stands) (all_joined By last.ahead (last.latest ∷ last.behind) ahead (here, last.not_before_those_behind))
+      let By : Place → Type 0 = λ p. begin_of calls (call_of p) ≤ begin_of calls number in
+      let ahead : AllByRecursion By last.ahead = all_weaker (λ p. begin_of calls (call_of p) < begin_of calls number) By (λ p h. omega arith) last.ahead last.after_those_ahead in
+      let same : call_of last.latest ≡ number = last.named in
+      let here : By last.latest = rw same (omega arith) in
+      subst (AllByRecursion By) (sym last.stands) (all_joined By last.ahead (last.latest ∷ last.behind) ahead (here, last.not_before_those_behind))
 
   -- one more place that began after all of them
   pub later_last : (places : List Place) (place : Place) (other number : ℕ) → BeganLast calls places other → call_of place ≡ number
       → begin_of calls other < begin_of calls number → BeganLast calls (places ++ place ∷ []) number
   later_last places place other number last named later = record {
-      ahead = places;
-      latest = place;
-      behind = [];
-      stands = refl;
-      named = named;
-      after_those_ahead = all_weaker (λ p. begin_of calls (call_of p) ≤ begin_of calls other) (λ p. begin_of calls (call_of p) < begin_of calls number) (λ p h. omega arith) places (all_by places other last);
-      not_before_those_behind = tt;
-    }
+    ahead = places;
+    latest = place;
+    behind = [];
+    stands = refl;
+    named = named;
+    after_those_ahead = all_weaker (λ p. begin_of calls (call_of p) ≤ begin_of calls other) (λ p. begin_of calls (call_of p) < begin_of calls number) (λ p h. omega arith) places (all_by places other last);
+    not_before_those_behind = tt;
+  }
 
   -- one more place that began no later
   pub still_last : (places : List Place) (place : Place) (other number : ℕ) → BeganLast calls places other → call_of place ≡ number
@@ -74,14 +74,14 @@ module _ (calls : List RecordedCall) where
   -- the only place
   pub only_last : (places : List Place) (place : Place) (number : ℕ) → places ≡ [] → call_of place ≡ number → BeganLast calls (places ++ place ∷ []) number
   only_last places place number none named = record {
-      ahead = places;
-      latest = place;
-      behind = [];
-      stands = refl;
-      named = named;
-      after_those_ahead = subst (AllByRecursion (λ p. begin_of calls (call_of p) < begin_of calls number)) (sym none) tt;
-      not_before_those_behind = tt;
-    }
+    ahead = places;
+    latest = place;
+    behind = [];
+    stands = refl;
+    named = named;
+    after_those_ahead = subst (AllByRecursion (λ p. begin_of calls (call_of p) < begin_of calls number)) (sym none) tt;
+    not_before_those_behind = tt;
+  }
 
   -- who precedes a call precedes each that began no earlier
   precedes_later : (first second third : ℕ) → begin_of calls second ≤ begin_of calls third → Precedes calls first second → Precedes calls first third
@@ -109,7 +109,7 @@ module _ (calls : List RecordedCall) where
   not_early places i j early respected =
       let last = early.began_last in
       let stands : places ≡ last.ahead ++ (last.latest ∷ (last.behind ++ early.early ∷ early.behind)) =
-          early.stands ∙ ap (λ ps. ps ++ early.early ∷ early.behind) last.stands ∙ append_assoc last.ahead (last.latest ∷ last.behind) (early.early ∷ early.behind) in
+      early.stands ∙ ap (λ ps. ps ++ early.early ∷ early.behind) last.stands ∙ append_assoc last.ahead (last.latest ∷ last.behind) (early.early ∷ early.behind) in
       let from_latest = respects_behind last.ahead (last.latest ∷ (last.behind ++ early.early ∷ early.behind)) (subst (RespectsOrder calls) stands respected) in
       let from_early = all_behind (λ later. ¬ Precedes calls (call_of later) (call_of last.latest)) last.behind (early.early ∷ early.behind) from_latest.0 in
       let same_j : call_of early.early ≡ j = early.named in
@@ -140,27 +140,27 @@ module _ (calls : List RecordedCall) where
   pub early_here : (places : List Place) (index : ℕ) (d : Place) (number other : ℕ) → index < length places → number ≡ call_of (get_or places index d)
       → InOrderSoFar calls (take index places) (Some other) → Precedes calls number other → IsEarlyAmong calls places other number
   early_here places index d number other inside named so_far before = record {
-      ahead = take index places;
-      early = get_or places index d;
-      behind = drop (index + 1) places;
-      stands = sym (take-append-drop index places) ∙ at_drop_more (λ ps. take index places ++ ps) places index d inside;
-      named = sym named;
-      first = so_far.respected;
-      began_last = so_far.began_last;
-      precedes = before;
-    }
+    ahead = take index places;
+    early = get_or places index d;
+    behind = drop (index + 1) places;
+    stands = sym (take-append-drop index places) ∙ at_drop_more (λ ps. take index places ++ ps) places index d inside;
+    named = sym named;
+    first = so_far.respected;
+    began_last = so_far.began_last;
+    precedes = before;
+  }
 
   -- what the era at which the loop over eras stops answers
   pub early_fault_here : (plan : List EraPlan) (index : ℕ) (era : EraPlan) (fault : Fault) → index < length plan → era ≡ get_or plan index era
       → EachEraRespectsOrder calls (take index plan) → IsEarlyFaultAmong calls era.places fault → IsEarlyFault calls plan fault
   early_fault_here plan index era (faults.Early i j) inside is each early = record {
-      eras_ahead = take index plan;
-      era = era;
-      eras_behind = drop (index + 1) plan;
-      stands = sym (take-append-drop index plan) ∙ at_drop_more (λ eras. take index plan ++ eras) plan index era inside ∙ ap (λ e. take index plan ++ e ∷ drop (index + 1) plan) (sym is);
-      first = each;
-      among = early;
-    }
+    eras_ahead = take index plan;
+    era = era;
+    eras_behind = drop (index + 1) plan;
+    stands = sym (take-append-drop index plan) ∙ at_drop_more (λ eras. take index plan ++ eras) plan index era inside ∙ ap (λ e. take index plan ++ e ∷ drop (index + 1) plan) (sym is);
+    first = each;
+    among = early;
+  }
   early_fault_here plan index era _ inside is each early = absurd early
 
   pub no_early_fault : (plan : List EraPlan) (fault : Fault) → IsEarlyFault calls plan fault → EachEraRespectsOrder calls plan → ⊥

@@ -1,10 +1,10 @@
 -- A plan has its shape exactly where no fault of the shape is found.
-use Rattle.std.proofs.Common.{◌≡◌, ◌≢◌, ◌==◌, ◌&&◌, ◌||◌, ℕ, zero, suc, ◌+◌, ◌<◌, ◌≤◌, Bool, true, false, not, cond, IsTrue, List, [], ◌∷◌, ◌++◌, length, find, All, Option, Some, None, IfSome, is_some, Result, Ok, Err, OnOk, unwrap_or, nat_eq, nat_lt, refl, sym, ap, subst, ◌∙◌, arith, inl, inr, add-zero}
-use Rattle.std.specs.List.{AllByRecursion, list_any, slice_get}
+use Rattle.std.proofs.Common.{◌≡◌, ◌≢◌, ◌==◌, ◌&&◌, ◌||◌, ℕ, zero, suc, ◌+◌, ◌<◌, ◌≤◌, Bool, true, false, not, cond, IsTrue, List, [], ◌∷◌, ◌++◌, length, All, Option, Some, None, IfSome, is_some, Result, Ok, Err, OnOk, unwrap_or, nat_lt, refl, sym, ap, subst, ◌∙◌, arith, inl, inr, add-zero}
+use Rattle.std.specs.List.{AllByRecursion, slice_get}
 use Rattle.std.proofs.lemmas.List.Elements.{All-from_recursion}
 use Rattle.std.proofs.lemmas.List.Recursion.{or_push}
-use Rattle.std.proofs.lemmas.Option.{slice_get_within, slice_get_cases, none-some, same_Some}
-use Rattle.std.proofs.lemmas.Bool.{false≢true, true≢false, not-false, not_from_true, or_parts, or_from, and_parts, and_from, eqb-false, ne_eqb, eqb-true, eq-eqb, ltb-false, le-ltb, cond-false, cond-true, false_from_ne_true}
+use Rattle.std.proofs.lemmas.Option.{slice_get_cases, none-some, same_Some}
+use Rattle.std.proofs.lemmas.Bool.{false≢true, true≢false, not-false, not_from_true, or_parts, or_from, eqb-false, ne_eqb, eqb-true, eq-eqb, ltb-false, le-ltb, cond-false, cond-true}
 use Rattle.nfs_history.specs.declared.history.RecordedCall.{RecordedCall}
 use Rattle.nfs_history.specs.Precedence.{call_at}
 use Rattle.certificate.specs.declared.plan.EraPlan.{EraPlan}
@@ -29,7 +29,7 @@ module _ (test : OrderedPlace → Bool) where
   pub none_failing : (order : List OrderedPlace) → failing test order ≡ None → AllByRecursion (λ p. IsTrue (test p)) order
   none_failing [] none = tt
   none_failing (p ∷ order) none =
-    let h = not_chosen (not (test p)) p (failing test order) none in (not-false (test p) h.0, none_failing order h.1)
+      let h = not_chosen (not (test p)) p (failing test order) none in (not-false (test p) h.0, none_failing order h.1)
 
   pub all_pass : (order : List OrderedPlace) → AllByRecursion (λ p. IsTrue (test p)) order → failing test order ≡ None
   all_pass [] all = refl
@@ -95,7 +95,7 @@ no_repeat : (before order : List OrderedPlace) → AllByRecursion (λ q. is_name
 no_repeat before [] unnamed different = refl
 no_repeat before (p ∷ order) unnamed different =
     skipped (is_named before (number_of p)) p (repeat_behind (before ++ p ∷ []) order) unnamed.0
-        (no_repeat (before ++ p ∷ []) order (joined before p order unnamed.1 different.0) different.1)
+    (no_repeat (before ++ p ∷ []) order (joined before p order unnamed.1 different.0) different.1)
 
 none_named : (order : List OrderedPlace) → AllByRecursion (λ q. is_named [] (number_of q) ≡ false) order
 none_named [] = tt
@@ -230,7 +230,7 @@ pub whole_check : (eras : ℕ) (calls : List RecordedCall) (plan : List EraPlan)
 whole_check eras calls plan result calls_read plan_read order order_read same_calls same_plan same_order is_order as_many checked =
     let e : shape_fault_of_order calls_read plan_read order_read ≡ shape_fault_of_order calls plan (order_from 1 plan) = rw (same_order, is_order, same_calls, same_plan) refl in
     let whole : shape_fault eras calls plan ≡ shape_fault_of_order calls plan (order_from 1 plan) =
-        cond-true (length plan == eras) (shape_fault_of_order calls plan (order_from 1 plan)) (Some faults.WrongEras) (eq-eqb (length plan) eras (ap length (sym same_plan) ∙ as_many)) in
+    cond-true (length plan == eras) (shape_fault_of_order calls plan (order_from 1 plan)) (Some faults.WrongEras) (eq-eqb (length plan) eras (ap length (sym same_plan) ∙ as_many)) in
     subst (λ found. IsCheck result found) (e ∙ sym whole) checked
 
 pub shape_on_ok : (eras : ℕ) (calls : List RecordedCall) (plan : List EraPlan) (result : Result (Unit {0}) CheckFault)

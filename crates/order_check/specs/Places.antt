@@ -1,6 +1,5 @@
 -- The places of a certificate as one serial order, and how a call may be placed.
-use Rattle.std.specs.Prelude.{◌≡◌, ℕ, ◌+◌, ◌&&◌, not, nat_le, Bool, true, false, List, [], ◌∷◌, ◌++◌, length, map, Option, Some, None, is_some, is_none}
-use Rattle.nfs3_types.specs.declared.calls.NfsCall.{NfsCall}
+use Rattle.std.specs.Prelude.{ℕ, ◌+◌, ◌&&◌, nat_le, Bool, true, false, List, [], ◌∷◌, ◌++◌, length, map, Option, Some, None, is_some, is_none}
 use Rattle.nfs3_types.specs.declared.calls.NfsCall.TheVariants as calls
 use Rattle.nfs_history.specs.declared.history.Meaning.{Meaning}
 use Rattle.nfs_history.specs.declared.history.Meaning.TheVariants as meanings

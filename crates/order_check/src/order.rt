@@ -7,17 +7,9 @@ ghost use Rattle.certificate.specs.Plan.{call_of};
 ghost use Rattle.order_check.specs.Order.{RespectsOrder, EachEraRespectsOrder, BeganLast, BeganLastIfAny, IsEarlyFaultAmong, IsEarlyFault};
 
 use crate::fault::Fault;
+use crate::places::number_at;
 use certificate::{Certificate, Place};
 use nfs_history::{History, RecordedCall, find_call};
-
-/// The number of the call at a place.
-fn number_at(place: Place) -> u64
-    ensures { result ≡ call_of place }
-{
-    match place {
-        Place::Answered(number) | Place::Taken(number, _) => number,
-    }
-}
 
 /// When a call began.
 fn begin_of_call(calls: &[RecordedCall], number: u64) -> u64

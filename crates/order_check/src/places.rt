@@ -1,11 +1,12 @@
 //! The places of a certificate as one serial order, and how a call may be placed.
 
 ghost use Rattle.std.specs.Prelude.{◌≡◌, ◌++◌, map, IfOk};
+ghost use Rattle.certificate.specs.Plan.{call_of};
 ghost use Rattle.order_check.specs.Places.{order_from, number_of, may_place, may_take, is_known, is_of_era, is_placeable};
 
 use certificate::{EraPlan, Place};
-use nfs3_types::NfsCall;
 use nfs_history::{Meaning, RecordedCall, find_call};
+use nfs3_types::NfsCall;
 use std::alloc::{AllocError, Global};
 
 /// A place, and the era in which it stands.
@@ -23,9 +24,16 @@ impl OrderedPlace {
     pub fn number(&self) -> u64
         ensures { result ≡ number_of self.now }
     {
-        match self.place {
-            Place::Answered(number) | Place::Taken(number, _) => number,
-        }
+        number_at(self.place)
+    }
+}
+
+/// The number of the call at a place.
+pub fn number_at(place: Place) -> u64
+    ensures { result ≡ call_of place }
+{
+    match place {
+        Place::Answered(number) | Place::Taken(number, _) => number,
     }
 }
 
@@ -93,11 +101,7 @@ pub fn serial_order(alloc: Global, eras: &[EraPlan]) -> Result<Vec<OrderedPlace>
 }
 
 /// The places of one era behind those of the eras ahead.
-fn push_places(
-    order: &mut Vec<OrderedPlace>,
-    era: u64,
-    places: &[Place],
-) -> Result<(), AllocError>
+fn push_places(order: &mut Vec<OrderedPlace>, era: u64, places: &[Place]) -> Result<(), AllocError>
     ensures { IfOk result (λ _. order.new.items ≡ order.old.items ++ map (λ place. record { era = era; place = place }) places.now) }
 {
     order.reserve(places.len())?;

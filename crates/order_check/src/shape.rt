@@ -67,11 +67,7 @@ struct Marking {
     repeat: Option<OrderedPlace>,
 }
 
-fn mark_calls(
-    alloc: Global,
-    calls: usize,
-    order: &[OrderedPlace],
-) -> Result<Marking, AllocError>
+fn mark_calls(alloc: Global, calls: usize, order: &[OrderedPlace]) -> Result<Marking, AllocError>
     requires { All (λ p. (0 < number_of p) × (number_of p ≤ calls)) order.now }
     ensures repeat { IfOk result (λ m. m.repeat ≡ repeat_behind [] order.now) }
     ensures marks { IfOk result (λ m. m.repeat ≡ None → Marks order.now m.named.items calls) }

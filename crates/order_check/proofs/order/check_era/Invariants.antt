@@ -1,5 +1,4 @@
 use Rattle.std.proofs.Common.{take}
-use Rattle.order_check.specs.Order.{RespectsOrder, BeganLastIfAny}
 use Rattle.order_check.proofs.OrderLaws.{InOrderSoFar}
 use Rattle.order_check.proofs.order.check_era.Given as goal
 
