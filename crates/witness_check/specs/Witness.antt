@@ -4,6 +4,7 @@ use Rattle.nfs_history.specs.declared.history.History.{History}
 use Rattle.nfs_history.specs.Event.{Recording}
 use Rattle.nfs_history.specs.HistoryFile.{HistoryFile}
 use Rattle.nfs_history.specs.History.{IsHistory}
+use Rattle.nfs_history.specs.Later.{AreJudgedNow}
 use Rattle.certificate.specs.declared.plan.Certificate.{Certificate}
 use Rattle.certificate.specs.CertificateText.{CertificateText}
 use Rattle.order_check.specs.Shape.{HasShape}
@@ -22,6 +23,7 @@ pub record AreAccepted (history_file certificate_text : List ℕ) : Type 0 where
   pub history : History
   pub plan : Certificate
   pub file : HistoryFile history_file seen
+  pub today : AreJudgedNow seen.events
   pub means : IsHistory seen history
   pub text : CertificateText certificate_text plan
   pub witness : IsWitness history plan

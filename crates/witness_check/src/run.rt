@@ -1,7 +1,8 @@
 //! The run of a plan from the opening tree.
 
-ghost use Rattle.std.specs.Prelude.{◌≡◌, ℕ, Err, IfOk, OnOk, IsSome, map, option_map};
+ghost use Rattle.std.specs.Prelude.{◌≡◌, ℕ, Err, None, IfOk, OnOk, IsSome, map, option_map};
 ghost use Rattle.std.specs.List.{filter_map};
+ghost use Rattle.order_check.specs.FirstFault.{IsCheck};
 ghost use Rattle.replay_law.specs.Run.{state_after, IsFirstIllegal};
 ghost use Rattle.replay_law.specs.Steps.{taken_of};
 ghost use Rattle.file_tree.specs.Tree.{opening};
@@ -99,6 +100,9 @@ pub fn run_era(
     ensures illegal { (number : ℕ) → result ≡ Err (CheckFault.No (Fault.Illegal number))
         → IsFirstIllegal (next_tree (bindings_of history.now.root binds.now)) opening
         (filter_map (step_at history.now.calls) places.now) number }
+    // A run that has every next tree is refused for want of memory alone.
+    ensures only { IsSome (state_after (next_tree (bindings_of history.now.root binds.now)) opening
+        (filter_map (step_at history.now.calls) places.now)) → IsCheck result None }
 {
     let calls = history.calls.as_slice();
     let bindings = bindings(alloc, history.root.as_slice(), binds)?;

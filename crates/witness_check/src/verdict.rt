@@ -1,6 +1,8 @@
 //! The verdict on a history and a certificate.
 
-ghost use Rattle.std.specs.Prelude.{◌≡◌, OnOk, Ok};
+ghost use Rattle.std.specs.Prelude.{◌≡◌, ◌≢◌, OnOk, Ok, None};
+ghost use Rattle.order_check.specs.declared.fault.Fault.{Fault};
+ghost use Rattle.order_check.specs.FirstFault.{IsCheck};
 ghost use Rattle.witness_check.specs.Witness.{IsWitness, AreAccepted};
 
 use crate::run::run_era;
@@ -38,6 +40,7 @@ fn check_parts(
     certificate: &Certificate,
 ) -> Result<(), CheckFault>
     ensures ok { OnOk result (IsWitness history.now certificate.now) }
+    ensures only { history.now.eras ≡ 1 → IsWitness history.now certificate.now → IsCheck result None }
 {
     check_shape(alloc, history, certificate)?;
     check_order(history, certificate).map_err(CheckFault::No)?;
@@ -59,6 +62,9 @@ pub fn check(
     certificate: &Certificate,
 ) -> Result<Verdict, AllocError>
     ensures yes { result ≡ Ok Verdict.Yes → IsWitness history.now certificate.now }
+    // A witness is never answered by a no.
+    ensures only { (fault : Fault) → history.now.eras ≡ 1 → IsWitness history.now certificate.now
+        → result ≢ Ok (Verdict.No fault) }
 {
     match check_parts(alloc, history, certificate) {
         Ok(()) => Ok(Verdict::Yes),
