@@ -1,0 +1,28 @@
+-- What a bundle is: a history and a certificate in one stream of bytes.
+use Rattle.std.specs.Prelude.{◌≡◌, ℕ, Bool, ◌&&◌, ◌||◌, nat_le, List, [], ◌∷◌, ◌++◌}
+use Rattle.hex.specs.Hex.{IsBytes, encode_lower}
+use Rattle.witness_check.specs.Witness.{AreAccepted}
+
+-- the history's bytes in base 16 (RFC 4648, section 8) with lower case letters, a line feed, the certificate's text
+pub record IsBundle (bytes history certificate : List ℕ) : Type 0 where
+  pub in_range : IsBytes history
+  pub spelled : bytes ≡ encode_lower history ++ 10 ∷ certificate
+
+-- the first line of a bundle
+abbrev pub IsHistoryLine : List ℕ → List ℕ → Type 0
+IsHistoryLine line history = IsBundle line history []
+
+-- some history and some certificate
+abbrev pub IsSomeBundle : List ℕ → Type 0
+IsSomeBundle bytes = (history : List ℕ) × (certificate : List ℕ) × IsBundle bytes history certificate
+
+-- a history and a certificate that shows how its calls can have come one after another
+pub record IsAcceptedBundle (bytes : List ℕ) : Type 0 where
+  pub history : List ℕ
+  pub certificate : List ℕ
+  pub spelled : IsBundle bytes history certificate
+  pub accepted : AreAccepted history certificate
+
+-- whether a byte is one of the sixteen digits, 48 to 57 and 97 to 102
+abbrev pub is_lower_digit : ℕ → Bool
+is_lower_digit c = (nat_le 48 c && nat_le c 57) || (nat_le 97 c && nat_le c 102)
