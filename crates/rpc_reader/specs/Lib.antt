@@ -2,3 +2,4 @@ pub mod Values
 pub mod Heads
 pub mod Messages
 pub mod Views
+pub mod Texts
