@@ -5,7 +5,7 @@ use Rattle.std.specs.List.{flat_map, AllByRecursion}
 use Rattle.std.specs.Ordering.{nat_cmp}
 use Rattle.std.specs.declared.cmp.Ordering.TheVariants.{Less}
 use Rattle.std.specs.Cmp.Lexicographic.{slice_cmp}
-use Rattle.hex.specs.Hex.{encode_lower}
+use Rattle.hex.specs.Hex.{IsBytes, encode_lower}
 use Rattle.certificate.specs.declared.plan.Bind.{Bind}
 use Rattle.certificate.specs.declared.plan.Place.{Place}
 use Rattle.certificate.specs.declared.plan.Place.TheVariants.{Answered, Taken}
@@ -49,9 +49,18 @@ AreRising [] = Unit {0}
 AreRising (b ∷ []) = Unit {0}
 AreRising (b ∷ c ∷ bs) = (slice_cmp nat_cmp b.handle c.handle ≡ Less) × AreRising (c ∷ bs)
 
--- a handle that is bound is not empty
+-- a handle that is bound is not empty, and its object has a number of 64 bits
 abbrev pub HasHandle : Bind → Type 0
-HasHandle bind = (0 < length bind.handle) × (length bind.handle ≤ 64)
+HasHandle bind = (0 < length bind.handle) × (length bind.handle ≤ 64) × IsBytes bind.handle × (bind.object < 2 ^ 64)
+
+-- a call has a number of 64 bits, and a count 32
+abbrev pub HasNumbers : Place → Type 0
+HasNumbers (Answered n) = n < 2 ^ 64
+HasNumbers (Taken n count) = (n < 2 ^ 64) × IfSome count (λ c. c < 2 ^ 32)
+
+-- so have the places of an era and its cut
+abbrev pub HasNumbersInEra : EraPlan → Type 0
+HasNumbersInEra era = AllByRecursion HasNumbers era.places × IfSome era.cut (λ kept. kept < 2 ^ 64)
 
 -- each era but the last has a cut, the last has none, and there is a last one
 abbrev pub AreEras : List EraPlan → Type 0
@@ -64,6 +73,7 @@ pub record IsCertificate (certificate : Certificate) : Type 0 where
   pub rising : AreRising certificate.binds
   pub handles : AllByRecursion HasHandle certificate.binds
   pub eras : AreEras certificate.eras
+  pub numbers : AllByRecursion HasNumbersInEra certificate.eras
 
 -- the text spells the certificate
 pub record CertificateText (text : List ℕ) (certificate : Certificate) : Type 0 where

@@ -6,7 +6,7 @@ use Rattle.certificate.specs.declared.plan.Place.{Place}
 use Rattle.certificate.specs.declared.reading.Draft.{Draft}
 use Rattle.certificate.specs.declared.reading.Step.{Step}
 use Rattle.certificate.specs.declared.reading.Step.TheVariants.{GoesOn, Ends, Refuses}
-use Rattle.certificate.specs.CertificateText.{line, bind_lines, place_lines, HasHandle, AreRising}
+use Rattle.certificate.specs.CertificateText.{line, bind_lines, place_lines, HasHandle, HasNumbers, AreRising}
 
 -- the text so far
 abbrev pub spelled_by : List Bind → List Place → List ℕ
@@ -20,7 +20,7 @@ pub record AreBinds (binds : List Bind) : Type 0 where
 -- what became of the draft with these words of a next line
 abbrev pub TakesLine : List ℕ → Draft → Draft → Step → Type 0
 TakesLine words old new GoesOn =
-    (spelled_by new.binds.items new.places.items ≡ spelled_by old.binds.items old.places.items ++ line words) × (AreBinds old.binds.items → AreBinds new.binds.items)
+    (spelled_by new.binds.items new.places.items ≡ spelled_by old.binds.items old.places.items ++ line words) × (AreBinds old.binds.items → AreBinds new.binds.items) × (AllByRecursion HasNumbers old.places.items → AllByRecursion HasNumbers new.places.items)
 TakesLine words old new Ends = (words ≡ codes "end") × (new.binds.items ≡ old.binds.items) × (new.places.items ≡ old.places.items)
 TakesLine words old new Refuses = Unit {0}
 
@@ -28,4 +28,5 @@ TakesLine words old new Refuses = Unit {0}
 pub record IsReadUpTo (text : List ℕ) (draft : Draft) (rest : List ℕ) (lines : ℕ) : Type 0 where
   pub spelled : text ≡ spelled_by draft.binds.items draft.places.items ++ rest
   pub binds : AreBinds draft.binds.items
+  pub places : AllByRecursion HasNumbers draft.places.items
   pub counted : lines + length rest ≤ length text

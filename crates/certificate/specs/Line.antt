@@ -4,7 +4,7 @@ use Rattle.certificate.specs.declared.plan.Bind.{Bind}
 use Rattle.certificate.specs.declared.plan.Place.{Place}
 use Rattle.certificate.specs.declared.line.Line.{Line}
 use Rattle.certificate.specs.declared.line.Line.TheVariants as lines
-use Rattle.certificate.specs.CertificateText.{bind_words, place_words, HasHandle}
+use Rattle.certificate.specs.CertificateText.{bind_words, place_words, HasHandle, HasNumbers}
 
 -- the words of a line
 abbrev pub words_of : Line → List ℕ
@@ -16,4 +16,5 @@ words_of lines.End = codes "end"
 -- the words of a line that may stand somewhere in a certificate
 abbrev pub IsLine : List ℕ → Line → Type 0
 IsLine words (lines.Bind bind) = (words ≡ bind_words bind) × HasHandle bind
+IsLine words (lines.Place place) = (words ≡ place_words place) × HasNumbers place
 IsLine words l = words ≡ words_of l

@@ -1,7 +1,7 @@
 //! One line of a certificate.
 
-ghost use Rattle.std.specs.Prelude.{◌≡◌, ◌<◌, ◌≤◌, ◌++◌, ◌∷◌, length, decimal, IfOk, IfSome};
-ghost use Rattle.hex.specs.Hex.{encode_lower};
+ghost use Rattle.std.specs.Prelude.{◌≡◌, ◌<◌, ◌≤◌, ◌^◌, ◌++◌, ◌∷◌, length, decimal, IfOk, IfSome};
+ghost use Rattle.hex.specs.Hex.{IsBytes, encode_lower};
 ghost use Rattle.certificate.specs.CertificateText.{bind_words, HasHandle};
 ghost use Rattle.certificate.specs.Line.{IsLine};
 
@@ -37,7 +37,7 @@ fn behind<'a>(text: &'a [u8], front: &[u8]) -> Option<&'a [u8]>
 
 /// The number that the digits write, where they are its decimal digits without a zero in front.
 fn number_of(digits: &[u8]) -> Option<u64>
-    ensures { IfSome result (λ n. digits.now ≡ decimal n) }
+    ensures { IfSome result (λ n. (digits.now ≡ decimal n) × (n < 2 ^ 64)) }
 {
     let text = str::from_utf8(digits).ok()?;
     let number = text.parse::<u64>().ok()?;
@@ -51,7 +51,7 @@ fn number_of(digits: &[u8]) -> Option<u64>
 
 /// The handle that the text writes in lower case hexadecimal, where it has 1 to 64 bytes.
 fn handle_of(alloc: Global, text: &[u8]) -> Result<Option<FileHandle>, AllocError>
-    ensures { IfOk result (λ o. IfSome o (λ h. (text.now ≡ encode_lower h) × (0 < length h) × (length h ≤ 64))) }
+    ensures { IfOk result (λ o. IfSome o (λ h. (text.now ≡ encode_lower h) × (0 < length h) × (length h ≤ 64) × IsBytes h)) }
 {
     if text.len() > 2 * HANDLE_LIMIT {
         return Ok(None);

@@ -1,7 +1,8 @@
 //! A certificate's text, read line by line in one pass.
 
 ghost use Rattle.std.specs.Prelude.{◌≡◌, ◌∷◌, [], IfOk, length, Some, None, codes, ◌++◌, IsTrue};
-ghost use Rattle.certificate.specs.CertificateText.{CertificateText, line, bind_words, HasHandle, AreRising};
+ghost use Rattle.std.specs.List.{AllByRecursion};
+ghost use Rattle.certificate.specs.CertificateText.{CertificateText, line, bind_words, HasHandle, HasNumbers, AreRising};
 ghost use Rattle.certificate.specs.Draft.{TakesLine, AreBinds, spelled_by};
 
 use crate::line::{Line, read_line, split_at_byte};
@@ -93,7 +94,8 @@ impl Draft {
 
     /// The certificate of one era.
     fn finish(self, alloc: Global) -> Result<Certificate, AllocError>
-        requires { AreBinds self.binds.items }
+        requires binds { AreBinds self.binds.items }
+        requires places { AllByRecursion HasNumbers self.places.items }
         ensures { IfOk result (CertificateText (spelled_by self.binds.items self.places.items ++ line (codes "end"))) }
     {
         let Draft { binds, places } = self;
