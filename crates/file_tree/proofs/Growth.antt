@@ -21,17 +21,17 @@ use Rattle.nfs3_types.specs.declared.replies.Outcome.{Outcome}
 use Rattle.nfs3_types.specs.declared.replies.Outcome.TheVariants.{Received, Taken}
 use Rattle.file_tree.specs.declared.change.Change.{Change}
 use Rattle.file_tree.specs.declared.change.Change.TheVariants.{Keep, Put}
-use Rattle.file_tree.specs.declared.node.Node.{Node}
-use Rattle.file_tree.specs.declared.node.File.{File}
-use Rattle.file_tree.specs.declared.node.Content.{Content}
-use Rattle.file_tree.specs.declared.node.Content.TheVariants as contents
-use Rattle.file_tree.specs.Tree.{Names, Tree, path_cmp, entry_of}
+use Rattle.tree_nodes.specs.declared.node.Node.{Node}
+use Rattle.tree_nodes.specs.declared.node.File.{File}
+use Rattle.tree_nodes.specs.declared.node.Content.{Content}
+use Rattle.tree_nodes.specs.declared.node.Content.TheVariants as contents
+use Rattle.tree_nodes.specs.Tree.{Names, Tree, path_cmp, entry_of}
 use Rattle.file_tree.specs.Binding.{Bindings, object_of, gives_object}
 use Rattle.file_tree.specs.Live.{FileEntry, live_entry, as_directory, directory_of, as_file, file_of}
-use Rattle.file_tree.specs.Sound.{IsSound}
-use Rattle.file_tree.specs.Success.{is_plain, made_by, set_size, create_over, create_present, create_at, create_change, write_at, write_change, read_is_right, read_change, change_received, change_taken, change_of}
-use Rattle.file_tree.proofs.Entries.{path_total}
-use Rattle.file_tree.proofs.Soundness.{FitsAt, GrowsAt, sound_put}
+use Rattle.tree_nodes.specs.Sound.{IsSound}
+use Rattle.file_tree.specs.Success.{is_plain, made_by, set_size, create_over, create_present, create_at, create_change, write_at, write_change, read_is_right, read_change, change_read, change_written, change_created, change_received, change_taken, change_of}
+use Rattle.tree_nodes.proofs.Entries.{path_total}
+use Rattle.tree_nodes.proofs.Soundness.{FitsAt, GrowsAt, sound_put}
 
 -- ---- values of chains
 
@@ -162,18 +162,28 @@ read_fits binds tree call success c e =
 no_change : (tree : Tree) (c : Change) → ◌≡◌ {A = Option Change} None (Some c) → ChangeFits tree c
 no_change tree c e = absurd (cc)
 
+read_reply_fits : (binds : Bindings) (tree : Tree) (call : ReadArguments) (reply : NfsReply) (c : Change) → change_read binds tree call reply ≡ Some c → ChangeFits tree c
+read_reply_fits binds tree call (replies.Read (Done success)) c e = read_fits binds tree call success c e
+read_reply_fits binds tree call _ c e = no_change tree c e
+
+write_reply_fits : (binds : Bindings) (tree : Tree) (call : WriteArguments) (reply : NfsReply) (c : Change) → change_written binds tree call reply ≡ Some c → ChangeFits tree c
+write_reply_fits binds tree call (replies.Write (Done success)) c e = write_fits binds tree call success.count (Some success.level) c e
+write_reply_fits binds tree call _ c e = no_change tree c e
+
+create_reply_fits : (binds : Bindings) (tree : Tree) (number : ℕ) (call : CreateArguments) (reply : NfsReply) (c : Change) → change_created binds tree number call reply ≡ Some c → ChangeFits tree c
+create_reply_fits binds tree number call (replies.Create (Done success)) c e = create_fits binds tree number call success.object c e
+create_reply_fits binds tree number call _ c e = no_change tree c e
+
 received_fits : (binds : Bindings) (tree : Tree) (number : ℕ) (call : NfsCall) (reply : NfsReply) (c : Change) → change_received binds tree number call reply ≡ Some c → ChangeFits tree c
-received_fits binds tree number (calls.Read call) (replies.Read (Done success)) c e = read_fits binds tree call success c e
-received_fits binds tree number (calls.Write call) (replies.Write (Done success)) c e = write_fits binds tree call success.count (Some success.level) c e
-received_fits binds tree number (calls.Create call) (replies.Create (Done success)) c e = create_fits binds tree number call success.object c e
-received_fits binds tree number _ _ c e = no_change tree c e
+received_fits binds tree number (calls.Read call) reply c e = read_reply_fits binds tree call reply c e
+received_fits binds tree number (calls.Write call) reply c e = write_reply_fits binds tree call reply c e
+received_fits binds tree number (calls.Create call) reply c e = create_reply_fits binds tree number call reply c e
+received_fits binds tree number _ reply c e = no_change tree c e
 
 taken_fits : (binds : Bindings) (tree : Tree) (number : ℕ) (call : NfsCall) (count : Option ℕ) (c : Change) → change_taken binds tree number call count ≡ Some c → ChangeFits tree c
-taken_fits binds tree number (calls.Read call) count c e = no_change tree c e
-taken_fits binds tree number (calls.Write call) None c e = no_change tree c e
 taken_fits binds tree number (calls.Write call) (Some count) c e = write_fits binds tree call count None c e
 taken_fits binds tree number (calls.Create call) None c e = create_fits binds tree number call None c e
-taken_fits binds tree number (calls.Create call) (Some _) c e = no_change tree c e
+taken_fits binds tree number _ _ c e = no_change tree c e
 
 -- a step's change puts a node where one stands, or, where there is room, in a directory
 pub change_fits : (binds : Bindings) (tree : Tree) (number : ℕ) (call : NfsCall) (outcome : Outcome) (c : Change) → change_of binds tree number call outcome ≡ Some c → ChangeFits tree c

@@ -1,5 +1,2 @@
-pub mod Entries
-pub mod Printing
-pub mod Soundness
 pub mod Growth
 pub mod Undoing

@@ -2,12 +2,12 @@
 use Rattle.std.proofs.Common.{◌≡◌, ◌⊎◌, inl, inr, true, false, cond, Option, Some, None, sym, ap, ◌∙◌}
 use Rattle.std.specs.Ordering.{eq_by_cmp}
 use Rattle.std.specs.FinMap as map
-use Rattle.file_tree.specs.declared.node.Node.{Node}
-use Rattle.file_tree.specs.Tree.{Names, Tree, path_cmp}
-use Rattle.file_tree.specs.Sound.{IsSound}
+use Rattle.tree_nodes.specs.declared.node.Node.{Node}
+use Rattle.tree_nodes.specs.Tree.{Names, Tree, path_cmp}
+use Rattle.tree_nodes.specs.Sound.{IsSound}
 use Rattle.file_tree.specs.Undo.{undone, undo_of, TakesBack}
-use Rattle.file_tree.proofs.Entries.{path_total, path_ties}
-use Rattle.file_tree.proofs.Soundness.{same_path}
+use Rattle.tree_nodes.proofs.Entries.{path_total, path_ties}
+use Rattle.tree_nodes.proofs.Soundness.{same_path}
 
 -- what the path had hides what was put there
 hidden : (tree : Tree) (path q : Names) (node : Node) (before : Option Node) → map.get tree path ≡ before

@@ -1,10 +1,5 @@
 pub mod Binding
-pub mod Tree
-pub mod Nodes
 pub mod Live
 pub mod Success
 pub mod Answers
-pub mod Printed
-pub mod Sound
 pub mod Undo
-pub mod Unprinted

@@ -1,10 +1,10 @@
 -- handles in a tree: RFC 1813, `nfs_fh3` and NFS3ERR_STALE
 use Rattle.std.specs.Prelude.{ℕ, List, Option, Some, None, IsSome, option_and_then}
-use Rattle.file_tree.specs.declared.node.Node.{Node}
-use Rattle.file_tree.specs.declared.node.Content.{Content}
-use Rattle.file_tree.specs.declared.node.Content.TheVariants as contents
-use Rattle.file_tree.specs.declared.node.File.{File}
-use Rattle.file_tree.specs.Tree.{Names, Tree, entry_of}
+use Rattle.tree_nodes.specs.declared.node.Node.{Node}
+use Rattle.tree_nodes.specs.declared.node.Content.{Content}
+use Rattle.tree_nodes.specs.declared.node.Content.TheVariants as contents
+use Rattle.tree_nodes.specs.declared.node.File.{File}
+use Rattle.tree_nodes.specs.Tree.{Names, Tree, entry_of}
 use Rattle.file_tree.specs.Binding.{Bindings, object_of}
 
 -- where the object that a handle names stands, and its node

@@ -19,36 +19,22 @@ use Rattle.nfs3_types.specs.declared.replies.Outcome.{Outcome}
 use Rattle.nfs3_types.specs.declared.replies.Outcome.TheVariants.{Received, Taken}
 use Rattle.file_tree.specs.declared.change.Change.{Change}
 use Rattle.file_tree.specs.declared.change.Change.TheVariants.{Keep, Put}
-use Rattle.file_tree.specs.declared.node.Node.{Node}
-use Rattle.file_tree.specs.declared.node.Content.{Content}
-use Rattle.file_tree.specs.declared.node.Content.TheVariants as contents
-use Rattle.file_tree.specs.declared.node.File.{File}
-use Rattle.file_tree.specs.Tree.{Names, Tree, entry_of}
+use Rattle.tree_nodes.specs.declared.node.Node.{Node}
+use Rattle.tree_nodes.specs.declared.node.Content.{Content}
+use Rattle.tree_nodes.specs.declared.node.Content.TheVariants as contents
+use Rattle.tree_nodes.specs.declared.node.File.{File}
+use Rattle.tree_nodes.specs.Files.{file_limit, node_limit, file_node, resized, written}
+use Rattle.tree_nodes.specs.Tree.{Names, Tree, entry_of}
 use Rattle.file_tree.specs.Binding.{Bindings, same_bytes, gives_object}
 use Rattle.file_tree.specs.Live.{FileEntry, directory_of, file_of}
-
--- the most bytes of a file, and the most nodes of a tree, that a success may leave: this project's limits
-abbrev pub file_limit : ℕ
-file_limit = 16777216
-
-abbrev pub node_limit : ℕ
-node_limit = 4294967295
 
 -- a value where a test passes
 abbrev pub only_if : {A : Type 0} → Bool → A → Option A
 only_if b x = if b then Some x else None
 
--- this file with other bytes
-abbrev pub file_node : ℕ → List ℕ → Option Verifier → Node
-file_node object bytes verifier = record { object = object; content = contents.File (record { bytes = bytes; verifier = verifier }) }
-
 -- a name that can be made: not empty, `.` or `..`
 abbrev pub is_plain : List ℕ → Bool
 is_plain name = not (length name == 0 || same_bytes name (46 ∷ []) || same_bytes name (46 ∷ 46 ∷ []))
-
--- bytes cut, or filled with zeros, to a size: RFC 1813, section 3.3.2
-abbrev pub resized : List ℕ → ℕ → List ℕ
-resized bytes size = take size bytes ++ replicate (size - length bytes) 0
 
 -- CREATE, RFC 1813, section 3.3.8: a name that is absent is made a file with the call's object number, of zeros to the
 -- size that is given, with the verifier of an exclusive call
@@ -107,9 +93,6 @@ abbrev pub reaches : StableHow → Option StableHow → Bool
 reaches asked None = true
 reaches asked (Some level) = nat_le (level_rank asked) (level_rank level)
 
-abbrev pub written : List ℕ → ℕ → List ℕ → List ℕ
-written bytes offset added = resized bytes offset ++ added ++ drop (offset + length added) bytes
-
 abbrev pub write_at : FileEntry → ℕ → List ℕ → Option Change
 write_at entry offset added =
     if length added == 0 then Some Keep
@@ -136,20 +119,31 @@ read_is_right bytes call success =
 abbrev pub read_change : Bindings → Tree → ReadArguments → ReadSuccess → Option Change
 read_change binds tree call success = option_and_then (λ entry. only_if (read_is_right entry.file.bytes call success) Keep) (file_of binds tree call.file)
 
--- what a received reply makes of the tree: as yet the successes of CREATE, WRITE and READ
+-- what a reply to a READ makes of the tree, to a WRITE and to a CREATE: as yet their successes
+abbrev pub change_read : Bindings → Tree → ReadArguments → NfsReply → Option Change
+change_read binds tree call (replies.Read (Done success)) = read_change binds tree call success
+change_read binds tree call _ = None
+
+abbrev pub change_written : Bindings → Tree → WriteArguments → NfsReply → Option Change
+change_written binds tree call (replies.Write (Done success)) = write_change binds tree call success.count (Some success.level)
+change_written binds tree call _ = None
+
+abbrev pub change_created : Bindings → Tree → ℕ → CreateArguments → NfsReply → Option Change
+change_created binds tree number call (replies.Create (Done success)) = create_change binds tree number call success.object
+change_created binds tree number call _ = None
+
+-- what a received reply makes of the tree: as yet to one of these three
 abbrev pub change_received : Bindings → Tree → ℕ → NfsCall → NfsReply → Option Change
-change_received binds tree number (calls.Read call) (replies.Read (Done success)) = read_change binds tree call success
-change_received binds tree number (calls.Write call) (replies.Write (Done success)) = write_change binds tree call success.count (Some success.level)
-change_received binds tree number (calls.Create call) (replies.Create (Done success)) = create_change binds tree number call success.object
-change_received binds tree number _ _ = None
+change_received binds tree number (calls.Read call) reply = change_read binds tree call reply
+change_received binds tree number (calls.Write call) reply = change_written binds tree call reply
+change_received binds tree number (calls.Create call) reply = change_created binds tree number call reply
+change_received binds tree number _ reply = None
 
 -- what a call that was taken makes of it: its success, without a handle or a level
 abbrev pub change_taken : Bindings → Tree → ℕ → NfsCall → Option ℕ → Option Change
-change_taken binds tree number (calls.Read _) _ = None
-change_taken binds tree number (calls.Write call) None = None
 change_taken binds tree number (calls.Write call) (Some count) = write_change binds tree call count None
 change_taken binds tree number (calls.Create call) None = create_change binds tree number call None
-change_taken binds tree number (calls.Create call) (Some _) = None
+change_taken binds tree number _ _ = None
 
 abbrev pub change_of : Bindings → Tree → ℕ → NfsCall → Outcome → Option Change
 change_of binds tree number call (Received reply) = change_received binds tree number call reply

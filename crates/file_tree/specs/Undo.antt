@@ -1,11 +1,11 @@
 -- taking a step back
 use Rattle.std.specs.Prelude.{◌≡◌, Option, Some, None}
-use Rattle.file_tree.specs.declared.node.Node.{Node}
+use Rattle.tree_nodes.specs.declared.node.Node.{Node}
 use Rattle.std.specs.FinMap as map
 use Rattle.file_tree.specs.declared.change.Undo.{Undo}
 use Rattle.file_tree.specs.declared.change.Undo.TheVariants.{Nothing, Restore, Remove}
-use Rattle.file_tree.specs.Tree.{Names, Tree}
-use Rattle.file_tree.specs.Sound.{IsSound}
+use Rattle.tree_nodes.specs.Tree.{Names, Tree}
+use Rattle.tree_nodes.specs.Sound.{IsSound}
 
 -- the tree with what was overwritten, or without what was added
 abbrev pub undone : Undo → Tree → Tree

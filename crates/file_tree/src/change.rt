@@ -3,8 +3,8 @@
 ghost use Rattle.std.specs.Prelude.{◌≡◌};
 ghost use Rattle.file_tree.specs.Undo.{undo_of};
 
-use crate::bytes::Path;
-use crate::node::Node;
+use tree_nodes::bytes::Path;
+use tree_nodes::node::Node;
 
 /// What becomes of a tree.
 #[derive(Debug, Drop)]

@@ -2,20 +2,21 @@
 
 ghost use Rattle.std.specs.Prelude.{◌≡◌, ◌+◌, ◌^◌, ◌<◌, ◌∷◌, [], ◌++◌, length, IfOk, replicate};
 ghost use Rattle.std.specs.FinMap as map;
-ghost use Rattle.file_tree.specs.Nodes.{tree_of};
+ghost use Rattle.tree_nodes.specs.Nodes.{tree_of};
 ghost use Rattle.file_tree.specs.Answers.{Answers};
-ghost use Rattle.file_tree.specs.Success.{is_plain, first_size, first_verifier, made_by, create_absent, set_size, create_over, create_present, create_at, create_change, file_node};
+ghost use Rattle.file_tree.specs.Success.{is_plain, first_size, first_verifier, made_by, create_absent, set_size, create_over, create_present, create_at, create_change};
+ghost use Rattle.tree_nodes.specs.Files.{file_node};
 
 use crate::binds::Binds;
-use crate::bytes::{Bytes, Path};
 use crate::change::Change;
-use crate::content::{FILE_LIMIT, resized};
 use crate::live::{directory_of, gives_object};
-use crate::node::{Content, File, Node};
-use crate::nodes::{Nodes, count, entry_of, node_at};
 use nfs3_types::{CreateArguments, CreateMode, FileHandle, Verifier};
 use replay_law::replay::StepFault;
 use std::alloc::{AllocError, Global};
+use tree_nodes::bytes::{Bytes, Path};
+use tree_nodes::content::{FILE_LIMIT, resized};
+use tree_nodes::node::{Content, File, Node};
+use tree_nodes::nodes::{Nodes, count, entry_of, node_at};
 
 /// The most nodes of a tree.
 pub const NODE_LIMIT: u64 = 4_294_967_295;

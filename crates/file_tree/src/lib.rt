@@ -2,14 +2,9 @@
 #![tactic(auto)]
 
 pub mod binds;
-pub mod bytes;
 pub mod change;
-pub mod content;
 mod create;
 mod live;
-pub mod node;
-mod nodes;
-mod print;
 mod read;
 mod success;
 #[cfg(test)]

@@ -2,15 +2,15 @@
 
 ghost use Rattle.std.specs.Prelude.{◌≡◌};
 ghost use Rattle.std.specs.Option.{option_copied, option_map};
-ghost use Rattle.file_tree.specs.Nodes.{tree_of};
+ghost use Rattle.tree_nodes.specs.Nodes.{tree_of};
 ghost use Rattle.file_tree.specs.Live.{live_entry, directory_of, file_of};
 ghost use Rattle.file_tree.specs.Binding.{gives_object};
 
 use crate::binds::Binds;
-use crate::bytes::Path;
-use crate::node::{Content, File, Node};
-use crate::nodes::{Nodes, entry_of};
 use nfs3_types::FileHandle;
+use tree_nodes::bytes::Path;
+use tree_nodes::node::{Content, File, Node};
+use tree_nodes::nodes::{Nodes, entry_of};
 
 /// A file with its place and its object.
 #[derive(Drop)]

@@ -1,17 +1,17 @@
 //! Where a READ may succeed with these bytes (RFC 1813, section 3.3.6).
 
 ghost use Rattle.std.specs.Prelude.{◌≡◌};
-ghost use Rattle.file_tree.specs.Nodes.{tree_of};
+ghost use Rattle.tree_nodes.specs.Nodes.{tree_of};
 ghost use Rattle.file_tree.specs.Answers.{Answers};
 ghost use Rattle.file_tree.specs.Success.{read_change, same_flag, read_is_right};
 
 use crate::binds::Binds;
 use crate::change::Change;
-use crate::content::{behind, front, reaches_end};
 use crate::live::file_of;
-use crate::nodes::Nodes;
 use nfs3_types::{ReadArguments, ReadSuccess};
 use replay_law::replay::StepFault;
+use tree_nodes::content::{behind, front, reaches_end};
+use tree_nodes::nodes::Nodes;
 
 /// Whether the answer is what a read of these bytes gives.
 fn is_right(bytes: &[u8], call: &ReadArguments, success: &ReadSuccess) -> bool

@@ -1,19 +1,80 @@
 //! What a call with its outcome makes of a tree.
 
 ghost use Rattle.std.specs.Prelude.{◌≡◌};
-ghost use Rattle.file_tree.specs.Nodes.{tree_of};
+ghost use Rattle.tree_nodes.specs.Nodes.{tree_of};
 ghost use Rattle.file_tree.specs.Answers.{Answers};
-ghost use Rattle.file_tree.specs.Success.{change_received, change_taken, change_of};
+ghost use Rattle.file_tree.specs.Success.{change_read, change_written, change_created, change_received, change_taken, change_of};
 
 use crate::binds::Binds;
 use crate::change::Change;
 use crate::create::create_change;
-use crate::nodes::Nodes;
 use crate::read::read_change;
 use crate::write::write_change;
-use nfs3_types::{Answer, NfsCall, NfsReply, Outcome};
+use nfs3_types::{
+    Answer, CreateArguments, NfsCall, NfsReply, Outcome, ReadArguments, WriteArguments,
+};
 use replay_law::replay::StepFault;
 use std::alloc::Global;
+use tree_nodes::nodes::Nodes;
+
+/// A reply to a READ.
+fn change_read(
+    binds: &Binds,
+    nodes: &Nodes,
+    call: &ReadArguments,
+    reply: &NfsReply,
+) -> Result<Change, StepFault>
+    ensures { Answers result (change_read binds.now (tree_of nodes.now) call.now reply.now) }
+{
+    match reply {
+        NfsReply::Read(Answer::Done(success)) => read_change(binds, nodes, call, success),
+        _ => Err(StepFault::NotAllowed),
+    }
+}
+
+/// A reply to a WRITE.
+fn change_written(
+    alloc: Global,
+    binds: &Binds,
+    nodes: &Nodes,
+    call: &WriteArguments,
+    reply: &NfsReply,
+) -> Result<Change, StepFault>
+    ensures { Answers result (change_written binds.now (tree_of nodes.now) call.now reply.now) }
+{
+    match reply {
+        NfsReply::Write(Answer::Done(success)) => {
+            write_change(
+                alloc,
+                binds,
+                nodes,
+                call,
+                success.count,
+                Some(success.level),
+            )
+        }
+        _ => Err(StepFault::NotAllowed),
+    }
+}
+
+/// A reply to a CREATE.
+fn change_created(
+    alloc: Global,
+    binds: &Binds,
+    nodes: &Nodes,
+    number: u64,
+    call: &CreateArguments,
+    reply: &NfsReply,
+) -> Result<Change, StepFault>
+    ensures { Answers result (change_created binds.now (tree_of nodes.now) number call.now reply.now) }
+{
+    match reply {
+        NfsReply::Create(Answer::Done(success)) => {
+            create_change(alloc, binds, nodes, number, call, &success.object)
+        }
+        _ => Err(StepFault::NotAllowed),
+    }
+}
 
 /// A reply was received.
 fn change_received(
@@ -26,23 +87,10 @@ fn change_received(
 ) -> Result<Change, StepFault>
     ensures { Answers result (change_received binds.now (tree_of nodes.now) number call.now reply.now) }
 {
-    match (call, reply) {
-        (NfsCall::Read(call), NfsReply::Read(Answer::Done(success))) => read_change(
-            binds, nodes, call, success,
-        ),
-        (NfsCall::Write(call), NfsReply::Write(Answer::Done(success))) => {
-            write_change(
-                alloc,
-                binds,
-                nodes,
-                call,
-                success.count,
-                Some(success.level),
-            )
-        }
-        (NfsCall::Create(call), NfsReply::Create(Answer::Done(success))) => {
-            create_change(alloc, binds, nodes, number, call, &success.object)
-        }
+    match call {
+        NfsCall::Read(call) => change_read(binds, nodes, call, reply),
+        NfsCall::Write(call) => change_written(alloc, binds, nodes, call, reply),
+        NfsCall::Create(call) => change_created(alloc, binds, nodes, number, call, reply),
         _ => Err(StepFault::NotAllowed),
     }
 }

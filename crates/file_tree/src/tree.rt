@@ -2,24 +2,24 @@
 
 ghost use Rattle.std.specs.Prelude.{◌≡◌, ℕ, Option, Some, None, List, ◌++◌, ◌≤◌, OnOk, OnErr, IfOk, length};
 ghost use Rattle.std.specs.FinMap as map;
-ghost use Rattle.file_tree.specs.Tree.{opening};
+ghost use Rattle.tree_nodes.specs.Tree.{opening};
 ghost use Rattle.file_tree.specs.Undo.{TakesBack};
-ghost use Rattle.file_tree.specs.Sound.{IsSound};
+ghost use Rattle.tree_nodes.specs.Sound.{IsSound};
 ghost use Rattle.file_tree.specs.Success.{next_tree};
-ghost use Rattle.file_tree.specs.Printed.{tree_text, IsPrintable};
-ghost use Rattle.file_tree.specs.Unprinted.{same_text};
+ghost use Rattle.tree_nodes.specs.Printed.{tree_text, IsPrintable};
+ghost use Rattle.tree_nodes.specs.Unprinted.{same_text};
 
 use crate::binds::Binds;
-use crate::bytes::Path;
 use crate::change::{Change, Undo, undo_of};
-use crate::node::Node;
-use crate::nodes::{Nodes, put, remove, root_alone};
-use crate::print::put_tree;
 use crate::success::change_of;
 use nfs3_types::{NfsCall, Outcome};
 use replay_law::replay::{Replayable, StepFault};
 use std::alloc::{AllocError, Global};
 use std::marker::Model;
+use tree_nodes::bytes::Path;
+use tree_nodes::node::Node;
+use tree_nodes::nodes::{Nodes, put, remove, root_alone};
+use tree_nodes::print::put_tree;
 
 /// A file tree. Contracts see it as a finite map from paths to nodes.
 #[derive(Debug, Drop)]
@@ -28,18 +28,18 @@ pub struct FileTree {
 }
 
 impl Model for FileTree {
-    ghost use Rattle.file_tree.specs.Tree.{Tree};
+    ghost use Rattle.tree_nodes.specs.Tree.{Tree};
 
     ghost Value = { Tree };
 
     ghost use Rattle.std.specs.FinMap as map;
     ghost use Rattle.std.specs.Coded.{coded_list, coded_ℕ};
-    ghost use Rattle.file_tree.specs.contracts.node.Node as node;
+    ghost use Rattle.tree_nodes.specs.contracts.node.Node as node;
 
     ghost coded = { map.code (coded_list (coded_list coded_ℕ)) node.the_row.coded };
 
-    ghost use Rattle.file_tree.specs.Nodes.{tree_of};
-    ghost use Rattle.file_tree.specs.Sound.{IsSound};
+    ghost use Rattle.tree_nodes.specs.Nodes.{tree_of};
+    ghost use Rattle.tree_nodes.specs.Sound.{IsSound};
 
     ghost view = { λ t. tree_of t.nodes };
 

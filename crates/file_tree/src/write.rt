@@ -1,20 +1,20 @@
 //! What a successful WRITE makes of a tree (RFC 1813, section 3.3.7).
 
 ghost use Rattle.std.specs.Prelude.{◌≡◌, ◌<◌, ◌^◌, length};
-ghost use Rattle.file_tree.specs.Nodes.{tree_of};
+ghost use Rattle.tree_nodes.specs.Nodes.{tree_of};
 ghost use Rattle.file_tree.specs.Answers.{Answers};
 ghost use Rattle.file_tree.specs.Success.{level_rank, reaches, write_at, write_change};
 
 use crate::binds::Binds;
-use crate::bytes::Bytes;
 use crate::change::Change;
-use crate::content::{front, is_within_limit, written};
 use crate::live::{FileEntry, file_of};
-use crate::node::{Content, File, Node};
-use crate::nodes::Nodes;
 use nfs3_types::{StableHow, WriteArguments};
 use replay_law::replay::StepFault;
 use std::alloc::Global;
+use tree_nodes::bytes::Bytes;
+use tree_nodes::content::{front, is_within_limit, written};
+use tree_nodes::node::{Content, File, Node};
+use tree_nodes::nodes::Nodes;
 
 /// How much a level promises.
 fn rank(level: StableHow) -> u8

@@ -1,2 +1,3 @@
 pub mod ReadsBack
 pub mod Bounds
+pub mod EntryList

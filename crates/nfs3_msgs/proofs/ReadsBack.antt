@@ -5,7 +5,7 @@ use Rattle.nfs3_types.specs.declared.calls.NfsCall.{NfsCall}
 use Rattle.nfs3_types.specs.declared.replies.NfsReply.{NfsReply}
 use Rattle.nfs3_msgs.specs.Told.{kind_of}
 use Rattle.nfs3_msgs.specs.Messages.{arguments, results, arguments_of, result_of, procedure_of_call, procedure_of_reply, arguments_text, result_text, CallFits, ReplyFits}
-use Rattle.nfs3_msgs.specs.Spelled.{call_spelled, reply_spelled}
+use Rattle.nfs3_msgs.specs.SpelledMessages.{call_spelled, reply_spelled}
 
 pub call_reads_back : (call : NfsCall) → CallFits call → arguments_of (procedure_of_call call) (arguments_text call) ≡ Ok call
 call_reads_back call fits = all_again kind_of (arguments (procedure_of_call call)) (arguments_text call) call (call_spelled call fits)

@@ -6,3 +6,6 @@ pub mod Calls
 pub mod Replies
 pub mod Messages
 pub mod Spelled
+pub mod SpelledCalls
+pub mod SpelledReplies
+pub mod SpelledMessages

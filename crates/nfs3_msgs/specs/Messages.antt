@@ -1,5 +1,5 @@
 -- Which bytes are the arguments or the result of a procedure.
-use Rattle.std.specs.Prelude.{ℕ, ◌==◌, List, Result, IfSome}
+use Rattle.std.specs.Prelude.{ℕ, ◌==◌, ◌≤◌, List, length, Result, IfSome}
 use Rattle.xdr_records.specs.Unread.{At}
 use Rattle.xdr_records.specs.Grammar.{Grammar, ◌>>=◌, either}
 use Rattle.xdr_records.specs.Grammar.Grammar.{nothing, refused}
@@ -13,27 +13,51 @@ use Rattle.nfs3_types.specs.declared.replies.NfsReply.TheVariants as replies
 use Rattle.nfs3_msgs.specs.declared.fault.Kind.{Kind}
 use Rattle.nfs3_msgs.specs.declared.fault.Kind.TheVariants as kinds
 use Rattle.nfs3_msgs.specs.Told.{kind_of}
-use Rattle.xdr_records.specs.Texts.{optional_text}
-use Rattle.nfs3_msgs.specs.Bytes.{optional_of}
+use Rattle.xdr_records.specs.Texts.{opaque_text, optional_text}
+use Rattle.nfs3_msgs.specs.Bytes.{handle, void, void_text, optional_of}
 use Rattle.nfs3_msgs.specs.Attributes.{file_attributes, file_attributes_text, FileAttributesFit, wcc_data, wcc_data_text, WccDataFits}
-use Rattle.nfs3_msgs.specs.Calls.{read_arguments, read_arguments_text, ReadArgumentsFit, write_arguments, write_arguments_text, WriteArgumentsFit, create_arguments, create_arguments_text, CreateArgumentsFit}
-use Rattle.nfs3_msgs.specs.Replies.{answer, answer_text, AnswerFits, read_success, read_success_text, ReadSuccessFits, write_success, write_success_text, WriteSuccessFits, create_success, create_success_text, CreateSuccessFits}
+use Rattle.nfs3_msgs.specs.Calls.{directory_name, directory_name_text, DirectoryNameFits, read_arguments, read_arguments_text, ReadArgumentsFit, write_arguments, write_arguments_text, WriteArgumentsFit, create_arguments, create_arguments_text, CreateArgumentsFit, set_attr_arguments, set_attr_arguments_text, SetAttrArgumentsFit, mk_dir_arguments, mk_dir_arguments_text, MkDirArgumentsFit, sym_link_arguments, sym_link_arguments_text, SymLinkArgumentsFit, rename_arguments, rename_arguments_text, RenameArgumentsFit, read_dir_arguments, read_dir_arguments_text, ReadDirArgumentsFit, read_dir_plus_arguments, read_dir_plus_arguments_text, ReadDirPlusArgumentsFit, commit_arguments, commit_arguments_text, CommitArgumentsFit}
+use Rattle.nfs3_msgs.specs.Replies.{answer, answer_text, AnswerFits, read_success, read_success_text, ReadSuccessFits, write_success, write_success_text, WriteSuccessFits, create_success, create_success_text, CreateSuccessFits, lookup_success, lookup_success_text, LookupSuccessFits, read_link_success, read_link_success_text, ReadLinkSuccessFits, rename_wcc, rename_wcc_text, RenameWccFits, read_dir_success, read_dir_success_text, ReadDirSuccessFits, read_dir_plus_success, read_dir_plus_success_text, ReadDirPlusSuccessFits, commit_success, commit_success_text, CommitSuccessFits}
 
 -- the arguments of a procedure by its number, RFC 1813, section 3.3
 unfoldable pub arguments : ℕ → Grammar Kind NfsCall
 arguments procedure =
-    either (procedure == 6) (read_arguments >>= λ a. nothing (calls.Read a))
+    either (procedure == 1) (handle >>= λ a. nothing (calls.GetAttr a))
+    (either (procedure == 2) (set_attr_arguments >>= λ a. nothing (calls.SetAttr a))
+    (either (procedure == 3) (directory_name >>= λ a. nothing (calls.Lookup a))
+    (either (procedure == 5) (handle >>= λ a. nothing (calls.ReadLink a))
+    (either (procedure == 6) (read_arguments >>= λ a. nothing (calls.Read a))
     (either (procedure == 7) (write_arguments >>= λ a. nothing (calls.Write a))
     (either (procedure == 8) (create_arguments >>= λ a. nothing (calls.Create a))
-    (refused kinds.NotJudged)))
+    (either (procedure == 9) (mk_dir_arguments >>= λ a. nothing (calls.MkDir a))
+    (either (procedure == 10) (sym_link_arguments >>= λ a. nothing (calls.SymLink a))
+    (either (procedure == 12) (directory_name >>= λ a. nothing (calls.Remove a))
+    (either (procedure == 13) (directory_name >>= λ a. nothing (calls.RmDir a))
+    (either (procedure == 14) (rename_arguments >>= λ a. nothing (calls.Rename a))
+    (either (procedure == 16) (read_dir_arguments >>= λ a. nothing (calls.ReadDir a))
+    (either (procedure == 17) (read_dir_plus_arguments >>= λ a. nothing (calls.ReadDirPlus a))
+    (either (procedure == 21) (commit_arguments >>= λ a. nothing (calls.Commit a))
+    (refused kinds.NotJudged)))))))))))))))
 
 -- the result of a procedure by its number, RFC 1813, section 3.3
 unfoldable pub results : ℕ → Grammar Kind NfsReply
 results procedure =
-    either (procedure == 6) (answer read_success (optional_of file_attributes) >>= λ r. nothing (replies.Read r))
+    either (procedure == 1) (answer file_attributes void >>= λ r. nothing (replies.GetAttr r))
+    (either (procedure == 2) (answer wcc_data wcc_data >>= λ r. nothing (replies.SetAttr r))
+    (either (procedure == 3) (answer lookup_success (optional_of file_attributes) >>= λ r. nothing (replies.Lookup r))
+    (either (procedure == 5) (answer read_link_success (optional_of file_attributes) >>= λ r. nothing (replies.ReadLink r))
+    (either (procedure == 6) (answer read_success (optional_of file_attributes) >>= λ r. nothing (replies.Read r))
     (either (procedure == 7) (answer write_success wcc_data >>= λ r. nothing (replies.Write r))
     (either (procedure == 8) (answer create_success wcc_data >>= λ r. nothing (replies.Create r))
-    (refused kinds.NotJudged)))
+    (either (procedure == 9) (answer create_success wcc_data >>= λ r. nothing (replies.MkDir r))
+    (either (procedure == 10) (answer create_success wcc_data >>= λ r. nothing (replies.SymLink r))
+    (either (procedure == 12) (answer wcc_data wcc_data >>= λ r. nothing (replies.Remove r))
+    (either (procedure == 13) (answer wcc_data wcc_data >>= λ r. nothing (replies.RmDir r))
+    (either (procedure == 14) (answer rename_wcc rename_wcc >>= λ r. nothing (replies.Rename r))
+    (either (procedure == 16) (answer read_dir_success (optional_of file_attributes) >>= λ r. nothing (replies.ReadDir r))
+    (either (procedure == 17) (answer read_dir_plus_success (optional_of file_attributes) >>= λ r. nothing (replies.ReadDirPlus r))
+    (either (procedure == 21) (answer commit_success wcc_data >>= λ r. nothing (replies.Commit r))
+    (refused kinds.NotJudged)))))))))))))))
 
 -- the bytes, all of them, are the arguments of a call of the procedure
 abbrev pub IsArguments : ℕ → List ℕ → NfsCall → Type 0
@@ -61,36 +85,108 @@ result_of procedure bytes = all_of kind_of (results procedure) bytes
 
 -- the number of a call's procedure, RFC 1813, section 3.3
 abbrev pub procedure_of_call : NfsCall → ℕ
+procedure_of_call (calls.GetAttr a) = 1
+procedure_of_call (calls.SetAttr a) = 2
+procedure_of_call (calls.Lookup a) = 3
+procedure_of_call (calls.ReadLink a) = 5
 procedure_of_call (calls.Read a) = 6
 procedure_of_call (calls.Write a) = 7
 procedure_of_call (calls.Create a) = 8
+procedure_of_call (calls.MkDir a) = 9
+procedure_of_call (calls.SymLink a) = 10
+procedure_of_call (calls.Remove a) = 12
+procedure_of_call (calls.RmDir a) = 13
+procedure_of_call (calls.Rename a) = 14
+procedure_of_call (calls.ReadDir a) = 16
+procedure_of_call (calls.ReadDirPlus a) = 17
+procedure_of_call (calls.Commit a) = 21
 
 -- the number of a reply's procedure
 abbrev pub procedure_of_reply : NfsReply → ℕ
+procedure_of_reply (replies.GetAttr r) = 1
+procedure_of_reply (replies.SetAttr r) = 2
+procedure_of_reply (replies.Lookup r) = 3
+procedure_of_reply (replies.ReadLink r) = 5
 procedure_of_reply (replies.Read r) = 6
 procedure_of_reply (replies.Write r) = 7
 procedure_of_reply (replies.Create r) = 8
+procedure_of_reply (replies.MkDir r) = 9
+procedure_of_reply (replies.SymLink r) = 10
+procedure_of_reply (replies.Remove r) = 12
+procedure_of_reply (replies.RmDir r) = 13
+procedure_of_reply (replies.Rename r) = 14
+procedure_of_reply (replies.ReadDir r) = 16
+procedure_of_reply (replies.ReadDirPlus r) = 17
+procedure_of_reply (replies.Commit r) = 21
 
 -- the one spelling that is written of a call's arguments
 unfoldable pub arguments_text : NfsCall → List ℕ
+arguments_text (calls.GetAttr a) = opaque_text a
+arguments_text (calls.SetAttr a) = set_attr_arguments_text a
+arguments_text (calls.Lookup a) = directory_name_text a
+arguments_text (calls.ReadLink a) = opaque_text a
 arguments_text (calls.Read a) = read_arguments_text a
 arguments_text (calls.Write a) = write_arguments_text a
 arguments_text (calls.Create a) = create_arguments_text a
+arguments_text (calls.MkDir a) = mk_dir_arguments_text a
+arguments_text (calls.SymLink a) = sym_link_arguments_text a
+arguments_text (calls.Remove a) = directory_name_text a
+arguments_text (calls.RmDir a) = directory_name_text a
+arguments_text (calls.Rename a) = rename_arguments_text a
+arguments_text (calls.ReadDir a) = read_dir_arguments_text a
+arguments_text (calls.ReadDirPlus a) = read_dir_plus_arguments_text a
+arguments_text (calls.Commit a) = commit_arguments_text a
 
 -- the one spelling that is written of a result
 unfoldable pub result_text : NfsReply → List ℕ
+result_text (replies.GetAttr r) = answer_text file_attributes_text void_text r
+result_text (replies.SetAttr r) = answer_text wcc_data_text wcc_data_text r
+result_text (replies.Lookup r) = answer_text lookup_success_text (optional_text file_attributes_text) r
+result_text (replies.ReadLink r) = answer_text read_link_success_text (optional_text file_attributes_text) r
 result_text (replies.Read r) = answer_text read_success_text (optional_text file_attributes_text) r
 result_text (replies.Write r) = answer_text write_success_text wcc_data_text r
 result_text (replies.Create r) = answer_text create_success_text wcc_data_text r
+result_text (replies.MkDir r) = answer_text create_success_text wcc_data_text r
+result_text (replies.SymLink r) = answer_text create_success_text wcc_data_text r
+result_text (replies.Remove r) = answer_text wcc_data_text wcc_data_text r
+result_text (replies.RmDir r) = answer_text wcc_data_text wcc_data_text r
+result_text (replies.Rename r) = answer_text rename_wcc_text rename_wcc_text r
+result_text (replies.ReadDir r) = answer_text read_dir_success_text (optional_text file_attributes_text) r
+result_text (replies.ReadDirPlus r) = answer_text read_dir_plus_success_text (optional_text file_attributes_text) r
+result_text (replies.Commit r) = answer_text commit_success_text wcc_data_text r
 
 -- the numbers and lengths of a call are those that the program has
 unfoldable pub CallFits : NfsCall → Type 0
+CallFits (calls.GetAttr a) = length a ≤ 64
+CallFits (calls.SetAttr a) = SetAttrArgumentsFit a
+CallFits (calls.Lookup a) = DirectoryNameFits a
+CallFits (calls.ReadLink a) = length a ≤ 64
 CallFits (calls.Read a) = ReadArgumentsFit a
 CallFits (calls.Write a) = WriteArgumentsFit a
 CallFits (calls.Create a) = CreateArgumentsFit a
+CallFits (calls.MkDir a) = MkDirArgumentsFit a
+CallFits (calls.SymLink a) = SymLinkArgumentsFit a
+CallFits (calls.Remove a) = DirectoryNameFits a
+CallFits (calls.RmDir a) = DirectoryNameFits a
+CallFits (calls.Rename a) = RenameArgumentsFit a
+CallFits (calls.ReadDir a) = ReadDirArgumentsFit a
+CallFits (calls.ReadDirPlus a) = ReadDirPlusArgumentsFit a
+CallFits (calls.Commit a) = CommitArgumentsFit a
 
 -- the numbers and lengths of a reply are those that the program has
 unfoldable pub ReplyFits : NfsReply → Type 0
+ReplyFits (replies.GetAttr r) = AnswerFits FileAttributesFit (λ u. Unit {0}) r
+ReplyFits (replies.SetAttr r) = AnswerFits WccDataFits WccDataFits r
+ReplyFits (replies.Lookup r) = AnswerFits LookupSuccessFits (λ a. IfSome a FileAttributesFit) r
+ReplyFits (replies.ReadLink r) = AnswerFits ReadLinkSuccessFits (λ a. IfSome a FileAttributesFit) r
 ReplyFits (replies.Read r) = AnswerFits ReadSuccessFits (λ a. IfSome a FileAttributesFit) r
 ReplyFits (replies.Write r) = AnswerFits WriteSuccessFits WccDataFits r
 ReplyFits (replies.Create r) = AnswerFits CreateSuccessFits WccDataFits r
+ReplyFits (replies.MkDir r) = AnswerFits CreateSuccessFits WccDataFits r
+ReplyFits (replies.SymLink r) = AnswerFits CreateSuccessFits WccDataFits r
+ReplyFits (replies.Remove r) = AnswerFits WccDataFits WccDataFits r
+ReplyFits (replies.RmDir r) = AnswerFits WccDataFits WccDataFits r
+ReplyFits (replies.Rename r) = AnswerFits RenameWccFits RenameWccFits r
+ReplyFits (replies.ReadDir r) = AnswerFits ReadDirSuccessFits (λ a. IfSome a FileAttributesFit) r
+ReplyFits (replies.ReadDirPlus r) = AnswerFits ReadDirPlusSuccessFits (λ a. IfSome a FileAttributesFit) r
+ReplyFits (replies.Commit r) = AnswerFits CommitSuccessFits WccDataFits r

@@ -2,7 +2,7 @@
 
 use crate::fault::MessageFault;
 use crate::value::{XdrValue, fault_at};
-use nfs3_types::{Data, FileHandle, Name, Verifier};
+use nfs3_types::{Data, FileHandle, LinkText, Name, Verifier};
 use std::alloc::{AllocError, Global};
 use xdr_records::{Reader, put_opaque};
 
@@ -62,6 +62,34 @@ impl XdrValue for Name {
     ghost spelled = { name_spelled };
 }
 
+impl XdrValue for LinkText {
+    ghost use Rattle.std.specs.Prelude.{◌<◌, ◌^◌, length};
+    ghost use Rattle.xdr_records.specs.Texts.{opaque_text};
+    ghost use Rattle.nfs3_msgs.specs.Bytes.{link_text};
+    ghost use Rattle.nfs3_msgs.specs.Spelled.{link_text_spelled};
+
+    ghost grammar = { link_text };
+
+    ghost text = { opaque_text };
+
+    ghost fits = { λ bytes. length bytes < 2 ^ 32 };
+
+    #[tactic(auto, unfolding(crate::specs::Bytes::link_text))]
+    fn read(alloc: Global, reader: &mut Reader<'_>) -> Result<LinkText, MessageFault> {
+        let at = reader.offset();
+        match reader.opaque(u32::MAX) {
+            Ok(bytes) => Ok(LinkText::from_slice(alloc, bytes)?),
+            Err(fault) => Err(fault_at(at, fault)),
+        }
+    }
+
+    fn put(&self, out: &mut Vec<u8>) -> Result<(), AllocError> {
+        put_opaque(out, self.as_slice())
+    }
+
+    ghost spelled = { link_text_spelled };
+}
+
 impl XdrValue for Data {
     ghost use Rattle.std.specs.Prelude.{◌<◌, ◌^◌, length};
     ghost use Rattle.xdr_records.specs.Texts.{opaque_text};
@@ -113,4 +141,27 @@ impl XdrValue for Verifier {
     }
 
     ghost spelled = { verifier_spelled };
+}
+
+impl XdrValue for () {
+    ghost use Rattle.nfs3_msgs.specs.Bytes.{void, void_text};
+    ghost use Rattle.nfs3_msgs.specs.Spelled.{void_spelled};
+
+    ghost grammar = { void };
+
+    ghost text = { void_text };
+
+    ghost fits = { λ _. Unit {0} };
+
+    #[tactic(auto, unfolding(crate::specs::Bytes::void))]
+    fn read(_alloc: Global, _reader: &mut Reader<'_>) -> Result<(), MessageFault> {
+        Ok(())
+    }
+
+    #[tactic(auto, unfolding(crate::specs::Bytes::void_text))]
+    fn put(&self, _out: &mut Vec<u8>) -> Result<(), AllocError> {
+        Ok(())
+    }
+
+    ghost spelled = { void_spelled };
 }

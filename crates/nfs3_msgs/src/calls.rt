@@ -3,15 +3,16 @@
 use crate::fault::MessageFault;
 use crate::value::{XdrValue, bad_enum, read_word};
 use nfs3_types::{
-    CreateArguments, CreateMode, Data, DirectoryName, FileHandle, Name, ReadArguments,
-    SetAttributes, StableHow, Verifier, WriteArguments,
+    CommitArguments, CreateArguments, CreateMode, Data, DirectoryName, FileHandle, LinkText,
+    MkDirArguments, Name, ReadArguments, ReadDirArguments, ReadDirPlusArguments, RenameArguments,
+    SetAttrArguments, SetAttributes, StableHow, SymLinkArguments, Time, Verifier, WriteArguments,
 };
 use std::alloc::{AllocError, Global};
 use xdr_records::{Reader, put_u32};
 
 impl XdrValue for DirectoryName {
     ghost use Rattle.nfs3_msgs.specs.Calls.{directory_name, directory_name_text, DirectoryNameFits};
-    ghost use Rattle.nfs3_msgs.specs.Spelled.{directory_name_spelled};
+    ghost use Rattle.nfs3_msgs.specs.SpelledCalls.{directory_name_spelled};
 
     ghost grammar = { directory_name };
 
@@ -39,7 +40,7 @@ impl XdrValue for StableHow {
     ghost use Rattle.xdr_records.specs.Grammar.Grammar.{named};
     ghost use Rattle.xdr_records.specs.Texts.{word_text};
     ghost use Rattle.nfs3_msgs.specs.Words.{stable_how_of, stable_how_word};
-    ghost use Rattle.nfs3_msgs.specs.Spelled.{stable_how_spelled};
+    ghost use Rattle.nfs3_msgs.specs.SpelledCalls.{stable_how_spelled};
 
     ghost grammar = { named stable_how_of };
 
@@ -68,7 +69,7 @@ impl XdrValue for StableHow {
 
 impl XdrValue for ReadArguments {
     ghost use Rattle.nfs3_msgs.specs.Calls.{read_arguments, read_arguments_text, ReadArgumentsFit};
-    ghost use Rattle.nfs3_msgs.specs.Spelled.{read_arguments_spelled};
+    ghost use Rattle.nfs3_msgs.specs.SpelledCalls.{read_arguments_spelled};
 
     ghost grammar = { read_arguments };
 
@@ -100,7 +101,7 @@ impl XdrValue for ReadArguments {
 
 impl XdrValue for WriteArguments {
     ghost use Rattle.nfs3_msgs.specs.Calls.{write_arguments, write_arguments_text, WriteArgumentsFit};
-    ghost use Rattle.nfs3_msgs.specs.Spelled.{write_arguments_spelled};
+    ghost use Rattle.nfs3_msgs.specs.SpelledCalls.{write_arguments_spelled};
 
     ghost grammar = { write_arguments };
 
@@ -138,7 +139,7 @@ impl XdrValue for WriteArguments {
 
 impl XdrValue for CreateMode {
     ghost use Rattle.nfs3_msgs.specs.Calls.{create_mode, create_mode_text, CreateModeFits};
-    ghost use Rattle.nfs3_msgs.specs.Spelled.{create_mode_spelled};
+    ghost use Rattle.nfs3_msgs.specs.SpelledCalls.{create_mode_spelled};
 
     ghost grammar = { create_mode };
 
@@ -180,7 +181,7 @@ impl XdrValue for CreateMode {
 
 impl XdrValue for CreateArguments {
     ghost use Rattle.nfs3_msgs.specs.Calls.{create_arguments, create_arguments_text, CreateArgumentsFit};
-    ghost use Rattle.nfs3_msgs.specs.Spelled.{create_arguments_spelled};
+    ghost use Rattle.nfs3_msgs.specs.SpelledCalls.{create_arguments_spelled};
 
     ghost grammar = { create_arguments };
 
@@ -202,4 +203,225 @@ impl XdrValue for CreateArguments {
     }
 
     ghost spelled = { create_arguments_spelled };
+}
+
+impl XdrValue for SetAttrArguments {
+    ghost use Rattle.nfs3_msgs.specs.Calls.{set_attr_arguments, set_attr_arguments_text, SetAttrArgumentsFit};
+    ghost use Rattle.nfs3_msgs.specs.SpelledCalls.{set_attr_arguments_spelled};
+
+    ghost grammar = { set_attr_arguments };
+
+    ghost text = { set_attr_arguments_text };
+
+    ghost fits = { SetAttrArgumentsFit };
+
+    #[tactic(auto, unfolding(crate::specs::Calls::set_attr_arguments))]
+    fn read(alloc: Global, reader: &mut Reader<'_>) -> Result<SetAttrArguments, MessageFault> {
+        let object = FileHandle::read(alloc, reader)?;
+        let attributes = SetAttributes::read(alloc, reader)?;
+        let guard = Option::<Time>::read(alloc, reader)?;
+        Ok(SetAttrArguments {
+            object,
+            attributes,
+            guard,
+        })
+    }
+
+    #[tactic(auto, unfolding(crate::specs::Calls::set_attr_arguments_text, crate::specs::Calls::SetAttrArgumentsFit))]
+    fn put(&self, out: &mut Vec<u8>) -> Result<(), AllocError> {
+        self.object.put(out)?;
+        self.attributes.put(out)?;
+        self.guard.put(out)
+    }
+
+    ghost spelled = { set_attr_arguments_spelled };
+}
+
+impl XdrValue for MkDirArguments {
+    ghost use Rattle.nfs3_msgs.specs.Calls.{mk_dir_arguments, mk_dir_arguments_text, MkDirArgumentsFit};
+    ghost use Rattle.nfs3_msgs.specs.SpelledCalls.{mk_dir_arguments_spelled};
+
+    ghost grammar = { mk_dir_arguments };
+
+    ghost text = { mk_dir_arguments_text };
+
+    ghost fits = { MkDirArgumentsFit };
+
+    #[tactic(auto, unfolding(crate::specs::Calls::mk_dir_arguments))]
+    fn read(alloc: Global, reader: &mut Reader<'_>) -> Result<MkDirArguments, MessageFault> {
+        let place = DirectoryName::read(alloc, reader)?;
+        let attributes = SetAttributes::read(alloc, reader)?;
+        Ok(MkDirArguments { place, attributes })
+    }
+
+    #[tactic(auto, unfolding(crate::specs::Calls::mk_dir_arguments_text, crate::specs::Calls::MkDirArgumentsFit))]
+    fn put(&self, out: &mut Vec<u8>) -> Result<(), AllocError> {
+        self.place.put(out)?;
+        self.attributes.put(out)
+    }
+
+    ghost spelled = { mk_dir_arguments_spelled };
+}
+
+impl XdrValue for SymLinkArguments {
+    ghost use Rattle.nfs3_msgs.specs.Calls.{sym_link_arguments, sym_link_arguments_text, SymLinkArgumentsFit};
+    ghost use Rattle.nfs3_msgs.specs.SpelledCalls.{sym_link_arguments_spelled};
+
+    ghost grammar = { sym_link_arguments };
+
+    ghost text = { sym_link_arguments_text };
+
+    ghost fits = { SymLinkArgumentsFit };
+
+    #[tactic(auto, unfolding(crate::specs::Calls::sym_link_arguments))]
+    fn read(alloc: Global, reader: &mut Reader<'_>) -> Result<SymLinkArguments, MessageFault> {
+        let place = DirectoryName::read(alloc, reader)?;
+        let attributes = SetAttributes::read(alloc, reader)?;
+        let target = LinkText::read(alloc, reader)?;
+        Ok(SymLinkArguments {
+            place,
+            attributes,
+            target,
+        })
+    }
+
+    #[tactic(auto, unfolding(crate::specs::Calls::sym_link_arguments_text, crate::specs::Calls::SymLinkArgumentsFit))]
+    fn put(&self, out: &mut Vec<u8>) -> Result<(), AllocError> {
+        self.place.put(out)?;
+        self.attributes.put(out)?;
+        self.target.put(out)
+    }
+
+    ghost spelled = { sym_link_arguments_spelled };
+}
+
+impl XdrValue for RenameArguments {
+    ghost use Rattle.nfs3_msgs.specs.Calls.{rename_arguments, rename_arguments_text, RenameArgumentsFit};
+    ghost use Rattle.nfs3_msgs.specs.SpelledCalls.{rename_arguments_spelled};
+
+    ghost grammar = { rename_arguments };
+
+    ghost text = { rename_arguments_text };
+
+    ghost fits = { RenameArgumentsFit };
+
+    #[tactic(auto, unfolding(crate::specs::Calls::rename_arguments))]
+    fn read(alloc: Global, reader: &mut Reader<'_>) -> Result<RenameArguments, MessageFault> {
+        let from = DirectoryName::read(alloc, reader)?;
+        let to = DirectoryName::read(alloc, reader)?;
+        Ok(RenameArguments { from, to })
+    }
+
+    #[tactic(auto, unfolding(crate::specs::Calls::rename_arguments_text, crate::specs::Calls::RenameArgumentsFit))]
+    fn put(&self, out: &mut Vec<u8>) -> Result<(), AllocError> {
+        self.from.put(out)?;
+        self.to.put(out)
+    }
+
+    ghost spelled = { rename_arguments_spelled };
+}
+
+impl XdrValue for ReadDirArguments {
+    ghost use Rattle.nfs3_msgs.specs.Calls.{read_dir_arguments, read_dir_arguments_text, ReadDirArgumentsFit};
+    ghost use Rattle.nfs3_msgs.specs.SpelledCalls.{read_dir_arguments_spelled};
+
+    ghost grammar = { read_dir_arguments };
+
+    ghost text = { read_dir_arguments_text };
+
+    ghost fits = { ReadDirArgumentsFit };
+
+    #[tactic(auto, unfolding(crate::specs::Calls::read_dir_arguments))]
+    fn read(alloc: Global, reader: &mut Reader<'_>) -> Result<ReadDirArguments, MessageFault> {
+        let directory = FileHandle::read(alloc, reader)?;
+        let cookie = u64::read(alloc, reader)?;
+        let verifier = Verifier::read(alloc, reader)?;
+        let count = u32::read(alloc, reader)?;
+        Ok(ReadDirArguments {
+            directory,
+            cookie,
+            verifier,
+            count,
+        })
+    }
+
+    #[tactic(auto, unfolding(crate::specs::Calls::read_dir_arguments_text, crate::specs::Calls::ReadDirArgumentsFit))]
+    fn put(&self, out: &mut Vec<u8>) -> Result<(), AllocError> {
+        self.directory.put(out)?;
+        self.cookie.put(out)?;
+        self.verifier.put(out)?;
+        self.count.put(out)
+    }
+
+    ghost spelled = { read_dir_arguments_spelled };
+}
+
+impl XdrValue for ReadDirPlusArguments {
+    ghost use Rattle.nfs3_msgs.specs.Calls.{read_dir_plus_arguments, read_dir_plus_arguments_text, ReadDirPlusArgumentsFit};
+    ghost use Rattle.nfs3_msgs.specs.SpelledCalls.{read_dir_plus_arguments_spelled};
+
+    ghost grammar = { read_dir_plus_arguments };
+
+    ghost text = { read_dir_plus_arguments_text };
+
+    ghost fits = { ReadDirPlusArgumentsFit };
+
+    #[tactic(auto, unfolding(crate::specs::Calls::read_dir_plus_arguments))]
+    fn read(alloc: Global, reader: &mut Reader<'_>) -> Result<ReadDirPlusArguments, MessageFault> {
+        let directory = FileHandle::read(alloc, reader)?;
+        let cookie = u64::read(alloc, reader)?;
+        let verifier = Verifier::read(alloc, reader)?;
+        let directory_count = u32::read(alloc, reader)?;
+        let whole_count = u32::read(alloc, reader)?;
+        Ok(ReadDirPlusArguments {
+            directory,
+            cookie,
+            verifier,
+            directory_count,
+            whole_count,
+        })
+    }
+
+    #[tactic(auto, unfolding(crate::specs::Calls::read_dir_plus_arguments_text, crate::specs::Calls::ReadDirPlusArgumentsFit))]
+    fn put(&self, out: &mut Vec<u8>) -> Result<(), AllocError> {
+        self.directory.put(out)?;
+        self.cookie.put(out)?;
+        self.verifier.put(out)?;
+        self.directory_count.put(out)?;
+        self.whole_count.put(out)
+    }
+
+    ghost spelled = { read_dir_plus_arguments_spelled };
+}
+
+impl XdrValue for CommitArguments {
+    ghost use Rattle.nfs3_msgs.specs.Calls.{commit_arguments, commit_arguments_text, CommitArgumentsFit};
+    ghost use Rattle.nfs3_msgs.specs.SpelledCalls.{commit_arguments_spelled};
+
+    ghost grammar = { commit_arguments };
+
+    ghost text = { commit_arguments_text };
+
+    ghost fits = { CommitArgumentsFit };
+
+    #[tactic(auto, unfolding(crate::specs::Calls::commit_arguments))]
+    fn read(alloc: Global, reader: &mut Reader<'_>) -> Result<CommitArguments, MessageFault> {
+        let file = FileHandle::read(alloc, reader)?;
+        let offset = u64::read(alloc, reader)?;
+        let count = u32::read(alloc, reader)?;
+        Ok(CommitArguments {
+            file,
+            offset,
+            count,
+        })
+    }
+
+    #[tactic(auto, unfolding(crate::specs::Calls::commit_arguments_text, crate::specs::Calls::CommitArgumentsFit))]
+    fn put(&self, out: &mut Vec<u8>) -> Result<(), AllocError> {
+        self.file.put(out)?;
+        self.offset.put(out)?;
+        self.count.put(out)
+    }
+
+    ghost spelled = { commit_arguments_spelled };
 }

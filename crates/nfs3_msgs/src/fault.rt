@@ -52,3 +52,11 @@ impl From<AllocError> for MessageFault {
         MessageFault::NoMemory
     }
 }
+
+impl<T: Drop> From<AllocFailed<T>> for MessageFault {
+    ghost from_gives = { λ _ fault. fault ≡ NoMemory };
+
+    fn from(_error: AllocFailed<T>) -> MessageFault {
+        MessageFault::NoMemory
+    }
+}

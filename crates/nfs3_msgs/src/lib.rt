@@ -5,6 +5,7 @@
 mod attributes;
 mod bytes;
 mod calls;
+mod entries;
 mod fault;
 mod messages;
 mod replies;

@@ -14,8 +14,11 @@ ghost use Rattle.nfs3_msgs.specs.Messages.{results, IsResult, IsResultFault, res
 use crate::fault::{Kind, MessageFault};
 use crate::value::{XdrValue, fault_at};
 use nfs3_types::{
-    Answer, CreateArguments, CreateSuccess, FileAttributes, NfsCall, NfsReply, ReadArguments,
-    ReadSuccess, WccData, WriteArguments, WriteSuccess,
+    Answer, CommitArguments, CommitSuccess, CreateArguments, CreateSuccess, DirectoryName,
+    FileAttributes, FileHandle, LookupSuccess, MkDirArguments, NfsCall, NfsReply, ReadArguments,
+    ReadDirArguments, ReadDirPlusArguments, ReadDirPlusSuccess, ReadDirSuccess, ReadLinkSuccess,
+    ReadSuccess, RenameArguments, RenameWcc, SetAttrArguments, SymLinkArguments, WccData,
+    WriteArguments, WriteSuccess,
 };
 use std::alloc::{AllocError, Global};
 use xdr_records::Reader;
@@ -40,9 +43,21 @@ fn read_call(
     ensures { Reads (arguments procedure) reader.old reader.new result }
 {
     match procedure {
+        1 => Ok(NfsCall::GetAttr(FileHandle::read(alloc, reader)?)),
+        2 => Ok(NfsCall::SetAttr(SetAttrArguments::read(alloc, reader)?)),
+        3 => Ok(NfsCall::Lookup(DirectoryName::read(alloc, reader)?)),
+        5 => Ok(NfsCall::ReadLink(FileHandle::read(alloc, reader)?)),
         6 => Ok(NfsCall::Read(ReadArguments::read(alloc, reader)?)),
         7 => Ok(NfsCall::Write(WriteArguments::read(alloc, reader)?)),
         8 => Ok(NfsCall::Create(CreateArguments::read(alloc, reader)?)),
+        9 => Ok(NfsCall::MkDir(MkDirArguments::read(alloc, reader)?)),
+        10 => Ok(NfsCall::SymLink(SymLinkArguments::read(alloc, reader)?)),
+        12 => Ok(NfsCall::Remove(DirectoryName::read(alloc, reader)?)),
+        13 => Ok(NfsCall::RmDir(DirectoryName::read(alloc, reader)?)),
+        14 => Ok(NfsCall::Rename(RenameArguments::read(alloc, reader)?)),
+        16 => Ok(NfsCall::ReadDir(ReadDirArguments::read(alloc, reader)?)),
+        17 => Ok(NfsCall::ReadDirPlus(ReadDirPlusArguments::read(alloc, reader)?)),
+        21 => Ok(NfsCall::Commit(CommitArguments::read(alloc, reader)?)),
         _ => Err(not_judged(reader)),
     }
 }
@@ -57,11 +72,31 @@ fn read_reply(
     ensures { Reads (results procedure) reader.old reader.new result }
 {
     match procedure {
+        1 => Ok(NfsReply::GetAttr(Answer::<FileAttributes, ()>::read(alloc, reader)?)),
+        2 => Ok(NfsReply::SetAttr(Answer::<WccData, WccData>::read(alloc, reader)?)),
+        3 => Ok(NfsReply::Lookup(Answer::<LookupSuccess, Option<FileAttributes>>::read(
+            alloc, reader,
+        )?)),
+        5 => Ok(NfsReply::ReadLink(Answer::<ReadLinkSuccess, Option<FileAttributes>>::read(
+            alloc, reader,
+        )?)),
         6 => Ok(NfsReply::Read(Answer::<ReadSuccess, Option<FileAttributes>>::read(
             alloc, reader,
         )?)),
         7 => Ok(NfsReply::Write(Answer::<WriteSuccess, WccData>::read(alloc, reader)?)),
         8 => Ok(NfsReply::Create(Answer::<CreateSuccess, WccData>::read(alloc, reader)?)),
+        9 => Ok(NfsReply::MkDir(Answer::<CreateSuccess, WccData>::read(alloc, reader)?)),
+        10 => Ok(NfsReply::SymLink(Answer::<CreateSuccess, WccData>::read(alloc, reader)?)),
+        12 => Ok(NfsReply::Remove(Answer::<WccData, WccData>::read(alloc, reader)?)),
+        13 => Ok(NfsReply::RmDir(Answer::<WccData, WccData>::read(alloc, reader)?)),
+        14 => Ok(NfsReply::Rename(Answer::<RenameWcc, RenameWcc>::read(alloc, reader)?)),
+        16 => Ok(NfsReply::ReadDir(Answer::<ReadDirSuccess, Option<FileAttributes>>::read(
+            alloc, reader,
+        )?)),
+        17 => Ok(NfsReply::ReadDirPlus(Answer::<ReadDirPlusSuccess, Option<FileAttributes>>::read(
+            alloc, reader,
+        )?)),
+        21 => Ok(NfsReply::Commit(Answer::<CommitSuccess, WccData>::read(alloc, reader)?)),
         _ => Err(not_judged(reader)),
     }
 }
@@ -139,9 +174,21 @@ fn put_call(out: &mut Vec<u8>, call: &NfsCall) -> Result<(), AllocError>
     ensures fits { OnOk result (CallFits call.now) }
 {
     match call {
+        NfsCall::GetAttr(arguments) => arguments.put(out),
+        NfsCall::SetAttr(arguments) => arguments.put(out),
+        NfsCall::Lookup(arguments) => arguments.put(out),
+        NfsCall::ReadLink(arguments) => arguments.put(out),
         NfsCall::Read(arguments) => arguments.put(out),
         NfsCall::Write(arguments) => arguments.put(out),
         NfsCall::Create(arguments) => arguments.put(out),
+        NfsCall::MkDir(arguments) => arguments.put(out),
+        NfsCall::SymLink(arguments) => arguments.put(out),
+        NfsCall::Remove(arguments) => arguments.put(out),
+        NfsCall::RmDir(arguments) => arguments.put(out),
+        NfsCall::Rename(arguments) => arguments.put(out),
+        NfsCall::ReadDir(arguments) => arguments.put(out),
+        NfsCall::ReadDirPlus(arguments) => arguments.put(out),
+        NfsCall::Commit(arguments) => arguments.put(out),
     }
 }
 
@@ -152,14 +199,26 @@ fn put_reply(out: &mut Vec<u8>, reply: &NfsReply) -> Result<(), AllocError>
     ensures fits { OnOk result (ReplyFits reply.now) }
 {
     match reply {
+        NfsReply::GetAttr(answer) => answer.put(out),
+        NfsReply::SetAttr(answer) => answer.put(out),
+        NfsReply::Lookup(answer) => answer.put(out),
+        NfsReply::ReadLink(answer) => answer.put(out),
         NfsReply::Read(answer) => answer.put(out),
         NfsReply::Write(answer) => answer.put(out),
         NfsReply::Create(answer) => answer.put(out),
+        NfsReply::MkDir(answer) => answer.put(out),
+        NfsReply::SymLink(answer) => answer.put(out),
+        NfsReply::Remove(answer) => answer.put(out),
+        NfsReply::RmDir(answer) => answer.put(out),
+        NfsReply::Rename(answer) => answer.put(out),
+        NfsReply::ReadDir(answer) => answer.put(out),
+        NfsReply::ReadDirPlus(answer) => answer.put(out),
+        NfsReply::Commit(answer) => answer.put(out),
     }
 }
 
 /// Appends the arguments of a call in the one spelling that is written, whose padding is zero.
-#[tactic(auto, using(crate::specs::Spelled::call_spelled, crate::proofs::ReadsBack::call_reads_back))]
+#[tactic(auto, using(crate::specs::SpelledMessages::call_spelled, crate::proofs::ReadsBack::call_reads_back))]
 pub fn put_args(out: &mut Vec<u8>, call: &NfsCall) -> Result<(), AllocError>
     ensures ok { OnOk result (out.new.items ≡ out.old.items ++ arguments_text call.now) }
     ensures err { OnErr result (out.new.items ≡ out.old.items) }
@@ -175,7 +234,7 @@ pub fn put_args(out: &mut Vec<u8>, call: &NfsCall) -> Result<(), AllocError>
 }
 
 /// Appends a result in the one spelling that is written, whose padding is zero.
-#[tactic(auto, using(crate::specs::Spelled::reply_spelled, crate::proofs::ReadsBack::reply_reads_back))]
+#[tactic(auto, using(crate::specs::SpelledMessages::reply_spelled, crate::proofs::ReadsBack::reply_reads_back))]
 pub fn put_result(out: &mut Vec<u8>, reply: &NfsReply) -> Result<(), AllocError>
     ensures ok { OnOk result (out.new.items ≡ out.old.items ++ result_text reply.now) }
     ensures err { OnErr result (out.new.items ≡ out.old.items) }

@@ -9,8 +9,10 @@ ghost use Rattle.nfs3_msgs.specs.Words.{failure_of, failure_word, status_of};
 use crate::fault::MessageFault;
 use crate::value::{XdrValue, bad_enum, read_word};
 use nfs3_types::{
-    Answer, CreateSuccess, Data, Failure, FileAttributes, FileHandle, ReadSuccess, StableHow,
-    Verifier, WccData, WriteSuccess,
+    Answer, CommitSuccess, CreateSuccess, Data, DirectoryEntry, DirectoryEntryPlus, Entries,
+    Failure, FileAttributes, FileHandle, LinkText, LookupSuccess, Name, ReadDirPlusSuccess,
+    ReadDirSuccess, ReadLinkSuccess, ReadSuccess, RenameWcc, StableHow, Verifier, WccData,
+    WriteSuccess,
 };
 use std::alloc::{AllocError, Global};
 use xdr_records::{Reader, put_u32};
@@ -80,7 +82,7 @@ fn put_failure(out: &mut Vec<u8>, status: Failure) -> Result<(), AllocError>
 
 impl<S: XdrValue, F: XdrValue> XdrValue for Answer<S, F> {
     ghost use Rattle.nfs3_msgs.specs.Replies.{answer, answer_text, AnswerFits};
-    ghost use Rattle.nfs3_msgs.specs.Spelled.{answer_spelled};
+    ghost use Rattle.nfs3_msgs.specs.SpelledReplies.{answer_spelled};
 
     ghost grammar = { answer S.grammar F.grammar };
 
@@ -115,7 +117,7 @@ impl<S: XdrValue, F: XdrValue> XdrValue for Answer<S, F> {
 
 impl XdrValue for ReadSuccess {
     ghost use Rattle.nfs3_msgs.specs.Replies.{read_success, read_success_text, ReadSuccessFits};
-    ghost use Rattle.nfs3_msgs.specs.Spelled.{read_success_spelled};
+    ghost use Rattle.nfs3_msgs.specs.SpelledReplies.{read_success_spelled};
 
     ghost grammar = { read_success };
 
@@ -150,7 +152,7 @@ impl XdrValue for ReadSuccess {
 
 impl XdrValue for WriteSuccess {
     ghost use Rattle.nfs3_msgs.specs.Replies.{write_success, write_success_text, WriteSuccessFits};
-    ghost use Rattle.nfs3_msgs.specs.Spelled.{write_success_spelled};
+    ghost use Rattle.nfs3_msgs.specs.SpelledReplies.{write_success_spelled};
 
     ghost grammar = { write_success };
 
@@ -185,7 +187,7 @@ impl XdrValue for WriteSuccess {
 
 impl XdrValue for CreateSuccess {
     ghost use Rattle.nfs3_msgs.specs.Replies.{create_success, create_success_text, CreateSuccessFits};
-    ghost use Rattle.nfs3_msgs.specs.Spelled.{create_success_spelled};
+    ghost use Rattle.nfs3_msgs.specs.SpelledReplies.{create_success_spelled};
 
     ghost grammar = { create_success };
 
@@ -213,4 +215,254 @@ impl XdrValue for CreateSuccess {
     }
 
     ghost spelled = { create_success_spelled };
+}
+
+impl XdrValue for LookupSuccess {
+    ghost use Rattle.nfs3_msgs.specs.Replies.{lookup_success, lookup_success_text, LookupSuccessFits};
+    ghost use Rattle.nfs3_msgs.specs.SpelledReplies.{lookup_success_spelled};
+
+    ghost grammar = { lookup_success };
+
+    ghost text = { lookup_success_text };
+
+    ghost fits = { LookupSuccessFits };
+
+    #[tactic(auto, unfolding(crate::specs::Replies::lookup_success))]
+    fn read(alloc: Global, reader: &mut Reader<'_>) -> Result<LookupSuccess, MessageFault> {
+        let object = FileHandle::read(alloc, reader)?;
+        let attributes = Option::<FileAttributes>::read(alloc, reader)?;
+        let directory_attributes = Option::<FileAttributes>::read(alloc, reader)?;
+        Ok(LookupSuccess {
+            object,
+            attributes,
+            directory_attributes,
+        })
+    }
+
+    #[tactic(auto, unfolding(crate::specs::Replies::lookup_success_text, crate::specs::Replies::LookupSuccessFits))]
+    fn put(&self, out: &mut Vec<u8>) -> Result<(), AllocError> {
+        self.object.put(out)?;
+        self.attributes.put(out)?;
+        self.directory_attributes.put(out)
+    }
+
+    ghost spelled = { lookup_success_spelled };
+}
+
+impl XdrValue for ReadLinkSuccess {
+    ghost use Rattle.nfs3_msgs.specs.Replies.{read_link_success, read_link_success_text, ReadLinkSuccessFits};
+    ghost use Rattle.nfs3_msgs.specs.SpelledReplies.{read_link_success_spelled};
+
+    ghost grammar = { read_link_success };
+
+    ghost text = { read_link_success_text };
+
+    ghost fits = { ReadLinkSuccessFits };
+
+    #[tactic(auto, unfolding(crate::specs::Replies::read_link_success))]
+    fn read(alloc: Global, reader: &mut Reader<'_>) -> Result<ReadLinkSuccess, MessageFault> {
+        let attributes = Option::<FileAttributes>::read(alloc, reader)?;
+        let target = LinkText::read(alloc, reader)?;
+        Ok(ReadLinkSuccess { attributes, target })
+    }
+
+    #[tactic(auto, unfolding(crate::specs::Replies::read_link_success_text, crate::specs::Replies::ReadLinkSuccessFits))]
+    fn put(&self, out: &mut Vec<u8>) -> Result<(), AllocError> {
+        self.attributes.put(out)?;
+        self.target.put(out)
+    }
+
+    ghost spelled = { read_link_success_spelled };
+}
+
+impl XdrValue for RenameWcc {
+    ghost use Rattle.nfs3_msgs.specs.Replies.{rename_wcc, rename_wcc_text, RenameWccFits};
+    ghost use Rattle.nfs3_msgs.specs.SpelledReplies.{rename_wcc_spelled};
+
+    ghost grammar = { rename_wcc };
+
+    ghost text = { rename_wcc_text };
+
+    ghost fits = { RenameWccFits };
+
+    #[tactic(auto, unfolding(crate::specs::Replies::rename_wcc))]
+    fn read(alloc: Global, reader: &mut Reader<'_>) -> Result<RenameWcc, MessageFault> {
+        let from = WccData::read(alloc, reader)?;
+        let to = WccData::read(alloc, reader)?;
+        Ok(RenameWcc { from, to })
+    }
+
+    #[tactic(auto, unfolding(crate::specs::Replies::rename_wcc_text, crate::specs::Replies::RenameWccFits))]
+    fn put(&self, out: &mut Vec<u8>) -> Result<(), AllocError> {
+        self.from.put(out)?;
+        self.to.put(out)
+    }
+
+    ghost spelled = { rename_wcc_spelled };
+}
+
+impl XdrValue for DirectoryEntry {
+    ghost use Rattle.nfs3_msgs.specs.Replies.{directory_entry, directory_entry_text, DirectoryEntryFits};
+    ghost use Rattle.nfs3_msgs.specs.SpelledReplies.{directory_entry_spelled};
+
+    ghost grammar = { directory_entry };
+
+    ghost text = { directory_entry_text };
+
+    ghost fits = { DirectoryEntryFits };
+
+    #[tactic(auto, unfolding(crate::specs::Replies::directory_entry))]
+    fn read(alloc: Global, reader: &mut Reader<'_>) -> Result<DirectoryEntry, MessageFault> {
+        let file_number = u64::read(alloc, reader)?;
+        let name = Name::read(alloc, reader)?;
+        let cookie = u64::read(alloc, reader)?;
+        Ok(DirectoryEntry {
+            file_number,
+            name,
+            cookie,
+        })
+    }
+
+    #[tactic(auto, unfolding(crate::specs::Replies::directory_entry_text, crate::specs::Replies::DirectoryEntryFits))]
+    fn put(&self, out: &mut Vec<u8>) -> Result<(), AllocError> {
+        self.file_number.put(out)?;
+        self.name.put(out)?;
+        self.cookie.put(out)
+    }
+
+    ghost spelled = { directory_entry_spelled };
+}
+
+impl XdrValue for ReadDirSuccess {
+    ghost use Rattle.nfs3_msgs.specs.Replies.{read_dir_success, read_dir_success_text, ReadDirSuccessFits};
+    ghost use Rattle.nfs3_msgs.specs.SpelledReplies.{read_dir_success_spelled};
+
+    ghost grammar = { read_dir_success };
+
+    ghost text = { read_dir_success_text };
+
+    ghost fits = { ReadDirSuccessFits };
+
+    #[tactic(auto, unfolding(crate::specs::Replies::read_dir_success))]
+    fn read(alloc: Global, reader: &mut Reader<'_>) -> Result<ReadDirSuccess, MessageFault> {
+        let attributes = Option::<FileAttributes>::read(alloc, reader)?;
+        let verifier = Verifier::read(alloc, reader)?;
+        let entries = Entries::<DirectoryEntry>::read(alloc, reader)?;
+        let eof = bool::read(alloc, reader)?;
+        Ok(ReadDirSuccess {
+            attributes,
+            verifier,
+            entries,
+            eof,
+        })
+    }
+
+    #[tactic(auto, unfolding(crate::specs::Replies::read_dir_success_text, crate::specs::Replies::ReadDirSuccessFits))]
+    fn put(&self, out: &mut Vec<u8>) -> Result<(), AllocError> {
+        self.attributes.put(out)?;
+        self.verifier.put(out)?;
+        self.entries.put(out)?;
+        self.eof.put(out)
+    }
+
+    ghost spelled = { read_dir_success_spelled };
+}
+
+impl XdrValue for DirectoryEntryPlus {
+    ghost use Rattle.nfs3_msgs.specs.Replies.{directory_entry_plus, directory_entry_plus_text, DirectoryEntryPlusFits};
+    ghost use Rattle.nfs3_msgs.specs.SpelledReplies.{directory_entry_plus_spelled};
+
+    ghost grammar = { directory_entry_plus };
+
+    ghost text = { directory_entry_plus_text };
+
+    ghost fits = { DirectoryEntryPlusFits };
+
+    #[tactic(auto, unfolding(crate::specs::Replies::directory_entry_plus))]
+    fn read(alloc: Global, reader: &mut Reader<'_>) -> Result<DirectoryEntryPlus, MessageFault> {
+        let file_number = u64::read(alloc, reader)?;
+        let name = Name::read(alloc, reader)?;
+        let cookie = u64::read(alloc, reader)?;
+        let attributes = Option::<FileAttributes>::read(alloc, reader)?;
+        let object = Option::<FileHandle>::read(alloc, reader)?;
+        Ok(DirectoryEntryPlus {
+            file_number,
+            name,
+            cookie,
+            attributes,
+            object,
+        })
+    }
+
+    #[tactic(auto, unfolding(crate::specs::Replies::directory_entry_plus_text, crate::specs::Replies::DirectoryEntryPlusFits))]
+    fn put(&self, out: &mut Vec<u8>) -> Result<(), AllocError> {
+        self.file_number.put(out)?;
+        self.name.put(out)?;
+        self.cookie.put(out)?;
+        self.attributes.put(out)?;
+        self.object.put(out)
+    }
+
+    ghost spelled = { directory_entry_plus_spelled };
+}
+
+impl XdrValue for ReadDirPlusSuccess {
+    ghost use Rattle.nfs3_msgs.specs.Replies.{read_dir_plus_success, read_dir_plus_success_text, ReadDirPlusSuccessFits};
+    ghost use Rattle.nfs3_msgs.specs.SpelledReplies.{read_dir_plus_success_spelled};
+
+    ghost grammar = { read_dir_plus_success };
+
+    ghost text = { read_dir_plus_success_text };
+
+    ghost fits = { ReadDirPlusSuccessFits };
+
+    #[tactic(auto, unfolding(crate::specs::Replies::read_dir_plus_success))]
+    fn read(alloc: Global, reader: &mut Reader<'_>) -> Result<ReadDirPlusSuccess, MessageFault> {
+        let attributes = Option::<FileAttributes>::read(alloc, reader)?;
+        let verifier = Verifier::read(alloc, reader)?;
+        let entries = Entries::<DirectoryEntryPlus>::read(alloc, reader)?;
+        let eof = bool::read(alloc, reader)?;
+        Ok(ReadDirPlusSuccess {
+            attributes,
+            verifier,
+            entries,
+            eof,
+        })
+    }
+
+    #[tactic(auto, unfolding(crate::specs::Replies::read_dir_plus_success_text, crate::specs::Replies::ReadDirPlusSuccessFits))]
+    fn put(&self, out: &mut Vec<u8>) -> Result<(), AllocError> {
+        self.attributes.put(out)?;
+        self.verifier.put(out)?;
+        self.entries.put(out)?;
+        self.eof.put(out)
+    }
+
+    ghost spelled = { read_dir_plus_success_spelled };
+}
+
+impl XdrValue for CommitSuccess {
+    ghost use Rattle.nfs3_msgs.specs.Replies.{commit_success, commit_success_text, CommitSuccessFits};
+    ghost use Rattle.nfs3_msgs.specs.SpelledReplies.{commit_success_spelled};
+
+    ghost grammar = { commit_success };
+
+    ghost text = { commit_success_text };
+
+    ghost fits = { CommitSuccessFits };
+
+    #[tactic(auto, unfolding(crate::specs::Replies::commit_success))]
+    fn read(alloc: Global, reader: &mut Reader<'_>) -> Result<CommitSuccess, MessageFault> {
+        let wcc = WccData::read(alloc, reader)?;
+        let verifier = Verifier::read(alloc, reader)?;
+        Ok(CommitSuccess { wcc, verifier })
+    }
+
+    #[tactic(auto, unfolding(crate::specs::Replies::commit_success_text, crate::specs::Replies::CommitSuccessFits))]
+    fn put(&self, out: &mut Vec<u8>) -> Result<(), AllocError> {
+        self.wcc.put(out)?;
+        self.verifier.put(out)
+    }
+
+    ghost spelled = { commit_success_spelled };
 }

@@ -1,6 +1,10 @@
 //! Bytes from outside: three calls and their replies as they stand in a run, and one fault of each kind.
 
+mod damage;
+mod layouts;
+
 use crate::{Kind, MessageFault, put_args, put_result, read_args, read_result};
+use layouts::LAYOUTS;
 use nfs3_types::{Answer, CreateMode, NfsCall, NfsReply};
 use std::alloc::Global;
 use std::test::Fail;
@@ -140,9 +144,28 @@ fn faults_of_arguments_stand_at_their_item(rt: HostRuntime) {
         arguments_fault(alloc, 7, &level),
         Some((20, Kind::BadEnum))
     );
+    // ACCESS isn't judged, nor is what no procedure has as its number.
+    for procedure in [4, 22] {
+        assert_eq!(rt;
+            arguments_fault(alloc, procedure, &READ_ARGUMENTS),
+            Some((0, Kind::NotJudged))
+        );
+    }
+    // A LOOKUP whose name would have 2^32 - 1 bytes.
+    let long_name = [
+        0, 0, 0, 1, 0xd1, 0, 0, 0, 0xff, 0xff, 0xff, 0xff, 0x61, 0, 0, 0,
+    ];
     assert_eq!(rt;
-        arguments_fault(alloc, 4, &READ_ARGUMENTS),
-        Some((0, Kind::NotJudged))
+        arguments_fault(alloc, 3, &long_name),
+        Some((8, Kind::Short))
+    );
+    // A RENAME whose second handle has 65 bytes.
+    let second_handle = [
+        0, 0, 0, 1, 0xd1, 0, 0, 0, 0, 0, 0, 1, 0x61, 0, 0, 0, 0, 0, 0, 65,
+    ];
+    assert_eq!(rt;
+        arguments_fault(alloc, 14, &second_handle),
+        Some((16, Kind::TooLong))
     );
 }
 
@@ -160,4 +183,59 @@ fn faults_of_results_stand_at_their_item(rt: HostRuntime) {
     // JUKEBOX, and attributes whose type 8 is none.
     let jukebox = [0, 0, 0x27, 0x18, 0, 0, 0, 1, 0, 0, 0, 8];
     assert_eq!(rt; result_fault(alloc, 6, &jukebox), Some((8, Kind::BadEnum)));
+    // READDIR: behind the verifier an entry, behind which nothing says whether there is one more.
+    let endless = [
+        0, 0, 0, 0, 0, 0, 0, 0, 0, 0, 0, 0, 0, 0, 0, 1, 0, 0, 0, 1, 0, 0, 0, 0, 0, 0, 0, 8, 0, 0,
+        0, 1, 0x61, 0, 0, 0, 0, 0, 0, 0, 0, 0, 0, 1,
+    ];
+    assert_eq!(rt; result_fault(alloc, 16, &endless), Some((44, Kind::Short)));
+}
+
+#[test]
+fn each_procedure_is_written_as_it_was_read(rt: HostRuntime) -> Result<(), Fail> {
+    let alloc = rt.alloc();
+    for layout in &LAYOUTS {
+        let arguments = hex::decode(alloc, layout.arguments.as_bytes())
+            .ok()
+            .ok_or("hex")?;
+        let again = arguments_again(alloc, layout.procedure, &arguments)?;
+        assert_eq!(rt; again.as_slice(), arguments.as_slice(), "{}", layout.name);
+        for result in [layout.success, layout.failure] {
+            let result = hex::decode(alloc, result.as_bytes()).ok().ok_or("hex")?;
+            let again = result_again(alloc, layout.procedure, &result)?;
+            assert_eq!(rt; again.as_slice(), result.as_slice(), "{}", layout.name);
+        }
+    }
+    Ok(())
+}
+
+// Writes both behind a byte that stands there. Where memory was refused, the byte stands alone, and a second
+// writing succeeds.
+fn written_or_unchanged(alloc: Global, call: &NfsCall, reply: &NfsReply) -> Result<bool, Fail> {
+    let mut out = Vec::new(alloc);
+    out.reserve(1)?;
+    out.push(7)?;
+    if put_args(&mut out, call).is_err() {
+        if out.as_slice() != [7].as_slice() {
+            return Ok(false);
+        }
+        put_args(&mut out, call)?;
+    }
+    let behind = out.len();
+    if put_result(&mut out, reply).is_err() {
+        if out.len() != behind {
+            return Ok(false);
+        }
+        put_result(&mut out, reply)?;
+    }
+    Ok(true)
+}
+
+#[test]
+fn a_refused_growth_leaves_what_stands(rt: HostRuntime) -> Result<(), Fail> {
+    let alloc = rt.alloc();
+    let call = read_args(alloc, 7, &WRITE_ARGUMENTS)?;
+    let reply = read_result(alloc, 6, &READ_RESULT)?;
+    assert!(rt; written_or_unchanged(alloc, &call, &reply)?);
+    Ok(())
 }

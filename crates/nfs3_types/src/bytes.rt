@@ -119,6 +119,42 @@ impl Data {
     }
 }
 
+/// The text of a symbolic link, `nfspath3`: below 2^32 bytes, with no rule on which.
+#[derive(Debug, Drop)]
+pub struct LinkText {
+    target: Vec<u8>,
+}
+
+impl Model for LinkText {
+    ghost use Rattle.std.specs.Prelude.{◌<◌, ◌^◌, List, ℕ, length};
+
+    ghost Value = { List ℕ };
+
+    ghost view = { λ t. t.target.items };
+
+    ghost invariant = { λ t. length t.target.items < 2 ^ 32 };
+}
+
+impl LinkText {
+    /// The text of these bytes.
+    pub fn from_slice(alloc: Global, bytes: &[u8]) -> Result<LinkText, AllocError>
+        requires { length bytes.now < 2 ^ 32 }
+        ensures { IfOk result (λ t. t ≡ bytes.now) }
+    {
+        Ok(LinkText {
+            target: Vec::from_slice(alloc, bytes)?,
+        })
+    }
+
+    /// Its bytes.
+    pub fn as_slice(&self) -> &[u8]
+        ensures value { result.now ≡ self.now }
+        ensures bound { length self.now < 2 ^ 32 }
+    {
+        self.target.as_slice()
+    }
+}
+
 impl PartialEq for FileHandle {
     ghost eq = { λ a b. pointwise nat_eq a b };
 
@@ -159,4 +195,50 @@ impl PartialEq for Data {
 
 impl Eq for Data {
     ghost laws = { nat_list_eq_equiv };
+}
+
+impl PartialEq for LinkText {
+    ghost eq = { λ a b. pointwise nat_eq a b };
+
+    ghost laws = { partial_equiv_from_equiv nat_list_eq_equiv };
+
+    fn eq(&self, other: &Self) -> bool {
+        self.target == other.target
+    }
+}
+
+impl Eq for LinkText {
+    ghost laws = { nat_list_eq_equiv };
+}
+
+impl Clone for FileHandle {
+    ghost is_clone = { λ x y. y ≡ x };
+
+    fn clone(&self) -> Result<FileHandle, AllocError> {
+        FileHandle::from_slice(*self.bytes.allocator(), self.as_slice())
+    }
+}
+
+impl Clone for Name {
+    ghost is_clone = { λ x y. y ≡ x };
+
+    fn clone(&self) -> Result<Name, AllocError> {
+        Name::from_slice(*self.text.allocator(), self.as_slice())
+    }
+}
+
+impl Clone for Data {
+    ghost is_clone = { λ x y. y ≡ x };
+
+    fn clone(&self) -> Result<Data, AllocError> {
+        Data::from_slice(*self.content.allocator(), self.as_slice())
+    }
+}
+
+impl Clone for LinkText {
+    ghost is_clone = { λ x y. y ≡ x };
+
+    fn clone(&self) -> Result<LinkText, AllocError> {
+        LinkText::from_slice(*self.target.allocator(), self.as_slice())
+    }
 }

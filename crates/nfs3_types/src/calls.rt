@@ -1,10 +1,13 @@
 //! The arguments of the calls.
 
-use crate::attributes::{SetAttributes, Verifier};
-use crate::bytes::{Data, FileHandle, Name};
+ghost use Rattle.std.specs.Prelude.{◌≡◌, IfOk};
+
+use crate::attributes::{SetAttributes, Time, Verifier};
+use crate::bytes::{Data, FileHandle, LinkText, Name};
+use std::alloc::AllocError;
 
 /// A name in a directory, `diropargs3`.
-#[derive(Debug, PartialEq, Eq, Drop)]
+#[derive(Clone, Debug, PartialEq, Eq, Drop)]
 pub struct DirectoryName {
     pub directory: FileHandle,
     pub name: Name,
@@ -27,8 +30,18 @@ pub enum CreateMode {
     Exclusive(Verifier),
 }
 
+/// `SETATTR3args` (RFC 1813, section 3.3.2).
+#[derive(Clone, Debug, PartialEq, Eq, Drop)]
+pub struct SetAttrArguments {
+    pub object: FileHandle,
+    /// `new_attributes`
+    pub attributes: SetAttributes,
+    /// The `ctime` that the object has to have for the call to succeed.
+    pub guard: Option<Time>,
+}
+
 /// `READ3args` (RFC 1813, section 3.3.6).
-#[derive(Debug, PartialEq, Eq, Drop)]
+#[derive(Clone, Debug, PartialEq, Eq, Drop)]
 pub struct ReadArguments {
     pub file: FileHandle,
     pub offset: u64,
@@ -36,7 +49,7 @@ pub struct ReadArguments {
 }
 
 /// `WRITE3args` (RFC 1813, section 3.3.7).
-#[derive(Debug, PartialEq, Eq, Drop)]
+#[derive(Clone, Debug, PartialEq, Eq, Drop)]
 pub struct WriteArguments {
     pub file: FileHandle,
     pub offset: u64,
@@ -47,16 +60,93 @@ pub struct WriteArguments {
 }
 
 /// `CREATE3args` (RFC 1813, section 3.3.8).
-#[derive(Debug, PartialEq, Eq, Drop)]
+#[derive(Clone, Debug, PartialEq, Eq, Drop)]
 pub struct CreateArguments {
     pub place: DirectoryName,
     pub mode: CreateMode,
 }
 
+/// `MKDIR3args` (RFC 1813, section 3.3.9).
+#[derive(Clone, Debug, PartialEq, Eq, Drop)]
+pub struct MkDirArguments {
+    pub place: DirectoryName,
+    pub attributes: SetAttributes,
+}
+
+/// `SYMLINK3args` (RFC 1813, section 3.3.10).
+#[derive(Clone, Debug, PartialEq, Eq, Drop)]
+pub struct SymLinkArguments {
+    pub place: DirectoryName,
+    pub attributes: SetAttributes,
+    /// `symlink_data`
+    pub target: LinkText,
+}
+
+/// `RENAME3args` (RFC 1813, section 3.3.14).
+#[derive(Clone, Debug, PartialEq, Eq, Drop)]
+pub struct RenameArguments {
+    pub from: DirectoryName,
+    pub to: DirectoryName,
+}
+
+/// `READDIR3args` (RFC 1813, section 3.3.16).
+#[derive(Clone, Debug, PartialEq, Eq, Drop)]
+pub struct ReadDirArguments {
+    pub directory: FileHandle,
+    /// 0, or the cookie of the entry behind which the list goes on.
+    pub cookie: u64,
+    pub verifier: Verifier,
+    /// The most bytes of the answer.
+    pub count: u32,
+}
+
+/// `READDIRPLUS3args` (RFC 1813, section 3.3.17).
+#[derive(Clone, Debug, PartialEq, Eq, Drop)]
+pub struct ReadDirPlusArguments {
+    pub directory: FileHandle,
+    /// 0, or the cookie of the entry behind which the list goes on.
+    pub cookie: u64,
+    pub verifier: Verifier,
+    /// `dircount`: the most bytes of names and cookies.
+    pub directory_count: u32,
+    /// `maxcount`: the most bytes of the answer.
+    pub whole_count: u32,
+}
+
+/// `COMMIT3args` (RFC 1813, section 3.3.21).
+#[derive(Clone, Debug, PartialEq, Eq, Drop)]
+pub struct CommitArguments {
+    pub file: FileHandle,
+    pub offset: u64,
+    /// Bytes; 0 is all that stands behind the offset.
+    pub count: u32,
+}
+
 /// A call of a judged procedure.
-#[derive(Debug, PartialEq, Eq, Drop)]
+#[derive(Clone, Debug, PartialEq, Eq, Drop)]
 pub enum NfsCall {
+    GetAttr(FileHandle),
+    SetAttr(SetAttrArguments),
+    Lookup(DirectoryName),
+    ReadLink(FileHandle),
     Read(ReadArguments),
     Write(WriteArguments),
     Create(CreateArguments),
+    MkDir(MkDirArguments),
+    SymLink(SymLinkArguments),
+    Remove(DirectoryName),
+    RmDir(DirectoryName),
+    Rename(RenameArguments),
+    ReadDir(ReadDirArguments),
+    ReadDirPlus(ReadDirPlusArguments),
+    Commit(CommitArguments),
+}
+
+impl NfsCall {
+    /// A second call with the same arguments.
+    pub fn copy(&self) -> Result<NfsCall, AllocError>
+        ensures { IfOk result (λ call. call ≡ self.now) }
+    {
+        self.clone()
+    }
 }

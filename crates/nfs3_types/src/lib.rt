@@ -5,6 +5,7 @@
 mod attributes;
 mod bytes;
 mod calls;
+mod entries;
 mod replies;
 mod status;
 
@@ -12,11 +13,18 @@ pub use attributes::{
     Device, FileAttributes, FileType, SetAttributes, SetTime, Time, Verifier, WccAttributes,
     WccData,
 };
-pub use bytes::{Data, FileHandle, HANDLE_LIMIT, Name};
+pub use bytes::{Data, FileHandle, HANDLE_LIMIT, LinkText, Name};
 pub use calls::{
-    CreateArguments, CreateMode, DirectoryName, NfsCall, ReadArguments, StableHow, WriteArguments,
+    CommitArguments, CreateArguments, CreateMode, DirectoryName, MkDirArguments, NfsCall,
+    ReadArguments, ReadDirArguments, ReadDirPlusArguments, RenameArguments, SetAttrArguments,
+    StableHow, SymLinkArguments, WriteArguments,
 };
-pub use replies::{Answer, CreateSuccess, NfsReply, Outcome, ReadSuccess, WriteSuccess};
+pub use entries::Entries;
+pub use replies::{
+    Answer, CommitSuccess, CreateSuccess, DirectoryEntry, DirectoryEntryPlus, LookupSuccess,
+    NfsReply, Outcome, ReadDirPlusSuccess, ReadDirSuccess, ReadLinkSuccess, ReadSuccess, RenameWcc,
+    WriteSuccess,
+};
 pub use status::Failure;
 
 #[cfg(test)]

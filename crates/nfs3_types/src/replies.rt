@@ -1,19 +1,39 @@
 //! The results of the calls, and what a history knows of a call's end.
 
+ghost use Rattle.std.specs.Prelude.{◌≡◌, IfOk};
+
 use crate::attributes::{FileAttributes, Verifier, WccData};
-use crate::bytes::{Data, FileHandle};
+use crate::bytes::{Data, FileHandle, LinkText, Name};
 use crate::calls::StableHow;
+use crate::entries::Entries;
 use crate::status::Failure;
+use std::alloc::AllocError;
 
 /// A result: what stands behind `NFS3_OK`, or the failure's status and what stands behind it.
-#[derive(Debug, PartialEq, Eq, Drop)]
+#[derive(Clone, Debug, PartialEq, Eq, Drop)]
 pub enum Answer<S, F> {
     Done(S),
     Failed(Failure, F),
 }
 
+/// `LOOKUP3resok` (RFC 1813, section 3.3.3).
+#[derive(Clone, Debug, PartialEq, Eq, Drop)]
+pub struct LookupSuccess {
+    pub object: FileHandle,
+    pub attributes: Option<FileAttributes>,
+    /// `dir_attributes`
+    pub directory_attributes: Option<FileAttributes>,
+}
+
+/// `READLINK3resok` (RFC 1813, section 3.3.5).
+#[derive(Clone, Debug, PartialEq, Eq, Drop)]
+pub struct ReadLinkSuccess {
+    pub attributes: Option<FileAttributes>,
+    pub target: LinkText,
+}
+
 /// `READ3resok` (RFC 1813, section 3.3.6).
-#[derive(Debug, PartialEq, Eq, Drop)]
+#[derive(Clone, Debug, PartialEq, Eq, Drop)]
 pub struct ReadSuccess {
     pub attributes: Option<FileAttributes>,
     pub count: u32,
@@ -31,8 +51,8 @@ pub struct WriteSuccess {
     pub verifier: Verifier,
 }
 
-/// `CREATE3resok` (RFC 1813, section 3.3.8).
-#[derive(Debug, PartialEq, Eq, Drop)]
+/// `CREATE3resok`, `MKDIR3resok` and `SYMLINK3resok` (RFC 1813, sections 3.3.8 to 3.3.10).
+#[derive(Clone, Debug, PartialEq, Eq, Drop)]
 pub struct CreateSuccess {
     pub object: Option<FileHandle>,
     pub attributes: Option<FileAttributes>,
@@ -40,18 +60,149 @@ pub struct CreateSuccess {
     pub wcc: WccData,
 }
 
-/// The result of a judged procedure, which it names.
+/// What stands behind the status of a RENAME, done or failed (RFC 1813, section 3.3.14).
+#[derive(Clone, Copy, Debug, PartialEq, Eq)]
+pub struct RenameWcc {
+    /// `fromdir_wcc`
+    pub from: WccData,
+    /// `todir_wcc`
+    pub to: WccData,
+}
+
+/// An entry of a directory, `entry3` (RFC 1813, section 3.3.16).
 #[derive(Debug, PartialEq, Eq, Drop)]
+pub struct DirectoryEntry {
+    /// `fileid`
+    pub file_number: u64,
+    pub name: Name,
+    pub cookie: u64,
+}
+
+impl Clone for DirectoryEntry {
+    ghost is_clone = { λ x y. y ≡ x };
+
+    fn clone(&self) -> Result<DirectoryEntry, AllocError> {
+        Ok(DirectoryEntry {
+            file_number: self.file_number,
+            name: self.name.clone()?,
+            cookie: self.cookie,
+        })
+    }
+}
+
+/// `READDIR3resok` (RFC 1813, section 3.3.16).
+#[derive(Debug, PartialEq, Eq, Drop)]
+pub struct ReadDirSuccess {
+    /// Of the directory.
+    pub attributes: Option<FileAttributes>,
+    pub verifier: Verifier,
+    pub entries: Entries<DirectoryEntry>,
+    pub eof: bool,
+}
+
+impl Clone for ReadDirSuccess {
+    ghost is_clone = { λ x y. y ≡ x };
+
+    #[tactic(auto, using(crate::proofs::Copies::same_items))]
+    fn clone(&self) -> Result<ReadDirSuccess, AllocError> {
+        Ok(ReadDirSuccess {
+            attributes: self.attributes,
+            verifier: self.verifier,
+            entries: self.entries.clone()?,
+            eof: self.eof,
+        })
+    }
+}
+
+/// An entry of a directory with its object, `entryplus3` (RFC 1813, section 3.3.17).
+#[derive(Debug, PartialEq, Eq, Drop)]
+pub struct DirectoryEntryPlus {
+    /// `fileid`
+    pub file_number: u64,
+    pub name: Name,
+    pub cookie: u64,
+    pub attributes: Option<FileAttributes>,
+    pub object: Option<FileHandle>,
+}
+
+impl Clone for DirectoryEntryPlus {
+    ghost is_clone = { λ x y. y ≡ x };
+
+    fn clone(&self) -> Result<DirectoryEntryPlus, AllocError> {
+        Ok(DirectoryEntryPlus {
+            file_number: self.file_number,
+            name: self.name.clone()?,
+            cookie: self.cookie,
+            attributes: self.attributes,
+            object: self.object.clone()?,
+        })
+    }
+}
+
+/// `READDIRPLUS3resok` (RFC 1813, section 3.3.17).
+#[derive(Debug, PartialEq, Eq, Drop)]
+pub struct ReadDirPlusSuccess {
+    /// Of the directory.
+    pub attributes: Option<FileAttributes>,
+    pub verifier: Verifier,
+    pub entries: Entries<DirectoryEntryPlus>,
+    pub eof: bool,
+}
+
+impl Clone for ReadDirPlusSuccess {
+    ghost is_clone = { λ x y. y ≡ x };
+
+    #[tactic(auto, using(crate::proofs::Copies::same_items))]
+    fn clone(&self) -> Result<ReadDirPlusSuccess, AllocError> {
+        Ok(ReadDirPlusSuccess {
+            attributes: self.attributes,
+            verifier: self.verifier,
+            entries: self.entries.clone()?,
+            eof: self.eof,
+        })
+    }
+}
+
+/// `COMMIT3resok` (RFC 1813, section 3.3.21).
+#[derive(Clone, Copy, Debug, PartialEq, Eq)]
+pub struct CommitSuccess {
+    pub wcc: WccData,
+    pub verifier: Verifier,
+}
+
+/// The result of a judged procedure, which it names.
+#[derive(Clone, Debug, PartialEq, Eq, Drop)]
 pub enum NfsReply {
+    GetAttr(Answer<FileAttributes, ()>),
+    SetAttr(Answer<WccData, WccData>),
+    Lookup(Answer<LookupSuccess, Option<FileAttributes>>),
+    ReadLink(Answer<ReadLinkSuccess, Option<FileAttributes>>),
     Read(Answer<ReadSuccess, Option<FileAttributes>>),
     Write(Answer<WriteSuccess, WccData>),
     Create(Answer<CreateSuccess, WccData>),
+    MkDir(Answer<CreateSuccess, WccData>),
+    SymLink(Answer<CreateSuccess, WccData>),
+    Remove(Answer<WccData, WccData>),
+    RmDir(Answer<WccData, WccData>),
+    Rename(Answer<RenameWcc, RenameWcc>),
+    ReadDir(Answer<ReadDirSuccess, Option<FileAttributes>>),
+    ReadDirPlus(Answer<ReadDirPlusSuccess, Option<FileAttributes>>),
+    Commit(Answer<CommitSuccess, WccData>),
 }
 
 /// How a placed call came out: with the reply that was received, or taken as done though no reply came (a
 /// WRITE with its count of bytes written).
-#[derive(Debug, PartialEq, Eq, Drop)]
+#[derive(Clone, Debug, PartialEq, Eq, Drop)]
 pub enum Outcome {
     Received(NfsReply),
     Taken(Option<u32>),
+}
+
+impl Outcome {
+    /// A second outcome with the same values.
+    pub fn copy(&self) -> Result<Outcome, AllocError>
+        ensures { IfOk result (λ outcome. outcome ≡ self.now) }
+    {
+        self.clone()
+    }
 }

@@ -1,6 +1,10 @@
 //! What the clauses don't say: that the calls succeed with memory.
 
-use crate::{Data, FileHandle, Name};
+use crate::{
+    Answer, Data, DirectoryEntryPlus, DirectoryName, Entries, FileHandle, LinkText, Name, NfsCall,
+    NfsReply, Outcome, ReadDirPlusSuccess, Verifier,
+};
+use std::alloc::{AllocError, Global};
 use std::test::Fail;
 
 #[test]
@@ -11,5 +15,49 @@ fn bytes_are_kept(rt: HostRuntime) -> Result<(), Fail> {
     assert_eq!(rt; name.as_slice(), b"a".as_slice());
     let bytes = Data::from_slice(rt.alloc(), b"abc")?;
     assert_eq!(rt; bytes.as_slice(), b"abc".as_slice());
+    let target = LinkText::from_slice(rt.alloc(), b"b/c")?;
+    assert_eq!(rt; target.as_slice(), b"b/c".as_slice());
+    Ok(())
+}
+
+// A REMOVE of a name in the directory 00.
+fn remove(alloc: Global, name: &[u8; 1]) -> Result<NfsCall, AllocError> {
+    Ok(NfsCall::Remove(DirectoryName {
+        directory: FileHandle::from_slice(alloc, &[0])?,
+        name: Name::from_slice(alloc, name)?,
+    }))
+}
+
+// A list of one entry, whose cookie this is.
+fn listed(alloc: Global, cookie: u64) -> Result<Outcome, Fail> {
+    let mut entries = Vec::new(alloc);
+    entries.push(DirectoryEntryPlus {
+        file_number: 1,
+        name: Name::from_slice(alloc, b"a")?,
+        cookie,
+        attributes: None,
+        object: Some(FileHandle::from_slice(alloc, &[0xaa])?),
+    })?;
+    Ok(Outcome::Received(NfsReply::ReadDirPlus(Answer::Done(ReadDirPlusSuccess {
+        attributes: None,
+        verifier: Verifier { value: 1 },
+        entries: Entries::new(entries),
+        eof: true,
+    }))))
+}
+
+#[test]
+fn a_call_and_its_copy_are_equal(rt: HostRuntime) -> Result<(), Fail> {
+    let call = remove(rt.alloc(), b"a")?;
+    assert!(rt; call.copy()? == call);
+    assert!(rt; call != remove(rt.alloc(), b"b")?);
+    Ok(())
+}
+
+#[test]
+fn an_outcome_and_its_copy_are_equal(rt: HostRuntime) -> Result<(), Fail> {
+    let outcome = listed(rt.alloc(), 7)?;
+    assert!(rt; outcome.copy()? == outcome);
+    assert!(rt; outcome != listed(rt.alloc(), 8)?);
     Ok(())
 }

@@ -34,9 +34,21 @@ is_failed (answers.Done s) = false
 is_failed (answers.Failed status f) = true
 
 abbrev pub reply_failed : NfsReply → Bool
+reply_failed (replies.GetAttr answer) = is_failed answer
+reply_failed (replies.SetAttr answer) = is_failed answer
+reply_failed (replies.Lookup answer) = is_failed answer
+reply_failed (replies.ReadLink answer) = is_failed answer
 reply_failed (replies.Read answer) = is_failed answer
 reply_failed (replies.Write answer) = is_failed answer
 reply_failed (replies.Create answer) = is_failed answer
+reply_failed (replies.MkDir answer) = is_failed answer
+reply_failed (replies.SymLink answer) = is_failed answer
+reply_failed (replies.Remove answer) = is_failed answer
+reply_failed (replies.RmDir answer) = is_failed answer
+reply_failed (replies.Rename answer) = is_failed answer
+reply_failed (replies.ReadDir answer) = is_failed answer
+reply_failed (replies.ReadDirPlus answer) = is_failed answer
+reply_failed (replies.Commit answer) = is_failed answer
 
 -- a call that was answered by a failure
 abbrev pub failed : Option Outcome → Bool
@@ -50,15 +62,19 @@ asked_size (modes.Unchecked attributes) = unwrap_or attributes.size 0
 asked_size (modes.Guarded attributes) = unwrap_or attributes.size 0
 asked_size (modes.Exclusive verifier) = 0
 
+-- a size over the limit, but for a call that was answered by a failure
+abbrev pub too_far : ℕ → Option Outcome → Option Which
+too_far size outcome = if nat_lt file_limit size && not (failed outcome) then Some which.TooFar else None
+
 -- what of a call lies outside the model: the count of a WRITE that isn't its data's length, and a file over the
--- limit, but for a call that was answered by a failure
+-- limit
 abbrev pub outside : NfsCall → Option Outcome → Option Which
-outside (calls.Read a) outcome = None
+outside (calls.SetAttr a) outcome = too_far (unwrap_or a.attributes.size 0) outcome
 outside (calls.Write a) outcome =
     if not (a.count == length a.bytes) then Some which.CountDiffers
     else (if (nat_lt 0 a.count && nat_lt file_limit (a.offset + a.count)) && not (failed outcome) then Some which.TooFar else None)
-outside (calls.Create a) outcome =
-    if nat_lt file_limit (asked_size a.mode) && not (failed outcome) then Some which.TooFar else None
+outside (calls.Create a) outcome = too_far (asked_size a.mode) outcome
+outside call outcome = None
 
 -- how a call of a procedure came out: with the result that the reply to it holds
 abbrev pub CameOut : ℕ → Option ReplyEvent → Option Outcome → Type 0

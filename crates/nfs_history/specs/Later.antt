@@ -1,6 +1,6 @@
 -- Events of kinds that are judged later: for now a history holds successful CREATE UNCHECKED, WRITE FILE_SYNC and READ
 -- (RFC 1813, sections 3.3.8, 3.3.7 and 3.3.6) alone.
-use Rattle.std.specs.Prelude.{◌≡◌, ◌≢◌, ◌⊎◌, ℕ, Bool, true, false, not, IsTrue, List, [], ◌∷◌, take}
+use Rattle.std.specs.Prelude.{◌≡◌, ◌≢◌, ◌⊎◌, ◌==◌, ◌||◌, ℕ, Bool, true, false, not, IsTrue, List, [], ◌∷◌, take}
 use Rattle.std.specs.List.{AllByRecursion}
 use Rattle.nfs3_types.specs.declared.calls.NfsCall.{NfsCall}
 use Rattle.nfs3_types.specs.declared.calls.NfsCall.TheVariants as calls
@@ -11,8 +11,7 @@ use Rattle.nfs3_types.specs.declared.calls.CreateMode.TheVariants as modes
 use Rattle.rpc_reader.specs.Values.{CallValue, ReplyValue, Body}
 use Rattle.rpc_reader.specs.Values.Body.{success}
 use Rattle.rpc_reader.specs.Messages.{IsCall, IsReply}
-use Rattle.nfs3_msgs.specs.declared.fault.Kind.TheVariants as kinds
-use Rattle.nfs3_msgs.specs.Messages.{IsArguments, IsArgumentsFault}
+use Rattle.nfs3_msgs.specs.Messages.{IsArguments}
 use Rattle.nfs_history.specs.Event.{Event}
 use Rattle.nfs_history.specs.Event.Event.{call, reply, close, crash}
 
@@ -24,15 +23,19 @@ abbrev pub is_unchecked : CreateMode → Bool
 is_unchecked (modes.Unchecked attributes) = true
 is_unchecked mode = false
 
+-- READ, WRITE and CREATE
+abbrev pub is_judged_now : ℕ → Bool
+is_judged_now procedure = procedure == 6 || procedure == 7 || procedure == 8
+
 -- a mode or a level that is judged later
 abbrev pub is_later_call : NfsCall → Bool
-is_later_call (calls.Read a) = false
 is_later_call (calls.Write a) = not (is_file_sync a.level)
 is_later_call (calls.Create a) = not (is_unchecked a.mode)
+is_later_call _ = false
 
 -- arguments of another procedure, or of a later mode or level
 abbrev pub AreLater : ℕ → List ℕ → Type 0
-AreLater procedure args = IsArgumentsFault procedure args 0 kinds.NotJudged ⊎ (c : NfsCall) × IsArguments procedure args c × IsTrue (is_later_call c)
+AreLater procedure args = IsTrue (not (is_judged_now procedure)) ⊎ (c : NfsCall) × IsArguments procedure args c × IsTrue (is_later_call c)
 
 -- a call of another program or version, or with such arguments
 abbrev pub IsLaterHead : CallValue → Type 0

@@ -3,7 +3,7 @@
 ghost use Rattle.std.specs.Prelude.{◌≡◌, map, IfOk, Some, option_map};
 ghost use Rattle.rpc_reader.specs.Views.{call_value};
 ghost use Rattle.nfs_history.specs.Matching.{seen_call, seen_reply};
-ghost use Rattle.nfs_history.specs.History.{asked_size, failed, reply_failed, outside, CameOut, IsCallOfNfs, IsRecorded, AreRecorded};
+ghost use Rattle.nfs_history.specs.History.{asked_size, failed, reply_failed, too_far, outside, CameOut, IsCallOfNfs, IsRecorded, AreRecorded};
 
 use crate::fault::{HistoryFault, Which};
 use crate::history::{Meaning, RecordedCall};
@@ -26,9 +26,21 @@ fn is_failed_reply(reply: &NfsReply) -> bool
     ensures { result ≡ reply_failed reply.now }
 {
     match reply {
+        NfsReply::GetAttr(answer) => matches!(answer, Answer::Failed(..)),
+        NfsReply::SetAttr(answer) => matches!(answer, Answer::Failed(..)),
+        NfsReply::Lookup(answer) => matches!(answer, Answer::Failed(..)),
+        NfsReply::ReadLink(answer) => matches!(answer, Answer::Failed(..)),
         NfsReply::Read(answer) => matches!(answer, Answer::Failed(..)),
         NfsReply::Write(answer) => matches!(answer, Answer::Failed(..)),
         NfsReply::Create(answer) => matches!(answer, Answer::Failed(..)),
+        NfsReply::MkDir(answer) => matches!(answer, Answer::Failed(..)),
+        NfsReply::SymLink(answer) => matches!(answer, Answer::Failed(..)),
+        NfsReply::Remove(answer) => matches!(answer, Answer::Failed(..)),
+        NfsReply::RmDir(answer) => matches!(answer, Answer::Failed(..)),
+        NfsReply::Rename(answer) => matches!(answer, Answer::Failed(..)),
+        NfsReply::ReadDir(answer) => matches!(answer, Answer::Failed(..)),
+        NfsReply::ReadDirPlus(answer) => matches!(answer, Answer::Failed(..)),
+        NfsReply::Commit(answer) => matches!(answer, Answer::Failed(..)),
     }
 }
 
@@ -52,12 +64,23 @@ fn size_asked(mode: &CreateMode) -> u64
     }
 }
 
+/// Whether a size that wasn't refused is over the limit.
+fn goes_too_far(size: u64, outcome: &Option<Outcome>) -> Option<Which>
+    ensures { result ≡ too_far size outcome.now }
+{
+    if size > FILE_LIMIT && !is_failure(outcome) {
+        Some(Which::TooFar)
+    } else {
+        None
+    }
+}
+
 /// What of a call lies outside the model.
 fn outside_model(call: &NfsCall, outcome: &Option<Outcome>) -> Option<Which>
     ensures { result ≡ outside call.now outcome.now }
 {
     match call {
-        NfsCall::Read(_) => None,
+        NfsCall::SetAttr(call) => goes_too_far(call.attributes.size.unwrap_or(0), outcome),
         NfsCall::Write(write) => {
             if write.count as usize != write.bytes.as_slice().len() {
                 return Some(Which::CountDiffers);
@@ -69,12 +92,8 @@ fn outside_model(call: &NfsCall, outcome: &Option<Outcome>) -> Option<Which>
             }
             None
         }
-        NfsCall::Create(create) => {
-            if size_asked(&create.mode) > FILE_LIMIT && !is_failure(outcome) {
-                return Some(Which::TooFar);
-            }
-            None
-        }
+        NfsCall::Create(create) => goes_too_far(size_asked(&create.mode), outcome),
+        _ => None,
     }
 }
 

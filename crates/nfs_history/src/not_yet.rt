@@ -7,7 +7,7 @@ ghost use Rattle.nfs_history.specs.Later.{is_later_call, AreLater, IsLaterHead, 
 
 use crate::fault::HistoryFault;
 use crate::file::SeenEvent;
-use nfs3_msgs::{Kind, MessageFault, read_args};
+use nfs3_msgs::{MessageFault, read_args};
 use nfs3_types::{CreateMode, NfsCall, StableHow};
 use rpc_reader::{CallHead, ReplyBody, read_call, read_reply};
 use std::alloc::{AllocError, Global};
@@ -22,9 +22,9 @@ fn is_of_later_mode(call: &NfsCall) -> bool
     ensures { result ≡ is_later_call call.now }
 {
     match call {
-        NfsCall::Read(_) => false,
         NfsCall::Write(write) => !matches!(write.level, StableHow::FileSync),
         NfsCall::Create(create) => !matches!(create.mode, CreateMode::Unchecked(_)),
+        _ => false,
     }
 }
 
@@ -33,12 +33,13 @@ fn has_later_arguments(alloc: Global, head: &CallHead<'_>) -> Result<bool, Alloc
     ensures { IfOk result (λ later. MatchBool later (AreLater head.now.procedure head.now.args.now)
         (¬ AreLater head.now.procedure head.now.args.now)) }
 {
+    if !matches!(head.procedure, 6 | 7 | 8) {
+        return Ok(true);
+    }
     match read_args(alloc, head.procedure, head.args) {
         Ok(call) => Ok(is_of_later_mode(&call)),
         Err(MessageFault::NoMemory) => Err(AllocError),
-        Err(MessageFault::BadMessage { at, kind }) => Ok(
-            at == 0 && matches!(kind, Kind::NotJudged),
-        ),
+        Err(MessageFault::BadMessage { .. }) => Ok(false),
     }
 }
 

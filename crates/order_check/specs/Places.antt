@@ -28,7 +28,13 @@ is_answered call = is_some call.outcome
 -- of another none
 abbrev pub may_take : Meaning → Option ℕ → Bool
 may_take (meanings.Judged (calls.Write a)) (Some count) = nat_le count (length a.bytes)
+may_take (meanings.Judged (calls.SetAttr a)) None = true
 may_take (meanings.Judged (calls.Create a)) None = true
+may_take (meanings.Judged (calls.MkDir a)) None = true
+may_take (meanings.Judged (calls.SymLink a)) None = true
+may_take (meanings.Judged (calls.Remove a)) None = true
+may_take (meanings.Judged (calls.RmDir a)) None = true
+may_take (meanings.Judged (calls.Rename a)) None = true
 may_take meaning count = false
 
 abbrev pub is_judged : Meaning → Bool

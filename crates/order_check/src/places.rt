@@ -45,7 +45,18 @@ fn may_be_taken(meaning: &Meaning, count: Option<u32>) -> bool
         (Meaning::Judged(NfsCall::Write(write)), Some(count)) => {
             count as usize <= write.bytes.as_slice().len()
         }
-        (Meaning::Judged(NfsCall::Create(_)), None) => true,
+        (
+            Meaning::Judged(
+                NfsCall::SetAttr(_)
+                | NfsCall::Create(_)
+                | NfsCall::MkDir(_)
+                | NfsCall::SymLink(_)
+                | NfsCall::Remove(_)
+                | NfsCall::RmDir(_)
+                | NfsCall::Rename(_),
+            ),
+            None,
+        ) => true,
         _ => false,
     }
 }

@@ -18,7 +18,7 @@ use Rattle.certificate.specs.declared.plan.Certificate.{Certificate}
 use Rattle.certificate.specs.Plan.{cut_of}
 use Rattle.replay_law.specs.Run.{Era, EveryEraRuns}
 use Rattle.replay_law.specs.Run as run
-use Rattle.file_tree.specs.Tree.{Tree, opening}
+use Rattle.tree_nodes.specs.Tree.{Tree, opening}
 use Rattle.file_tree.specs.Binding.{Bindings}
 use Rattle.file_tree.specs.Success.{next_tree}
 

@@ -5,7 +5,7 @@ ghost use Rattle.std.specs.List.{filter_map};
 ghost use Rattle.order_check.specs.FirstFault.{IsCheck};
 ghost use Rattle.replay_law.specs.Run.{state_after, IsFirstIllegal};
 ghost use Rattle.replay_law.specs.Steps.{taken_of};
-ghost use Rattle.file_tree.specs.Tree.{opening};
+ghost use Rattle.tree_nodes.specs.Tree.{opening};
 ghost use Rattle.file_tree.specs.Success.{next_tree};
 ghost use Rattle.witness_check.specs.Run.{bindings_of, step_at, taken_outcome};
 

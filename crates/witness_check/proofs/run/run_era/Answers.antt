@@ -5,7 +5,7 @@ use Rattle.nfs3_types.specs.declared.replies.Outcome.{Outcome}
 use Rattle.replay_law.specs.Run.{Taken, state_after, IsFirstIllegal}
 use Rattle.replay_law.proofs.Runs.{runs_or_not}
 use Rattle.replay_law.specs.Steps.{taken_of}
-use Rattle.file_tree.specs.Tree.{Tree, opening}
+use Rattle.tree_nodes.specs.Tree.{Tree, opening}
 use Rattle.file_tree.specs.Binding.{Bindings}
 use Rattle.file_tree.specs.Success.{next_tree}
 use Rattle.witness_check.specs.Run.{bindings_of, step_at}

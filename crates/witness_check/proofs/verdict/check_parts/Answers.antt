@@ -4,7 +4,7 @@ use Rattle.nfs_history.specs.declared.history.History.{History}
 use Rattle.certificate.specs.declared.plan.EraPlan.{EraPlan}
 use Rattle.certificate.specs.declared.plan.Certificate.{Certificate}
 use Rattle.replay_law.specs.Run.{state_after}
-use Rattle.file_tree.specs.Tree.{opening}
+use Rattle.tree_nodes.specs.Tree.{opening}
 use Rattle.file_tree.specs.Success.{next_tree}
 use Rattle.witness_check.specs.Run.{Runs, bindings_of, step_at, era_of}
 use Rattle.witness_check.proofs.verdict.check_parts.Goals as goal

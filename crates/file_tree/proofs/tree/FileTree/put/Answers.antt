@@ -1,5 +1,5 @@
 use Rattle.std.proofs.Common.{subst, sym, ◌∙◌, ap}
-use Rattle.file_tree.specs.Nodes.{tree_of}
+use Rattle.tree_nodes.specs.Nodes.{tree_of}
 use Rattle.file_tree.specs.Undo.{undo_of, TakesBack}
 use Rattle.file_tree.proofs.Undoing.{takes_back}
 use Rattle.file_tree.proofs.tree.FileTree.put.Goals as goal

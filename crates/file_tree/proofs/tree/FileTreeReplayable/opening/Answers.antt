@@ -1,6 +1,6 @@
 use Rattle.std.proofs.Common.{subst, sym}
-use Rattle.file_tree.specs.Sound.{IsSound}
-use Rattle.file_tree.proofs.Soundness.{sound_opening}
+use Rattle.tree_nodes.specs.Sound.{IsSound}
+use Rattle.tree_nodes.proofs.Soundness.{sound_opening}
 use Rattle.file_tree.proofs.tree.FileTreeReplayable.opening.Goals as goal
 
 pub invariant_of-result : goal.invariant_of-result

@@ -1,7 +1,7 @@
 use Rattle.std.proofs.Common.{subst, ◌∙◌, ap, Some}
 use Rattle.std.specs.FinMap as map
-use Rattle.file_tree.specs.Sound.{IsSound}
-use Rattle.file_tree.specs.Nodes.{tree_of}
+use Rattle.tree_nodes.specs.Sound.{IsSound}
+use Rattle.tree_nodes.specs.Nodes.{tree_of}
 use Rattle.file_tree.proofs.Growth.{sound_step}
 use Rattle.file_tree.proofs.tree.FileTreeReplayable.step.Goals as goal
 

@@ -1,0 +1,67 @@
+//! The entries of a directory as a list.
+
+ghost use Rattle.std.specs.Prelude.{◌≡◌};
+ghost use Rattle.std.specs.Cmp.Lexicographic.{pointwise};
+
+use std::alloc::AllocError;
+use std::marker::Model;
+
+/// The entries that a reply lists, in its order. A contract sees the list of them.
+#[derive(Debug, Drop)]
+pub struct Entries<E> {
+    entries: Vec<E>,
+}
+
+impl<E> Model for Entries<E> {
+    ghost use Rattle.std.specs.Prelude.{List};
+
+    ghost Value = { List E };
+
+    ghost view = { λ e. e.entries.items };
+}
+
+impl<E> Entries<E> {
+    /// A list of these.
+    pub fn new(entries: Vec<E>) -> Entries<E>
+        ensures { result ≡ entries.items }
+    {
+        Entries { entries }
+    }
+
+    /// Its items.
+    pub fn as_slice(&self) -> &[E]
+        ensures { result.now ≡ self.now }
+    {
+        self.entries.as_slice()
+    }
+}
+
+impl<E: PartialEq> PartialEq for Entries<E> {
+    ghost use Rattle.std.specs.Cmp.Lexicographic.{lists_per};
+
+    ghost eq = { λ a b. pointwise E.eq a b };
+
+    ghost laws = { lists_per E.laws };
+
+    fn eq(&self, other: &Self) -> bool {
+        self.entries == other.entries
+    }
+}
+
+impl<E: Eq> Eq for Entries<E> {
+    ghost use Rattle.std.proofs.lemmas.Cmp.{lists_equiv};
+
+    ghost laws = { lists_equiv E.Eq.laws };
+}
+
+impl<E: Clone> Clone for Entries<E> {
+    ghost use Rattle.std.specs.List.{AllZip};
+
+    ghost is_clone = { λ a b. AllZip E.is_clone a b };
+
+    fn clone(&self) -> Result<Entries<E>, AllocError> {
+        Ok(Entries {
+            entries: self.entries.clone()?,
+        })
+    }
+}
