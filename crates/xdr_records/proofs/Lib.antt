@@ -6,3 +6,7 @@ pub mod Answering
 pub mod Written
 pub mod Loops
 pub mod KindLaws
+pub mod Marks
+pub mod Cutting
+pub mod Copies
+pub mod Feeding

@@ -7,3 +7,7 @@ pub mod Faults
 pub mod Texts
 pub mod Laws
 pub mod Kinds
+pub mod Record
+pub mod Feed
+pub mod Scan
+pub mod Cuts
