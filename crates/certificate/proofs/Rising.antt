@@ -1,15 +1,12 @@
 -- Binds that go on rising.
-use Rattle.std.proofs.Common.{◌≡◌, ℕ, zero, suc, ◌+◌, Bool, true, false, List, [], ◌∷◌, ◌++◌, length, Some, None, sym, ap, ◌∙◌, refl, append_assoc, arith, codes, IsTrue, Option, Ordering}
-use Rattle.std.specs.List.{flat_map, slice_get, AllByRecursion}
+use Rattle.std.proofs.Common.{◌≡◌, ℕ, zero, suc, true, List, [], ◌∷◌, ◌++◌, length, Some, sym, ap, ◌∙◌, refl, arith, Ordering}
+use Rattle.std.specs.List.{slice_get}
 use Rattle.std.specs.Ordering.{nat_cmp, is_some_and, is_lt}
 use Rattle.std.specs.Cmp.{Agrees}
 use Rattle.std.specs.Cmp.Lexicographic.{slice_cmp, slice_partial_cmp, lists_agrees}
 use Rattle.std.specs.declared.cmp.Ordering.TheVariants.{Less, Equal, Greater}
 use Rattle.certificate.specs.declared.plan.Bind.{Bind}
-use Rattle.certificate.specs.declared.reading.Draft.{Draft}
-use Rattle.certificate.specs.declared.reading.Step.TheVariants.{GoesOn}
-use Rattle.certificate.specs.CertificateText.{line, bind_words, bind_lines, place_lines, HasHandle, AreRising}
-use Rattle.certificate.specs.Draft.{TakesLine, AreBinds, spelled_by}
+use Rattle.certificate.specs.CertificateText.{AreRising}
 
 pub AreRising-push : (binds : List Bind) (k : ℕ) (last next : Bind) → length binds ≡ suc k → slice_get binds k ≡ Some last → slice_cmp nat_cmp last.handle next.handle ≡ Less → AreRising binds → AreRising (binds ++ next ∷ [])
 AreRising-push [] k last next long is below rising = tt

@@ -1,4 +1,5 @@
 pub mod Plan
 pub mod CertificateText
+pub mod Parts
 pub mod Line
 pub mod Draft

@@ -2,7 +2,7 @@
 -- then those of the second, and so on (Herlihy and Wing 1990, section 2). At a crash the first `cut` places of
 -- the era survive (buffered durable linearizability, Izraelevitz, Mendes and Scott 2016, with a prefix of the
 -- order where they have a consistent cut).
-use Rattle.std.specs.Prelude.{◌≡◌, ℕ, ◌<◌, ◌≤◌, List, [], ◌∷◌, take, length, map, unwrap_or}
+use Rattle.std.specs.Prelude.{ℕ, List, take, length, unwrap_or}
 use Rattle.std.specs.List.{flat_map}
 use Rattle.certificate.specs.declared.plan.Place.{Place}
 use Rattle.certificate.specs.declared.plan.Place.TheVariants.{Answered, Taken}

@@ -3,11 +3,15 @@
 #![tactic(auto)]
 
 mod line;
+mod parts;
 mod plan;
 mod reading;
+mod writing;
 
+pub use parts::CertificateFault;
 pub use plan::{Bind, BindList, Certificate, EraPlan, EraPlanList, Place, PlaceList};
 pub use reading::{TextFault, read_certificate};
+pub use writing::write_certificate;
 
 #[cfg(test)]
 mod tests;

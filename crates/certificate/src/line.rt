@@ -1,8 +1,8 @@
 //! One line of a certificate.
 
-ghost use Rattle.std.specs.Prelude.{◌≡◌, ◌<◌, ◌≤◌, ◌^◌, ◌++◌, ◌∷◌, length, decimal, IfOk, IfSome};
+ghost use Rattle.std.specs.Prelude.{◌≡◌, ◌<◌, ◌≤◌, ◌^◌, ◌++◌, ◌∷◌, length, codes, decimal, IfOk, IfSome};
 ghost use Rattle.hex.specs.Hex.{IsBytes, encode_lower};
-ghost use Rattle.certificate.specs.CertificateText.{bind_words, HasHandle};
+ghost use Rattle.certificate.specs.CertificateText.{bind_words, place_words, HasHandle, HasNumbers};
 ghost use Rattle.certificate.specs.Line.{IsLine};
 
 use crate::plan::{Bind, Place};
@@ -17,6 +17,7 @@ pub enum Line {
     Witness,
     Bind(Bind),
     Place(Place),
+    Cut(u64),
     End,
 }
 
@@ -47,6 +48,13 @@ fn number_of(digits: &[u8]) -> Option<u64>
     } else {
         None
     }
+}
+
+/// The number that the digits write, where it has 32 bits.
+fn count_of(digits: &[u8]) -> Option<u32>
+    ensures { IfSome result (λ n. (digits.now ≡ decimal n) × (n < 2 ^ 32)) }
+{
+    u32::try_from(number_of(digits)?).ok()
 }
 
 /// The handle that the text writes in lower case hexadecimal, where it has 1 to 64 bytes.
@@ -86,6 +94,16 @@ fn bind_of(alloc: Global, words: &[u8]) -> Result<Option<Bind>, AllocError>
     }
 }
 
+/// The place that the words behind `take` give.
+fn taken_of(words: &[u8]) -> Option<Place>
+    ensures { IfSome result (λ p. (codes "take " ++ words.now ≡ place_words p) × HasNumbers p) }
+{
+    match split_at_byte(words, b' ') {
+        Some((number, count)) => Some(Place::Taken(number_of(number)?, Some(count_of(count)?))),
+        None => Some(Place::Taken(number_of(words)?, None)),
+    }
+}
+
 /// What a line without its line feed says, where it is one that a certificate may have.
 pub fn read_line(alloc: Global, words: &[u8]) -> Result<Option<Line>, AllocError>
     ensures { IfOk result (λ o. IfSome o (λ l. IsLine words.now l)) }
@@ -105,6 +123,18 @@ pub fn read_line(alloc: Global, words: &[u8]) -> Result<Option<Line>, AllocError
     if let Some(digits) = behind(words, b"place ") {
         return match number_of(digits) {
             Some(number) => Ok(Some(Line::Place(Place::Answered(number)))),
+            None => Ok(None),
+        };
+    }
+    if let Some(words) = behind(words, b"take ") {
+        return match taken_of(words) {
+            Some(place) => Ok(Some(Line::Place(place))),
+            None => Ok(None),
+        };
+    }
+    if let Some(digits) = behind(words, b"cut ") {
+        return match number_of(digits) {
+            Some(kept) => Ok(Some(Line::Cut(kept))),
             None => Ok(None),
         };
     }

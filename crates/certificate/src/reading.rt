@@ -1,13 +1,13 @@
 //! A certificate's text, read line by line in one pass.
 
-ghost use Rattle.std.specs.Prelude.{◌≡◌, ◌∷◌, [], IfOk, length, Some, None, codes, ◌++◌, IsTrue};
-ghost use Rattle.std.specs.List.{AllByRecursion};
-ghost use Rattle.certificate.specs.CertificateText.{CertificateText, line, bind_words, HasHandle, HasNumbers, AreRising};
-ghost use Rattle.certificate.specs.Draft.{TakesLine, AreBinds, spelled_by};
+ghost use Rattle.std.specs.Prelude.{◌≡◌, ◌∷◌, [], IfOk, length, Some, None, codes, decimal, ◌++◌, IsTrue};
+ghost use Rattle.certificate.specs.CertificateText.{CertificateText, line, bind_words, HasHandle, AreRising};
+ghost use Rattle.certificate.specs.Draft.{TakesLine, AreBinds, ArePlaces, spelled_by};
 
 use crate::line::{Line, read_line, split_at_byte};
 use crate::plan::{Bind, BindList, Certificate, EraPlan, EraPlanList, Place, PlaceList};
 use std::alloc::{AllocError, Global};
+use std::mem;
 use thiserror::Error;
 
 /// Why a text is no certificate.
@@ -32,10 +32,11 @@ impl From<AllocError> for TextFault {
     }
 }
 
-/// The binds and the places that have been read.
+/// The binds that have been read, the eras that a cut has ended, and the places behind them.
 #[derive(Debug, Drop)]
 struct Draft {
     binds: Vec<Bind>,
+    eras: Vec<EraPlan>,
     places: Vec<Place>,
 }
 
@@ -49,10 +50,11 @@ enum Step {
 
 impl Draft {
     fn new(alloc: Global) -> Draft
-        ensures { (result.binds.items ≡ []) × (result.places.items ≡ []) }
+        ensures { (result.binds.items ≡ []) × (result.eras.items ≡ []) × (result.places.items ≡ []) }
     {
         Draft {
             binds: Vec::new(alloc),
+            eras: Vec::new(alloc),
             places: Vec::new(alloc),
         }
     }
@@ -71,10 +73,21 @@ impl Draft {
         requires { HasHandle bind }
         ensures { IfOk result (TakesLine (bind_words bind) self.old self.new) }
     {
-        if !self.places.is_empty() || !self.rises_with(&bind) {
+        if !self.eras.is_empty() || !self.places.is_empty() || !self.rises_with(&bind) {
             return Ok(Step::Refuses);
         }
         self.binds.push(bind)?;
+        Ok(Step::GoesOn)
+    }
+
+    fn take_cut(&mut self, alloc: Global, kept: u64) -> Result<Step, AllocError>
+        ensures { IfOk result (TakesLine (codes "cut " ++ decimal kept) self.old self.new) }
+    {
+        let places = mem::replace(&mut self.places, Vec::new(alloc));
+        self.eras.push(EraPlan {
+            places: PlaceList::new(places),
+            cut: Some(kept),
+        })?;
         Ok(Step::GoesOn)
     }
 
@@ -88,18 +101,22 @@ impl Draft {
                 Ok(Step::GoesOn)
             }
             Some(Line::Bind(bind)) => self.take_bind(bind),
+            Some(Line::Cut(kept)) => self.take_cut(alloc, kept),
             _ => Ok(Step::Refuses),
         }
     }
 
-    /// The certificate of one era.
-    fn finish(self, alloc: Global) -> Result<Certificate, AllocError>
+    /// The certificate whose last era has the places behind the last cut.
+    fn finish(self) -> Result<Certificate, AllocError>
         requires binds { AreBinds self.binds.items }
-        requires places { AllByRecursion HasNumbers self.places.items }
-        ensures { IfOk result (CertificateText (spelled_by self.binds.items self.places.items ++ line (codes "end"))) }
+        requires places { ArePlaces self.eras.items self.places.items }
+        ensures { IfOk result (CertificateText (spelled_by self.binds.items self.eras.items self.places.items ++ line (codes "end"))) }
     {
-        let Draft { binds, places } = self;
-        let mut eras = Vec::new(alloc);
+        let Draft {
+            binds,
+            mut eras,
+            places,
+        } = self;
         eras.push(EraPlan {
             places: PlaceList::new(places),
             cut: None,
@@ -128,7 +145,7 @@ pub fn read_certificate(alloc: Global, text: &[u8]) -> Result<Certificate, TextF
         number += 1;
         match draft.take_line(alloc, words)? {
             Step::GoesOn => rest = after,
-            Step::Ends if after.is_empty() => return Ok(draft.finish(alloc)?),
+            Step::Ends if after.is_empty() => return Ok(draft.finish()?),
             Step::Ends => return Err(TextFault::BadLine(number + 1)),
             Step::Refuses => return Err(TextFault::BadLine(number)),
         }

@@ -1,5 +1,5 @@
-use Rattle.std.proofs.Common.{◌≡◌, ◌+◌, ◌≤◌, ◌++◌, length}
-use Rattle.certificate.specs.Draft.{AreBinds, IsReadUpTo}
+use Rattle.std.proofs.Common.{length}
+use Rattle.certificate.specs.Draft.{IsReadUpTo}
 use Rattle.certificate.proofs.reading.read_certificate.Given as goal
 
 abbrev pub invariant-loop-words : goal.invariant-loop-words

@@ -1,0 +1,6 @@
+use Rattle.std.proofs.Common.{◌≡◌, ◌++◌, drop}
+use Rattle.certificate.specs.CertificateText.{place_lines}
+use Rattle.certificate.proofs.writing.put_places.Given as goal
+
+abbrev pub invariant-loop-place : goal.invariant-loop-place
+invariant-loop-place l = l.out.items ++ place_lines (drop l.place-index l.places) ≡ l.initial.out.items ++ place_lines l.places

@@ -1,0 +1,29 @@
+-- The parts that make a certificate: the first bind, and the first era, that may not stand where it stands.
+use Rattle.std.specs.Prelude.{ℕ, suc, Bool, cond, List, [], ◌∷◌, Option, Some, None, is_some, option_map}
+use Rattle.std.specs.Ordering.{nat_cmp, is_lt}
+use Rattle.std.specs.Cmp.Lexicographic.{slice_cmp}
+use Rattle.certificate.specs.declared.plan.Bind.{Bind}
+use Rattle.certificate.specs.declared.plan.EraPlan.{EraPlan}
+
+-- one handle is below another in the order of bytes
+abbrev pub is_below : List ℕ → List ℕ → Bool
+is_below x y = is_lt (slice_cmp nat_cmp x y)
+
+-- The first bind whose handle isn't above the one ahead of it, from 1. Ahead of the first bind stands the empty
+-- handle, so no bind's is empty.
+abbrev pub first_bad_bind : List ℕ → List Bind → Option ℕ
+first_bad_bind ahead [] = None
+first_bad_bind ahead (b ∷ binds) =
+    cond (is_below ahead b.handle) (option_map (λ i. suc i) (first_bad_bind b.handle binds)) (Some 1)
+
+-- the first era that has a cut as the last one, or none ahead of another, from 1
+abbrev pub first_wrong_cut : List EraPlan → Option ℕ
+first_wrong_cut [] = None
+first_wrong_cut (era ∷ []) = cond (is_some era.cut) (Some 1) None
+first_wrong_cut (era ∷ next ∷ eras) =
+    cond (is_some era.cut) (option_map (λ e. suc e) (first_wrong_cut (next ∷ eras))) (Some 1)
+
+-- where there is no era at all, the first one is at fault
+abbrev pub first_bad_era : List EraPlan → Option ℕ
+first_bad_era [] = Some 1
+first_bad_era (era ∷ eras) = first_wrong_cut (era ∷ eras)

@@ -1,0 +1,77 @@
+//! A certificate of its parts.
+
+ghost use Rattle.std.specs.Prelude.{◌≡◌, ℕ, [], Some, None, Ok, Err};
+ghost use Rattle.certificate.specs.declared.parts.CertificateFault.TheVariants.{BadBind, BadEra};
+ghost use Rattle.certificate.specs.Parts.{first_bad_bind, first_wrong_cut, first_bad_era};
+
+use crate::plan::{Bind, BindList, Certificate, EraPlan, EraPlanList};
+use thiserror::Error;
+
+/// Why binds and eras make no certificate.
+#[derive(Clone, Copy, Debug, PartialEq, Eq, Error)]
+pub enum CertificateFault {
+    /// The first bind, from 1, whose handle is empty or not above the one before.
+    #[error("BadBind {0}")]
+    BadBind(u64),
+    /// The first era, from 1, that is the last and has a cut, or isn't and has none; 1 where there is no era.
+    #[error("BadEra {0}")]
+    BadEra(u64),
+}
+
+fn bad_bind(binds: &[Bind]) -> Option<u64>
+    ensures { result ≡ first_bad_bind [] binds.now }
+{
+    let mut ahead: &[u8] = &[];
+    let mut number: u64 = 0;
+    for bind in binds {
+        number += 1;
+        let handle = bind.handle.as_slice();
+        if !(ahead < handle) {
+            return Some(number);
+        }
+        ahead = handle;
+    }
+    None
+}
+
+fn wrong_cut(eras: &[EraPlan]) -> Option<u64>
+    ensures { result ≡ first_wrong_cut eras.now }
+{
+    let mut number: usize = 0;
+    for era in eras {
+        number += 1;
+        if era.cut.is_some() == (number == eras.len()) {
+            return Some(number as u64);
+        }
+    }
+    None
+}
+
+fn bad_era(eras: &[EraPlan]) -> Option<u64>
+    ensures { result ≡ first_bad_era eras.now }
+{
+    if eras.is_empty() {
+        return Some(1);
+    }
+    wrong_cut(eras)
+}
+
+impl Certificate {
+    /// The certificate of these binds and eras, with the checks that the fields by themselves don't have.
+    pub fn new(binds: Vec<Bind>, eras: Vec<EraPlan>) -> Result<Certificate, CertificateFault>
+        ensures bad_bind { (i : ℕ) → first_bad_bind [] binds.items ≡ Some i → result ≡ Err (BadBind i) }
+        ensures bad_era { (e : ℕ) → first_bad_bind [] binds.items ≡ None → first_bad_era eras.items ≡ Some e → result ≡ Err (BadEra e) }
+        ensures ok { first_bad_bind [] binds.items ≡ None → first_bad_era eras.items ≡ None → result ≡ Ok (record { binds = binds.items; eras = eras.items }) }
+    {
+        if let Some(number) = bad_bind(binds.as_slice()) {
+            return Err(CertificateFault::BadBind(number));
+        }
+        if let Some(number) = bad_era(eras.as_slice()) {
+            return Err(CertificateFault::BadEra(number));
+        }
+        Ok(Certificate {
+            binds: BindList::new(binds),
+            eras: EraPlanList::new(eras),
+        })
+    }
+}
