@@ -17,7 +17,11 @@ same_bytes = pointwise nat_eq
 abbrev pub object_of : Bindings → List ℕ → Option ℕ
 object_of binds handle = if same_bytes handle binds.root then Some 0 else lookup (same_bytes handle) binds.pairs
 
+-- whether a handle names this object
+abbrev pub is_bound : Bindings → List ℕ → ℕ → Bool
+is_bound binds handle object = option_map_or (λ named. named == object) (object_of binds handle) false
+
 -- whether a reply that gives this handle, if any, gives one of this object
 abbrev pub gives_object : Bindings → Option (List ℕ) → ℕ → Bool
 gives_object binds None object = true
-gives_object binds (Some handle) object = option_map_or (λ named. named == object) (object_of binds handle) false
+gives_object binds (Some handle) object = is_bound binds handle object

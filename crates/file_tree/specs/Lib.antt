@@ -3,3 +3,9 @@ pub mod Live
 pub mod Success
 pub mod Answers
 pub mod Undo
+pub mod Entry
+pub mod Look
+pub mod Listing
+pub mod Asked
+pub mod Causes
+pub mod Failure

@@ -5,6 +5,7 @@ ghost use Rattle.file_tree.specs.Undo.{undo_of};
 
 use tree_nodes::bytes::Path;
 use tree_nodes::node::Node;
+use tree_nodes::nodes::Nodes;
 
 /// What becomes of a tree.
 #[derive(Debug, Drop)]
@@ -13,6 +14,10 @@ pub enum Change {
     Keep,
     /// This path has this node.
     Put(Path, Node),
+    /// This path has none.
+    Remove(Path),
+    /// What stands from the first path on stands at the second, in place of what stood there.
+    Move(Path, Path),
 }
 
 /// What takes a change back.
@@ -24,9 +29,11 @@ pub enum Undo {
     Restore(Path, Node),
     /// This path had none.
     Remove(Path),
+    /// These were all the nodes.
+    Whole(Nodes),
 }
 
-/// What takes back a node put at a path, by what stood there.
+/// What takes back a node put at a path, or taken away from it, by what stood there.
 pub(crate) fn undo_of(path: Path, before: Option<Node>) -> Undo
     ensures { result ≡ undo_of path before }
 {

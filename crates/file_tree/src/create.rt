@@ -4,11 +4,12 @@ ghost use Rattle.std.specs.Prelude.{◌≡◌, ◌+◌, ◌^◌, ◌<◌, ◌∷
 ghost use Rattle.std.specs.FinMap as map;
 ghost use Rattle.tree_nodes.specs.Nodes.{tree_of};
 ghost use Rattle.file_tree.specs.Answers.{Answers};
-ghost use Rattle.file_tree.specs.Success.{is_plain, first_size, first_verifier, made_by, create_absent, set_size, create_over, create_present, create_at, create_change};
+ghost use Rattle.file_tree.specs.Success.{first_size, first_verifier, made_by, create_absent, set_size, create_over, create_present, create_at, create_change};
 ghost use Rattle.tree_nodes.specs.Files.{file_node};
 
 use crate::binds::Binds;
 use crate::change::Change;
+use crate::entry::is_plain;
 use crate::live::{directory_of, gives_object};
 use nfs3_types::{CreateArguments, CreateMode, FileHandle, Verifier};
 use replay_law::replay::StepFault;
@@ -20,13 +21,6 @@ use tree_nodes::nodes::{Nodes, count, entry_of, node_at};
 
 /// The most nodes of a tree.
 pub const NODE_LIMIT: u64 = 4_294_967_295;
-
-/// Whether a name can be made: it isn't empty, `.` or `..`.
-pub(crate) fn is_plain(name: &[u8]) -> bool
-    ensures { result ≡ is_plain name.now }
-{
-    !(name.is_empty() || name == b".".as_slice() || name == b"..".as_slice())
-}
 
 /// The size of a file that the call makes.
 fn first_size(mode: &CreateMode) -> u64
@@ -99,8 +93,8 @@ fn create_absent(
     }
 }
 
-/// An unchecked call sets the size that is given.
-fn set_size(
+/// A call sets the size that is given.
+pub(crate) fn set_size(
     alloc: Global,
     path: Path,
     object: u64,

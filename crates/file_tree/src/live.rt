@@ -4,7 +4,7 @@ ghost use Rattle.std.specs.Prelude.{◌≡◌};
 ghost use Rattle.std.specs.Option.{option_copied, option_map};
 ghost use Rattle.tree_nodes.specs.Nodes.{tree_of};
 ghost use Rattle.file_tree.specs.Live.{live_entry, directory_of, file_of};
-ghost use Rattle.file_tree.specs.Binding.{gives_object};
+ghost use Rattle.file_tree.specs.Binding.{is_bound, gives_object};
 
 use crate::binds::Binds;
 use nfs3_types::FileHandle;
@@ -69,15 +69,22 @@ pub(crate) fn file_of<'a>(
     }
 }
 
+/// Whether a handle names this object.
+pub(crate) fn is_bound(binds: &Binds, handle: &FileHandle, object: u64) -> bool
+    ensures { result ≡ is_bound binds.now handle.now object }
+{
+    match binds.object(handle.as_slice()) {
+        Some(named) => named == object,
+        None => false,
+    }
+}
+
 /// Whether a reply that gives this handle, if any, gives one of this object.
 pub(crate) fn gives_object(binds: &Binds, handle: &Option<FileHandle>, object: u64) -> bool
     ensures { result ≡ gives_object binds.now handle.now object }
 {
-    let Some(handle) = handle else {
-        return true;
-    };
-    match binds.object(handle.as_slice()) {
-        Some(named) => named == object,
-        None => false,
+    match handle {
+        Some(handle) => is_bound(binds, handle, object),
+        None => true,
     }
 }

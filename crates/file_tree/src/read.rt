@@ -2,14 +2,11 @@
 
 ghost use Rattle.std.specs.Prelude.{◌≡◌};
 ghost use Rattle.tree_nodes.specs.Nodes.{tree_of};
-ghost use Rattle.file_tree.specs.Answers.{Answers};
-ghost use Rattle.file_tree.specs.Success.{read_change, same_flag, read_is_right};
+ghost use Rattle.file_tree.specs.Look.{same_flag, read_is_right, got_bytes};
 
 use crate::binds::Binds;
-use crate::change::Change;
 use crate::live::file_of;
-use nfs3_types::{ReadArguments, ReadSuccess};
-use replay_law::replay::StepFault;
+use nfs3_types::{Answer, NfsReply, ReadArguments, ReadSuccess};
 use tree_nodes::content::{behind, front, reaches_end};
 use tree_nodes::nodes::Nodes;
 
@@ -25,21 +22,22 @@ fn is_right(bytes: &[u8], call: &ReadArguments, success: &ReadSuccess) -> bool
         && success.eof == reaches_end(bytes.len(), call.offset, count)
 }
 
-/// The tree stays, where the answer is right.
-pub(crate) fn read_change(
+/// A READ succeeds with the file's bytes.
+pub(crate) fn got_bytes(
     binds: &Binds,
     nodes: &Nodes,
     call: &ReadArguments,
-    success: &ReadSuccess,
-) -> Result<Change, StepFault>
-    ensures { Answers result (read_change binds.now (tree_of nodes.now) call.now success.now) }
+    reply: &NfsReply,
+) -> bool
+    ensures { result ≡ got_bytes binds.now (tree_of nodes.now) call.now reply.now }
 {
-    let Some(entry) = file_of(binds, nodes, &call.file) else {
-        return Err(StepFault::NotAllowed);
-    };
-    if is_right(entry.file.bytes.as_slice(), call, success) {
-        Ok(Change::Keep)
-    } else {
-        Err(StepFault::NotAllowed)
+    match reply {
+        NfsReply::Read(Answer::Done(success)) => {
+            match file_of(binds, nodes, &call.file) {
+                Some(entry) => is_right(entry.file.bytes.as_slice(), call, success),
+                None => false,
+            }
+        }
+        _ => false,
     }
 }

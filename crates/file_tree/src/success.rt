@@ -3,32 +3,36 @@
 ghost use Rattle.std.specs.Prelude.{◌≡◌};
 ghost use Rattle.tree_nodes.specs.Nodes.{tree_of};
 ghost use Rattle.file_tree.specs.Answers.{Answers};
-ghost use Rattle.file_tree.specs.Success.{change_read, change_written, change_created, change_received, change_taken, change_of};
+ghost use Rattle.file_tree.specs.declared.change.Change.TheVariants.{Keep};
+ghost use Rattle.file_tree.specs.Success.{only_if, change_written, change_created, change_set, change_directory_made, change_link_made, change_removed, change_directory_removed, change_renamed, change_done, change_received, change_taken, change_of};
 
+use crate::asked::{failure_in, is_answered};
 use crate::binds::Binds;
 use crate::change::Change;
 use crate::create::create_change;
-use crate::read::read_change;
+use crate::failure::is_permitted;
+use crate::listing::{listed, listed_plus};
+use crate::look::{committed, got_attributes, got_text, looked_up};
+use crate::naming::{make_directory, make_link, remove_directory, remove_entry, set_attributes};
+use crate::read::got_bytes;
+use crate::rename::rename;
 use crate::write::write_change;
 use nfs3_types::{
-    Answer, CreateArguments, NfsCall, NfsReply, Outcome, ReadArguments, WriteArguments,
+    Answer, CreateArguments, DirectoryName, MkDirArguments, NfsCall, NfsReply, Outcome,
+    RenameArguments, SetAttrArguments, SymLinkArguments, WriteArguments,
 };
 use replay_law::replay::StepFault;
 use std::alloc::Global;
 use tree_nodes::nodes::Nodes;
 
-/// A reply to a READ.
-fn change_read(
-    binds: &Binds,
-    nodes: &Nodes,
-    call: &ReadArguments,
-    reply: &NfsReply,
-) -> Result<Change, StepFault>
-    ensures { Answers result (change_read binds.now (tree_of nodes.now) call.now reply.now) }
+/// The tree stays, where this is right.
+fn keep_if(right: bool) -> Result<Change, StepFault>
+    ensures { Answers result (only_if right Keep) }
 {
-    match reply {
-        NfsReply::Read(Answer::Done(success)) => read_change(binds, nodes, call, success),
-        _ => Err(StepFault::NotAllowed),
+    if right {
+        Ok(Change::Keep)
+    } else {
+        Err(StepFault::NotAllowed)
     }
 }
 
@@ -76,6 +80,154 @@ fn change_created(
     }
 }
 
+/// A reply to a SETATTR.
+fn change_set(
+    alloc: Global,
+    binds: &Binds,
+    nodes: &Nodes,
+    call: &SetAttrArguments,
+    reply: &NfsReply,
+) -> Result<Change, StepFault>
+    ensures { Answers result (change_set binds.now (tree_of nodes.now) call.now reply.now) }
+{
+    match reply {
+        NfsReply::SetAttr(Answer::Done(_)) => set_attributes(alloc, binds, nodes, call),
+        _ => Err(StepFault::NotAllowed),
+    }
+}
+
+/// A reply to a MKDIR.
+fn change_directory_made(
+    alloc: Global,
+    binds: &Binds,
+    nodes: &Nodes,
+    number: u64,
+    call: &MkDirArguments,
+    reply: &NfsReply,
+) -> Result<Change, StepFault>
+    ensures { Answers result (change_directory_made binds.now (tree_of nodes.now) number call.now reply.now) }
+{
+    match reply {
+        NfsReply::MkDir(Answer::Done(success)) => make_directory(
+            alloc,
+            binds,
+            nodes,
+            number,
+            call,
+            &success.object,
+        ),
+        _ => Err(StepFault::NotAllowed),
+    }
+}
+
+/// A reply to a SYMLINK.
+fn change_link_made(
+    alloc: Global,
+    binds: &Binds,
+    nodes: &Nodes,
+    number: u64,
+    call: &SymLinkArguments,
+    reply: &NfsReply,
+) -> Result<Change, StepFault>
+    ensures { Answers result (change_link_made binds.now (tree_of nodes.now) number call.now reply.now) }
+{
+    match reply {
+        NfsReply::SymLink(Answer::Done(success)) => make_link(
+            alloc,
+            binds,
+            nodes,
+            number,
+            call,
+            &success.object,
+        ),
+        _ => Err(StepFault::NotAllowed),
+    }
+}
+
+/// A reply to a REMOVE.
+fn change_removed(
+    alloc: Global,
+    binds: &Binds,
+    nodes: &Nodes,
+    place: &DirectoryName,
+    reply: &NfsReply,
+) -> Result<Change, StepFault>
+    ensures { Answers result (change_removed binds.now (tree_of nodes.now) place.now reply.now) }
+{
+    match reply {
+        NfsReply::Remove(Answer::Done(_)) => remove_entry(alloc, binds, nodes, place),
+        _ => Err(StepFault::NotAllowed),
+    }
+}
+
+/// A reply to an RMDIR.
+fn change_directory_removed(
+    alloc: Global,
+    binds: &Binds,
+    nodes: &Nodes,
+    place: &DirectoryName,
+    reply: &NfsReply,
+) -> Result<Change, StepFault>
+    ensures { Answers result (change_directory_removed binds.now (tree_of nodes.now) place.now reply.now) }
+{
+    match reply {
+        NfsReply::RmDir(Answer::Done(_)) => remove_directory(alloc, binds, nodes, place),
+        _ => Err(StepFault::NotAllowed),
+    }
+}
+
+/// A reply to a RENAME.
+fn change_renamed(
+    alloc: Global,
+    binds: &Binds,
+    nodes: &Nodes,
+    call: &RenameArguments,
+    reply: &NfsReply,
+) -> Result<Change, StepFault>
+    ensures { Answers result (change_renamed binds.now (tree_of nodes.now) call.now reply.now) }
+{
+    match reply {
+        NfsReply::Rename(Answer::Done(_)) => rename(alloc, binds, nodes, call),
+        _ => Err(StepFault::NotAllowed),
+    }
+}
+
+/// The call succeeded.
+fn change_done(
+    alloc: Global,
+    binds: &Binds,
+    nodes: &Nodes,
+    number: u64,
+    call: &NfsCall,
+    reply: &NfsReply,
+) -> Result<Change, StepFault>
+    ensures { Answers result (change_done binds.now (tree_of nodes.now) number call.now reply.now) }
+{
+    match call {
+        NfsCall::GetAttr(object) => keep_if(got_attributes(binds, nodes, object, reply)),
+        NfsCall::Lookup(place) => {
+            keep_if(looked_up(alloc, binds, nodes, place, reply).map_err(|_| StepFault::NoMemory)?)
+        }
+        NfsCall::ReadLink(link) => keep_if(got_text(binds, nodes, link, reply)),
+        NfsCall::Read(call) => keep_if(got_bytes(binds, nodes, call, reply)),
+        NfsCall::ReadDir(call) => {
+            keep_if(listed(alloc, binds, nodes, call, reply).map_err(|_| StepFault::NoMemory)?)
+        }
+        NfsCall::ReadDirPlus(call) => {
+            keep_if(listed_plus(alloc, binds, nodes, call, reply).map_err(|_| StepFault::NoMemory)?)
+        }
+        NfsCall::Commit(call) => keep_if(committed(binds, nodes, &call.file, reply)),
+        NfsCall::Write(call) => change_written(alloc, binds, nodes, call, reply),
+        NfsCall::Create(call) => change_created(alloc, binds, nodes, number, call, reply),
+        NfsCall::SetAttr(call) => change_set(alloc, binds, nodes, call, reply),
+        NfsCall::MkDir(call) => change_directory_made(alloc, binds, nodes, number, call, reply),
+        NfsCall::SymLink(call) => change_link_made(alloc, binds, nodes, number, call, reply),
+        NfsCall::Remove(place) => change_removed(alloc, binds, nodes, place, reply),
+        NfsCall::RmDir(place) => change_directory_removed(alloc, binds, nodes, place, reply),
+        NfsCall::Rename(call) => change_renamed(alloc, binds, nodes, call, reply),
+    }
+}
+
 /// A reply was received.
 fn change_received(
     alloc: Global,
@@ -87,12 +239,13 @@ fn change_received(
 ) -> Result<Change, StepFault>
     ensures { Answers result (change_received binds.now (tree_of nodes.now) number call.now reply.now) }
 {
-    match call {
-        NfsCall::Read(call) => change_read(binds, nodes, call, reply),
-        NfsCall::Write(call) => change_written(alloc, binds, nodes, call, reply),
-        NfsCall::Create(call) => change_created(alloc, binds, nodes, number, call, reply),
-        _ => Err(StepFault::NotAllowed),
+    let Some(failure) = failure_in(reply) else {
+        return change_done(alloc, binds, nodes, number, call, reply);
+    };
+    if !is_answered(call, reply) {
+        return Err(StepFault::NotAllowed);
     }
+    keep_if(is_permitted(alloc, binds, nodes, call, failure).map_err(|_| StepFault::NoMemory)?)
 }
 
 /// The call is taken as done.
@@ -109,6 +262,12 @@ fn change_taken(
     match (call, count) {
         (NfsCall::Write(call), Some(count)) => write_change(alloc, binds, nodes, call, count, None),
         (NfsCall::Create(call), None) => create_change(alloc, binds, nodes, number, call, &None),
+        (NfsCall::SetAttr(call), None) => set_attributes(alloc, binds, nodes, call),
+        (NfsCall::MkDir(call), None) => make_directory(alloc, binds, nodes, number, call, &None),
+        (NfsCall::SymLink(call), None) => make_link(alloc, binds, nodes, number, call, &None),
+        (NfsCall::Remove(place), None) => remove_entry(alloc, binds, nodes, place),
+        (NfsCall::RmDir(place), None) => remove_directory(alloc, binds, nodes, place),
+        (NfsCall::Rename(call), None) => rename(alloc, binds, nodes, call),
         _ => Err(StepFault::NotAllowed),
     }
 }

@@ -26,12 +26,12 @@ const ONE_FILE: [u8; 56] = [
 ];
 
 /// The handle of one byte.
-fn handle(alloc: Global, byte: u8) -> Result<FileHandle, AllocError> {
+pub(crate) fn handle(alloc: Global, byte: u8) -> Result<FileHandle, AllocError> {
     FileHandle::from_slice(alloc, &[byte])
 }
 
 /// CREATE of `a` in the root, unchecked.
-fn create(alloc: Global, size: Option<u64>) -> Result<NfsCall, AllocError> {
+pub(crate) fn create(alloc: Global, size: Option<u64>) -> Result<NfsCall, AllocError> {
     let place = DirectoryName {
         directory: handle(alloc, 0)?,
         name: Name::from_slice(alloc, b"a")?,
@@ -48,7 +48,7 @@ fn create(alloc: Global, size: Option<u64>) -> Result<NfsCall, AllocError> {
 }
 
 /// Its success with this handle.
-fn created(alloc: Global, byte: u8) -> Result<Outcome, AllocError> {
+pub(crate) fn created(alloc: Global, byte: u8) -> Result<Outcome, AllocError> {
     let success = CreateSuccess {
         object: Some(handle(alloc, byte)?),
         attributes: None,
@@ -122,7 +122,10 @@ fn placed(
 }
 
 /// The run of these, numbered from 1.
-fn run(alloc: Global, placed: &[(NfsCall, Outcome)]) -> Result<Result<(), RunFault>, AllocError> {
+pub(crate) fn run(
+    alloc: Global,
+    placed: &[(NfsCall, Outcome)],
+) -> Result<Result<(), RunFault>, AllocError> {
     let mut steps = Vec::new(alloc);
     for (number, (call, outcome)) in (1..).zip(placed) {
         steps.push(Step {

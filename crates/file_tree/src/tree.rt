@@ -2,6 +2,7 @@
 
 ghost use Rattle.std.specs.Prelude.{◌≡◌, ℕ, Option, Some, None, List, ◌++◌, ◌≤◌, OnOk, OnErr, IfOk, length};
 ghost use Rattle.std.specs.FinMap as map;
+ghost use Rattle.tree_nodes.specs.Moved.{moved};
 ghost use Rattle.tree_nodes.specs.Tree.{opening};
 ghost use Rattle.file_tree.specs.Undo.{TakesBack};
 ghost use Rattle.tree_nodes.specs.Sound.{IsSound};
@@ -16,9 +17,10 @@ use nfs3_types::{NfsCall, Outcome};
 use replay_law::replay::{Replayable, StepFault};
 use std::alloc::{AllocError, Global};
 use std::marker::Model;
+use std::mem;
 use tree_nodes::bytes::Path;
 use tree_nodes::node::Node;
-use tree_nodes::nodes::{Nodes, put, remove, root_alone};
+use tree_nodes::nodes::{Nodes, moved, put, remove, root_alone, take};
 use tree_nodes::print::put_tree;
 
 /// A file tree. Contracts see it as a finite map from paths to nodes.
@@ -57,6 +59,28 @@ impl FileTree {
         let place = path.copy(alloc)?;
         let before = put(&mut self.nodes, path, node)?;
         Ok(undo_of(place, before))
+    }
+
+    /// Takes the node at a path away.
+    fn remove(&mut self, path: Path) -> Undo
+        requires { IsSound (map.remove self.old path) }
+        ensures tree { self.new ≡ map.remove self.old path }
+        ensures undo { TakesBack result self.new self.old }
+    {
+        let before = take(&mut self.nodes, &path);
+        undo_of(path, before)
+    }
+
+    /// Moves what stands from one path on to another.
+    fn rename(&mut self, alloc: Global, from: Path, to: Path) -> Result<Undo, AllocError>
+        requires { IsSound (moved self.old from to) }
+        ensures ok { OnOk result (self.new ≡ moved self.old from to) }
+        ensures undo { IfOk result (λ undo. TakesBack undo self.new self.old) }
+        ensures err { OnErr result (self.new ≡ self.old) }
+    {
+        let after = moved(alloc, &self.nodes, &from, &to)?;
+        let before = mem::replace(&mut self.nodes, after);
+        Ok(Undo::Whole(before))
     }
 }
 
@@ -98,6 +122,11 @@ impl Replayable for FileTree {
         match change_of(alloc, setting, &self.nodes, number, call, outcome)? {
             Change::Keep => Ok(Undo::Nothing),
             Change::Put(path, node) => self.put(alloc, path, node).map_err(|_| StepFault::NoMemory),
+            Change::Remove(path) => Ok(self.remove(path)),
+            Change::Move(from, to) => {
+                self.rename(alloc, from, to)
+                    .map_err(|_| StepFault::NoMemory)
+            }
         }
     }
 
@@ -108,6 +137,7 @@ impl Replayable for FileTree {
                 put(&mut self.nodes, path, node)?;
             }
             Undo::Remove(path) => remove(&mut self.nodes, &path),
+            Undo::Whole(nodes) => self.nodes = nodes,
         }
         Ok(self)
     }

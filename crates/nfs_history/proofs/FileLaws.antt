@@ -1,7 +1,7 @@
 -- What is read of a file stands in it.
-use Rattle.std.proofs.Common.{◌≡◌, ℕ, ◌≤◌, Bool, true, false, List, ◌++◌, length, take, drop, Result, Ok, Err, sym, ap, ◌∙◌, nat_eq, refl}
+use Rattle.std.proofs.Common.{◌≡◌, ℕ, ◌≤◌, true, List, ◌++◌, length, take, drop, Result, Ok, Err, sym, ap, ◌∙◌, nat_eq, refl}
 use Rattle.std.specs.List.{starts_with}
-use Rattle.std.specs.Cmp.Lexicographic.{pointwise, same_text}
+use Rattle.std.specs.Cmp.Lexicographic.{same_text}
 use Rattle.std.proofs.lemmas.List.{take-append-drop}
 use Rattle.std.proofs.lemmas.Bool.{le-leb}
 use Rattle.xdr_records.specs.Reading.{all_of, kinds}

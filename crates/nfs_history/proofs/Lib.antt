@@ -2,5 +2,10 @@ pub mod EventLoop
 pub mod FileLaws
 pub mod MatchingSteps
 pub mod Unanswered
+pub mod CheckingSteps
+pub mod EventFaultLaws
+pub mod CallFaultLaws
+pub mod JudgingSteps
+pub mod FirstFaultLaws
 pub mod HistoryLaws
-pub mod LaterLaws
+pub mod WritingSteps

@@ -1,5 +1,5 @@
 -- Calls and replies are matched from the last event to the first.
-use Rattle.std.proofs.Common.{◌≡◌, ℕ, zero, suc, ◌+◌, ◌-◌, ◌<◌, ◌≤◌, ◌&&◌, Bool, true, false, cond, nat_eq, List, [], ◌∷◌, ◌++◌, length, drop, get_or, map, reverse, Option, Some, None, option_map, refl, sym, ap, subst, ◌∙◌, arith, drop-cons, add-one, HashMap, BuildHasherDefault}
+use Rattle.std.proofs.Common.{◌≡◌, ℕ, zero, suc, ◌+◌, ◌-◌, ◌<◌, ◌≤◌, Bool, true, false, cond, List, [], ◌∷◌, ◌++◌, length, drop, get_or, map, reverse, Option, Some, option_map, refl, sym, ap, subst, ◌∙◌, arith, drop-cons, add-one, HashMap, BuildHasherDefault}
 use Rattle.std.specs.HashMap.{get, IsEmpty}
 use Rattle.std.specs.Map.{lookup}
 use Rattle.std.proofs.lemmas.List.{reverse-append}
@@ -10,10 +10,10 @@ use Rattle.std.specs.declared.hash.FoldHasher.{FoldHasher}
 use Rattle.nfs_history.specs.declared.matching.SeenReply.{SeenReply}
 use Rattle.nfs_history.specs.declared.matching.SeenCall.{SeenCall}
 use Rattle.nfs_history.specs.Event.{Event}
-use Rattle.nfs_history.specs.Event.Event.{call, reply, close, crash}
+use Rattle.nfs_history.specs.Event.Event.{call, reply, close}
 use Rattle.nfs_history.specs.Calls.{ReplyEvent, CallEvent, first_reply, calls_from, xid_of}
 use Rattle.nfs_history.specs.Matching.{seen_reply, seen_call, same_key}
-use Rattle.nfs_history.specs.Standing.{AreMessages}
+use Rattle.nfs_history.specs.Standing.{InOneEra}
 
 -- the replies that were met
 abbrev pub Table : Type 0
@@ -70,17 +70,17 @@ one_before events i d e some within is =
     let lt : k < length events = omega arith in
     ap event_values (drop-cons events k d lt) ∙ ap (λ x. event_value x ∷ event_values (drop (suc k) events)) is ∙ ap (λ n. event_value e ∷ event_values (drop n events)) (sym (add-one k))
 
--- no event is a close or a crash
-pub no_crash : (events : List SeenEvent) (k : ℕ) (d : SeenEvent) → k < length events → AreMessages (event_values events) → get_or events k d ≡ seen.Crash → ⊥
-no_crash [] k d lt messages is = absurd (omega arith)
-no_crash (seen.Call lane message ∷ events) zero d lt messages is = cc
-no_crash (seen.Reply lane message ∷ events) zero d lt messages is = cc
-no_crash (seen.Close lane ∷ events) zero d lt messages is = messages
-no_crash (seen.Crash ∷ events) zero d lt messages is = messages
-no_crash (seen.Call lane message ∷ events) (suc k) d lt messages is = no_crash events k d (omega arith) messages is
-no_crash (seen.Reply lane message ∷ events) (suc k) d lt messages is = no_crash events k d (omega arith) messages is
-no_crash (seen.Close lane ∷ events) (suc k) d lt messages is = absurd messages
-no_crash (seen.Crash ∷ events) (suc k) d lt messages is = absurd messages
+-- no event is a crash
+pub no_crash : (events : List SeenEvent) (k : ℕ) (d : SeenEvent) → k < length events → InOneEra (event_values events) → get_or events k d ≡ seen.Crash → ⊥
+no_crash [] k d lt one_era is = absurd (omega arith)
+no_crash (seen.Call lane message ∷ events) zero d lt one_era is = cc
+no_crash (seen.Reply lane message ∷ events) zero d lt one_era is = cc
+no_crash (seen.Close lane ∷ events) zero d lt one_era is = cc
+no_crash (seen.Crash ∷ events) zero d lt one_era is = one_era
+no_crash (seen.Call lane message ∷ events) (suc k) d lt one_era is = no_crash events k d (omega arith) one_era is
+no_crash (seen.Reply lane message ∷ events) (suc k) d lt one_era is = no_crash events k d (omega arith) one_era is
+no_crash (seen.Close lane ∷ events) (suc k) d lt one_era is = no_crash events k d (omega arith) one_era is
+no_crash (seen.Crash ∷ events) (suc k) d lt one_era is = absurd one_era
 
 -- the place before i, with what is known behind i
 pub behind_it : (events : List SeenEvent) (i : ℕ) (table : Table) (calls : List SeenCall) → 0 < i → IsMatched i (event_values (drop i events)) table calls → IsMatched ((i - 1) + 1) (event_values (drop ((i - 1) + 1) events)) table calls

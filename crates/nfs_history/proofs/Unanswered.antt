@@ -1,44 +1,11 @@
 -- The calls that are unanswered, event by event.
-use Rattle.std.proofs.Common.{◌≡◌, ◌==◌, ◌&&◌, ◌||◌, ℕ, zero, suc, ◌+◌, ◌<◌, ◌≤◌, Bool, true, false, not, cond, nat_eq, is_none, List, [], ◌∷◌, ◌++◌, length, take, drop, get_or, map, Option, Some, None, BuildHasherDefault, refl, sym, ap, subst, ◌∙◌, arith}
+use Rattle.std.proofs.Common.{◌≡◌, ◌==◌, ◌&&◌, ◌||◌, ℕ, ◌+◌, Bool, true, false, not, cond, is_none, List, [], ◌∷◌, ◌++◌, Option, Some, None, refl, sym, ap, ◌∙◌}
 use Rattle.std.specs.List.{list_any}
-use Rattle.std.proofs.Common.{Result, Ok, Err, is_err, IfOk}
-use Rattle.std.specs.HashSet.{HashSet, contains}
-use Rattle.std.specs.Borrow.{Bor}
-use Rattle.std.specs.declared.hash.FoldHasher.{FoldHasher}
-use Rattle.std.proofs.Common.{drop-cons, add-one}
 use Rattle.std.proofs.lemmas.Bool.{eqb-true}
-use Rattle.std.proofs.lemmas.List.{take_more, map_push, take_all, drop_all}
-use Rattle.rpc_reader.specs.Values.{CallValue, ReplyValue}
-use Rattle.rpc_reader.specs.Messages.{IsCall, IsReply}
-use Rattle.nfs_history.specs.declared.file.SeenEvent.{SeenEvent}
-use Rattle.nfs_history.specs.declared.file.SeenEvent.TheVariants as seen
-use Rattle.nfs_history.specs.FileReading.{event_value, event_values}
-use Rattle.nfs_history.specs.Matching.{same_key}
 use Rattle.nfs_history.specs.Event.{Event}
 use Rattle.nfs_history.specs.Event.Event.{call, reply, close, crash}
-use Rattle.nfs_history.specs.Calls.{ReplyEvent, CallEvent, first_reply, calls_from, calls_of, xid_of}
-use Rattle.nfs_history.specs.Standing.{is_unanswered, has_unanswered, is_closed_behind, is_closed, MayFollow, EachMayFollow, AreMessages}
-
-pub messages_push_call : (events : List Event) (lane : ℕ) (message : List ℕ) → AreMessages events → AreMessages (events ++ call lane message ∷ [])
-messages_push_call [] lane message are = tt
-messages_push_call (call l m ∷ events) lane message are = messages_push_call events lane message are
-messages_push_call (reply l m ∷ events) lane message are = messages_push_call events lane message are
-messages_push_call (close l ∷ events) lane message are = absurd are
-messages_push_call (crash ∷ events) lane message are = absurd are
-
-pub messages_push_reply : (events : List Event) (lane : ℕ) (message : List ℕ) → AreMessages events → AreMessages (events ++ reply lane message ∷ [])
-messages_push_reply [] lane message are = tt
-messages_push_reply (call l m ∷ events) lane message are = messages_push_reply events lane message are
-messages_push_reply (reply l m ∷ events) lane message are = messages_push_reply events lane message are
-messages_push_reply (close l ∷ events) lane message are = absurd are
-messages_push_reply (crash ∷ events) lane message are = absurd are
-
-pub none_closed : (events : List Event) (lane : ℕ) (used : Bool) → AreMessages events → is_closed_behind lane used events ≡ false
-none_closed [] lane used are = refl
-none_closed (call l m ∷ events) lane used are = none_closed events lane (used || (l == lane)) are
-none_closed (reply l m ∷ events) lane used are = none_closed events lane (used || (l == lane)) are
-none_closed (close l ∷ events) lane used are = absurd are
-none_closed (crash ∷ events) lane used are = absurd are
+use Rattle.nfs_history.specs.Calls.{ReplyEvent, CallEvent, first_reply, calls_from, xid_of}
+use Rattle.nfs_history.specs.Standing.{is_unanswered, is_closed_behind}
 
 -- a call answers nothing
 first_reply-call : (lane xid i : ℕ) (events : List Event) (l : ℕ) (m : List ℕ) → first_reply lane xid i (events ++ call l m ∷ []) ≡ first_reply lane xid i events
@@ -82,7 +49,7 @@ or_assoc : (a b c : Bool) → (a || b) || c ≡ a || (b || c)
 or_assoc true b c = refl
 or_assoc false b c = refl
 
-any-call : (lane xid i era : ℕ) (events : List Event) (l : ℕ) (m : List ℕ) → list_any (is_unanswered lane xid) (calls_from i era (events ++ call l m ∷ [])) ≡ list_any (is_unanswered lane xid) (calls_from i era events) || ((l == lane) && (xid_of m == xid))
+pub any-call : (lane xid i era : ℕ) (events : List Event) (l : ℕ) (m : List ℕ) → list_any (is_unanswered lane xid) (calls_from i era (events ++ call l m ∷ [])) ≡ list_any (is_unanswered lane xid) (calls_from i era events) || ((l == lane) && (xid_of m == xid))
 any-call lane xid i era [] l m = or_false (((l == lane) && (xid_of m == xid)) && true) ∙ and_true ((l == lane) && (xid_of m == xid))
 any-call lane xid i era (reply on n ∷ events) l m = any-call lane xid (i + 1) era events l m
 any-call lane xid i era (close on ∷ events) l m = any-call lane xid (i + 1) era events l m
@@ -109,7 +76,7 @@ or_and true false true = refl
 or_and true false false = refl
 or_and false b c = refl
 
-any-reply : (lane xid i era : ℕ) (events : List Event) (l : ℕ) (m : List ℕ) → list_any (is_unanswered lane xid) (calls_from i era (events ++ reply l m ∷ [])) ≡ list_any (is_unanswered lane xid) (calls_from i era events) && not ((l == lane) && (xid_of m == xid))
+pub any-reply : (lane xid i era : ℕ) (events : List Event) (l : ℕ) (m : List ℕ) → list_any (is_unanswered lane xid) (calls_from i era (events ++ reply l m ∷ [])) ≡ list_any (is_unanswered lane xid) (calls_from i era events) && not ((l == lane) && (xid_of m == xid))
 any-reply lane xid i era [] l m = refl
 any-reply lane xid i era (reply on n ∷ events) l m = any-reply lane xid (i + 1) era events l m
 any-reply lane xid i era (close on ∷ events) l m = any-reply lane xid (i + 1) era events l m
@@ -124,94 +91,56 @@ any-reply lane xid i era (call on n ∷ events) l m =
     ∙ ap (λ x. x || (rest && hit)) (same_or_other on (xid_of n) lane xid l (xid_of m) unmet)
     ∙ or_and (same && unmet) rest hit
 
--- the keys of the calls that are unanswered
-abbrev pub Keys : Type 0
-Keys = HashSet (ℕ × ℕ) (BuildHasherDefault FoldHasher)
+-- a close answers nothing, and is no call
+first_reply-close : (lane xid i : ℕ) (events : List Event) (l : ℕ) → first_reply lane xid i (events ++ close l ∷ []) ≡ first_reply lane xid i events
+first_reply-close lane xid i [] l = refl
+first_reply-close lane xid i (call on n ∷ events) l = first_reply-close lane xid (i + 1) events l
+first_reply-close lane xid i (close on ∷ events) l = first_reply-close lane xid (i + 1) events l
+first_reply-close lane xid i (crash ∷ events) l = first_reply-close lane xid (i + 1) events l
+first_reply-close lane xid i (reply on n ∷ events) l =
+    ap (λ o. cond ((on == lane) && (xid_of n == xid)) (Some (record { number = i; message = n })) o) (first_reply-close lane xid (i + 1) events l)
 
--- the events below i are calls and replies that may follow one another, and the set holds what is unanswered
-pub record IsCheckedTo (events : List SeenEvent) (i : ℕ) (open_keys : Keys) : Type 0 where
-  pub messages : AreMessages (event_values (take i events))
-  pub others : EachMayFollow (event_values (take i events)) (event_values (drop i events)) → EachMayFollow [] (event_values events)
-  pub unanswered : (lane xid : ℕ) → contains same_key open_keys (lane, xid) ≡ has_unanswered lane xid (event_values (take i events))
+pub calls_from-close : (i era : ℕ) (events : List Event) (l : ℕ) → calls_from i era (events ++ close l ∷ []) ≡ calls_from i era events
+calls_from-close i era [] l = refl
+calls_from-close i era (reply on n ∷ events) l = calls_from-close (i + 1) era events l
+calls_from-close i era (close on ∷ events) l = calls_from-close (i + 1) era events l
+calls_from-close i era (crash ∷ events) l = calls_from-close (i + 1) (era + 1) events l
+calls_from-close i era (call on n ∷ events) l =
+    let here : Option ReplyEvent → CallEvent = λ a. record { lane = on; message = n; begin = i; era = era; answer = a } in
+    ap (λ a. here a ∷ calls_from (i + 1) era (events ++ close l ∷ [])) (first_reply-close on (xid_of n) (i + 1) events l)
+    ∙ ap (λ cs. here (first_reply on (xid_of n) (i + 1) events) ∷ cs) (calls_from-close (i + 1) era events l)
 
-one_taken : (events : List SeenEvent) (i : ℕ) (d e : SeenEvent) → i < length events → get_or events i d ≡ e → event_values (take (i + 1) events) ≡ event_values (take i events) ++ event_value e ∷ []
-one_taken events i d e lt is = ap event_values (take_more events i d lt) ∙ map_push event_value (take i events) (get_or events i d) ∙ ap (λ x. event_values (take i events) ++ event_value x ∷ []) is
+-- a call and a reply close no lane
+pub closed-call : (lane : ℕ) (used : Bool) (events : List Event) (l : ℕ) (m : List ℕ) → is_closed_behind lane used (events ++ call l m ∷ []) ≡ is_closed_behind lane used events
+closed-call lane used [] l m = refl
+closed-call lane used (call on n ∷ events) l m = closed-call lane (used || (on == lane)) events l m
+closed-call lane used (reply on n ∷ events) l m = closed-call lane (used || (on == lane)) events l m
+closed-call lane used (close on ∷ events) l m = ap (λ b. (on == lane) || b) (closed-call lane used events l m)
+closed-call lane used (crash ∷ events) l m = ap (λ b. used || b) (closed-call lane used events l m)
 
-one_dropped : (events : List SeenEvent) (i : ℕ) (d e : SeenEvent) → i < length events → get_or events i d ≡ e → event_values (drop i events) ≡ event_value e ∷ event_values (drop (i + 1) events)
-one_dropped events i d e lt is = ap event_values (drop-cons events i d lt) ∙ ap (λ x. event_value x ∷ event_values (drop (suc i) events)) is ∙ ap (λ n. event_value e ∷ event_values (drop n events)) (sym (add-one i))
+pub closed-reply : (lane : ℕ) (used : Bool) (events : List Event) (l : ℕ) (m : List ℕ) → is_closed_behind lane used (events ++ reply l m ∷ []) ≡ is_closed_behind lane used events
+closed-reply lane used [] l m = refl
+closed-reply lane used (call on n ∷ events) l m = closed-reply lane (used || (on == lane)) events l m
+closed-reply lane used (reply on n ∷ events) l m = closed-reply lane (used || (on == lane)) events l m
+closed-reply lane used (close on ∷ events) l m = ap (λ b. (on == lane) || b) (closed-reply lane used events l m)
+closed-reply lane used (crash ∷ events) l m = ap (λ b. used || b) (closed-reply lane used events l m)
 
-checked_more : (events : List SeenEvent) (i : ℕ) (d e : SeenEvent) (old new : Keys) → i < length events → get_or events i d ≡ e
-    → MayFollow (event_values (take i events)) (event_value e)
-    → AreMessages (event_values (take i events) ++ event_value e ∷ [])
-    → ((lane xid : ℕ) → contains same_key new (lane, xid) ≡ has_unanswered lane xid (event_values (take i events) ++ event_value e ∷ []))
-    → IsCheckedTo events i old → IsCheckedTo events (i + 1) new
-checked_more events i d e old new lt is follows messages unanswered so_far =
-    let taken = one_taken events i d e lt is in
-    let dropped = one_dropped events i d e lt is in
-    record {
-      messages = rw taken messages;
-      others = λ rest. so_far.others (rw dropped (follows, rw taken at rest));
-      unanswered = λ lane xid. unanswered lane xid ∙ ap (has_unanswered lane xid) (sym taken);
-    }
+-- a close closes its lane alone
+pub closed-close : (lane : ℕ) (used : Bool) (events : List Event) (l : ℕ) → is_closed_behind lane used (events ++ close l ∷ []) ≡ is_closed_behind lane used events || (l == lane)
+closed-close lane used [] l = or_false (l == lane)
+closed-close lane used (call on n ∷ events) l = closed-close lane (used || (on == lane)) events l
+closed-close lane used (reply on n ∷ events) l = closed-close lane (used || (on == lane)) events l
+closed-close lane used (close on ∷ events) l = ap (λ b. (on == lane) || b) (closed-close lane used events l) ∙ sym (or_assoc (on == lane) (is_closed_behind lane used events) (l == lane))
+closed-close lane used (crash ∷ events) l = ap (λ b. used || b) (closed-close lane used events l) ∙ sym (or_assoc used (is_closed_behind lane used events) (l == lane))
 
-cond_or : (b c : Bool) → cond b true c ≡ c || b
+pub cond_or : (b c : Bool) → cond b true c ≡ c || b
 cond_or true true = refl
 cond_or true false = refl
 cond_or false true = refl
 cond_or false false = refl
 
-cond_and : (b c : Bool) → cond b false c ≡ c && not b
+pub cond_and : (b c : Bool) → cond b false c ≡ c && not b
 cond_and true true = refl
 cond_and true false = refl
 cond_and false true = refl
 cond_and false false = refl
-
-pub checked_call : (events : List SeenEvent) (i : ℕ) (d : SeenEvent) (lane : ℕ) (message : Bor (List ℕ)) (old new : Keys) → i < length events → get_or events i d ≡ seen.Call lane message
-    → (value : CallValue) × IsCall message.now value → contains same_key old (lane, xid_of message.now) ≡ false
-    → ((q : ℕ × ℕ) → contains same_key new q ≡ cond (same_key (lane, xid_of message.now) q) true (contains same_key old q))
-    → IsCheckedTo events i old → IsCheckedTo events (i + 1) new
-checked_call events i d lane message old new lt is value absent updates so_far =
-    let before = event_values (take i events) in
-    checked_more events i d (seen.Call lane message) old new lt is
-    (none_closed before lane false so_far.messages, value, sym (so_far.unanswered lane (xid_of message.now)) ∙ absent)
-    (messages_push_call before lane message.now so_far.messages)
-    (λ l x. updates (l, x) ∙ cond_or (same_key (lane, xid_of message.now) (l, x)) (contains same_key old (l, x))
-    ∙ ap (λ b. b || same_key (lane, xid_of message.now) (l, x)) (so_far.unanswered l x)
-    ∙ sym (any-call l x 1 1 before lane message.now))
-    so_far
-
-pub checked_reply : (events : List SeenEvent) (i : ℕ) (d : SeenEvent) (lane : ℕ) (message : Bor (List ℕ)) (old new : Keys) → i < length events → get_or events i d ≡ seen.Reply lane message
-    → (value : ReplyValue) × IsReply message.now value → contains same_key old (lane, xid_of message.now) ≡ true
-    → ((q : ℕ × ℕ) → contains same_key new q ≡ cond (same_key (lane, xid_of message.now) q) false (contains same_key old q))
-    → IsCheckedTo events i old → IsCheckedTo events (i + 1) new
-checked_reply events i d lane message old new lt is value present updates so_far =
-    let before = event_values (take i events) in
-    checked_more events i d (seen.Reply lane message) old new lt is
-    (none_closed before lane false so_far.messages, value, sym (so_far.unanswered lane (xid_of message.now)) ∙ present)
-    (messages_push_reply before lane message.now so_far.messages)
-    (λ l x. updates (l, x) ∙ cond_and (same_key (lane, xid_of message.now) (l, x)) (contains same_key old (l, x))
-    ∙ ap (λ b. b && not (same_key (lane, xid_of message.now) (l, x))) (so_far.unanswered l x)
-    ∙ sym (any-reply l x 1 1 before lane message.now))
-    so_far
-
-pub none_checked : (events : List SeenEvent) (open_keys : Keys) → open_keys.keys ≡ [] → IsCheckedTo events 0 open_keys
-none_checked events open_keys empty = record {
-  messages = tt;
-  others = λ all. all;
-  unanswered = λ lane xid. ap (λ ks. list_any (same_key (lane, xid)) ks) empty;
-}
-
-pub all_checked : (events : List SeenEvent) (i : ℕ) (open_keys : Keys) → length events ≤ i → IsCheckedTo events i open_keys → AreMessages (event_values events) × EachMayFollow [] (event_values events)
-all_checked events i open_keys le so_far =
-    let all : take i events ≡ events = take_all i events le in
-    let none : drop i events ≡ [] = drop_all i events le in
-    (rw all at so_far.messages, so_far.others (rw none tt))
-
--- what was read without a fault
-pub read_value : {X E V : Type 0} (view : X → V) (P : V → Type 0) (r : Result X E) → is_err r ≡ false → IfOk r (λ x. P (view x)) → (v : V) × P v
-read_value view P (Ok x) fine found = (view x, found)
-read_value view P (Err e) fine found = absurd (let h : true ≡ false = fine in cc)
-
-pub not_true : (b : Bool) → not b ≡ true → b ≡ false
-not_true true h = sym h
-not_true false h = refl

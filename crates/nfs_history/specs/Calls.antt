@@ -1,6 +1,6 @@
 -- The calls of a history (Herlihy and Wing 1990, section 2: an operation is an invocation and the response
 -- that matches it). Events, calls and eras are numbered from 1.
-use Rattle.std.specs.Prelude.{◌≡◌, ◌==◌, ◌&&◌, ℕ, ◌+◌, nat_lt, if◌then◌else◌, List, [], ◌∷◌, length, Option, Some, None}
+use Rattle.std.specs.Prelude.{◌==◌, ◌&&◌, ℕ, ◌+◌, nat_lt, if◌then◌else◌, List, [], ◌∷◌, length, Option, Some, None}
 use Rattle.xdr_records.specs.Items.{word_of}
 use Rattle.nfs_history.specs.Event.{Event}
 use Rattle.nfs_history.specs.Event.Event.{call, reply, close, crash}

@@ -11,9 +11,8 @@ use Rattle.nfs3_types.specs.declared.replies.NfsReply.{NfsReply}
 use Rattle.nfs3_types.specs.declared.replies.NfsReply.TheVariants as replies
 use Rattle.nfs3_types.specs.declared.replies.Outcome.{Outcome}
 use Rattle.nfs3_types.specs.declared.replies.Outcome.TheVariants as outcomes
-use Rattle.rpc_reader.specs.Values.{CallValue, ReplyValue}
-use Rattle.rpc_reader.specs.Values.Body.{success}
-use Rattle.rpc_reader.specs.Messages.{IsCall, IsReply}
+use Rattle.rpc_reader.specs.Values.{CallValue, Body}
+use Rattle.rpc_reader.specs.Messages.{IsCall}
 use Rattle.nfs3_msgs.specs.Messages.{IsArguments, IsResult}
 use Rattle.nfs_history.specs.declared.fault.Which.{Which}
 use Rattle.nfs_history.specs.declared.fault.Which.TheVariants as which
@@ -21,9 +20,11 @@ use Rattle.nfs_history.specs.declared.history.Meaning.{Meaning}
 use Rattle.nfs_history.specs.declared.history.Meaning.TheVariants as meanings
 use Rattle.nfs_history.specs.declared.history.RecordedCall.{RecordedCall}
 use Rattle.nfs_history.specs.declared.history.History.{History}
-use Rattle.nfs_history.specs.Event.{Event, Recording}
-use Rattle.nfs_history.specs.Calls.{ReplyEvent, CallEvent, calls_of, eras_from, xid_of}
+use Rattle.nfs_history.specs.Event.{Recording}
+use Rattle.nfs_history.specs.Calls.{CallEvent, calls_of, eras_from, xid_of}
 use Rattle.nfs_history.specs.Standing.{EachMayFollow}
+use Rattle.nfs_history.specs.Owning.{all_happened}
+use Rattle.nfs_history.specs.Effects.{Says, was_refused, results_of, is_judged, has_no_effect}
 
 -- the most bytes of a file
 abbrev pub file_limit : ℕ
@@ -77,31 +78,35 @@ outside (calls.Create a) outcome = too_far (asked_size a.mode) outcome
 outside call outcome = None
 
 -- how a call of a procedure came out: with the result that the reply to it holds
-abbrev pub CameOut : ℕ → Option ReplyEvent → Option Outcome → Type 0
+abbrev pub CameOut : ℕ → Option (List ℕ) → Option Outcome → Type 0
 CameOut procedure None outcome = outcome ≡ None
-CameOut procedure (Some event) outcome =
-    (reply : ReplyValue) × (results : List ℕ) × (answer : NfsReply) × IsReply event.message reply × (reply.body ≡ success results) × IsResult procedure results answer × (outcome ≡ Some (outcomes.Received answer))
+CameOut procedure (Some results) outcome = (answer : NfsReply) × IsResult procedure results answer × (outcome ≡ Some (outcomes.Received answer))
 
--- the call is one of NFS version 3 (RFC 1813, section 3), with a credential that doesn't hide its arguments (not
--- RPCSEC_GSS, flavor 6)
+-- the call is one of NFS version 3 (RFC 1813, section 3), of a judged procedure, with a credential that doesn't hide its
+-- arguments (not RPCSEC_GSS, flavor 6)
 pub record IsCallOfNfs (head : CallValue) (call : NfsCall) : Type 0 where
   pub program : head.program ≡ 100003
   pub version : head.version ≡ 3
+  pub procedure : is_judged head.procedure ≡ true
   pub credential : head.flavor ≢ 6
   pub arguments : IsArguments head.procedure head.args call
 
 -- a judged call, and how it came out
-pub record IsJudged (event : CallEvent) (call : NfsCall) (outcome : Option Outcome) : Type 0 where
-  pub head : CallValue
-  pub is_call : IsCall event.message head
+pub record IsJudged (head : CallValue) (body : Option Body) (call : NfsCall) (outcome : Option Outcome) : Type 0 where
   pub of_nfs : IsCallOfNfs head call
-  pub came_out : CameOut head.procedure event.answer outcome
+  pub accepted : was_refused body ≡ false
+  pub came_out : CameOut head.procedure (results_of body) outcome
   pub inside : outside call outcome ≡ None
 
--- No call is unjudged yet: another procedure or program isn't read, nor is a call that got no result.
+-- what a call with this head and this reply was, and how it came out
+abbrev pub IsKnownAs : CallValue → Option Body → Meaning → Option Outcome → Type 0
+IsKnownAs head body (meanings.Judged call) outcome = IsJudged head body call outcome
+IsKnownAs head body meanings.Unjudged outcome = (has_no_effect head body ≡ true) × (outcome ≡ None)
+
+-- what a call was, and how it came out
 abbrev pub Means : CallEvent → Meaning → Option Outcome → Type 0
-Means event (meanings.Judged call) outcome = IsJudged event call outcome
-Means event meanings.Unjudged outcome = ⊥
+Means event meaning outcome =
+    (head : CallValue) × (body : Option Body) × IsCall event.message head × Says event.answer body × IsKnownAs head body meaning outcome
 
 -- what is known of a call
 pub record IsRecorded (event : CallEvent) (call : RecordedCall) : Type 0 where
@@ -124,4 +129,5 @@ pub record IsHistory (seen : Recording) (history : History) : Type 0 where
   pub follow : EachMayFollow [] seen.events
   pub root : history.root ≡ seen.root
   pub eras : history.eras ≡ eras_from 1 seen.events
+  pub events : all_happened history.events ≡ seen.events
   pub calls : AreRecorded (calls_of seen.events) history.calls

@@ -3,7 +3,7 @@ use Rattle.std.specs.Prelude.{◌≡◌, ℕ, zero, suc, ◌+◌, ◌≤◌, nat
 use Rattle.xdr_records.specs.declared.fault.XdrFault.{XdrFault}
 use Rattle.xdr_records.specs.declared.fault.XdrFault.TheVariants as xdr
 use Rattle.xdr_records.specs.Grammar.{Grammar, ◌>>=◌}
-use Rattle.xdr_records.specs.Grammar.Grammar.{one_word, one_opaque, named, nothing, both}
+use Rattle.xdr_records.specs.Grammar.Grammar.{one_word, one_opaque, named, nothing}
 use Rattle.xdr_records.specs.Spelling.{Spells}
 use Rattle.nfs_history.specs.declared.fault.HistoryFault.{HistoryFault}
 use Rattle.nfs_history.specs.declared.fault.HistoryFault.TheVariants as faults

@@ -5,5 +5,12 @@ pub mod Calls
 pub mod Matching
 pub mod Precedence
 pub mod Standing
+pub mod EventFaults
+pub mod Checking
+pub mod Effects
+pub mod Owning
 pub mod History
+pub mod CallFaults
+pub mod FirstFault
+pub mod Writing
 pub mod Later

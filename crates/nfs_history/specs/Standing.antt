@@ -1,7 +1,7 @@
 -- Events that may follow one another: each call begins on a lane that is open and has no unanswered call with
 -- its transaction number, and each reply answers an unanswered call (a well-formed history, Herlihy and Wing
 -- 1990, section 2; transaction numbers as in RFC 5531, section 9).
-use Rattle.std.specs.Prelude.{◌≡◌, ◌==◌, ◌&&◌, ◌||◌, ℕ, Bool, true, false, List, [], ◌∷◌, ◌++◌, is_none, if◌then◌else◌}
+use Rattle.std.specs.Prelude.{◌≡◌, ◌==◌, ◌&&◌, ◌||◌, ℕ, Bool, true, false, List, [], ◌∷◌, ◌++◌, is_none}
 use Rattle.std.specs.List.{list_any}
 use Rattle.rpc_reader.specs.Values.{CallValue, ReplyValue}
 use Rattle.rpc_reader.specs.Messages.{IsCall, IsReply}
@@ -41,10 +41,10 @@ abbrev pub EachMayFollow : List Event → List Event → Type 0
 EachMayFollow before [] = Unit {0}
 EachMayFollow before (e ∷ events) = MayFollow before e × EachMayFollow (before ++ e ∷ []) events
 
--- the events are calls and replies alone
-abbrev pub AreMessages : List Event → Type 0
-AreMessages [] = Unit {0}
-AreMessages (call lane message ∷ events) = AreMessages events
-AreMessages (reply lane message ∷ events) = AreMessages events
-AreMessages (close lane ∷ events) = ⊥
-AreMessages (crash ∷ events) = ⊥
+-- the server never went down
+abbrev pub InOneEra : List Event → Type 0
+InOneEra [] = Unit {0}
+InOneEra (call lane message ∷ events) = InOneEra events
+InOneEra (reply lane message ∷ events) = InOneEra events
+InOneEra (close lane ∷ events) = InOneEra events
+InOneEra (crash ∷ events) = ⊥

@@ -1,9 +1,10 @@
 //! What a history means: its calls, with what each one was, when it began and ended, and how it came out.
 
-ghost use Rattle.std.specs.Prelude.{◌≡◌};
+ghost use Rattle.std.specs.Prelude.{◌≡◌, option_map, option_and_then};
 ghost use Rattle.std.specs.Option.{option_copied};
-ghost use Rattle.nfs_history.specs.Precedence.{call_at};
+ghost use Rattle.nfs_history.specs.Precedence.{call_at, end_of};
 
+use crate::event::{Event, Events};
 use nfs3_types::{FileHandle, NfsCall, Outcome};
 use std::marker::Model;
 
@@ -71,6 +72,8 @@ pub struct History {
     /// How many eras it has: one more than the server went down.
     pub eras: u64,
     pub calls: RecordedCalls,
+    /// What happened, in order.
+    pub events: Events,
 }
 
 /// Call n of a history's calls, from 1 on.
@@ -81,4 +84,52 @@ pub fn find_call(calls: &[RecordedCall], number: u64) -> Option<&RecordedCall>
         return None;
     }
     calls.get(number as usize - 1)
+}
+
+impl History {
+    /// What happened, in order.
+    pub fn events(&self) -> &[Event]
+        ensures { result.now ≡ self.now.events }
+    {
+        self.events.as_slice()
+    }
+
+    /// Call `number`, from 1 on.
+    pub fn call(&self, number: u64) -> Option<&RecordedCall>
+        ensures { option_copied result ≡ call_at self.now.calls number }
+    {
+        find_call(self.calls.as_slice(), number)
+    }
+
+    /// The number of the event with which a call began.
+    pub fn begin(&self, number: u64) -> Option<u64>
+        ensures { result ≡ option_map (λ call. call.begin) (call_at self.now.calls number) }
+    {
+        let call = self.call(number)?;
+        Some(call.begin)
+    }
+
+    /// The number of the event of a call's reply, where one came.
+    pub fn end(&self, number: u64) -> Option<u64>
+        ensures { result ≡ end_of self.now.calls number }
+    {
+        let call = self.call(number)?;
+        call.end
+    }
+
+    /// The era of a call, from 1 on.
+    pub fn era(&self, number: u64) -> Option<u64>
+        ensures { result ≡ option_map (λ call. call.era) (call_at self.now.calls number) }
+    {
+        let call = self.call(number)?;
+        Some(call.era)
+    }
+
+    /// How an answered judged call came out.
+    pub fn outcome(&self, number: u64) -> Option<&Outcome>
+        ensures { option_copied result ≡ option_and_then (λ call. call.outcome) (call_at self.now.calls number) }
+    {
+        let call = self.call(number)?;
+        call.outcome.as_ref()
+    }
 }

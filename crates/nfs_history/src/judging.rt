@@ -1,14 +1,22 @@
 //! What each call of a history was, and how it came out.
 
-ghost use Rattle.std.specs.Prelude.{◌≡◌, map, IfOk, Some, option_map};
-ghost use Rattle.rpc_reader.specs.Views.{call_value};
-ghost use Rattle.nfs_history.specs.Matching.{seen_call, seen_reply};
-ghost use Rattle.nfs_history.specs.History.{asked_size, failed, reply_failed, too_far, outside, CameOut, IsCallOfNfs, IsRecorded, AreRecorded};
+ghost use Rattle.std.specs.Prelude.{◌≡◌, ℕ, map, true, false, IfOk, IfErr, IsOkAnd, Option, Some, None, option_map};
+ghost use Rattle.std.specs.List.{AllByRecursion};
+ghost use Rattle.rpc_reader.specs.Values.{Body};
+ghost use Rattle.rpc_reader.specs.Views.{call_value, body_value};
+ghost use Rattle.nfs3_msgs.specs.Messages.{IsArguments};
+ghost use Rattle.nfs_history.specs.Matching.{seen_call, seen_reply, bytes_of};
+ghost use Rattle.nfs_history.specs.Effects.{Says, was_refused, results_of, has_failed_status, is_judged, has_no_effect};
+ghost use Rattle.nfs_history.specs.History.{asked_size, failed, reply_failed, too_far, outside, CameOut, IsKnownAs, IsRecorded, AreRecorded};
+ghost use Rattle.nfs_history.specs.CallFaults.{left_out, which_left_out, outside_fault, result_fault, judged_fault, fault_of, IsCallFault, IsFine, FirstCallFault, IsReadable, AreReadable};
+ghost use Rattle.nfs_history.specs.EventFaults.{IsFineOrNoMemory, IsErrorOf, IsThatOrNoMemory};
+ghost use Rattle.nfs_history.specs.declared.fault.HistoryFault.{HistoryFault};
 
 use crate::fault::{HistoryFault, Which};
 use crate::history::{Meaning, RecordedCall};
 use crate::matching::{SeenCall, SeenReply, transaction};
-use nfs3_msgs::{Kind, MessageFault, read_args, read_result};
+use byteorder::{BigEndian, ByteOrder};
+use nfs3_msgs::{MessageFault, read_args, read_result};
 use nfs3_types::{Answer, CreateMode, NfsCall, NfsReply, Outcome};
 use rpc_reader::{CallHead, ReplyBody, read_call, read_reply};
 use std::alloc::Global;
@@ -19,6 +27,10 @@ const NFS_PROGRAM: u32 = 100_003;
 const NFS_VERSION: u32 = 3;
 /// The credential flavor of RPCSEC_GSS (RFC 2203).
 const SEALED_FLAVOR: u32 = 6;
+/// Procedures of NFS version 3 (RFC 1813, sections 3.3.11 and 3.3.15).
+const MKNOD: u32 = 11;
+
+const LINK: u32 = 15;
 /// The most bytes of a file.
 const FILE_LIMIT: u64 = 16_777_216;
 
@@ -97,68 +109,176 @@ fn outside_model(call: &NfsCall, outcome: &Option<Outcome>) -> Option<Which>
     }
 }
 
-/// The result that a reply to a call of this procedure holds.
-fn result_of(
+/// The result that a reply holds.
+fn results_of<'a>(body: &Option<ReplyBody<'a>>) -> Option<&'a [u8]>
+    ensures { bytes_of result ≡ results_of (option_map body_value body.now) }
+{
+    match body {
+        Some(ReplyBody::Success(results)) => Some(*results),
+        _ => None,
+    }
+}
+
+/// Whether any reply but an accepted SUCCESS came.
+fn was_refused(body: &Option<ReplyBody<'_>>) -> bool
+    ensures { result ≡ was_refused (option_map body_value body.now) }
+{
+    match body {
+        None | Some(ReplyBody::Success(_)) => false,
+        Some(_) => true,
+    }
+}
+
+/// Whether a result begins with a status other than 0.
+#[tactic(auto, unfolding(xdr_records::specs::Items::word_of))]
+fn has_failed_status(results: Option<&[u8]>) -> bool
+    ensures { result ≡ has_failed_status (bytes_of results.entry) }
+{
+    match results {
+        Some(results) => results.len() >= 4 && BigEndian::read_u32(results) != 0,
+        None => false,
+    }
+}
+
+fn is_judged(procedure: u32) -> bool
+    ensures { result ≡ is_judged procedure }
+{
+    matches!(
+        procedure,
+        1 | 2 | 3 | 5 | 6 | 7 | 8 | 9 | 10 | 12 | 13 | 14 | 16 | 17 | 21
+    )
+}
+
+/// Whether a call is known to have had no effect.
+fn has_no_effect(head: &CallHead<'_>, body: &Option<ReplyBody<'_>>) -> bool
+    ensures { result ≡ has_no_effect (call_value head.now) (option_map body_value body.now) }
+{
+    if was_refused(body) || head.program != NFS_PROGRAM || head.version != NFS_VERSION {
+        return true;
+    }
+    if head.flavor == SEALED_FLAVOR {
+        return false;
+    }
+    match head.procedure {
+        MKNOD | LINK => has_failed_status(results_of(body)),
+        procedure => !is_judged(procedure),
+    }
+}
+
+/// MKNOD or LINK.
+fn which_left_out(procedure: u32) -> Which
+    ensures { result ≡ which_left_out procedure }
+{
+    if procedure == LINK {
+        Which::Link
+    } else {
+        Which::Node
+    }
+}
+
+/// What is wrong with a LINK or MKNOD that may have had an effect.
+fn left_out(number: u64, which: Which, results: Option<&[u8]>) -> HistoryFault
+    ensures { result ≡ left_out number which (bytes_of results.entry) }
+{
+    match results {
+        Some(results) if results.len() < 4 => HistoryFault::BadResult(number),
+        _ => HistoryFault::Outside(number, which),
+    }
+}
+
+/// A call and its outcome, where they lie inside the model.
+fn kept_inside(
+    number: u64,
+    call: NfsCall,
+    outcome: Option<Outcome>,
+) -> Result<(NfsCall, Option<Outcome>), HistoryFault>
+    ensures found { IfOk result (λ k. (k.0 ≡ call) × (k.1 ≡ outcome) × (outside call outcome ≡ None)) }
+    ensures fault { IfErr result (λ f. outside_fault number call outcome ≡ Some f) }
+{
+    match outside_model(&call, &outcome) {
+        None => Ok((call, outcome)),
+        Some(which) => Err(HistoryFault::Outside(number, which)),
+    }
+}
+
+/// A call, and how it came out.
+fn with_outcome(
     alloc: Global,
     number: u64,
     procedure: u32,
-    reply: &SeenReply<'_>,
-) -> Result<Outcome, HistoryFault>
-    ensures { IfOk result (λ o. CameOut procedure (Some (seen_reply reply.now)) (Some o)) }
+    call: NfsCall,
+    results: Option<&[u8]>,
+) -> Result<(NfsCall, Option<Outcome>), HistoryFault>
+    ensures found { IfOk result (λ k. (k.0 ≡ call) × CameOut procedure (bytes_of results.entry) k.1
+        × (outside k.0 k.1 ≡ None)) }
+    ensures fault { IsErrorOf (λ f. result_fault number procedure call (bytes_of results.entry) ≡ Some f) result }
 {
-    let Ok(head) = read_reply(reply.message) else {
-        return Err(HistoryFault::BadRpc(reply.number));
-    };
-    let ReplyBody::Success(results) = head.body else {
-        return Err(HistoryFault::NotYet(reply.number));
+    let Some(results) = results else {
+        return kept_inside(number, call, None);
     };
     match read_result(alloc, procedure, results) {
-        Ok(answer) => Ok(Outcome::Received(answer)),
+        Ok(answer) => kept_inside(number, call, Some(Outcome::Received(answer))),
         Err(MessageFault::NoMemory) => Err(HistoryFault::NoMemory),
         Err(MessageFault::BadMessage { .. }) => Err(HistoryFault::BadResult(number)),
     }
 }
 
-/// How a call of this procedure came out.
-fn outcome_of(
+/// What a call of a judged procedure asked, and how it came out.
+fn judged(
     alloc: Global,
     number: u64,
-    procedure: u32,
-    answer: &Option<SeenReply<'_>>,
-) -> Result<Option<Outcome>, HistoryFault>
-    ensures { IfOk result (CameOut procedure (option_map seen_reply answer.now)) }
+    head: &CallHead<'_>,
+    results: Option<&[u8]>,
+) -> Result<(NfsCall, Option<Outcome>), HistoryFault>
+    ensures found { IfOk result (λ k. IsArguments head.now.procedure head.now.args.now k.0
+        × CameOut head.now.procedure (bytes_of results.entry) k.1 × (outside k.0 k.1 ≡ None)) }
+    ensures fault { IsErrorOf (λ f. judged_fault number head.now.procedure head.now.args.now
+        (bytes_of results.entry) ≡ Some f) result }
 {
-    match answer {
-        None => Ok(None),
-        Some(reply) => Ok(Some(result_of(alloc, number, procedure, reply)?)),
+    match read_args(alloc, head.procedure, head.args) {
+        Ok(call) => with_outcome(alloc, number, head.procedure, call, results),
+        Err(MessageFault::NoMemory) => Err(HistoryFault::NoMemory),
+        Err(MessageFault::BadMessage { .. }) => Err(HistoryFault::BadArgs(number)),
     }
 }
 
-/// The arguments of a call of NFS.
-fn arguments_of(
+/// What a call was, and how it came out.
+fn known_of(
     alloc: Global,
     number: u64,
-    begin: u64,
     head: &CallHead<'_>,
-) -> Result<NfsCall, HistoryFault>
-    ensures { IfOk result (IsCallOfNfs (call_value head.now)) }
+    body: &Option<ReplyBody<'_>>,
+) -> Result<(Meaning, Option<Outcome>), HistoryFault>
+    ensures found { IfOk result (λ k. IsKnownAs (call_value head.now) (option_map body_value body.now) k.0 k.1) }
+    ensures fault { IsErrorOf (λ f. fault_of number (call_value head.now) (option_map body_value body.now)
+        ≡ Some f) result }
 {
-    if head.program != NFS_PROGRAM || head.version != NFS_VERSION {
-        return Err(HistoryFault::NotYet(begin));
+    if has_no_effect(head, body) {
+        return Ok((Meaning::Unjudged, None));
     }
     if head.flavor == SEALED_FLAVOR {
         return Err(HistoryFault::Sealed(number));
     }
-    match read_args(alloc, head.procedure, head.args) {
-        Ok(call) => Ok(call),
-        Err(MessageFault::NoMemory) => Err(HistoryFault::NoMemory),
-        Err(
-            MessageFault::BadMessage {
-                kind: Kind::NotJudged,
-                ..
-            },
-        ) => Err(HistoryFault::NotYet(begin)),
-        Err(MessageFault::BadMessage { .. }) => Err(HistoryFault::BadArgs(number)),
+    let results = results_of(body);
+    if is_judged(head.procedure) {
+        let (call, outcome) = judged(alloc, number, head, results)?;
+        Ok((Meaning::Judged(call), outcome))
+    } else {
+        Err(left_out(number, which_left_out(head.procedure), results))
+    }
+}
+
+/// The body of the reply to a call, where one came.
+fn body_of<'a>(answer: &Option<SeenReply<'a>>) -> Result<Option<ReplyBody<'a>>, HistoryFault>
+    requires { (body : Option Body) × Says (option_map seen_reply answer.now) body }
+    ensures { IsOkAnd result (λ body. Says (option_map seen_reply answer.now) (option_map body_value body)) }
+{
+    let Some(reply) = answer else {
+        return Ok(None);
+    };
+    match read_reply(reply.message) {
+        Ok(head) => Ok(Some(head.body)),
+        Err(_) => Err(HistoryFault::BadRpc(reply.number)),
     }
 }
 
@@ -168,20 +288,19 @@ fn judged_call(
     number: u64,
     seen: &SeenCall<'_>,
 ) -> Result<RecordedCall, HistoryFault>
-    ensures { IfOk result (IsRecorded (seen_call seen.now)) }
+    requires { IsReadable (seen_call seen.now) }
+    ensures found { IfOk result (IsRecorded (seen_call seen.now)) }
+    ensures fault { IsErrorOf (IsCallFault number (seen_call seen.now)) result }
 {
     let Ok(head) = read_call(seen.message) else {
         return Err(HistoryFault::BadRpc(seen.begin));
     };
-    let call = arguments_of(alloc, number, seen.begin, &head)?;
-    let outcome = outcome_of(alloc, number, head.procedure, &seen.answer)?;
-    if let Some(which) = outside_model(&call, &outcome) {
-        return Err(HistoryFault::Outside(number, which));
-    }
+    let body = body_of(&seen.answer)?;
+    let (meaning, outcome) = known_of(alloc, number, &head, &body)?;
     Ok(RecordedCall {
         lane: seen.lane,
         xid: transaction(seen.message),
-        meaning: Meaning::Judged(call),
+        meaning,
         begin: seen.begin,
         end: seen.answer.map(|reply| reply.number),
         era: 1,
@@ -191,7 +310,14 @@ fn judged_call(
 
 /// What is known of each call.
 pub fn judged_calls(alloc: Global, seen: &[SeenCall<'_>]) -> Result<Vec<RecordedCall>, HistoryFault>
-    ensures { IfOk result (λ v. AreRecorded (map seen_call seen.now) v.items) }
+    requires { AreReadable (map seen_call seen.now) }
+    ensures found { IfOk result (λ v. AreRecorded (map seen_call seen.now) v.items) }
+    // Where it is known of each call what it was, nothing is refused, memory aside.
+    ensures only { AllByRecursion IsFine (map seen_call seen.now) → IsFineOrNoMemory result }
+    ensures fault { IsErrorOf (FirstCallFault 1 (map seen_call seen.now)) result }
+    // The first call at fault is named, memory aside.
+    ensures named { (fault : HistoryFault) → FirstCallFault 1 (map seen_call seen.now) fault
+        → IsThatOrNoMemory fault result }
 {
     let mut calls = Vec::new(alloc);
     for (index, call) in seen.iter().enumerate() {

@@ -4,7 +4,7 @@ ghost use Rattle.std.specs.Prelude.{◌≡◌, IfOk, map};
 ghost use Rattle.nfs_history.specs.Calls.{xid_of, calls_of};
 ghost use Rattle.nfs_history.specs.Matching.{seen_call};
 ghost use Rattle.nfs_history.specs.FileReading.{event_values};
-ghost use Rattle.nfs_history.specs.Standing.{AreMessages};
+ghost use Rattle.nfs_history.specs.Standing.{InOneEra};
 
 use crate::file::SeenEvent;
 use byteorder::{BigEndian, ByteOrder};
@@ -45,7 +45,7 @@ pub fn matched_calls<'a>(
     alloc: Global,
     events: &[SeenEvent<'a>],
 ) -> Result<Vec<SeenCall<'a>>, AllocError>
-    requires { AreMessages (event_values events.now) }
+    requires { InOneEra (event_values events.now) }
     ensures { IfOk result (λ v. map seen_call v.items ≡ calls_of (event_values events.now)) }
 {
     let mut replies: IndexMap<(u32, u32), SeenReply<'a>> = IndexMap::new(alloc);

@@ -1,6 +1,9 @@
 //! What the clauses don't say: which fault each bad history has, and that a good one is read.
 
-use crate::{History, HistoryFault, Which, read_history};
+use crate::{
+    Event, History, HistoryFault, Meaning, Message, Which, WriteFault, read_history, write_history,
+};
+use nfs3_types::FileHandle;
 use std::alloc::{AllocError, Global};
 use std::test::Fail;
 
@@ -73,11 +76,6 @@ fn each_fault_has_its_name(rt: HostRuntime) -> Result<(), Fail> {
         (23, 9, HistoryFault::BadEvent(1)),
         (28, 0xff, HistoryFault::TooLarge),
         (23, 3, HistoryFault::BadEvent(5)),
-        (355, 0xa4, HistoryFault::NotYet(5)),
-        (363, 1, HistoryFault::NotYet(5)),
-        (255, 0, HistoryFault::NotYet(3)),
-        (91, 1, HistoryFault::NotYet(1)),
-        (439, 2, HistoryFault::NotYet(6)),
         (39, 1, HistoryFault::BadRpc(1)),
         (135, 0, HistoryFault::BadRpc(2)),
         (123, 2, HistoryFault::NoSuchCall(2)),
@@ -101,12 +99,12 @@ fn each_fault_has_its_name(rt: HostRuntime) -> Result<(), Fail> {
 
 #[test]
 fn the_first_fault_decides(rt: HostRuntime) -> Result<(), Fail> {
-    // Bytes behind the last event, ahead of an event that isn't judged yet; that, ahead of a bad head; a bad head,
-    // ahead of one that comes later; a head that can't be read, ahead of a call without its reply; a sealed call,
-    // ahead of its arguments; those, ahead of the result.
+    // Bytes behind the last event, ahead of a call that isn't judged yet; a bad head, ahead of that, and of one that
+    // comes later; a head that can't be read, ahead of a call without its reply; a call, ahead of a later one; a sealed
+    // call, ahead of its arguments; those, ahead of the result.
     let rows = [
-        ([(19, 5), (355, 0xa4)], HistoryFault::Trailing),
-        ([(39, 1), (355, 0xa4)], HistoryFault::NotYet(5)),
+        ([(19, 5), (363, 1)], HistoryFault::Trailing),
+        ([(39, 1), (363, 1)], HistoryFault::BadRpc(1)),
         ([(39, 1), (135, 0)], HistoryFault::BadRpc(1)),
         ([(135, 0), (131, 9)], HistoryFault::BadRpc(2)),
         (
@@ -157,6 +155,17 @@ fn a_fault_prints_its_name_and_values(rt: HostRuntime) -> Result<(), Fail> {
     Ok(())
 }
 
+/// A file of these events, with the example's root handle.
+fn file_of(alloc: Global, events: &[&[u8]]) -> Result<Vec<u8>, AllocError> {
+    let mut bytes = Vec::from_slice(alloc, &EXAMPLE[..16])?;
+    bytes.extend_from_slice([0, 0, 0].as_slice())?;
+    bytes.push(events.len() as u8)?;
+    for event in events {
+        bytes.extend_from_slice(event)?;
+    }
+    Ok(bytes)
+}
+
 #[test]
 fn a_transaction_number_is_free_again_once_it_is_answered(rt: HostRuntime) -> Result<(), Fail> {
     let call = &EXAMPLE[20..116];
@@ -170,12 +179,321 @@ fn a_transaction_number_is_free_again_once_it_is_answered(rt: HostRuntime) -> Re
         ([call, reply, call, reply], None),
     ];
     for (events, fault) in rows {
-        let mut bytes = Vec::from_slice(rt.alloc(), &EXAMPLE[..16])?;
-        bytes.extend_from_slice([0, 0, 0, 4].as_slice())?;
-        for event in events {
-            bytes.extend_from_slice(event)?;
-        }
+        let bytes = file_of(rt.alloc(), events.as_slice())?;
         assert_eq!(rt; fault_of(read_history(rt.alloc(), bytes.as_slice())), fault);
+    }
+    Ok(())
+}
+
+/// The close of lane 1, and that of lane 2.
+const CLOSE: &[u8] = b"\x00\x00\x00\x02\x00\x00\x00\x01";
+
+const CLOSE_OF_ANOTHER: &[u8] = b"\x00\x00\x00\x02\x00\x00\x00\x02";
+/// A call without bytes, on lane 1, and a reply without bytes.
+const EMPTY_CALL: &[u8] = b"\x00\x00\x00\x00\x00\x00\x00\x01\x00\x00\x00\x00";
+
+const EMPTY_REPLY: &[u8] = b"\x00\x00\x00\x01\x00\x00\x00\x01\x00\x00\x00\x00";
+
+#[test]
+fn a_lane_that_was_closed_stays_closed(rt: HostRuntime) -> Result<(), Fail> {
+    let call = &EXAMPLE[20..116];
+    let reply = &EXAMPLE[116..180];
+    let rows = [
+        ([CLOSE, call, reply], Some(HistoryFault::LaneClosed(2))),
+        ([call, CLOSE, reply], Some(HistoryFault::LaneClosed(3))),
+        (
+            [CLOSE, CLOSE_OF_ANOTHER, CLOSE],
+            Some(HistoryFault::LaneClosed(3)),
+        ),
+        // The message of an event on a closed lane isn't looked at.
+        (
+            [CLOSE, EMPTY_CALL, reply],
+            Some(HistoryFault::LaneClosed(2)),
+        ),
+        (
+            [CLOSE, EMPTY_REPLY, reply],
+            Some(HistoryFault::LaneClosed(2)),
+        ),
+        ([CLOSE_OF_ANOTHER, call, reply], None),
+        ([call, CLOSE_OF_ANOTHER, reply], None),
+        ([call, reply, CLOSE], None),
+        ([call, CLOSE, CLOSE_OF_ANOTHER], None),
+    ];
+    for (events, fault) in rows {
+        let bytes = file_of(rt.alloc(), events.as_slice())?;
+        assert_eq!(rt; fault_of(read_history(rt.alloc(), bytes.as_slice())), fault);
+    }
+    Ok(())
+}
+
+#[test]
+fn the_first_event_at_fault_is_named(rt: HostRuntime) -> Result<(), Fail> {
+    let call = &EXAMPLE[20..116];
+    let reply = &EXAMPLE[116..180];
+    let rows = [
+        ([EMPTY_CALL, reply], HistoryFault::BadRpc(1)),
+        ([EMPTY_REPLY, CLOSE], HistoryFault::BadRpc(1)),
+        ([reply, EMPTY_CALL], HistoryFault::NoSuchCall(1)),
+        ([call, EMPTY_REPLY], HistoryFault::BadRpc(2)),
+        ([call, call], HistoryFault::XidInUse(2)),
+    ];
+    for (events, fault) in rows {
+        let bytes = file_of(rt.alloc(), events.as_slice())?;
+        assert_eq!(rt;
+            fault_of(read_history(rt.alloc(), bytes.as_slice())),
+            Some(fault)
+        );
+    }
+    Ok(())
+}
+
+/// A crash.
+const CRASH: &[u8] = b"\x00\x00\x00\x03";
+/// The reply GARBAGE_ARGS to the call with transaction number 3 on lane 2 (RFC 5531, section 9).
+const GARBAGE: &[u8] = b"\
+    \x00\x00\x00\x01\x00\x00\x00\x02\x00\x00\x00\x18\x00\x00\x00\x03\x00\x00\x00\x01\
+    \x00\x00\x00\x00\x00\x00\x00\x00\x00\x00\x00\x00\x00\x00\x00\x04\
+";
+/// The reply SUCCESS to it with three bytes of a result.
+const SHORT: &[u8] = b"\
+    \x00\x00\x00\x01\x00\x00\x00\x02\x00\x00\x00\x1b\x00\x00\x00\x03\x00\x00\x00\x01\
+    \x00\x00\x00\x00\x00\x00\x00\x00\x00\x00\x00\x00\x00\x00\x00\x00\x00\x00\x01\x00\
+";
+/// A READ without arguments, and its transaction number and lane.
+const NO_ARGUMENTS: &[u8] = b"\
+    \x00\x00\x00\x00\x00\x00\x00\x02\x00\x00\x00\x28\x00\x00\x00\x03\x00\x00\x00\x00\
+    \x00\x00\x00\x02\x00\x01\x86\xa3\x00\x00\x00\x03\x00\x00\x00\x06\x00\x00\x00\x00\
+    \x00\x00\x00\x00\x00\x00\x00\x00\x00\x00\x00\x00\
+";
+/// Places in a call's event: the low bytes of the program, the version, the procedure and the flavor.
+const PROGRAM: usize = 27;
+
+const VERSION: usize = 31;
+
+const PROCEDURE: usize = 35;
+
+const FLAVOR: usize = 39;
+
+/// The example's READ with another byte at one place.
+fn changed_read(alloc: Global, at: usize, byte: u8) -> Result<Vec<u8>, AllocError> {
+    let mut event = Vec::from_slice(alloc, &EXAMPLE[328..400])?;
+    if at < event.len() {
+        event[at] = byte;
+    }
+    Ok(event)
+}
+
+/// The example's reply to READ with the status NOTSUPP (RFC 1813, section 2.6).
+fn not_supported(alloc: Global) -> Result<Vec<u8>, AllocError> {
+    let mut event = Vec::from_slice(alloc, &EXAMPLE[400..])?;
+    if event.len() > 39 {
+        event[38] = 0x27;
+        event[39] = 0x14;
+    }
+    Ok(event)
+}
+
+/// Whether the last call is without effect, with its reply's number.
+fn unjudged_until(answer: Result<History, HistoryFault>) -> Option<u64> {
+    match answer {
+        Ok(history) => match history.calls.as_slice() {
+            [call] if matches!(call.meaning, Meaning::Unjudged) && call.outcome.is_none() => {
+                Some(call.end.unwrap_or(0))
+            }
+            _ => None,
+        },
+        Err(_) => None,
+    }
+}
+
+#[test]
+fn a_call_without_effect_is_unjudged(rt: HostRuntime) -> Result<(), Fail> {
+    let failed = not_supported(rt.alloc())?;
+    let rows = [
+        (PROGRAM, 0xa4, &EXAMPLE[400..]),
+        (VERSION, 4, &EXAMPLE[400..]),
+        (PROCEDURE, 0, &EXAMPLE[400..]),
+        (PROCEDURE, 4, failed.as_slice()),
+        (PROCEDURE, 18, &EXAMPLE[400..]),
+        (PROCEDURE, 19, &EXAMPLE[400..]),
+        (PROCEDURE, 20, &EXAMPLE[400..]),
+        (PROCEDURE, 22, &EXAMPLE[400..]),
+        (PROCEDURE, 11, failed.as_slice()),
+        (PROCEDURE, 15, failed.as_slice()),
+        (PROCEDURE, 15, GARBAGE),
+        (PROCEDURE, 1, GARBAGE),
+        (FLAVOR, 6, GARBAGE),
+    ];
+    for (at, byte, reply) in rows {
+        let call = changed_read(rt.alloc(), at, byte)?;
+        let bytes = file_of(rt.alloc(), [call.as_slice(), reply].as_slice())?;
+        let end = unjudged_until(read_history(rt.alloc(), bytes.as_slice()));
+        assert_eq!(rt; end, Some(2), "{at} {byte}");
+    }
+    let bytes = file_of(rt.alloc(), [NO_ARGUMENTS, GARBAGE].as_slice())?;
+    assert_eq!(rt;
+        unjudged_until(read_history(rt.alloc(), bytes.as_slice())),
+        Some(2)
+    );
+    let call = changed_read(rt.alloc(), PROCEDURE, 0)?;
+    let bytes = file_of(rt.alloc(), [call.as_slice()].as_slice())?;
+    assert_eq!(rt;
+        unjudged_until(read_history(rt.alloc(), bytes.as_slice())),
+        Some(0)
+    );
+    Ok(())
+}
+
+#[test]
+fn a_call_that_may_have_had_an_effect_is_refused(rt: HostRuntime) -> Result<(), Fail> {
+    let failed = not_supported(rt.alloc())?;
+    let done = &EXAMPLE[400..];
+    let rows = [
+        (PROCEDURE, 15, done, HistoryFault::Outside(1, Which::Link)),
+        (PROCEDURE, 15, CLOSE, HistoryFault::Outside(1, Which::Link)),
+        (PROCEDURE, 15, SHORT, HistoryFault::BadResult(1)),
+        (PROCEDURE, 11, done, HistoryFault::Outside(1, Which::Node)),
+        (PROCEDURE, 11, CLOSE, HistoryFault::Outside(1, Which::Node)),
+        (PROCEDURE, 11, SHORT, HistoryFault::BadResult(1)),
+        (FLAVOR, 6, CLOSE, HistoryFault::Sealed(1)),
+        (FLAVOR, 6, failed.as_slice(), HistoryFault::Sealed(1)),
+        (PROCEDURE, 6, SHORT, HistoryFault::BadResult(1)),
+    ];
+    for (at, byte, next, fault) in rows {
+        let call = changed_read(rt.alloc(), at, byte)?;
+        let bytes = file_of(rt.alloc(), [call.as_slice(), next].as_slice())?;
+        assert_eq!(rt;
+            fault_of(read_history(rt.alloc(), bytes.as_slice())),
+            Some(fault),
+            "{at} {byte}"
+        );
+    }
+    Ok(())
+}
+
+#[test]
+fn faults_of_events_come_before_those_of_calls(rt: HostRuntime) -> Result<(), Fail> {
+    let call = &EXAMPLE[20..116];
+    let sealed = changed_read(rt.alloc(), FLAVOR, 6)?;
+    let rows = [
+        ([NO_ARGUMENTS, CLOSE], HistoryFault::BadArgs(1)),
+        ([NO_ARGUMENTS, sealed.as_slice()], HistoryFault::XidInUse(2)),
+        ([NO_ARGUMENTS, EMPTY_CALL], HistoryFault::BadRpc(2)),
+        ([sealed.as_slice(), CRASH], HistoryFault::NotYet(2)),
+        ([EMPTY_CALL, CRASH], HistoryFault::NotYet(2)),
+        ([call, sealed.as_slice()], HistoryFault::Sealed(2)),
+        ([CLOSE, sealed.as_slice()], HistoryFault::Sealed(1)),
+    ];
+    for (events, fault) in rows {
+        let bytes = file_of(rt.alloc(), events.as_slice())?;
+        assert_eq!(rt;
+            fault_of(read_history(rt.alloc(), bytes.as_slice())),
+            Some(fault)
+        );
+    }
+    Ok(())
+}
+
+/// The example's call and reply with numbers from `at` on, as an event of lane 1.
+fn call_event(alloc: Global, bytes: &[u8]) -> Result<Event, AllocError> {
+    let message = Message::from_slice(alloc, bytes)?;
+    Ok(Event::Call { lane: 1, message })
+}
+
+fn reply_event(alloc: Global, bytes: &[u8]) -> Result<Event, AllocError> {
+    let message = Message::from_slice(alloc, bytes)?;
+    Ok(Event::Reply { lane: 1, message })
+}
+
+/// What is built of the example's CREATE and its reply, and one more event.
+fn built_with(alloc: Global, last: Event) -> Result<History, HistoryFault> {
+    let mut events = Vec::new(alloc);
+    events.push(call_event(alloc, &EXAMPLE[32..116])?)?;
+    events.push(reply_event(alloc, &EXAMPLE[128..180])?)?;
+    events.push(last)?;
+    History::build(alloc, FileHandle::from_slice(alloc, &[0])?, events)
+}
+
+fn message_of(event: &Event) -> &[u8] {
+    match event {
+        Event::Call { message, .. } | Event::Reply { message, .. } => message.as_slice(),
+        _ => &[],
+    }
+}
+
+#[test]
+fn a_history_shows_its_events_and_calls(rt: HostRuntime) -> Result<(), Fail> {
+    let history = read_history(rt.alloc(), EXAMPLE)?;
+    assert_eq!(rt; history.events().len(), 6);
+    for (event, place) in history.events().iter().zip([32..116, 128..180, 192..264]) {
+        assert_eq!(rt; message_of(event), &EXAMPLE[place]);
+    }
+    assert!(rt; history.call(0).is_none());
+    assert!(rt; history.call(4).is_none());
+    assert_eq!(rt; history.begin(3), Some(5));
+    assert_eq!(rt; history.end(3), Some(6));
+    assert_eq!(rt; history.end(4), None);
+    assert_eq!(rt; history.era(2), Some(1));
+    assert!(rt; history.outcome(1).is_some());
+    assert!(rt; history.outcome(4).is_none());
+    Ok(())
+}
+
+#[test]
+fn a_history_is_built_of_events(rt: HostRuntime) -> Result<(), Fail> {
+    let history = built_with(rt.alloc(), Event::Close { lane: 1 })?;
+    assert_eq!(rt; history.events().len(), 3);
+    assert_eq!(rt; history.end(1), Some(2));
+    assert_eq!(rt; history.root.as_slice(), [0].as_slice());
+    let again = call_event(rt.alloc(), &EXAMPLE[192..264])?;
+    let history = built_with(rt.alloc(), again)?;
+    assert_eq!(rt; history.begin(2), Some(3));
+    assert_eq!(rt; history.end(2), None);
+    Ok(())
+}
+
+#[test]
+fn the_first_fault_of_events_is_named(rt: HostRuntime) -> Result<(), Fail> {
+    let empty = call_event(rt.alloc(), &[])?;
+    assert_eq!(rt;
+        fault_of(built_with(rt.alloc(), empty)),
+        Some(HistoryFault::BadRpc(3))
+    );
+    let other = reply_event(rt.alloc(), &EXAMPLE[128..180])?;
+    assert_eq!(rt;
+        fault_of(built_with(rt.alloc(), other)),
+        Some(HistoryFault::NoSuchCall(3))
+    );
+    assert_eq!(rt;
+        fault_of(built_with(rt.alloc(), Event::Crash)),
+        Some(HistoryFault::NotYet(3))
+    );
+    Ok(())
+}
+
+#[test]
+fn what_is_written_is_the_file(rt: HostRuntime) -> Result<(), Fail> {
+    let history = read_history(rt.alloc(), EXAMPLE)?;
+    let bytes = write_history(rt.alloc(), &[0], history.events())?;
+    assert_eq!(rt; bytes.as_slice(), EXAMPLE);
+    let mut events = Vec::new(rt.alloc());
+    events.push(Event::Close { lane: 1 })?;
+    events.push(Event::Crash)?;
+    let bytes = write_history(rt.alloc(), &[0], events.as_slice())?;
+    let wanted = file_of(rt.alloc(), [CLOSE, CRASH].as_slice())?;
+    assert_eq!(rt; bytes.as_slice(), wanted.as_slice());
+    Ok(())
+}
+
+#[test]
+fn a_root_over_its_limit_is_not_written(rt: HostRuntime) -> Result<(), Fail> {
+    assert!(rt; write_history(rt.alloc(), &[7; 64], &[]).is_ok());
+    match write_history(rt.alloc(), &[7; 65], &[]) {
+        Ok(_) => assert!(rt; false),
+        Err(fault) => {
+            assert_eq!(rt; fault, WriteFault::TooLarge);
+            assert_eq!(rt; fault.to_string(rt.alloc())?.as_str(), "TooLarge");
+        }
     }
     Ok(())
 }

@@ -1,7 +1,9 @@
 mod histories;
+mod judged;
 
 use crate::run_bundle;
 use histories::{APART, EMPTY, OVERLAPPING, SHARED_HANDLE, WRITTEN_AND_READ};
+use judged::JUDGED;
 use std::io::{self, ErrorKind, Read, Write};
 use std::process::Abort;
 use std::test::Fail;
@@ -185,5 +187,19 @@ fn a_verdict_that_cannot_be_written_is_no_verdict(rt: HostRuntime) -> Result<(),
     let bundle = format!(in rt.alloc(); "{EMPTY}\nwitness 1\nend\n")?;
     let mut input = bundle.as_bytes();
     assert_eq!(rt; run_bundle(rt.alloc(), &mut input, &mut Full), 2);
+    Ok(())
+}
+
+#[test]
+fn every_procedure_is_judged(rt: HostRuntime) -> Result<(), Fail> {
+    for judged in &JUDGED {
+        let bundle = format!(in rt.alloc(); "{}\n{}", judged.history, judged.certificate)?;
+        let mut input = bundle.as_bytes();
+        let mut told = Vec::new(rt.alloc());
+        let given = run_bundle(rt.alloc(), &mut input, &mut told);
+        assert_eq!(rt; given, judged.status, "{}", judged.name);
+        let want = format!(in rt.alloc(); "{}\n", judged.line)?;
+        assert_eq!(rt; told.as_slice(), want.as_bytes(), "{}", judged.name);
+    }
     Ok(())
 }

@@ -2,7 +2,7 @@
 
 use crate::{CheckFault, Fault, check_order, check_shape};
 use certificate::{BindList, Certificate, EraPlan, EraPlanList, Place, PlaceList};
-use nfs_history::{History, Meaning, RecordedCall, RecordedCalls};
+use nfs_history::{Events, History, Meaning, RecordedCall, RecordedCalls};
 use nfs3_types::{
     Answer, Data, Failure, FileHandle, NfsCall, NfsReply, Outcome, ReadArguments, StableHow,
     WriteArguments,
@@ -66,6 +66,7 @@ fn history(alloc: Global, reads: &[(u32, u32)], write: u32) -> Result<History, A
         root: FileHandle::from_slice(alloc, &[0xaa])?,
         eras: 2,
         calls: RecordedCalls::new(calls),
+        events: Events::new(Vec::new(alloc)),
     })
 }
 

@@ -1,3 +1,4 @@
 pub mod Entries
 pub mod Printing
 pub mod Soundness
+pub mod Moving

@@ -1,24 +1,29 @@
 -- what a change keeps of a tree, and what follows for its paths
-use Rattle.std.proofs.Common.{◌≡◌, ℕ, zero, suc, ◌+◌, ◌<◌, ◌≤◌, ◌⊎◌, inl, inr, Bool, true, false, cond, eqb, leb, eq-eqb, add-one, List, [], ◌∷◌, ◌++◌, length, get_or, take, Option, Some, None, refl, sym, ap, ◌∙◌, subst, arith}
-use Rattle.std.specs.Prelude.{IsSome, All}
+use Rattle.std.proofs.Common.{◌≡◌, ℕ, zero, suc, ◌+◌, ◌-◌, ltb, T, length-append, ◌<◌, ◌≤◌, ◌⊎◌, inl, inr, Bool, true, false, cond, eqb, leb, eq-eqb, add-one, List, [], ◌∷◌, ◌++◌, length, get_or, take, Option, Some, None, refl, sym, ap, ◌∙◌, subst, arith}
+use Rattle.std.specs.Prelude.{IsSome, All, ◌||◌, ◌&&◌, not, nat_eq}
+use Rattle.std.proofs.Math.Seq.{take-append_seam}
+use Rattle.std.specs.List.{list_any}
+use Rattle.std.specs.Cmp.Lexicographic.{pointwise}
+use Rattle.std.proofs.lemmas.Cmp.{nat_list_eq_equiv, lists_equiv}
 use Rattle.std.specs.Ordering.{eq_by_cmp, is_eq}
 use Rattle.std.specs.declared.cmp.Ordering.{Ordering}
 use Rattle.std.specs.declared.cmp.Ordering.TheVariants.{Less, Equal, Greater}
 use Rattle.std.specs.FinMap as map
 use Rattle.std.specs.FinMap.Entries as es
 use Rattle.std.proofs.lemmas.Cmp.{tied_itself}
+use Rattle.std.proofs.Common.{lt→ltb}
 use Rattle.std.proofs.lemmas.Bool.Decides.{nat_tests}
 use Rattle.std.proofs.lemmas.List.{take_more, take_all, length-take-le}
 use Rattle.tree_nodes.specs.declared.node.Node.{Node}
 use Rattle.tree_nodes.specs.declared.node.Content.TheVariants.{Directory}
-use Rattle.tree_nodes.specs.Tree.{Names, Tree, path_cmp, opening}
+use Rattle.tree_nodes.specs.Tree.{Names, Tree, path_cmp, is_below, is_bare, opening}
 use Rattle.tree_nodes.specs.Sound.{IsSound}
 use Rattle.tree_nodes.specs.Files.{node_limit}
 use Rattle.tree_nodes.specs.Printed.{IsShallow}
 use Rattle.tree_nodes.proofs.Entries.{path_total, path_ties}
 
 -- the last name of a path, and what stands ahead of it
-ahead_same : (p q : Names) (m n : List ℕ) → p ++ m ∷ [] ≡ q ++ n ∷ [] → p ≡ q
+pub ahead_same : (p q : Names) (m n : List ℕ) → p ++ m ∷ [] ≡ q ++ n ∷ [] → p ≡ q
 ahead_same [] [] m n e = refl
 ahead_same [] (y ∷ []) m n e = absurd (cc)
 ahead_same [] (y ∷ z ∷ q) m n e = absurd (cc)
@@ -80,6 +85,71 @@ front_after tree k v sound fits p n there = stands_on tree k v p (go (same_path 
 pub sound_put : (tree : Tree) (k : Names) (v : Node) → IsSound tree → FitsAt tree k → IsSound (map.insert tree k v)
 sound_put tree k v sound fits = record { small = len_after tree k v sound fits; fronts = front_after tree k v sound fits }
 
+-- ---- a node taken away
+
+any_found : (test : Names → Bool) (q : Names) (xs : List (Names × Node)) → test q ≡ true → IsSome (es.find path_cmp q xs) → list_any (λ e. test e.0) xs ≡ true
+any_found test q [] passes there = absurd (absent there) where
+  absent : IsSome {T = Node} None → ⊥
+  absent h = absurd (cc)
+any_found test q (e ∷ xs) passes there = go (same_path q e.0) (λ later. any_found test q xs passes later) where
+  here : (b c : Bool) → b ≡ true → (b || c) ≡ true
+  here true c e = refl
+  here false c e = absurd (cc)
+
+  behind : (b c : Bool) → c ≡ true → (b || c) ≡ true
+  behind true c e = refl
+  behind false c e = e
+
+  go : (eq_by_cmp path_cmp q e.0 ≡ true) × (q ≡ e.0) ⊎ (eq_by_cmp path_cmp q e.0 ≡ false) → (IsSome (es.find path_cmp q xs) → list_any (λ e. test e.0) xs ≡ true) → (test e.0 || list_any (λ e. test e.0) xs) ≡ true
+  go (inl same) later = here (test e.0) _ (ap test (sym same.1) ∙ passes)
+  go (inr other) later = behind (test e.0) _ (later (subst (λ b. IsSome (cond b (Some e.1) (es.find path_cmp q xs))) other there))
+
+is_true : (b : Bool) → T b → b ≡ true
+is_true true h = refl
+is_true false h = absurd h
+
+pub same_names : (p : Names) → pointwise (pointwise nat_eq) p p ≡ true
+same_names p = (lists_equiv nat_list_eq_equiv).refl p
+
+child_below : (p : Names) (n : List ℕ) → is_below (p ++ n ∷ []) p ≡ true
+child_below p n = both (ltb (length p) (length (p ++ n ∷ []))) _ (is_true _ (lt→ltb _ _ (omega (arith, length-append p (n ∷ [])))))
+    (ap (pointwise (pointwise nat_eq) p) (take-append_seam p (n ∷ [])) ∙ same_names p) where
+      both : (b c : Bool) → b ≡ true → c ≡ true → (b && c) ≡ true
+      both true c e f = f
+      both false c e f = absurd (cc)
+
+-- nothing lies below a bare path
+pub bare_under : (tree : Tree) (p : Names) (n : List ℕ) → is_bare tree p ≡ true → IsSome (map.get tree (p ++ n ∷ [])) → ⊥
+bare_under tree p n bare there = differ (list_any (λ e. is_below e.0 p) (map.entries tree)) bare
+    (any_found (λ q. is_below q p) (p ++ n ∷ []) (map.entries tree) (child_below p n) (subst IsSome (map.get-entries tree (p ++ n ∷ [])) there)) where
+      differ : (b : Bool) → not b ≡ true → b ≡ true → ⊥
+      differ true e f = absurd (cc)
+      differ false e f = absurd (cc)
+
+len_less : (tree : Tree) (k : Names) → IsSound tree → map.len (map.remove tree k) ≤ node_limit
+len_less tree k sound = subst (λ n. n ≤ node_limit) (sym (map.len-remove path_total tree k)) (few (map.contains_key tree k)) where
+  few : (b : Bool) → cond b (map.len tree - 1) (map.len tree) ≤ node_limit
+  few true = omega (arith, sound.small)
+  few false = sound.small
+
+front_left : (tree : Tree) (k : Names) → IsSound tree → is_bare tree k ≡ true → (p : Names) (n : List ℕ)
+    → IsSome (map.get (map.remove tree k) (p ++ n ∷ [])) → IsSome (map.get (map.remove tree k) p)
+front_left tree k sound bare p n there = go (same_path (p ++ n ∷ []) k) (subst IsSome (map.get-remove path_total tree k (p ++ n ∷ [])) there) where
+  absent : IsSome {T = Node} None → ⊥
+  absent h = absurd (cc)
+
+  kept : (eq_by_cmp path_cmp p k ≡ true) × (p ≡ k) ⊎ (eq_by_cmp path_cmp p k ≡ false) → IsSome (map.get tree (p ++ n ∷ [])) → IsSome (map.get (map.remove tree k) p)
+  kept (inl same) stood = absurd (bare_under tree p n (ap (is_bare tree) same.1 ∙ bare) stood)
+  kept (inr other) stood = subst IsSome (sym (map.get-remove path_total tree k p ∙ ap (λ b. cond b None (map.get tree p)) other)) (sound.fronts p n stood)
+
+  go : (eq_by_cmp path_cmp (p ++ n ∷ []) k ≡ true) × (p ++ n ∷ [] ≡ k) ⊎ (eq_by_cmp path_cmp (p ++ n ∷ []) k ≡ false)
+      → IsSome (cond (eq_by_cmp path_cmp (p ++ n ∷ []) k) None (map.get tree (p ++ n ∷ []))) → IsSome (map.get (map.remove tree k) p)
+  go (inl same) left = absurd (absent (subst (λ b. IsSome (cond b None (map.get tree (p ++ n ∷ [])))) same.0 left))
+  go (inr other) left = kept (same_path p k) (subst (λ b. IsSome (cond b None (map.get tree (p ++ n ∷ [])))) other left)
+
+pub sound_removed : (tree : Tree) (k : Names) → IsSound tree → is_bare tree k ≡ true → IsSound (map.remove tree k)
+sound_removed tree k sound bare = record { small = len_less tree k sound; fronts = front_left tree k sound bare }
+
 -- the opening tree
 abbrev nothing : Tree
 nothing = map.empty
@@ -94,7 +164,7 @@ no_root (x ∷ p) n = refl
 none_stands : {A : Type 0} (o : Option A) → o ≡ None → IsSome o → ⊥
 none_stands o e h = absurd (cc)
 
-no_node : IsSome {T = Node} None → ⊥
+pub no_node : IsSome {T = Node} None → ⊥
 no_node h = absurd (cc)
 
 pub sound_opening : IsSound opening

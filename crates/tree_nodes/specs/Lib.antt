@@ -4,3 +4,4 @@ pub mod Files
 pub mod Printed
 pub mod Sound
 pub mod Unprinted
+pub mod Moved

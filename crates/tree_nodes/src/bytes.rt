@@ -6,6 +6,8 @@ ghost use Rattle.std.specs.Ordering.{nat_cmp, as_partial_cmp};
 ghost use Rattle.std.specs.Cmp.{partial_equiv_from_equiv, partial_order_from_total, partial_order_from_agreeing_total};
 ghost use Rattle.std.specs.Cmp.Lexicographic.{pointwise, slice_cmp, slice_partial_cmp, texts_ties, lists_ties};
 ghost use Rattle.std.proofs.lemmas.Cmp.{nat_list_eq_equiv, nat_list_cmp_total, lists_equiv, lists_total};
+ghost use Rattle.tree_nodes.specs.Moved.{moved_path};
+ghost use Rattle.tree_nodes.specs.Tree.{parent, is_below, is_in};
 
 use std::alloc::{AllocError, Global};
 use std::cmp::Ordering;
@@ -128,11 +130,65 @@ impl Path {
     pub fn copy(&self, alloc: Global) -> Result<Path, AllocError>
         ensures { IfOk result (λ p. p ≡ self.now) }
     {
-        let mut names = Vec::new(alloc);
-        for name in self.names() {
+        Path::of_names(alloc, self.names())
+    }
+
+    /// The path of these names.
+    pub fn of_names(alloc: Global, names: &[Bytes]) -> Result<Path, AllocError>
+        ensures { IfOk result (λ p. p ≡ names.now) }
+    {
+        let mut copies = Vec::new(alloc);
+        for name in names {
+            copies.push(Bytes::from_slice(alloc, name.as_slice())?)?;
+        }
+        Ok(Path { names: copies })
+    }
+
+    /// The path of the directory that this one lies in. The root lies in itself (RFC 1813, section 3.3.3).
+    pub fn parent(&self, alloc: Global) -> Result<Path, AllocError>
+        ensures { IfOk result (λ p. p ≡ parent self.now) }
+    {
+        let names = self.names();
+        Path::of_names(alloc, &names[..names.len().saturating_sub(1)])
+    }
+
+    /// The path of these names behind this one.
+    pub fn join(&self, alloc: Global, rest: &[Bytes]) -> Result<Path, AllocError>
+        ensures { IfOk result (λ p. p ≡ self.now ++ rest.now) }
+    {
+        let Path { mut names } = self.copy(alloc)?;
+        for name in rest {
             names.push(Bytes::from_slice(alloc, name.as_slice())?)?;
         }
         Ok(Path { names })
+    }
+
+    /// Where this path leads once what stood at one place stands at another.
+    pub fn moved(&self, alloc: Global, from: &Path, to: &Path) -> Result<Path, AllocError>
+        ensures { IfOk result (λ p. p ≡ moved_path from.now to.now self.now) }
+    {
+        let names = self.names();
+        if names.starts_with(from.names()) {
+            to.join(alloc, &names[from.names().len()..])
+        } else {
+            self.copy(alloc)
+        }
+    }
+
+    /// Whether this path lies below another one.
+    pub fn is_below(&self, front: &Path) -> bool
+        ensures { result ≡ is_below self.now front.now }
+    {
+        let names = self.names();
+        front.names().len() < names.len() && names.starts_with(front.names())
+    }
+
+    /// Whether this path is that of an entry of a directory.
+    pub fn is_in(&self, directory: &Path) -> bool
+        ensures { result ≡ is_in self.now directory.now }
+    {
+        let names = self.names();
+        names.len() == directory.names().len() + 1 && names.starts_with(directory.names())
     }
 
     /// The path of this name in the directory at this path.

@@ -1,7 +1,10 @@
 //! The nodes of a tree.
 
+ghost use Rattle.std.specs.Prelude.{◌≡◌, IfOk};
+
 use crate::bytes::Bytes;
 use nfs3_types::Verifier;
+use std::alloc::{AllocError, Global};
 
 /// An object with its number.
 #[derive(Debug, Drop)]
@@ -24,4 +27,34 @@ pub enum Content {
 pub struct File {
     pub bytes: Bytes,
     pub verifier: Option<Verifier>,
+}
+
+impl Content {
+    /// The same content.
+    pub fn copy(&self, alloc: Global) -> Result<Content, AllocError>
+        ensures { IfOk result (λ content. content ≡ self.now) }
+    {
+        match self {
+            Content::Directory => Ok(Content::Directory),
+            Content::File(file) => {
+                Ok(Content::File(File {
+                    bytes: Bytes::from_slice(alloc, file.bytes.as_slice())?,
+                    verifier: file.verifier,
+                }))
+            }
+            Content::Link(text) => Ok(Content::Link(Bytes::from_slice(alloc, text.as_slice())?)),
+        }
+    }
+}
+
+impl Node {
+    /// The same node.
+    pub fn copy(&self, alloc: Global) -> Result<Node, AllocError>
+        ensures { IfOk result (λ node. node ≡ self.now) }
+    {
+        Ok(Node {
+            object: self.object,
+            content: self.content.copy(alloc)?,
+        })
+    }
 }

@@ -1,10 +1,7 @@
 -- When a plan is a witness of a history, and what two files show with a yes.
 use Rattle.std.specs.Prelude.{◌≡◌, ℕ, List}
 use Rattle.nfs_history.specs.declared.history.History.{History}
-use Rattle.nfs_history.specs.Event.{Recording}
-use Rattle.nfs_history.specs.HistoryFile.{HistoryFile}
-use Rattle.nfs_history.specs.History.{IsHistory}
-use Rattle.nfs_history.specs.Later.{AreJudgedNow}
+use Rattle.nfs_history.specs.FirstFault.{IsHistoryFile}
 use Rattle.certificate.specs.declared.plan.Certificate.{Certificate}
 use Rattle.certificate.specs.CertificateText.{CertificateText}
 use Rattle.order_check.specs.Shape.{HasShape}
@@ -17,13 +14,11 @@ pub record IsWitness (history : History) (plan : Certificate) : Type 0 where
   pub order : EachEraRespectsOrder history.calls plan.eras
   pub runs : Runs history plan
 
--- the first text is the file of a recording whose history has the certificate that the second text spells as a witness
+-- the first text is the file of a history without a crash, which has the certificate that the second text spells as a
+-- witness
 pub record AreAccepted (history_file certificate_text : List ℕ) : Type 0 where
-  pub seen : Recording
   pub history : History
   pub plan : Certificate
-  pub file : HistoryFile history_file seen
-  pub today : AreJudgedNow seen.events
-  pub means : IsHistory seen history
+  pub file : IsHistoryFile history_file history
   pub text : CertificateText certificate_text plan
   pub witness : IsWitness history plan

@@ -1,23 +1,35 @@
-use Rattle.std.proofs.Common.{◌≡◌, ℕ, ◌<◌, length, ◌++◌, ◌∷◌, [], ◌+◌, List, map, take, get_or, sym, ap, ◌∙◌}
-use Rattle.std.proofs.lemmas.List.{take_more, map_push}
-use Rattle.nfs_history.specs.declared.matching.SeenCall.{SeenCall}
-use Rattle.nfs_history.specs.declared.history.RecordedCall.{RecordedCall}
-use Rattle.nfs_history.specs.Calls.{CallEvent}
+use Rattle.std.proofs.Common.{map}
+use Rattle.std.proofs.lemmas.Result.{err_from_is_err_and}
 use Rattle.nfs_history.specs.Matching.{seen_call}
-use Rattle.nfs_history.specs.History.{IsRecorded, AreRecorded}
+use Rattle.nfs_history.proofs.CallFaultLaws.{first_call_fault_or_fine, all_fine}
+use Rattle.nfs_history.proofs.JudgingSteps.{judged_more, stops_here, all_judged, readable_at, only_memory, that_or_memory}
 use Rattle.nfs_history.proofs.judging.judged_calls.Goals as goal
 
-AreRecorded-push : (events : List CallEvent) (calls : List RecordedCall) (event : CallEvent) (call : RecordedCall) → AreRecorded events calls → IsRecorded event call → AreRecorded (events ++ event ∷ []) (calls ++ call ∷ [])
-AreRecorded-push [] [] event call all one = (one, tt)
-AreRecorded-push [] (c ∷ calls) event call all one = absurd all
-AreRecorded-push (e ∷ events) [] event call all one = absurd all
-AreRecorded-push (e ∷ events) (c ∷ calls) event call all one = (all.0, AreRecorded-push events calls event call all.1 one)
+pub judged_call-requires : goal.judged_call-requires
+judged_call-requires c = readable_at c.args.seen.now c.loop-index.index _ c.loop-index-test.true c.requires
 
-recorded_more : (seen : List SeenCall) (i : ℕ) (d : SeenCall) (old new : List RecordedCall) (call : RecordedCall) → i < length seen → new ≡ old ++ call ∷ [] → IsRecorded (seen_call (get_or seen i d)) call → AreRecorded (map seen_call (take i seen)) old → AreRecorded (map seen_call (take (i + 1) seen)) new
-recorded_more seen i d old new call lt pushed one all =
-    let taken : map seen_call (take (i + 1) seen) ≡ map seen_call (take i seen) ++ seen_call (get_or seen i d) ∷ [] = ap (map seen_call) (take_more seen i d lt) ∙ map_push seen_call (take i seen) (get_or seen i d) in
-    rw (taken, pushed) (AreRecorded-push (map seen_call (take i seen)) old (seen_call (get_or seen i d)) call all one)
+pub returns-in_err-call-clause-fault : goal.returns-in_err-call-clause-fault
+returns-in_err-call-clause-fault c =
+    let p = err_from_is_err_and c.from_residual.result c.from_residual.ensures.1 in
+    rw (p.1, p.2) (stops_here c.args.seen.now c.loop-index.index _ c.loop-index.calls.items c.in_err-call.field-0.0 c.loop-index-test.true c.in_err-call.ensures.fault c.loop-index.invariant)
+
+pub returns-in_err-call-clause-only : goal.returns-in_err-call-clause-only
+returns-in_err-call-clause-only c = λ fine.
+    let p = err_from_is_err_and c.from_residual.result c.from_residual.ensures.1 in
+    let stop = stops_here c.args.seen.now c.loop-index.index _ c.loop-index.calls.items c.in_err-call.field-0.0 c.loop-index-test.true c.in_err-call.ensures.fault c.loop-index.invariant in
+    rw (p.1, p.2) (only_memory (map seen_call c.args.seen.now) c.in_err-call.field-0.0 stop fine)
+
+pub returns-in_err-call-clause-named : goal.returns-in_err-call-clause-named
+returns-in_err-call-clause-named c = λ fault h.
+    let p = err_from_is_err_and c.from_residual.result c.from_residual.ensures.1 in
+    let stop = stops_here c.args.seen.now c.loop-index.index _ c.loop-index.calls.items c.in_err-call.field-0.0 c.loop-index-test.true c.in_err-call.ensures.fault c.loop-index.invariant in
+    rw (p.1, p.2) (that_or_memory (map seen_call c.args.seen.now) c.in_err-call.field-0.0 fault stop h)
 
 pub loop-index-preserved : goal.loop-index-preserved
 loop-index-preserved c =
-    recorded_more c.args.seen.now c.loop-index.index _ c.loop-index.calls.items c.push.new.self.items c.in_ok-call.call c.loop-index-test.true c.in_ok-push.ensures.items c.in_ok-call.ensures c.loop-index.invariant
+    judged_more c.args.seen.now c.loop-index.index _ c.loop-index.calls.items c.push.new.self.items c.in_ok-call.call c.loop-index-test.true c.in_ok-push.ensures.items c.in_ok-call.ensures.found c.loop-index.invariant
+
+pub returns-clause-named : goal.returns-clause-named
+returns-clause-named c = λ fault h.
+    let calls = map seen_call c.args.seen.now in
+    first_call_fault_or_fine 1 calls fault h (all_fine calls c.loop-index.calls.items (all_judged c.args.seen.now c.loop-index.index c.loop-index.calls.items c.loop-index-test.false c.loop-index.invariant))

@@ -1,11 +1,9 @@
-use Rattle.std.proofs.Common.{◌≡◌, ℕ, ◌+◌, ◌-◌, ◌<◌, ◌≤◌, List, [], Some, cond, inl, inr, length, drop, get_or, sym, ap, subst, ◌∙◌, arith, refl, map}
+use Rattle.std.proofs.Common.{◌≡◌, ◌+◌, ◌-◌, [], Some, cond, inl, inr, length, drop, ap, subst, ◌∙◌, arith, refl, map}
 use Rattle.std.specs.HashMap.{get}
 use Rattle.std.proofs.lemmas.List.{drop_all}
 use Rattle.nfs_history.specs.declared.file.SeenEvent.TheVariants as seen
-use Rattle.nfs_history.specs.Event.{Event}
 use Rattle.nfs_history.specs.Matching.{seen_call, same_key}
 use Rattle.nfs_history.specs.FileReading.{event_values}
-use Rattle.nfs_history.specs.Calls.{xid_of, calls_from}
 use Rattle.nfs_history.proofs.MatchingSteps.{IsMatched, none_met, met_call, met_reply, met_close, one_before, no_crash, behind_it}
 use Rattle.nfs_history.proofs.matching.matched_calls.Goals as goal
 

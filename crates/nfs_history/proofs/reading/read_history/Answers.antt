@@ -1,29 +1,48 @@
-use Rattle.std.proofs.Common.{◌≡◌, map, sym, ap, subst, ◌∙◌}
+use Rattle.std.proofs.Common.{Err, ap}
+use Rattle.std.proofs.lemmas.Result.{err_from_is_err_and}
 use Rattle.nfs_history.specs.FileReading.{recording_value, event_values}
-use Rattle.nfs_history.specs.Calls.{calls_of}
-use Rattle.nfs_history.specs.Matching.{seen_call}
-use Rattle.nfs_history.specs.History.{AreRecorded}
-use Rattle.nfs_history.specs.Standing.{AreMessages, EachMayFollow}
-use Rattle.nfs_history.proofs.HistoryLaws.{root_small, one_era}
+use Rattle.nfs_history.proofs.HistoryLaws.{root_small}
+use Rattle.nfs_history.proofs.FirstFaultLaws.{only_memory_of, named_of, found_in, fault_in, file_stop}
 use Rattle.nfs_history.proofs.reading.read_history.Goals as goal
 
-pub from_slice-requires : goal.from_slice-requires
-from_slice-requires c = root_small c.args.bytes.now (recording_value c.in_ok-recording.recording) c.in_ok-recording.ensures.found
+pub returns-in_err-recording-clause-fault : goal.returns-in_err-recording-clause-fault
+returns-in_err-recording-clause-fault c =
+    let p = err_from_is_err_and c.from_residual.result c.from_residual.ensures.1 in
+    rw (p.1, p.2) (file_stop c.args.bytes.now c.in_err-recording.field-0.0 c.in_err-recording.ensures.exact)
 
-pub returns : goal.returns
-returns c =
+pub returns-in_err-recording-clause-only : goal.returns-in_err-recording-clause-only
+returns-in_err-recording-clause-only c = λ history is.
+    let p = err_from_is_err_and c.from_residual.result c.from_residual.ensures.1 in
+    let stop = file_stop c.args.bytes.now c.in_err-recording.field-0.0 c.in_err-recording.ensures.exact in
+    rw (p.1, p.2) (only_memory_of c.args.bytes.now (Err c.in_err-recording.field-0.0) stop history is)
+
+pub returns-in_err-recording-clause-named : goal.returns-in_err-recording-clause-named
+returns-in_err-recording-clause-named c = λ fault first.
+    let p = err_from_is_err_and c.from_residual.result c.from_residual.ensures.1 in
+    let stop = file_stop c.args.bytes.now c.in_err-recording.field-0.0 c.in_err-recording.ensures.exact in
+    rw (p.1, p.2) (named_of c.args.bytes.now (Err c.in_err-recording.field-0.0) tt stop fault first)
+
+pub history_of-requires : goal.history_of-requires
+history_of-requires c = root_small c.args.bytes.now (recording_value c.in_ok-recording.recording) c.in_ok-recording.ensures.found
+
+pub returns-clause-found : goal.returns-clause-found
+returns-clause-found c =
+    let events = ap event_values c.as_slice.ensures.value in
+    found_in c.args.bytes.now (recording_value c.in_ok-recording.recording) c.history_of.result c.in_ok-recording.ensures.found (rw events at c.history_of.ensures.found)
+
+pub returns-clause-fault : goal.returns-clause-fault
+returns-clause-fault c =
+    let events = ap event_values c.as_slice.ensures.value in
+    fault_in c.args.bytes.now (recording_value c.in_ok-recording.recording) c.history_of.result c.in_ok-recording.ensures.found (rw events at c.history_of.ensures.fault)
+
+pub returns-clause-only : goal.returns-clause-only
+returns-clause-only c = λ history is.
+    let events = ap event_values c.as_slice.ensures.value in
+    only_memory_of c.args.bytes.now c.history_of.result (fault_in c.args.bytes.now (recording_value c.in_ok-recording.recording) c.history_of.result c.in_ok-recording.ensures.found (rw events at c.history_of.ensures.fault)) history is
+
+pub returns-clause-named : goal.returns-clause-named
+returns-clause-named c = λ fault first.
+    let events = ap event_values c.as_slice.ensures.value in
+    let bytes = c.args.bytes.now in
     let seen = recording_value c.in_ok-recording.recording in
-    let events = ap event_values c.as_slice-events.ensures.value in
-    let messages = rw events at c.in_ok-check_events.ensures.messages in
-    let follow = rw events at c.in_ok-check_events.ensures.follow in
-    let recorded : map seen_call c.as_slice.result.now ≡ calls_of (event_values c.in_ok-recording.recording.events.items) = ap (map seen_call) c.as_slice.ensures.value ∙ c.in_ok-calls.ensures ∙ ap calls_of events in (
-      seen,
-      c.in_ok-recording.ensures.found,
-      rw events at c.in_ok-refuse_later_events.ensures,
-      record {
-        follow = follow;
-        root = c.in_ok-from_slice.ensures;
-        eras = sym (one_era 1 seen.events messages);
-        calls = rw c.new.ensures (subst (λ es. AreRecorded es c.in_ok-calls-2.calls.items) recorded c.in_ok-calls-2.ensures);
-      },
-    )
+    named_of bytes c.history_of.result (found_in bytes seen c.history_of.result c.in_ok-recording.ensures.found (rw events at c.history_of.ensures.found)) (fault_in bytes seen c.history_of.result c.in_ok-recording.ensures.found (rw events at c.history_of.ensures.fault)) fault first

@@ -1,0 +1,115 @@
+//! What a RENAME makes of a tree, and that it is taken back: the printed trees before and after.
+
+ghost use Rattle.std.specs.Prelude.{IfOk};
+ghost use Rattle.file_tree.specs.Undo.{TakesBack};
+
+use crate::binds::Binds;
+use crate::change::Undo;
+use crate::tests::handle;
+use crate::tree::FileTree;
+use nfs3_types::{
+    DirectoryName, MkDirArguments, Name, NfsCall, Outcome, RenameArguments, SetAttributes, SetTime,
+};
+use replay_law::replay::{Replayable, StepFault};
+use std::alloc::{AllocError, Global};
+use std::test::Fail;
+
+/// A name of one byte in the directory of this handle.
+fn place(alloc: Global, byte: u8, name: u8) -> Result<DirectoryName, AllocError> {
+    Ok(DirectoryName {
+        directory: handle(alloc, byte)?,
+        name: Name::from_slice(alloc, &[name])?,
+    })
+}
+
+/// One step of a call that is taken.
+fn step(
+    alloc: Global,
+    tree: &mut FileTree,
+    binds: &Binds,
+    number: u64,
+    call: NfsCall,
+) -> Result<Undo, StepFault>
+    ensures { IfOk result (λ undo. TakesBack undo tree.new tree.old) }
+{
+    tree.step(alloc, binds, number, &call, &Outcome::Taken(None))
+}
+
+/// MKDIR of a name in the directory of a handle.
+fn make(alloc: Global, byte: u8, name: u8) -> Result<NfsCall, AllocError> {
+    Ok(NfsCall::MkDir(MkDirArguments {
+        place: place(alloc, byte, name)?,
+        attributes: SetAttributes {
+            mode: None,
+            user: None,
+            group: None,
+            size: None,
+            access_time: SetTime::Keep,
+            modify_time: SetTime::Keep,
+        },
+    }))
+}
+
+/// RENAME of a name in the root to a name in the directory of a handle.
+fn rename(alloc: Global, name: u8, byte: u8, to: u8) -> Result<NfsCall, AllocError> {
+    Ok(NfsCall::Rename(RenameArguments {
+        from: place(alloc, 0, name)?,
+        to: place(alloc, byte, to)?,
+    }))
+}
+
+/// The root's handle 00, and aa for object 1.
+fn binds(alloc: Global) -> Result<Binds, AllocError> {
+    let mut binds = Binds::of_root(alloc, &[0])?;
+    binds.push(alloc, &[0xaa], 1)?;
+    Ok(binds)
+}
+
+/// The directories `a` and `a/b`, objects 1 and 2.
+fn nested(alloc: Global, binds: &Binds) -> Result<FileTree, StepFault> {
+    let mut tree = FileTree::opening(alloc, binds).map_err(|_| StepFault::NoMemory)?;
+    let call = make(alloc, 0, b'a').map_err(|_| StepFault::NoMemory)?;
+    step(alloc, &mut tree, binds, 1, call)?;
+    let call = make(alloc, 0xaa, b'b').map_err(|_| StepFault::NoMemory)?;
+    step(alloc, &mut tree, binds, 2, call)?;
+    Ok(tree)
+}
+
+/// The directories `c` and `c/b`.
+const MOVED: [u8; 76] = [
+    0, 0, 0, 3, 0, 0, 0, 0, 0, 0, 0, 0, 0, 0, 0, 0, 0, 0, 0, 2, 0, 0, 0, 1, 0, 0, 0, 1, 99, 0, 0,
+    0, 0, 0, 0, 0, 0, 0, 0, 1, 0, 0, 0, 2, 0, 0, 0, 2, 0, 0, 0, 1, 99, 0, 0, 0, 0, 0, 0, 1, 98, 0,
+    0, 0, 0, 0, 0, 0, 0, 0, 0, 2, 0, 0, 0, 2,
+];
+
+#[test]
+fn what_lies_below_goes_along(rt: HostRuntime) -> Result<(), Fail> {
+    let alloc = rt.alloc();
+    let binds = binds(alloc)?;
+    let mut tree = nested(alloc, &binds)?;
+    let mut before = Vec::new(alloc);
+    tree.print_state(alloc, &mut before)?;
+    let call = rename(alloc, b'a', 0, b'c')?;
+    let undo = step(alloc, &mut tree, &binds, 3, call)?;
+    let mut out = Vec::new(alloc);
+    tree.print_state(alloc, &mut out)?;
+    assert_eq!(rt; out.as_slice(), MOVED.as_slice());
+    let tree = tree.undo(alloc, undo)?;
+    out.clear();
+    tree.print_state(alloc, &mut out)?;
+    assert_eq!(rt; out.as_slice(), before.as_slice());
+    Ok(())
+}
+
+#[test]
+fn nothing_goes_below_itself(rt: HostRuntime) -> Result<(), Fail> {
+    let alloc = rt.alloc();
+    let binds = binds(alloc)?;
+    let mut tree = nested(alloc, &binds)?;
+    let call = rename(alloc, b'a', 0xaa, b'c')?;
+    assert_eq!(rt;
+        step(alloc, &mut tree, &binds, 3, call).err(),
+        Some(StepFault::NotAllowed)
+    );
+    Ok(())
+}

@@ -1,0 +1,106 @@
+-- Events are checked one after the other.
+use Rattle.std.proofs.Common.{◌≡◌, ◌||◌, ◌&&◌, inl, inr, ℕ, zero, suc, ◌+◌, length-take-le, ◌<◌, ◌≤◌, true, false, not, cond, nat_eq, List, [], ◌∷◌, ◌++◌, length, take, drop, get_or, sym, ap, ◌∙◌, arith, drop-cons, add-one}
+use Rattle.std.specs.List.{list_any}
+use Rattle.std.specs.HashSet.{contains}
+use Rattle.std.proofs.lemmas.List.{length-map, take_more, map_push, drop_all}
+use Rattle.nfs_history.specs.declared.fault.HistoryFault.{HistoryFault}
+use Rattle.nfs_history.specs.declared.file.SeenEvent.{SeenEvent}
+use Rattle.nfs_history.specs.declared.file.SeenEvent.TheVariants as seen
+use Rattle.nfs_history.specs.declared.checking.OpenCalls.{OpenCalls}
+use Rattle.nfs_history.specs.FileReading.{event_value, event_values}
+use Rattle.nfs_history.specs.Matching.{same_key}
+use Rattle.nfs_history.specs.Event.{Event}
+use Rattle.nfs_history.specs.Event.Event.{call, reply, close}
+use Rattle.nfs_history.specs.Calls.{xid_of}
+use Rattle.nfs_history.specs.Standing.{is_unanswered, MayFollow, EachMayFollow, InOneEra}
+use Rattle.nfs_history.specs.EventFaults.{IsAtFault, FirstEventFault}
+use Rattle.nfs_history.specs.Checking.{Knows}
+use Rattle.nfs_history.proofs.Unanswered.{any-call, any-reply, calls_from-close, closed-call, closed-reply, closed-close, cond_or, cond_and}
+
+pub knows_call : (before : List Event) (old new : OpenCalls) (lane : ℕ) (message : List ℕ) → new.closed ≡ old.closed
+    → ((q : ℕ × ℕ) → contains same_key new.unanswered q ≡ cond (same_key (lane, xid_of message) q) true (contains same_key old.unanswered q))
+    → Knows old before → Knows new (before ++ call lane message ∷ [])
+knows_call before old new lane message same updates knows = record {
+  unanswered = λ l x. updates (l, x) ∙ cond_or (same_key (lane, xid_of message) (l, x)) (contains same_key old.unanswered (l, x))
+      ∙ ap (λ b. b || same_key (lane, xid_of message) (l, x)) (knows.unanswered l x)
+      ∙ sym (any-call l x 1 1 before lane message);
+  closed = λ l. ap (λ s. contains nat_eq s l) same ∙ knows.closed l ∙ sym (closed-call l false before lane message);
+}
+
+pub knows_reply : (before : List Event) (old new : OpenCalls) (lane : ℕ) (message : List ℕ) → new.closed ≡ old.closed
+    → ((q : ℕ × ℕ) → contains same_key new.unanswered q ≡ cond (same_key (lane, xid_of message) q) false (contains same_key old.unanswered q))
+    → Knows old before → Knows new (before ++ reply lane message ∷ [])
+knows_reply before old new lane message same updates knows = record {
+  unanswered = λ l x. updates (l, x) ∙ cond_and (same_key (lane, xid_of message) (l, x)) (contains same_key old.unanswered (l, x))
+      ∙ ap (λ b. b && not (same_key (lane, xid_of message) (l, x))) (knows.unanswered l x)
+      ∙ sym (any-reply l x 1 1 before lane message);
+  closed = λ l. ap (λ s. contains nat_eq s l) same ∙ knows.closed l ∙ sym (closed-reply l false before lane message);
+}
+
+pub knows_close : (before : List Event) (old new : OpenCalls) (lane : ℕ) → new.unanswered ≡ old.unanswered
+    → ((l : ℕ) → contains nat_eq new.closed l ≡ cond (nat_eq lane l) true (contains nat_eq old.closed l))
+    → Knows old before → Knows new (before ++ close lane ∷ [])
+knows_close before old new lane same updates knows = record {
+  unanswered = λ l x. ap (λ s. contains same_key s (l, x)) same ∙ knows.unanswered l x
+      ∙ ap (λ cs. list_any (is_unanswered l x) cs) (sym (calls_from-close 1 1 before lane));
+  closed = λ l. updates l ∙ cond_or (nat_eq lane l) (contains nat_eq old.closed l)
+      ∙ ap (λ b. b || nat_eq lane l) (knows.closed l)
+      ∙ sym (closed-close l false before lane);
+}
+
+-- the events below i may follow one another, and what they leave open is known
+pub record IsCheckedTo (events : List SeenEvent) (i : ℕ) (known : OpenCalls) : Type 0 where
+  pub others : EachMayFollow (event_values (take i events)) (event_values (drop i events)) → EachMayFollow [] (event_values events)
+  pub faults_are : (fault : HistoryFault) → FirstEventFault (event_values (take i events)) (event_values (drop i events)) fault → FirstEventFault [] (event_values events) fault
+  pub knows : Knows known (event_values (take i events))
+
+one_taken : (events : List SeenEvent) (i : ℕ) (d : SeenEvent) → i < length events → event_values (take (i + 1) events) ≡ event_values (take i events) ++ event_value (get_or events i d) ∷ []
+one_taken events i d lt = ap event_values (take_more events i d lt) ∙ map_push event_value (take i events) (get_or events i d)
+
+one_dropped : (events : List SeenEvent) (i : ℕ) (d : SeenEvent) → i < length events → event_values (drop i events) ≡ event_value (get_or events i d) ∷ event_values (drop (i + 1) events)
+one_dropped events i d lt = ap event_values (drop-cons events i d lt) ∙ ap (λ n. event_value (get_or events i d) ∷ event_values (drop n events)) (sym (add-one i))
+
+pub checked_more : (events : List SeenEvent) (i : ℕ) (d : SeenEvent) (old new : OpenCalls) → i < length events
+    → MayFollow (event_values (take i events)) (event_value (get_or events i d))
+    → Knows new (event_values (take i events) ++ event_value (get_or events i d) ∷ [])
+    → IsCheckedTo events i old → IsCheckedTo events (i + 1) new
+checked_more events i d old new lt follows knows so_far =
+    let taken = one_taken events i d lt in
+    let dropped = one_dropped events i d lt in
+    record {
+      others = λ rest. so_far.others (rw dropped (follows, rw taken at rest));
+      faults_are = λ fault rest. so_far.faults_are fault (rw dropped (inr (follows, rw taken at rest)));
+      knows = rw taken knows;
+    }
+
+pub none_checked : (events : List SeenEvent) (known : OpenCalls) → known.unanswered.keys ≡ [] → known.closed.keys ≡ [] → IsCheckedTo events 0 known
+none_checked events known unanswered closed = record {
+  others = λ all. all;
+  faults_are = λ fault h. h;
+  knows = record {
+    unanswered = λ lane xid. ap (λ ks. list_any (same_key (lane, xid)) ks) unanswered;
+    closed = λ lane. ap (λ ks. list_any (nat_eq lane) ks) closed;
+  };
+}
+
+pub all_checked : (events : List SeenEvent) (i : ℕ) (known : OpenCalls) → length events ≤ i → IsCheckedTo events i known → EachMayFollow [] (event_values events)
+all_checked events i known le so_far = so_far.others (rw (drop_all i events le) tt)
+
+-- the event behind those that were checked is at fault
+pub first_here : (events : List SeenEvent) (i : ℕ) (d : SeenEvent) (known : OpenCalls) (fault : HistoryFault) → i < length events
+    → IsAtFault (i + 1) (event_values (take i events)) (event_value (get_or events i d)) fault
+    → IsCheckedTo events i known → FirstEventFault [] (event_values events) fault
+first_here events i d known fault lt h so_far =
+    let number : length (event_values (take i events)) ≡ i = length-map (take i events) event_value ∙ length-take-le i events (omega arith) in
+    so_far.faults_are fault (rw (one_dropped events i d lt) (inl (rw number h)))
+
+-- each event of one era is no crash
+pub event_in_one_era : (events : List SeenEvent) (i : ℕ) (d : SeenEvent) → i < length events → InOneEra (event_values events) → InOneEra (event_value (get_or events i d) ∷ [])
+event_in_one_era [] i d lt one_era = absurd (omega arith)
+event_in_one_era (seen.Call lane message ∷ events) zero d lt one_era = tt
+event_in_one_era (seen.Reply lane message ∷ events) zero d lt one_era = tt
+event_in_one_era (seen.Close lane ∷ events) zero d lt one_era = tt
+event_in_one_era (seen.Crash ∷ events) i d lt one_era = absurd one_era
+event_in_one_era (seen.Call lane message ∷ events) (suc i) d lt one_era = event_in_one_era events i d (omega arith) one_era
+event_in_one_era (seen.Reply lane message ∷ events) (suc i) d lt one_era = event_in_one_era events i d (omega arith) one_era
+event_in_one_era (seen.Close lane ∷ events) (suc i) d lt one_era = event_in_one_era events i d (omega arith) one_era

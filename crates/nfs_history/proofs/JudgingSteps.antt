@@ -1,0 +1,57 @@
+-- Calls are judged one after the other.
+use Rattle.std.proofs.Common.{◌≡◌, ◌⊎◌, inl, inr, ℕ, suc, zero, ◌+◌, ◌<◌, ◌≤◌, List, [], ◌∷◌, ◌++◌, length, take, drop, get_or, map, sym, ap, ◌∙◌, arith, drop-cons, add-one}
+use Rattle.std.specs.List.{AllByRecursion}
+use Rattle.std.proofs.lemmas.List.{take_more, map_push, take_all}
+use Rattle.nfs_history.specs.declared.fault.HistoryFault.{HistoryFault}
+use Rattle.nfs_history.specs.declared.fault.HistoryFault.TheVariants as faults
+use Rattle.nfs_history.specs.declared.matching.SeenCall.{SeenCall}
+use Rattle.nfs_history.specs.declared.history.RecordedCall.{RecordedCall}
+use Rattle.nfs_history.specs.Calls.{CallEvent}
+use Rattle.nfs_history.specs.Matching.{seen_call}
+use Rattle.nfs_history.specs.History.{IsRecorded, AreRecorded}
+use Rattle.nfs_history.specs.CallFaults.{IsCallFault, IsFine, FirstCallFault, IsReadable, AreReadable}
+use Rattle.nfs_history.proofs.CallFaultLaws.{first_call_fault_or_fine, one_first_call_fault}
+
+AreRecorded-push : (events : List CallEvent) (calls : List RecordedCall) (event : CallEvent) (call : RecordedCall) → AreRecorded events calls → IsRecorded event call → AreRecorded (events ++ event ∷ []) (calls ++ call ∷ [])
+AreRecorded-push [] [] event call all one = (one, tt)
+AreRecorded-push [] (c ∷ calls) event call all one = absurd all
+AreRecorded-push (e ∷ events) [] event call all one = absurd all
+AreRecorded-push (e ∷ events) (c ∷ calls) event call all one = (all.0, AreRecorded-push events calls event call all.1 one)
+
+-- what the calls below i were is known
+pub record AreJudgedTo (seen : List SeenCall) (i : ℕ) (calls : List RecordedCall) : Type 0 where
+  pub recorded : AreRecorded (map seen_call (take i seen)) calls
+  pub faults_are : (fault : HistoryFault) → FirstCallFault (i + 1) (map seen_call (drop i seen)) fault → FirstCallFault 1 (map seen_call seen) fault
+
+one_dropped : (seen : List SeenCall) (i : ℕ) (d : SeenCall) → i < length seen → map seen_call (drop i seen) ≡ seen_call (get_or seen i d) ∷ map seen_call (drop (i + 1) seen)
+one_dropped seen i d lt = ap (map seen_call) (drop-cons seen i d lt) ∙ ap (λ n. seen_call (get_or seen i d) ∷ map seen_call (drop n seen)) (sym (add-one i))
+
+pub judged_more : (seen : List SeenCall) (i : ℕ) (d : SeenCall) (old new : List RecordedCall) (call : RecordedCall) → i < length seen → new ≡ old ++ call ∷ [] → IsRecorded (seen_call (get_or seen i d)) call → AreJudgedTo seen i old → AreJudgedTo seen (i + 1) new
+judged_more seen i d old new call lt pushed one so_far =
+    let taken : map seen_call (take (i + 1) seen) ≡ map seen_call (take i seen) ++ seen_call (get_or seen i d) ∷ [] = ap (map seen_call) (take_more seen i d lt) ∙ map_push seen_call (take i seen) (get_or seen i d) in
+    record {
+      recorded = rw (taken, pushed) (AreRecorded-push (map seen_call (take i seen)) old (seen_call (get_or seen i d)) call so_far.recorded one);
+      faults_are = λ fault rest. so_far.faults_are fault (rw (one_dropped seen i d lt) (inr ((call.meaning, call.outcome, one.means), rest)));
+    }
+
+pub stops_here : (seen : List SeenCall) (i : ℕ) (d : SeenCall) (calls : List RecordedCall) (fault : HistoryFault) → i < length seen
+    → (fault ≡ faults.NoMemory) ⊎ IsCallFault (i + 1) (seen_call (get_or seen i d)) fault → AreJudgedTo seen i calls → (fault ≡ faults.NoMemory) ⊎ FirstCallFault 1 (map seen_call seen) fault
+stops_here seen i d calls fault lt (inl none) so_far = inl none
+stops_here seen i d calls fault lt (inr h) so_far = inr (so_far.faults_are fault (rw (one_dropped seen i d lt) (inl h)))
+
+pub all_judged : (seen : List SeenCall) (i : ℕ) (calls : List RecordedCall) → length seen ≤ i → AreJudgedTo seen i calls → AreRecorded (map seen_call seen) calls
+all_judged seen i calls le so_far = rw (take_all i seen le) at so_far.recorded
+
+pub readable_at : (seen : List SeenCall) (i : ℕ) (d : SeenCall) → i < length seen → AreReadable (map seen_call seen) → IsReadable (seen_call (get_or seen i d))
+readable_at [] i d lt all = absurd (omega arith)
+readable_at (c ∷ seen) zero d lt all = all.0
+readable_at (c ∷ seen) (suc i) d lt all = readable_at seen i d (omega arith) all.1
+
+-- where a fault is the first, there is no other
+pub only_memory : (events : List CallEvent) (fault : HistoryFault) → (fault ≡ faults.NoMemory) ⊎ FirstCallFault 1 events fault → AllByRecursion IsFine events → fault ≡ faults.NoMemory
+only_memory events fault (inl none) fine = none
+only_memory events fault (inr h) fine = absurd (first_call_fault_or_fine 1 events fault h fine)
+
+pub that_or_memory : (events : List CallEvent) (fault first : HistoryFault) → (fault ≡ faults.NoMemory) ⊎ FirstCallFault 1 events fault → FirstCallFault 1 events first → (fault ≡ faults.NoMemory) ⊎ (fault ≡ first)
+that_or_memory events fault first (inl none) h = inl none
+that_or_memory events fault first (inr x) h = inr (one_first_call_fault 1 events fault first x h)
