@@ -159,7 +159,7 @@ fn a_fault_prints_its_name_and_values(rt: HostRuntime) -> Result<(), Fail> {
 fn file_of(alloc: Global, events: &[&[u8]]) -> Result<Vec<u8>, AllocError> {
     let mut bytes = Vec::from_slice(alloc, &EXAMPLE[..16])?;
     bytes.extend_from_slice([0, 0, 0].as_slice())?;
-    bytes.push(events.len() as u8)?;
+    bytes.push(events.len().min(255) as u8)?;
     for event in events {
         bytes.extend_from_slice(event)?;
     }
@@ -373,7 +373,7 @@ fn a_call_that_may_have_had_an_effect_is_refused(rt: HostRuntime) -> Result<(), 
 
 #[test]
 fn faults_of_events_come_before_those_of_calls(rt: HostRuntime) -> Result<(), Fail> {
-    let call = &EXAMPLE[20..116];
+    let call = Vec::from_slice(rt.alloc(), &EXAMPLE[20..116])?;
     let sealed = changed_read(rt.alloc(), FLAVOR, 6)?;
     let rows = [
         ([NO_ARGUMENTS, CLOSE], HistoryFault::BadArgs(1)),
@@ -381,7 +381,10 @@ fn faults_of_events_come_before_those_of_calls(rt: HostRuntime) -> Result<(), Fa
         ([NO_ARGUMENTS, EMPTY_CALL], HistoryFault::BadRpc(2)),
         ([sealed.as_slice(), CRASH], HistoryFault::NotYet(2)),
         ([EMPTY_CALL, CRASH], HistoryFault::NotYet(2)),
-        ([call, sealed.as_slice()], HistoryFault::Sealed(2)),
+        (
+            [call.as_slice(), sealed.as_slice()],
+            HistoryFault::Sealed(2),
+        ),
         ([CLOSE, sealed.as_slice()], HistoryFault::Sealed(1)),
     ];
     for (events, fault) in rows {

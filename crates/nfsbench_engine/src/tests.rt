@@ -1,9 +1,15 @@
 mod histories;
-mod judged;
+mod procedures;
 
 use crate::run_bundle;
 use histories::{APART, EMPTY, OVERLAPPING, SHARED_HANDLE, WRITTEN_AND_READ};
-use judged::JUDGED;
+use procedures::{
+    ANOTHER_SIZE, CALL_OF_NO_BYTES, CALL_ON_A_CLOSED_LANE, EXCLUSIVE_TWICE, FAILED_REMOVE,
+    GAP_READ, GETATTR_WITHOUT_A_RESULT, HIDDEN_ARGUMENTS, LINK_ANSWERED, LINK_REFUSED,
+    LINK_UNANSWERED, LISTED_TWICE, LISTED_WHOLE, LISTED_WITHOUT_ITS_ENTRY, READ_TAKEN_FOR_GARBAGE,
+    READ_WITHOUT_ARGUMENTS, RENAME_REFUSED, RENAMED_DIRECTORY, RENAMED_ONTO_FILLED,
+    REPLY_TO_NO_CALL, TRANSACTION_STILL_IN_USE, TRANSACTION_USED_AGAIN,
+};
 use std::io::{self, ErrorKind, Read, Write};
 use std::process::Abort;
 use std::test::Fail;
@@ -191,15 +197,197 @@ fn a_verdict_that_cannot_be_written_is_no_verdict(rt: HostRuntime) -> Result<(),
 }
 
 #[test]
-fn every_procedure_is_judged(rt: HostRuntime) -> Result<(), Fail> {
-    for judged in &JUDGED {
-        let bundle = format!(in rt.alloc(); "{}\n{}", judged.history, judged.certificate)?;
-        let mut input = bundle.as_bytes();
-        let mut told = Vec::new(rt.alloc());
-        let given = run_bundle(rt.alloc(), &mut input, &mut told);
-        assert_eq!(rt; given, judged.status, "{}", judged.name);
-        let want = format!(in rt.alloc(); "{}\n", judged.line)?;
-        assert_eq!(rt; told.as_slice(), want.as_bytes(), "{}", judged.name);
-    }
-    Ok(())
+fn what_a_renamed_directory_holds_stays_at_its_handle(rt: HostRuntime) -> Result<(), Fail> {
+    assert_judged(
+        &rt,
+        RENAMED_DIRECTORY,
+        "witness 1\nbind d1 1\nbind f1 2\nplace 1\nplace 2\nplace 3\nplace 4\nplace 5\nplace 6\nend\n",
+        "yes",
+        0,
+    )
+}
+
+#[test]
+fn a_transaction_number_is_used_again_only_behind_its_reply(rt: HostRuntime) -> Result<(), Fail> {
+    assert_judged(
+        &rt,
+        REPLY_TO_NO_CALL,
+        "witness 1\nend\n",
+        "refused: NoSuchCall 1",
+        2,
+    )?;
+    assert_judged(
+        &rt,
+        TRANSACTION_USED_AGAIN,
+        "witness 1\nplace 1\nplace 2\nend\n",
+        "yes",
+        0,
+    )?;
+    assert_judged(
+        &rt,
+        TRANSACTION_STILL_IN_USE,
+        "witness 1\nplace 1\nplace 2\nend\n",
+        "refused: XidInUse 2",
+        2,
+    )
+}
+
+#[test]
+fn a_directory_is_renamed_only_onto_an_empty_one(rt: HostRuntime) -> Result<(), Fail> {
+    assert_judged(
+        &rt,
+        RENAMED_ONTO_FILLED,
+        "witness 1\nbind d1 1\nbind e1 2\nbind f1 3\nplace 1\nplace 2\nplace 3\nplace 4\nend\n",
+        "no: Illegal 4",
+        1,
+    )?;
+    assert_judged(
+        &rt,
+        RENAME_REFUSED,
+        "witness 1\nbind d1 1\nbind e1 2\nbind f1 3\nplace 1\nplace 2\nplace 3\nplace 4\nend\n",
+        "yes",
+        0,
+    )
+}
+
+#[test]
+fn a_link_refuses_the_history_unless_it_failed(rt: HostRuntime) -> Result<(), Fail> {
+    assert_judged(
+        &rt,
+        LINK_ANSWERED,
+        "witness 1\nend\n",
+        "refused: Outside 1 Link",
+        2,
+    )?;
+    assert_judged(
+        &rt,
+        LINK_UNANSWERED,
+        "witness 1\nend\n",
+        "refused: Outside 1 Link",
+        2,
+    )?;
+    assert_judged(&rt, LINK_REFUSED, "witness 1\nend\n", "yes", 0)
+}
+
+#[test]
+fn a_gap_is_read_as_zeros(rt: HostRuntime) -> Result<(), Fail> {
+    assert_judged(
+        &rt,
+        GAP_READ,
+        "witness 1\nbind aa 1\nplace 1\nplace 2\nplace 3\nplace 4\nend\n",
+        "yes",
+        0,
+    )
+}
+
+#[test]
+fn an_unanswered_create_is_taken_or_left_out(rt: HostRuntime) -> Result<(), Fail> {
+    assert_judged(
+        &rt,
+        EXCLUSIVE_TWICE,
+        "witness 1\nbind aa 1\ntake 1\nplace 2\nend\n",
+        "yes",
+        0,
+    )?;
+    assert_judged(
+        &rt,
+        EXCLUSIVE_TWICE,
+        "witness 1\nbind aa 2\nplace 2\nend\n",
+        "yes",
+        0,
+    )?;
+    assert_judged(
+        &rt,
+        EXCLUSIVE_TWICE,
+        "witness 1\nbind aa 2\ntake 1\nplace 2\nend\n",
+        "no: Illegal 2",
+        1,
+    )
+}
+
+#[test]
+fn a_listing_has_each_entry_once(rt: HostRuntime) -> Result<(), Fail> {
+    assert_judged(
+        &rt,
+        LISTED_WHOLE,
+        "witness 1\nbind aa 1\nplace 1\nplace 2\nplace 3\nend\n",
+        "yes",
+        0,
+    )?;
+    assert_judged(
+        &rt,
+        LISTED_WITHOUT_ITS_ENTRY,
+        "witness 1\nbind aa 1\nplace 1\nplace 2\nplace 3\nend\n",
+        "no: Illegal 3",
+        1,
+    )?;
+    assert_judged(
+        &rt,
+        LISTED_TWICE,
+        "witness 1\nbind aa 1\nplace 1\nplace 2\nplace 3\nend\n",
+        "no: Illegal 3",
+        1,
+    )
+}
+
+#[test]
+fn a_remove_that_failed_left_the_file(rt: HostRuntime) -> Result<(), Fail> {
+    assert_judged(
+        &rt,
+        FAILED_REMOVE,
+        "witness 1\nbind aa 1\nplace 1\nplace 2\nplace 3\nplace 4\nend\n",
+        "yes",
+        0,
+    )?;
+    assert_judged(
+        &rt,
+        ANOTHER_SIZE,
+        "witness 1\nbind aa 1\nplace 1\nplace 2\nplace 3\nplace 4\nend\n",
+        "no: Illegal 4",
+        1,
+    )
+}
+
+#[test]
+fn a_lane_that_was_closed_stays_closed(rt: HostRuntime) -> Result<(), Fail> {
+    assert_judged(
+        &rt,
+        CALL_ON_A_CLOSED_LANE,
+        "witness 1\nend\n",
+        "refused: LaneClosed 2",
+        2,
+    )?;
+    assert_judged(
+        &rt,
+        CALL_OF_NO_BYTES,
+        "witness 1\nend\n",
+        "refused: BadRpc 1",
+        2,
+    )
+}
+
+#[test]
+fn arguments_and_results_are_those_of_their_procedure(rt: HostRuntime) -> Result<(), Fail> {
+    assert_judged(
+        &rt,
+        READ_WITHOUT_ARGUMENTS,
+        "witness 1\nend\n",
+        "refused: BadArgs 1",
+        2,
+    )?;
+    assert_judged(&rt, READ_TAKEN_FOR_GARBAGE, "witness 1\nend\n", "yes", 0)?;
+    assert_judged(
+        &rt,
+        GETATTR_WITHOUT_A_RESULT,
+        "witness 1\nend\n",
+        "refused: BadResult 1",
+        2,
+    )?;
+    assert_judged(
+        &rt,
+        HIDDEN_ARGUMENTS,
+        "witness 1\nend\n",
+        "refused: Sealed 1",
+        2,
+    )
 }
