@@ -7,8 +7,6 @@ pub mod change;
 mod create;
 mod entry;
 pub mod failure;
-#[cfg(test)]
-mod failure_tests;
 mod handle_causes;
 mod listing;
 mod live;
@@ -17,8 +15,6 @@ mod look;
 mod look_tests;
 mod name_causes;
 mod naming;
-#[cfg(test)]
-mod naming_tests;
 mod read;
 mod rename;
 mod rename_causes;

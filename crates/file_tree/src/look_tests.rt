@@ -121,19 +121,6 @@ fn list(alloc: Global, listed: &[(u8, u8)], eof: bool) -> Result<bool, AllocErro
     )
 }
 
-#[test]
-fn entries_are_listed(rt: HostRuntime) -> Result<(), Fail> {
-    let alloc = rt.alloc();
-    assert!(rt; list(alloc, &[(b'a', 0xaa)], true)?);
-    assert!(rt; list(alloc, &[(b'.', 0x55), (b'a', 0xaa)], true)?);
-    assert!(rt; list(alloc, &[(b'.', 0x55)], false)?);
-    assert!(rt; !list(alloc, &[(b'.', 0x55)], true)?);
-    assert!(rt; !list(alloc, &[(b'a', 0xaa), (b'a', 0xaa)], true)?);
-    assert!(rt; !list(alloc, &[(b'a', 0xaa), (b'b', 0xaa)], false)?);
-    assert!(rt; !list(alloc, &[(b'a', 0)], true)?);
-    Ok(())
-}
-
 /// COMMIT of this handle.
 fn commit(alloc: Global, byte: u8) -> Result<bool, AllocError> {
     let call = CommitArguments {
