@@ -2,9 +2,8 @@
 
 use crate::tests::{create, created, handle, run};
 use nfs3_types::{
-    Answer, CommitArguments, CommitSuccess, Device, DirectoryEntryPlus, DirectoryName, Entries,
-    FileAttributes, FileType, LookupSuccess, Name, NfsCall, NfsReply, Outcome,
-    ReadDirPlusArguments, ReadDirPlusSuccess, Time, Verifier, WccData,
+    Answer, CommitArguments, CommitSuccess, Device, DirectoryName, FileAttributes, FileType,
+    LookupSuccess, Name, NfsCall, NfsReply, Outcome, Time, Verifier, WccData,
 };
 use std::alloc::{AllocError, Global};
 use std::test::Fail;
@@ -82,43 +81,6 @@ fn names_are_looked_up(rt: HostRuntime) -> Result<(), Fail> {
     assert!(rt; lookup(alloc, b"..", 0)?);
     assert!(rt; !lookup(alloc, b"", 0)?);
     Ok(())
-}
-
-/// An entry with a handle.
-fn entry(alloc: Global, name: u8, byte: u8) -> Result<DirectoryEntryPlus, AllocError> {
-    Ok(DirectoryEntryPlus {
-        file_number: 0,
-        name: Name::from_slice(alloc, &[name])?,
-        cookie: 1,
-        attributes: None,
-        object: Some(handle(alloc, byte)?),
-    })
-}
-
-/// READDIRPLUS of the root from its front, with entries of these names and handles.
-fn list(alloc: Global, listed: &[(u8, u8)], eof: bool) -> Result<bool, AllocError> {
-    let mut entries = Vec::new(alloc);
-    for (name, byte) in listed {
-        entries.push(entry(alloc, *name, *byte)?)?;
-    }
-    let call = ReadDirPlusArguments {
-        directory: handle(alloc, 0)?,
-        cookie: 0,
-        verifier: Verifier { value: 0 },
-        directory_count: 1000,
-        whole_count: 1000,
-    };
-    let success = ReadDirPlusSuccess {
-        attributes: None,
-        verifier: Verifier { value: 0 },
-        entries: Entries::new(entries),
-        eof,
-    };
-    is_legal(
-        alloc,
-        NfsCall::ReadDirPlus(call),
-        NfsReply::ReadDirPlus(Answer::Done(success)),
-    )
 }
 
 /// COMMIT of this handle.
