@@ -31,15 +31,15 @@ use Rattle.tree_nodes.specs.declared.node.Content.TheVariants as contents
 use Rattle.tree_nodes.specs.Tree.{Names, Tree, path_cmp, same_path, entry_of, is_bare}
 use Rattle.tree_nodes.specs.Moved.{is_from, moved}
 use Rattle.tree_nodes.proofs.Moving.{IsMove, sound_moved}
-use Rattle.file_tree.specs.Binding.{Bindings, object_of, gives_object}
-use Rattle.file_tree.specs.Live.{FileEntry, live_entry, as_directory, directory_of, as_file, file_of}
-use Rattle.file_tree.specs.Entry.{is_plain, named}
-use Rattle.file_tree.specs.Causes.{is_directory}
-use Rattle.file_tree.specs.Look.{got_attributes, looked_up, got_text, got_bytes, committed}
-use Rattle.file_tree.specs.Asked.{is_answered, failure_in}
-use Rattle.file_tree.specs.Failure.{is_permitted}
+use Rattle.tree_handles.specs.Binding.{Bindings, object_of, gives_object}
+use Rattle.tree_handles.specs.Live.{FileEntry, live_entry, as_directory, directory_of, as_file, file_of}
+use Rattle.tree_handles.specs.Entry.{is_plain, named}
+use Rattle.tree_handles.specs.Kind.{is_directory}
+use Rattle.tree_reads.specs.Look.{got_attributes, looked_up, got_text, got_bytes, committed}
+use Rattle.tree_failures.specs.Asked.{is_answered, failure_in}
+use Rattle.tree_failures.specs.Failure.{is_permitted}
 use Rattle.nfs3_types.specs.declared.status.Failure.{Failure}
-use Rattle.file_tree.specs.Listing.{listed, listed_plus}
+use Rattle.tree_reads.specs.Listing.{listed, listed_plus}
 use Rattle.tree_nodes.specs.Sound.{IsSound}
 use Rattle.file_tree.specs.Success.{made_by, set_size, create_over, create_present, create_at, create_change, write_at, write_change, set_attributes, make_entry, remove_entry, remove_directory, may_replace, rename, change_renamed, change_set, change_directory_made, change_link_made, change_removed, change_directory_removed, change_written, change_created, change_done, change_answered, change_received, change_taken, change_of}
 use Rattle.tree_nodes.proofs.Entries.{path_total}

@@ -1,11 +1,3 @@
-pub mod Binding
-pub mod Live
 pub mod Success
 pub mod Answers
 pub mod Undo
-pub mod Entry
-pub mod Look
-pub mod Listing
-pub mod Asked
-pub mod Causes
-pub mod Failure

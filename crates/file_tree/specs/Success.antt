@@ -1,12 +1,11 @@
 -- the tree after a call that succeeded: RFC 1813, section 3.3, by procedure
-use Rattle.std.specs.Prelude.{ℕ, ◌+◌, ◌-◌, ◌==◌, max, nat_le, nat_lt, Bool, true, false, not, ◌&&◌, ◌||◌, if◌then◌else◌, List, [], ◌∷◌, ◌++◌, length, take, drop, replicate, Option, Some, None, is_none, unwrap_or, is_some, option_and_then, option_map}
+use Rattle.std.specs.Prelude.{ℕ, ◌+◌, ◌==◌, max, nat_le, nat_lt, Bool, true, false, not, ◌&&◌, if◌then◌else◌, List, [], ◌∷◌, ◌++◌, length, take, replicate, Option, Some, None, is_none, unwrap_or, is_some, option_and_then, option_map}
 use Rattle.std.specs.FinMap as map
 use Rattle.nfs3_types.specs.declared.attributes.Verifier.{Verifier}
 use Rattle.nfs3_types.specs.declared.calls.StableHow.{StableHow}
 use Rattle.nfs3_types.specs.declared.calls.StableHow.TheVariants.{Unstable, DataSync, FileSync}
 use Rattle.nfs3_types.specs.declared.calls.CreateMode.{CreateMode}
 use Rattle.nfs3_types.specs.declared.calls.CreateMode.TheVariants.{Unchecked, Guarded, Exclusive}
-use Rattle.nfs3_types.specs.declared.calls.ReadArguments.{ReadArguments}
 use Rattle.nfs3_types.specs.declared.calls.WriteArguments.{WriteArguments}
 use Rattle.nfs3_types.specs.declared.calls.CreateArguments.{CreateArguments}
 use Rattle.nfs3_types.specs.declared.calls.DirectoryName.{DirectoryName}
@@ -17,7 +16,6 @@ use Rattle.nfs3_types.specs.declared.calls.RenameArguments.{RenameArguments}
 use Rattle.nfs3_types.specs.declared.calls.NfsCall.{NfsCall}
 use Rattle.nfs3_types.specs.declared.calls.NfsCall.TheVariants as calls
 use Rattle.nfs3_types.specs.declared.replies.Answer.TheVariants.{Done}
-use Rattle.nfs3_types.specs.declared.replies.ReadSuccess.{ReadSuccess}
 use Rattle.nfs3_types.specs.declared.replies.NfsReply.{NfsReply}
 use Rattle.nfs3_types.specs.declared.replies.NfsReply.TheVariants as replies
 use Rattle.nfs3_types.specs.declared.replies.Outcome.{Outcome}
@@ -31,15 +29,15 @@ use Rattle.tree_nodes.specs.declared.node.File.{File}
 use Rattle.tree_nodes.specs.Files.{file_limit, node_limit, file_node, resized, written}
 use Rattle.tree_nodes.specs.Tree.{Names, Tree, same_path, entry_of, is_bare}
 use Rattle.tree_nodes.specs.Moved.{is_from, moved}
-use Rattle.file_tree.specs.Binding.{Bindings, same_bytes, gives_object}
-use Rattle.file_tree.specs.Live.{FileEntry, live_entry, directory_of, file_of}
-use Rattle.file_tree.specs.Entry.{is_plain, named}
-use Rattle.file_tree.specs.Causes.{is_directory}
-use Rattle.file_tree.specs.Look.{same_flag, got_attributes, looked_up, got_text, got_bytes, committed}
-use Rattle.file_tree.specs.Asked.{is_answered, failure_in}
-use Rattle.file_tree.specs.Failure.{is_permitted}
+use Rattle.tree_handles.specs.Binding.{Bindings, gives_object}
+use Rattle.tree_handles.specs.Live.{FileEntry, live_entry, directory_of, file_of}
+use Rattle.tree_handles.specs.Entry.{is_plain, named}
+use Rattle.tree_handles.specs.Kind.{is_directory}
+use Rattle.tree_reads.specs.Look.{same_flag, got_attributes, looked_up, got_text, got_bytes, committed}
+use Rattle.tree_failures.specs.Asked.{is_answered, failure_in}
+use Rattle.tree_failures.specs.Failure.{is_permitted}
 use Rattle.nfs3_types.specs.declared.status.Failure.{Failure}
-use Rattle.file_tree.specs.Listing.{listed, listed_plus}
+use Rattle.tree_reads.specs.Listing.{listed, listed_plus}
 
 -- a value where a test passes
 abbrev pub only_if : {A : Type 0} → Bool → A → Option A

@@ -1,19 +1,18 @@
 //! What a successful CREATE makes of a tree (RFC 1813, section 3.3.8).
 
-ghost use Rattle.std.specs.Prelude.{◌≡◌, ◌+◌, ◌^◌, ◌<◌, ◌∷◌, [], ◌++◌, length, IfOk, replicate};
-ghost use Rattle.std.specs.FinMap as map;
+ghost use Rattle.std.specs.Prelude.{◌≡◌, ◌^◌, ◌<◌, IfOk, replicate};
 ghost use Rattle.tree_nodes.specs.Nodes.{tree_of};
 ghost use Rattle.file_tree.specs.Answers.{Answers};
-ghost use Rattle.file_tree.specs.Success.{first_size, first_verifier, made_by, create_absent, set_size, create_over, create_present, create_at, create_change};
+ghost use Rattle.file_tree.specs.Success.{first_size, first_verifier, made_by, create_absent, set_size, create_over, create_present, create_change};
 ghost use Rattle.tree_nodes.specs.Files.{file_node};
 
-use crate::binds::Binds;
 use crate::change::Change;
-use crate::entry::is_plain;
-use crate::live::{directory_of, gives_object};
 use nfs3_types::{CreateArguments, CreateMode, FileHandle, Verifier};
 use replay_law::replay::StepFault;
 use std::alloc::{AllocError, Global};
+use tree_handles::binds::Binds;
+use tree_handles::entry::is_plain;
+use tree_handles::live::{directory_of, gives_object};
 use tree_nodes::bytes::{Bytes, Path};
 use tree_nodes::content::{FILE_LIMIT, resized};
 use tree_nodes::node::{Content, File, Node};

@@ -1,20 +1,18 @@
 //! What a successful SETATTR, MKDIR, SYMLINK, REMOVE or RMDIR makes of a tree (RFC 1813, section 3.3).
 
-ghost use Rattle.std.specs.Prelude.{◌≡◌};
 ghost use Rattle.tree_nodes.specs.Nodes.{tree_of};
-ghost use Rattle.tree_nodes.specs.declared.node.Content.TheVariants as contents;
 ghost use Rattle.file_tree.specs.Answers.{Answers};
 ghost use Rattle.file_tree.specs.Success.{set_attributes, make_entry, make_directory, make_link, remove_entry, remove_directory};
 
-use crate::binds::Binds;
 use crate::change::Change;
 use crate::create::{NODE_LIMIT, set_size};
-use crate::entry::{is_plain, named};
-use crate::handle_causes::is_directory;
-use crate::live::{directory_of, file_of, gives_object, live_entry};
 use nfs3_types::{DirectoryName, FileHandle, MkDirArguments, SetAttrArguments, SymLinkArguments};
 use replay_law::replay::StepFault;
 use std::alloc::Global;
+use tree_handles::binds::Binds;
+use tree_handles::entry::{is_plain, named};
+use tree_handles::kind::is_directory;
+use tree_handles::live::{directory_of, file_of, gives_object, live_entry};
 use tree_nodes::bytes::Bytes;
 use tree_nodes::node::{Content, Node};
 use tree_nodes::nodes::{Nodes, count, entry_of, is_bare, node_at};

@@ -6,14 +6,14 @@ ghost use Rattle.tree_nodes.specs.Nodes.{tree_of};
 ghost use Rattle.file_tree.specs.Answers.{Answers};
 ghost use Rattle.file_tree.specs.Success.{may_replace, rename_at, rename};
 
-use crate::binds::Binds;
 use crate::change::Change;
-use crate::entry::{is_plain, named};
-use crate::handle_causes::is_directory;
-use crate::live::directory_of;
 use nfs3_types::RenameArguments;
 use replay_law::replay::StepFault;
 use std::alloc::Global;
+use tree_handles::binds::Binds;
+use tree_handles::entry::{is_plain, named};
+use tree_handles::kind::is_directory;
+use tree_handles::live::directory_of;
 use tree_nodes::bytes::Path;
 use tree_nodes::node::{Content, Node};
 use tree_nodes::nodes::{Nodes, is_bare, node_at};

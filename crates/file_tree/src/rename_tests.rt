@@ -3,7 +3,6 @@
 ghost use Rattle.std.specs.Prelude.{IfOk};
 ghost use Rattle.file_tree.specs.Undo.{TakesBack};
 
-use crate::binds::Binds;
 use crate::change::Undo;
 use crate::tests::handle;
 use crate::tree::FileTree;
@@ -13,6 +12,7 @@ use nfs3_types::{
 use replay_law::replay::{Replayable, StepFault};
 use std::alloc::{AllocError, Global};
 use std::test::Fail;
+use tree_handles::binds::Binds;
 
 /// A name of one byte in the directory of this handle.
 fn place(alloc: Global, byte: u8, name: u8) -> Result<DirectoryName, AllocError> {
@@ -50,11 +50,11 @@ fn make(alloc: Global, byte: u8, name: u8) -> Result<NfsCall, AllocError> {
     }))
 }
 
-/// RENAME of a name in the root to a name in the directory of a handle.
-fn rename(alloc: Global, name: u8, byte: u8, to: u8) -> Result<NfsCall, AllocError> {
+/// RENAME of `a` in the root to `c` there.
+fn rename(alloc: Global) -> Result<NfsCall, AllocError> {
     Ok(NfsCall::Rename(RenameArguments {
-        from: place(alloc, 0, name)?,
-        to: place(alloc, byte, to)?,
+        from: place(alloc, 0, b'a')?,
+        to: place(alloc, 0, b'c')?,
     }))
 }
 
@@ -89,7 +89,7 @@ fn what_lies_below_goes_along(rt: HostRuntime) -> Result<(), Fail> {
     let mut tree = nested(alloc, &binds)?;
     let mut before = Vec::new(alloc);
     tree.print_state(alloc, &mut before)?;
-    let call = rename(alloc, b'a', 0, b'c')?;
+    let call = rename(alloc)?;
     let undo = step(alloc, &mut tree, &binds, 3, call)?;
     let mut out = Vec::new(alloc);
     tree.print_state(alloc, &mut out)?;
@@ -98,18 +98,5 @@ fn what_lies_below_goes_along(rt: HostRuntime) -> Result<(), Fail> {
     out.clear();
     tree.print_state(alloc, &mut out)?;
     assert_eq!(rt; out.as_slice(), before.as_slice());
-    Ok(())
-}
-
-#[test]
-fn nothing_goes_below_itself(rt: HostRuntime) -> Result<(), Fail> {
-    let alloc = rt.alloc();
-    let binds = binds(alloc)?;
-    let mut tree = nested(alloc, &binds)?;
-    let call = rename(alloc, b'a', 0xaa, b'c')?;
-    assert_eq!(rt;
-        step(alloc, &mut tree, &binds, 3, call).err(),
-        Some(StepFault::NotAllowed)
-    );
     Ok(())
 }

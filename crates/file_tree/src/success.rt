@@ -1,20 +1,13 @@
 //! What a call with its outcome makes of a tree.
 
-ghost use Rattle.std.specs.Prelude.{◌≡◌};
 ghost use Rattle.tree_nodes.specs.Nodes.{tree_of};
 ghost use Rattle.file_tree.specs.Answers.{Answers};
 ghost use Rattle.file_tree.specs.declared.change.Change.TheVariants.{Keep};
 ghost use Rattle.file_tree.specs.Success.{only_if, change_written, change_created, change_set, change_directory_made, change_link_made, change_removed, change_directory_removed, change_renamed, change_done, change_received, change_taken, change_of};
 
-use crate::asked::{failure_in, is_answered};
-use crate::binds::Binds;
 use crate::change::Change;
 use crate::create::create_change;
-use crate::failure::is_permitted;
-use crate::listing::{listed, listed_plus};
-use crate::look::{committed, got_attributes, got_text, looked_up};
 use crate::naming::{make_directory, make_link, remove_directory, remove_entry, set_attributes};
-use crate::read::got_bytes;
 use crate::rename::rename;
 use crate::write::write_change;
 use nfs3_types::{
@@ -23,7 +16,13 @@ use nfs3_types::{
 };
 use replay_law::replay::StepFault;
 use std::alloc::Global;
+use tree_failures::asked::{failure_in, is_answered};
+use tree_failures::failure::is_permitted;
+use tree_handles::binds::Binds;
 use tree_nodes::nodes::Nodes;
+use tree_reads::listing::{listed, listed_plus};
+use tree_reads::look::{committed, got_attributes, got_text, looked_up};
+use tree_reads::read::got_bytes;
 
 /// The tree stays, where this is right.
 fn keep_if(right: bool) -> Result<Change, StepFault>

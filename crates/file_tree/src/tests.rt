@@ -1,7 +1,6 @@
 ghost use Rattle.std.specs.Prelude.{IfOk};
 ghost use Rattle.file_tree.specs.Undo.{TakesBack};
 
-use crate::binds::Binds;
 use crate::change::Undo;
 use crate::tree::FileTree;
 use nfs3_types::{
@@ -13,6 +12,7 @@ use replay_law::replay::{Replayable, StepFault};
 use replay_law::run::{RunFault, Step, run_steps};
 use std::alloc::{AllocError, Global};
 use std::test::Fail;
+use tree_handles::binds::Binds;
 
 const NO_CHANGES: WccData = WccData {
     before: None,
@@ -31,7 +31,7 @@ pub(crate) fn handle(alloc: Global, byte: u8) -> Result<FileHandle, AllocError> 
 }
 
 /// CREATE of `a` in the root, unchecked.
-pub(crate) fn create(alloc: Global, size: Option<u64>) -> Result<NfsCall, AllocError> {
+fn create(alloc: Global) -> Result<NfsCall, AllocError> {
     let place = DirectoryName {
         directory: handle(alloc, 0)?,
         name: Name::from_slice(alloc, b"a")?,
@@ -40,7 +40,7 @@ pub(crate) fn create(alloc: Global, size: Option<u64>) -> Result<NfsCall, AllocE
         mode: None,
         user: None,
         group: None,
-        size,
+        size: None,
         access_time: SetTime::Keep,
         modify_time: SetTime::Keep,
     });
@@ -48,7 +48,7 @@ pub(crate) fn create(alloc: Global, size: Option<u64>) -> Result<NfsCall, AllocE
 }
 
 /// Its success with this handle.
-pub(crate) fn created(alloc: Global, byte: u8) -> Result<Outcome, AllocError> {
+fn created(alloc: Global, byte: u8) -> Result<Outcome, AllocError> {
     let success = CreateSuccess {
         object: Some(handle(alloc, byte)?),
         attributes: None,
@@ -57,14 +57,14 @@ pub(crate) fn created(alloc: Global, byte: u8) -> Result<Outcome, AllocError> {
     Ok(Outcome::Received(NfsReply::Create(Answer::Done(success))))
 }
 
-/// WRITE to the file of handle aa, FILE_SYNC.
-fn write(alloc: Global, offset: u64, added: &[u8; 3]) -> Result<NfsCall, AllocError> {
+/// WRITE of `abc` to the file of handle aa, FILE_SYNC.
+fn write(alloc: Global) -> Result<NfsCall, AllocError> {
     Ok(NfsCall::Write(WriteArguments {
         file: handle(alloc, 0xaa)?,
-        offset,
+        offset: 0,
         count: 3,
         level: StableHow::FileSync,
-        bytes: Data::from_slice(alloc, added)?,
+        bytes: Data::from_slice(alloc, b"abc")?,
     }))
 }
 
@@ -106,26 +106,17 @@ fn binds(alloc: Global) -> Result<Binds, AllocError> {
     Ok(binds)
 }
 
-/// CREATE of `a`, a WRITE of these three bytes at an offset, and a READ that gives these bytes.
-fn placed(
-    alloc: Global,
-    offset: u64,
-    added: &[u8; 3],
-    bytes: &[u8],
-    eof: bool,
-) -> Result<Vec<(NfsCall, Outcome)>, AllocError> {
+/// CREATE of `a`, a WRITE of `abc`, and a READ that gives these bytes.
+fn placed(alloc: Global, bytes: &[u8], eof: bool) -> Result<Vec<(NfsCall, Outcome)>, AllocError> {
     let mut placed = Vec::new(alloc);
-    placed.push((create(alloc, None)?, created(alloc, 0xaa)?))?;
-    placed.push((write(alloc, offset, added)?, wrote(3, StableHow::FileSync)))?;
+    placed.push((create(alloc)?, created(alloc, 0xaa)?))?;
+    placed.push((write(alloc)?, wrote(3, StableHow::FileSync)))?;
     placed.push((read(alloc)?, got(alloc, bytes, eof)?))?;
     Ok(placed)
 }
 
 /// The run of these, numbered from 1.
-pub(crate) fn run(
-    alloc: Global,
-    placed: &[(NfsCall, Outcome)],
-) -> Result<Result<(), RunFault>, AllocError> {
+fn run(alloc: Global, placed: &[(NfsCall, Outcome)]) -> Result<Result<(), RunFault>, AllocError> {
     let mut steps = Vec::new(alloc);
     for (number, (call, outcome)) in (1..).zip(placed) {
         steps.push(Step {
@@ -154,36 +145,16 @@ fn step(
 #[test]
 fn a_written_file_is_read(rt: HostRuntime) -> Result<(), Fail> {
     let alloc = rt.alloc();
+    assert_eq!(rt; run(alloc, &placed(alloc, b"abc", true)?)?, Ok(()));
     assert_eq!(rt;
-        run(alloc, &placed(alloc, 0, b"abc", b"abc", true)?)?,
-        Ok(())
-    );
-    assert_eq!(rt;
-        run(alloc, &placed(alloc, 0, b"abc", b"abc", false)?)?,
+        run(alloc, &placed(alloc, b"abc", false)?)?,
         Err(RunFault::Illegal(3))
     );
     assert_eq!(rt;
-        run(alloc, &placed(alloc, 0, b"abc", b"ab", true)?)?,
+        run(alloc, &placed(alloc, b"ab", true)?)?,
         Err(RunFault::Illegal(3))
     );
-    assert_eq!(rt;
-        run(alloc, &placed(alloc, 0, b"abc", b"ab", false)?)?,
-        Ok(())
-    );
-    Ok(())
-}
-
-#[test]
-fn a_gap_is_filled_with_zeros(rt: HostRuntime) -> Result<(), Fail> {
-    let alloc = rt.alloc();
-    assert_eq!(rt;
-        run(alloc, &placed(alloc, 2, b"xyz", b"\0\0xyz", true)?)?,
-        Ok(())
-    );
-    assert_eq!(rt;
-        run(alloc, &placed(alloc, 16_777_214, b"xyz", b"", true)?)?,
-        Err(RunFault::Illegal(2))
-    );
+    assert_eq!(rt; run(alloc, &placed(alloc, b"ab", false)?)?, Ok(()));
     Ok(())
 }
 
@@ -197,11 +168,11 @@ fn one_file_is_printed_and_taken_back(rt: HostRuntime) -> Result<(), Fail> {
         &mut tree,
         &binds,
         1,
-        create(alloc, None)?,
+        create(alloc)?,
         created(alloc, 0xaa)?,
     )?;
     let done = wrote(3, StableHow::FileSync);
-    let undo = step(alloc, &mut tree, &binds, 2, write(alloc, 0, b"abc")?, done)?;
+    let undo = step(alloc, &mut tree, &binds, 2, write(alloc)?, done)?;
     let mut out = Vec::new(alloc);
     tree.print_state(alloc, &mut out)?;
     assert_eq!(rt; out.as_slice(), ONE_FILE.as_slice());
@@ -209,25 +180,5 @@ fn one_file_is_printed_and_taken_back(rt: HostRuntime) -> Result<(), Fail> {
     out.clear();
     before.print_state(alloc, &mut out)?;
     assert_eq!(rt; out.len(), 52);
-    Ok(())
-}
-
-#[test]
-fn a_handle_is_bound(rt: HostRuntime) -> Result<(), Fail> {
-    let alloc = rt.alloc();
-    let binds = Binds::new(alloc, &[0], &[(Vec::from_slice(alloc, &[0xaa])?, 2)])?;
-    assert_eq!(rt; binds.object(&[0]), Some(0));
-    assert_eq!(rt; binds.object(&[0xaa]), Some(2));
-    assert_eq!(rt; binds.object(&[1]), None);
-    let mut tree = FileTree::opening(alloc, &binds)?;
-    let refused = step(
-        alloc,
-        &mut tree,
-        &binds,
-        1,
-        create(alloc, Some(3))?,
-        created(alloc, 0xaa)?,
-    );
-    assert_eq!(rt; refused.err(), Some(StepFault::NotAllowed));
     Ok(())
 }

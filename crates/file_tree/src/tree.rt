@@ -1,6 +1,6 @@
 //! The file tree, stepped by the calls of a history and taken back.
 
-ghost use Rattle.std.specs.Prelude.{◌≡◌, ℕ, Option, Some, None, List, ◌++◌, ◌≤◌, OnOk, OnErr, IfOk, length};
+ghost use Rattle.std.specs.Prelude.{◌≡◌, OnOk, OnErr, IfOk};
 ghost use Rattle.std.specs.FinMap as map;
 ghost use Rattle.tree_nodes.specs.Moved.{moved};
 ghost use Rattle.tree_nodes.specs.Tree.{opening};
@@ -10,7 +10,6 @@ ghost use Rattle.file_tree.specs.Success.{next_tree};
 ghost use Rattle.tree_nodes.specs.Printed.{tree_text, IsPrintable};
 ghost use Rattle.tree_nodes.specs.Unprinted.{same_text};
 
-use crate::binds::Binds;
 use crate::change::{Change, Undo, undo_of};
 use crate::success::change_of;
 use nfs3_types::{NfsCall, Outcome};
@@ -18,6 +17,7 @@ use replay_law::replay::{Replayable, StepFault};
 use std::alloc::{AllocError, Global};
 use std::marker::Model;
 use std::mem;
+use tree_handles::binds::Binds;
 use tree_nodes::bytes::Path;
 use tree_nodes::node::Node;
 use tree_nodes::nodes::{Nodes, moved, put, remove, root_alone, take};

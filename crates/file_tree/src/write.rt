@@ -5,12 +5,12 @@ ghost use Rattle.tree_nodes.specs.Nodes.{tree_of};
 ghost use Rattle.file_tree.specs.Answers.{Answers};
 ghost use Rattle.file_tree.specs.Success.{level_rank, reaches, write_at, write_change};
 
-use crate::binds::Binds;
 use crate::change::Change;
-use crate::live::{FileEntry, file_of};
 use nfs3_types::{StableHow, WriteArguments};
 use replay_law::replay::StepFault;
 use std::alloc::Global;
+use tree_handles::binds::Binds;
+use tree_handles::live::{FileEntry, file_of};
 use tree_nodes::bytes::Bytes;
 use tree_nodes::content::{front, is_within_limit, written};
 use tree_nodes::node::{Content, File, Node};

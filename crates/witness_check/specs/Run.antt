@@ -19,7 +19,7 @@ use Rattle.certificate.specs.Plan.{cut_of}
 use Rattle.replay_law.specs.Run.{Era, EveryEraRuns}
 use Rattle.replay_law.specs.Run as run
 use Rattle.tree_nodes.specs.Tree.{Tree, opening}
-use Rattle.file_tree.specs.Binding.{Bindings}
+use Rattle.tree_handles.specs.Binding.{Bindings}
 use Rattle.file_tree.specs.Success.{next_tree}
 
 -- what each handle names: the root's object 0, another the object of its bind

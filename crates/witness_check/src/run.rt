@@ -10,13 +10,13 @@ ghost use Rattle.file_tree.specs.Success.{next_tree};
 ghost use Rattle.witness_check.specs.Run.{bindings_of, step_at, taken_outcome};
 
 use certificate::{Bind, Place};
-use file_tree::binds::Binds;
 use file_tree::tree::FileTree;
 use nfs_history::{History, Meaning, RecordedCall, find_call};
 use nfs3_types::{NfsCall, Outcome};
 use order_check::{CheckFault, Fault};
 use replay_law::run::{RunFault, Step, run_steps};
 use std::alloc::{AllocError, Global};
+use tree_handles::binds::Binds;
 
 /// What each handle names.
 fn bindings(alloc: Global, root: &[u8], binds: &[Bind]) -> Result<Binds, AllocError>

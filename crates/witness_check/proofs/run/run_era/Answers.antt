@@ -6,7 +6,7 @@ use Rattle.replay_law.specs.Run.{Taken, state_after, IsFirstIllegal}
 use Rattle.replay_law.proofs.Runs.{runs_or_not}
 use Rattle.replay_law.specs.Steps.{taken_of}
 use Rattle.tree_nodes.specs.Tree.{Tree, opening}
-use Rattle.file_tree.specs.Binding.{Bindings}
+use Rattle.tree_handles.specs.Binding.{Bindings}
 use Rattle.file_tree.specs.Success.{next_tree}
 use Rattle.witness_check.specs.Run.{bindings_of, step_at}
 use Rattle.witness_check.proofs.run.run_era.Goals as goal

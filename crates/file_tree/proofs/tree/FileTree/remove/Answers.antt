@@ -1,6 +1,6 @@
 use Rattle.std.proofs.Common.{subst, sym}
 use Rattle.tree_nodes.specs.Nodes.{tree_of}
-use Rattle.file_tree.specs.Undo.{undo_of, TakesBack}
+use Rattle.file_tree.specs.Undo.{TakesBack}
 use Rattle.file_tree.proofs.Undoing.{takes_back_removed}
 use Rattle.file_tree.proofs.tree.FileTree.remove.Goals as goal
 

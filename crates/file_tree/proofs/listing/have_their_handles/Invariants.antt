@@ -1,9 +1,0 @@
-use Rattle.std.proofs.Common.{◌≡◌, drop}
-use Rattle.std.specs.List.{list_all}
-use Rattle.tree_nodes.specs.Nodes.{tree_of}
-use Rattle.file_tree.specs.Listing.{has_its_handle}
-use Rattle.file_tree.proofs.listing.have_their_handles.Given as goal
-
-abbrev pub invariant-loop-entry : goal.invariant-loop-entry
-invariant-loop-entry l =
-    list_all (has_its_handle l.binds (tree_of l.nodes) l.directory) l.entries ≡ list_all (has_its_handle l.binds (tree_of l.nodes) l.directory) (drop l.entry-index l.entries)

@@ -1,0 +1,269 @@
+//! Which failures are permitted (RFC 1813, section 2.6 and section 3.3, by procedure).
+
+ghost use Rattle.std.specs.Prelude.{◌≡◌, IfOk};
+ghost use Rattle.std.specs.List.{list_any};
+ghost use Rattle.tree_nodes.specs.Nodes.{tree_of};
+ghost use Rattle.tree_failures.specs.Failure.{status_number, same_status, row, causes, is_judged, is_caused_by, is_permitted};
+
+use crate::asked::is_listing_call;
+use crate::handle_causes::{
+    file_is_directory, file_is_link, handle_isnt_live, handle_of_no_directory, readlink_of_no_link,
+};
+use crate::name_causes::{
+    create_over_directory, listing_with_cookie, name_has_odd_byte, name_is_absent, name_is_present,
+    name_isnt_plain, remove_of_directory, rmdir_of_filled_directory, rmdir_of_no_directory,
+    setattr_with_guard,
+};
+use crate::rename_causes::{
+    rename_below_itself, rename_onto_directory, rename_onto_filled_directory,
+    rename_onto_no_directory,
+};
+use nfs3_types::{Failure, NfsCall};
+use std::alloc::{AllocError, Global};
+use tree_handles::binds::Binds;
+use tree_nodes::nodes::Nodes;
+
+/// Why a call may fail.
+#[derive(Clone, Copy, Debug, PartialEq, Eq)]
+pub enum Cause {
+    /// A handle isn't live.
+    HandleIsntLive,
+    /// A live handle isn't that of the directory that it has to be.
+    HandleOfNoDirectory,
+    ReadLinkOfNoLink,
+    /// What has to be a file is a directory.
+    FileIsDirectory,
+    /// What has to be a file is a link.
+    FileIsLink,
+    /// A name that has to be an entry is none.
+    NameIsAbsent,
+    /// A name that would be made is an entry.
+    NameIsPresent,
+    CreateOverDirectory,
+    RemoveOfDirectory,
+    RmDirOfNoDirectory,
+    RmDirOfFilledDirectory,
+    /// Of a directory.
+    RenameOntoNoDirectory,
+    /// Of no directory.
+    RenameOntoDirectory,
+    /// Of anything else.
+    RenameOntoFilledDirectory,
+    /// Of a directory.
+    RenameBelowItself,
+    /// A name is empty, `.` or `..`.
+    NameIsntPlain,
+    /// A name holds byte 0, a slash or a byte above 127.
+    NameHasOddByte,
+    SetAttrWithGuard,
+    /// READDIR or READDIRPLUS with a cookie other than 0.
+    ListingWithCookie,
+    /// READDIR or READDIRPLUS.
+    AnyListing,
+}
+
+/// The number of a status in `nfsstat3` (RFC 1813, section 2.6).
+fn status_number(failure: Failure) -> u32
+    ensures { result ≡ status_number failure }
+{
+    failure as u32
+}
+
+/// Whether a status is one of these.
+fn is_one_of(failure: Failure, statuses: &[Failure]) -> bool
+    ensures { result ≡ list_any (same_status failure) statuses.now }
+{
+    for status in statuses {
+        if status_number(failure) == status_number(*status) {
+            return true;
+        }
+    }
+    false
+}
+
+/// Whether a status stands beside a cause.
+fn gives(cause: Cause, failure: Failure) -> bool
+    ensures { result ≡ list_any (same_status failure) (row cause).statuses }
+{
+    match cause {
+        Cause::HandleIsntLive => is_one_of(failure, &[Failure::Stale, Failure::BadHandle]),
+        Cause::HandleOfNoDirectory => is_one_of(failure, &[Failure::NotDirectory]),
+        Cause::ReadLinkOfNoLink => is_one_of(failure, &[Failure::Invalid]),
+        Cause::FileIsDirectory => is_one_of(failure, &[Failure::IsDirectory, Failure::Invalid]),
+        Cause::FileIsLink => is_one_of(failure, &[Failure::Invalid]),
+        Cause::NameIsAbsent => is_one_of(failure, &[Failure::NoEntry]),
+        Cause::NameIsPresent => is_one_of(failure, &[Failure::Exists]),
+        Cause::CreateOverDirectory => is_one_of(failure, &[Failure::IsDirectory]),
+        Cause::RemoveOfDirectory => is_one_of(failure, &[Failure::IsDirectory, Failure::Invalid]),
+        Cause::RmDirOfNoDirectory => is_one_of(failure, &[Failure::NotDirectory]),
+        Cause::RmDirOfFilledDirectory => is_one_of(failure, &[Failure::NotEmpty, Failure::Exists]),
+        Cause::RenameOntoNoDirectory => is_one_of(
+            failure,
+            &[Failure::Exists, Failure::NotDirectory],
+        ),
+        Cause::RenameOntoDirectory => is_one_of(failure, &[Failure::Exists, Failure::IsDirectory]),
+        Cause::RenameOntoFilledDirectory => is_one_of(
+            failure,
+            &[Failure::NotEmpty, Failure::Exists],
+        ),
+        Cause::RenameBelowItself => is_one_of(failure, &[Failure::Invalid]),
+        Cause::NameIsntPlain => is_one_of(
+            failure,
+            &[
+                Failure::Invalid,
+                Failure::Exists,
+                Failure::NoEntry,
+                Failure::IsDirectory,
+                Failure::NotEmpty,
+            ],
+        ),
+        Cause::NameHasOddByte => is_one_of(failure, &[Failure::Invalid]),
+        Cause::SetAttrWithGuard => is_one_of(failure, &[Failure::NotSynchronized]),
+        Cause::ListingWithCookie => is_one_of(failure, &[Failure::BadCookie]),
+        Cause::AnyListing => is_one_of(failure, &[Failure::TooSmall]),
+    }
+}
+
+/// Whether a cause holds.
+fn holds(
+    alloc: Global,
+    binds: &Binds,
+    nodes: &Nodes,
+    call: &NfsCall,
+    cause: Cause,
+) -> Result<bool, AllocError>
+    ensures { IfOk result (λ holds. holds ≡ (row cause).holds binds.now (tree_of nodes.now) call.now) }
+{
+    match cause {
+        Cause::HandleIsntLive => Ok(handle_isnt_live(binds, nodes, call)),
+        Cause::HandleOfNoDirectory => Ok(handle_of_no_directory(binds, nodes, call)),
+        Cause::ReadLinkOfNoLink => Ok(readlink_of_no_link(binds, nodes, call)),
+        Cause::FileIsDirectory => Ok(file_is_directory(binds, nodes, call)),
+        Cause::FileIsLink => Ok(file_is_link(binds, nodes, call)),
+        Cause::NameIsAbsent => name_is_absent(alloc, binds, nodes, call),
+        Cause::NameIsPresent => name_is_present(alloc, binds, nodes, call),
+        Cause::CreateOverDirectory => create_over_directory(alloc, binds, nodes, call),
+        Cause::RemoveOfDirectory => remove_of_directory(alloc, binds, nodes, call),
+        Cause::RmDirOfNoDirectory => rmdir_of_no_directory(alloc, binds, nodes, call),
+        Cause::RmDirOfFilledDirectory => rmdir_of_filled_directory(alloc, binds, nodes, call),
+        Cause::RenameOntoNoDirectory => rename_onto_no_directory(alloc, binds, nodes, call),
+        Cause::RenameOntoDirectory => rename_onto_directory(alloc, binds, nodes, call),
+        Cause::RenameOntoFilledDirectory => rename_onto_filled_directory(alloc, binds, nodes, call),
+        Cause::RenameBelowItself => rename_below_itself(alloc, binds, nodes, call),
+        Cause::NameIsntPlain => Ok(name_isnt_plain(call)),
+        Cause::NameHasOddByte => Ok(name_has_odd_byte(call)),
+        Cause::SetAttrWithGuard => Ok(setattr_with_guard(call)),
+        Cause::ListingWithCookie => Ok(listing_with_cookie(call)),
+        Cause::AnyListing => Ok(is_listing_call(call)),
+    }
+}
+
+/// Whether a cause holds that a status stands beside.
+fn is_caused_by(
+    alloc: Global,
+    binds: &Binds,
+    nodes: &Nodes,
+    call: &NfsCall,
+    failure: Failure,
+    cause: Cause,
+) -> Result<bool, AllocError>
+    ensures { IfOk result (λ caused. caused ≡ is_caused_by binds.now (tree_of nodes.now) call.now failure cause) }
+{
+    if gives(cause, failure) {
+        holds(alloc, binds, nodes, call, cause)
+    } else {
+        Ok(false)
+    }
+}
+
+/// Whether one of these causes does.
+fn is_caused_by_any(
+    alloc: Global,
+    binds: &Binds,
+    nodes: &Nodes,
+    call: &NfsCall,
+    failure: Failure,
+    causes: &[Cause],
+) -> Result<bool, AllocError>
+    ensures { IfOk result (λ caused. caused ≡ list_any (is_caused_by binds.now (tree_of nodes.now) call.now failure) causes.now) }
+{
+    for cause in causes {
+        if is_caused_by(alloc, binds, nodes, call, failure, *cause)? {
+            return Ok(true);
+        }
+    }
+    Ok(false)
+}
+
+/// Whether any cause does.
+fn is_caused(
+    alloc: Global,
+    binds: &Binds,
+    nodes: &Nodes,
+    call: &NfsCall,
+    failure: Failure,
+) -> Result<bool, AllocError>
+    ensures { IfOk result (λ caused. caused ≡ list_any (is_caused_by binds.now (tree_of nodes.now) call.now failure) causes) }
+{
+    let causes = [
+        Cause::HandleIsntLive,
+        Cause::HandleOfNoDirectory,
+        Cause::ReadLinkOfNoLink,
+        Cause::FileIsDirectory,
+        Cause::FileIsLink,
+        Cause::NameIsAbsent,
+        Cause::NameIsPresent,
+        Cause::CreateOverDirectory,
+        Cause::RemoveOfDirectory,
+        Cause::RmDirOfNoDirectory,
+        Cause::RmDirOfFilledDirectory,
+        Cause::RenameOntoNoDirectory,
+        Cause::RenameOntoDirectory,
+        Cause::RenameOntoFilledDirectory,
+        Cause::RenameBelowItself,
+        Cause::NameIsntPlain,
+        Cause::NameHasOddByte,
+        Cause::SetAttrWithGuard,
+        Cause::ListingWithCookie,
+        Cause::AnyListing,
+    ];
+    is_caused_by_any(alloc, binds, nodes, call, failure, &causes)
+}
+
+/// Whether a status may answer only beside a cause.
+fn is_judged(failure: Failure) -> bool
+    ensures { result ≡ is_judged failure }
+{
+    is_one_of(
+        failure,
+        &[
+            Failure::NoEntry,
+            Failure::Exists,
+            Failure::NotDirectory,
+            Failure::IsDirectory,
+            Failure::NotEmpty,
+            Failure::Stale,
+            Failure::BadHandle,
+            Failure::NotSynchronized,
+            Failure::BadCookie,
+            Failure::TooSmall,
+        ],
+    )
+}
+
+/// Whether a call may fail with a status.
+pub fn is_permitted(
+    alloc: Global,
+    binds: &Binds,
+    nodes: &Nodes,
+    call: &NfsCall,
+    failure: Failure,
+) -> Result<bool, AllocError>
+    ensures { IfOk result (λ permitted. permitted ≡ is_permitted binds.now (tree_of nodes.now) call.now failure) }
+{
+    if is_judged(failure) {
+        is_caused(alloc, binds, nodes, call, failure)
+    } else {
+        Ok(true)
+    }
+}

@@ -1,0 +1,4 @@
+pub mod Binding
+pub mod Kind
+pub mod Live
+pub mod Entry
