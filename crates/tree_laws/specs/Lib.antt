@@ -1,0 +1,11 @@
+pub mod Outcomes
+pub mod Leaving
+pub mod OneGone
+pub mod OnePath
+pub mod Renaming
+pub mod WellFormed
+pub mod ReadBack
+pub mod FileBytes
+pub mod Types
+pub mod LiveHandles
+pub mod Example
