@@ -8,6 +8,9 @@ use Rattle.certificate.specs.declared.plan.EraPlan.{EraPlan}
 use Rattle.certificate.specs.declared.reading.Draft.{Draft}
 use Rattle.certificate.specs.declared.reading.Step.{Step}
 use Rattle.certificate.specs.declared.reading.Step.TheVariants.{GoesOn, Ends, Refuses}
+use Rattle.certificate.specs.declared.line.Line.{Line}
+use Rattle.certificate.specs.declared.line.Line.TheVariants as lines
+use Rattle.certificate.specs.Line.{IsLine, Follows, last_of, behind_first}
 use Rattle.certificate.specs.CertificateText.{line, bind_lines, era_lines, place_lines, HasHandle, HasNumbers, HasNumbersInEra, AreRising}
 
 -- the text so far
@@ -29,20 +32,28 @@ pub record ArePlaces (eras : List EraPlan) (places : List Place) : Type 0 where
   pub numbers : AllByRecursion HasNumbersInEra eras
   pub in_last : AllByRecursion HasNumbers places
 
+-- how many lines there are
+abbrev pub lines_in : Draft → ℕ
+lines_in draft = length (behind_first draft.binds.items draft.eras.items draft.places.items) + 1
+
 -- what became of the draft with these words of a next line
 abbrev pub TakesLine : List ℕ → Draft → Draft → Step → Type 0
 TakesLine words old new GoesOn =
     (spelled_by new.binds.items new.eras.items new.places.items
     ≡ spelled_by old.binds.items old.eras.items old.places.items ++ line words)
+    × (lines_in new ≡ lines_in old + 1)
     × (AreBinds old.binds.items → AreBinds new.binds.items)
     × (ArePlaces old.eras.items old.places.items → ArePlaces new.eras.items new.places.items)
 TakesLine words old new Ends =
     (words ≡ codes "end") × (new.binds.items ≡ old.binds.items) × (new.eras.items ≡ old.eras.items) × (new.places.items ≡ old.places.items)
-TakesLine words old new Refuses = Unit {0}
+TakesLine words old new Refuses =
+    (l : Line) → IsLine words l → ArePlaces old.eras.items old.places.items
+    → Follows (last_of lines.Witness (behind_first old.binds.items old.eras.items old.places.items)) l → ⊥
 
 -- the text stands in the draft up to what is left of it, and has as many lines so far
-pub record IsReadUpTo (text : List ℕ) (draft : Draft) (rest : List ℕ) (lines : ℕ) : Type 0 where
+pub record IsReadUpTo (text : List ℕ) (draft : Draft) (rest : List ℕ) (number : ℕ) : Type 0 where
   pub spelled : text ≡ spelled_by draft.binds.items draft.eras.items draft.places.items ++ rest
   pub binds : AreBinds draft.binds.items
   pub places : ArePlaces draft.eras.items draft.places.items
-  pub counted : lines + length rest ≤ length text
+  pub lines : number ≡ lines_in draft
+  pub counted : number + length rest ≤ length text

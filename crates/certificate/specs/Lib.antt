@@ -3,3 +3,4 @@ pub mod CertificateText
 pub mod Parts
 pub mod Line
 pub mod Draft
+pub mod BadLine

@@ -1,9 +1,13 @@
 //! One line of a certificate.
 
-ghost use Rattle.std.specs.Prelude.{◌≡◌, ◌<◌, ◌≤◌, ◌^◌, ◌++◌, ◌∷◌, length, codes, decimal, IfOk, IfSome};
-ghost use Rattle.hex.specs.Hex.{IsBytes, encode_lower};
-ghost use Rattle.certificate.specs.CertificateText.{bind_words, place_words, HasHandle, HasNumbers};
-ghost use Rattle.certificate.specs.Line.{IsLine};
+ghost use Rattle.std.specs.Prelude.{◌≡◌, ℕ, ◌<◌, ◌≤◌, ◌^◌, ◌++◌, ◌∷◌, List, length, codes, decimal, IfOk, MatchOption, ◌==◌, position, Ok};
+ghost use Rattle.hex.specs.Hex.{decode_of};
+ghost use Rattle.certificate.specs.BadLine.{Lacks};
+ghost use Rattle.certificate.specs.declared.plan.Bind.{Bind};
+ghost use Rattle.certificate.specs.declared.plan.Place.{Place};
+ghost use Rattle.certificate.specs.declared.line.Line.{Line};
+ghost use Rattle.certificate.specs.Line.{IsLine, WritesHandle};
+ghost use Rattle.certificate.specs.declared.line.Line.TheVariants as lines;
 
 use crate::plan::{Bind, Place};
 use hex::FromHexError;
@@ -21,27 +25,38 @@ pub enum Line {
     End,
 }
 
+/// The first index of a byte.
+fn first_of(text: &[u8], byte: u8) -> Option<usize>
+    ensures { result ≡ position (λ b. b == byte) text.now }
+{
+    text.iter().position(|b| *b == byte)
+}
+
 /// What stands before and behind the first place of a byte.
 pub fn split_at_byte(text: &[u8], byte: u8) -> Option<(&[u8], &[u8])>
-    ensures { IfSome result (λ p. text.now ≡ p.0.now ++ byte ∷ p.1.now) }
+    ensures { MatchOption result (Lacks byte text.now) (λ p. (text.now ≡ p.0.now ++ byte ∷ p.1.now) × Lacks byte p.0.now) }
 {
-    let at = text.iter().position(|b| *b == byte)?;
+    let at = first_of(text, byte)?;
     Some((&text[..at], &text[at + 1..]))
 }
 
 /// What stands behind a front.
-fn behind<'a>(text: &'a [u8], front: &[u8]) -> Option<&'a [u8]>
-    ensures { IfSome result (λ rest. text.now ≡ front.now ++ rest.now) }
+pub fn behind<'a>(text: &'a [u8], front: &[u8]) -> Option<&'a [u8]>
+    ensures { MatchOption result ((rest : List ℕ) → text.now ≡ front.now ++ rest → ⊥) (λ rest. text.now ≡ front.now ++ rest.now) }
 {
     text.strip_prefix(front)
 }
 
 /// The number that the digits write, where they are its decimal digits without a zero in front.
 fn number_of(digits: &[u8]) -> Option<u64>
-    ensures { IfSome result (λ n. (digits.now ≡ decimal n) × (n < 2 ^ 64)) }
+    ensures { MatchOption result ((n : ℕ) → n < 2 ^ 64 → digits.now ≡ decimal n → ⊥) (λ n. (digits.now ≡ decimal n) × (n < 2 ^ 64)) }
 {
-    let text = str::from_utf8(digits).ok()?;
-    let number = text.parse::<u64>().ok()?;
+    let Ok(text) = str::from_utf8(digits) else {
+        return None;
+    };
+    let Ok(number) = text.parse::<u64>() else {
+        return None;
+    };
     let mut buffer = Buffer::new();
     if buffer.format(number).as_bytes() == digits {
         Some(number)
@@ -52,22 +67,34 @@ fn number_of(digits: &[u8]) -> Option<u64>
 
 /// The number that the digits write, where it has 32 bits.
 fn count_of(digits: &[u8]) -> Option<u32>
-    ensures { IfSome result (λ n. (digits.now ≡ decimal n) × (n < 2 ^ 32)) }
+    ensures { MatchOption result ((n : ℕ) → n < 2 ^ 32 → digits.now ≡ decimal n → ⊥) (λ n. (digits.now ≡ decimal n) × (n < 2 ^ 32)) }
 {
-    u32::try_from(number_of(digits)?).ok()
+    let number = number_of(digits)?;
+    u32::try_from(number).ok()
+}
+
+/// The bytes that hexadecimal digits write.
+fn bytes_of(alloc: Global, text: &[u8]) -> Result<Option<Vec<u8>>, AllocError>
+    ensures { IfOk result (λ o. MatchOption o ((h : List ℕ) → decode_of text.now ≡ Ok h → ⊥) (λ bytes. decode_of text.now ≡ Ok bytes.items)) }
+{
+    match hex::decode(alloc, text) {
+        Ok(bytes) => Ok(Some(bytes)),
+        Err(error) => match error {
+            FromHexError::OutOfMemory => Err(AllocError),
+            _ => Ok(None),
+        },
+    }
 }
 
 /// The handle that the text writes in lower case hexadecimal, where it has 1 to 64 bytes.
 fn handle_of(alloc: Global, text: &[u8]) -> Result<Option<FileHandle>, AllocError>
-    ensures { IfOk result (λ o. IfSome o (λ h. (text.now ≡ encode_lower h) × (0 < length h) × (length h ≤ 64) × IsBytes h)) }
+    ensures { IfOk result (λ o. MatchOption o ((h : List ℕ) → WritesHandle text.now h → ⊥) (WritesHandle text.now)) }
 {
     if text.len() > 2 * HANDLE_LIMIT {
         return Ok(None);
     }
-    let bytes = match hex::decode(alloc, text) {
-        Ok(bytes) => bytes,
-        Err(FromHexError::OutOfMemory) => return Err(AllocError),
-        Err(_) => return Ok(None),
+    let Some(bytes) = bytes_of(alloc, text)? else {
+        return Ok(None);
     };
     if bytes.is_empty() || bytes.len() > HANDLE_LIMIT {
         return Ok(None);
@@ -80,7 +107,7 @@ fn handle_of(alloc: Global, text: &[u8]) -> Result<Option<FileHandle>, AllocErro
 
 /// The bind that the words behind `bind` give.
 fn bind_of(alloc: Global, words: &[u8]) -> Result<Option<Bind>, AllocError>
-    ensures { IfOk result (λ o. IfSome o (λ b. (words.now ≡ encode_lower b.handle ++ (32 ∷ decimal b.object)) × HasHandle b)) }
+    ensures { IfOk result (λ o. MatchOption o ((b : Bind) → IsLine (codes "bind " ++ words.now) (lines.Bind b) → ⊥) (λ b. IsLine (codes "bind " ++ words.now) (lines.Bind b))) }
 {
     let Some((handle, object)) = split_at_byte(words, b' ') else {
         return Ok(None);
@@ -96,7 +123,7 @@ fn bind_of(alloc: Global, words: &[u8]) -> Result<Option<Bind>, AllocError>
 
 /// The place that the words behind `take` give.
 fn taken_of(words: &[u8]) -> Option<Place>
-    ensures { IfSome result (λ p. (codes "take " ++ words.now ≡ place_words p) × HasNumbers p) }
+    ensures { MatchOption result ((p : Place) → IsLine (codes "take " ++ words.now) (lines.Place p) → ⊥) (λ p. IsLine (codes "take " ++ words.now) (lines.Place p)) }
 {
     match split_at_byte(words, b' ') {
         Some((number, count)) => Some(Place::Taken(number_of(number)?, Some(count_of(count)?))),
@@ -106,7 +133,7 @@ fn taken_of(words: &[u8]) -> Option<Place>
 
 /// What a line without its line feed says, where it is one that a certificate may have.
 pub fn read_line(alloc: Global, words: &[u8]) -> Result<Option<Line>, AllocError>
-    ensures { IfOk result (λ o. IfSome o (λ l. IsLine words.now l)) }
+    ensures { IfOk result (λ o. MatchOption o ((l : Line) → IsLine words.now l → ⊥) (IsLine words.now)) }
 {
     if words == b"witness 1".as_slice() {
         return Ok(Some(Line::Witness));

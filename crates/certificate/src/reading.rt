@@ -1,10 +1,15 @@
 //! A certificate's text, read line by line in one pass.
 
-ghost use Rattle.std.specs.Prelude.{◌≡◌, ◌∷◌, [], IfOk, length, Some, None, codes, decimal, ◌++◌, IsTrue};
-ghost use Rattle.certificate.specs.CertificateText.{CertificateText, line, bind_words, HasHandle, AreRising};
+ghost use Rattle.std.specs.Prelude.{◌≡◌, ◌∷◌, [], IfOk, length, Some, None, codes, decimal, ◌++◌, ◌<◌, ◌^◌, ◌↔◌, ◌⊎◌, ℕ, Ok, Err, MatchResult, IsTrue};
+ghost use Rattle.certificate.specs.CertificateText.{CertificateText, line, bind_words, place_words, HasHandle, HasNumbers};
+ghost use Rattle.certificate.specs.declared.line.Line.TheVariants as lines;
+ghost use Rattle.certificate.specs.Line.{Follows, last_of, bind_list};
+ghost use Rattle.certificate.specs.declared.plan.Certificate.{Certificate};
+ghost use Rattle.certificate.specs.declared.reading.TextFault.TheVariants.{BadLine, NoMemory};
+ghost use Rattle.certificate.specs.BadLine.{IsBadLine, FaultHolds};
 ghost use Rattle.certificate.specs.Draft.{TakesLine, AreBinds, ArePlaces, spelled_by};
 
-use crate::line::{Line, read_line, split_at_byte};
+use crate::line::{Line, behind, read_line, split_at_byte};
 use crate::plan::{Bind, BindList, Certificate, EraPlan, EraPlanList, Place, PlaceList};
 use std::alloc::{AllocError, Global};
 use std::mem;
@@ -61,7 +66,7 @@ impl Draft {
 
     /// Whether a bind's handle is above those that there are.
     fn rises_with(&self, bind: &Bind) -> bool
-        ensures { IsTrue result → AreRising self.now.binds.items → AreRising (self.now.binds.items ++ bind.now ∷ []) }
+        ensures { IsTrue result ↔ Follows (last_of lines.Witness (bind_list self.now.binds.items)) (lines.Bind bind.now) }
     {
         match self.binds.last() {
             Some(last) => last.handle.as_slice() < bind.handle.as_slice(),
@@ -80,7 +85,16 @@ impl Draft {
         Ok(Step::GoesOn)
     }
 
+    fn take_place(&mut self, place: Place) -> Result<Step, AllocError>
+        requires { HasNumbers place }
+        ensures { IfOk result (TakesLine (place_words place) self.old self.new) }
+    {
+        self.places.push(place)?;
+        Ok(Step::GoesOn)
+    }
+
     fn take_cut(&mut self, alloc: Global, kept: u64) -> Result<Step, AllocError>
+        requires { kept < 2 ^ 64 }
         ensures { IfOk result (TakesLine (codes "cut " ++ decimal kept) self.old self.new) }
     {
         let places = mem::replace(&mut self.places, Vec::new(alloc));
@@ -94,15 +108,15 @@ impl Draft {
     fn take_line(&mut self, alloc: Global, words: &[u8]) -> Result<Step, AllocError>
         ensures { IfOk result (TakesLine words.now self.old self.new) }
     {
-        match read_line(alloc, words)? {
-            Some(Line::End) => Ok(Step::Ends),
-            Some(Line::Place(place)) => {
-                self.places.push(place)?;
-                Ok(Step::GoesOn)
-            }
-            Some(Line::Bind(bind)) => self.take_bind(bind),
-            Some(Line::Cut(kept)) => self.take_cut(alloc, kept),
-            _ => Ok(Step::Refuses),
+        let Some(line) = read_line(alloc, words)? else {
+            return Ok(Step::Refuses);
+        };
+        match line {
+            Line::Witness => Ok(Step::Refuses),
+            Line::Bind(bind) => self.take_bind(bind),
+            Line::Place(place) => self.take_place(place),
+            Line::Cut(kept) => self.take_cut(alloc, kept),
+            Line::End => Ok(Step::Ends),
         }
     }
 
@@ -128,18 +142,14 @@ impl Draft {
     }
 }
 
-/// The certificate that the text spells.
-pub fn read_certificate(alloc: Global, text: &[u8]) -> Result<Certificate, TextFault>
-    ensures { IfOk result (CertificateText text.now) }
+/// Goes over the text line by line; that no other answer is right is said at `read_certificate`.
+fn read_lines(alloc: Global, text: &[u8]) -> Result<Certificate, TextFault>
+    ensures { MatchResult result (CertificateText text.now) (FaultHolds text.now) }
 {
-    let Some((first, after)) = split_at_byte(text, b'\n') else {
-        return Err(TextFault::BadLine(1));
-    };
-    let Some(Line::Witness) = read_line(alloc, first)? else {
+    let Some(mut rest) = behind(text, b"witness 1\n") else {
         return Err(TextFault::BadLine(1));
     };
     let mut draft = Draft::new(alloc);
-    let mut rest = after;
     let mut number: u64 = 1;
     while let Some((words, after)) = split_at_byte(rest, b'\n') {
         number += 1;
@@ -151,4 +161,14 @@ pub fn read_certificate(alloc: Global, text: &[u8]) -> Result<Certificate, TextF
         }
     }
     Err(TextFault::BadLine(number + 1))
+}
+
+/// The certificate that the text spells, or the line at which the text stops being one.
+pub fn read_certificate(alloc: Global, text: &[u8]) -> Result<Certificate, TextFault>
+    ensures found { IfOk result (CertificateText text.now) }
+    ensures only { (c : Certificate) → CertificateText text.now c → (result ≡ Ok c) ⊎ (result ≡ Err NoMemory) }
+    ensures bad_line { (k : ℕ) → result ≡ Err (BadLine k) → IsBadLine text.now k }
+    ensures named { (k : ℕ) → IsBadLine text.now k → (result ≡ Err (BadLine k)) ⊎ (result ≡ Err NoMemory) }
+{
+    read_lines(alloc, text)
 }

@@ -1,6 +1,6 @@
 use Rattle.std.proofs.Common.{length}
 use Rattle.certificate.specs.Draft.{IsReadUpTo}
-use Rattle.certificate.proofs.reading.read_certificate.Given as goal
+use Rattle.certificate.proofs.reading.read_lines.Given as goal
 
 abbrev pub invariant-loop-words : goal.invariant-loop-words
 invariant-loop-words l = IsReadUpTo l.text l.draft l.rest l.number
