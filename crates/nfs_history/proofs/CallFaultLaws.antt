@@ -19,8 +19,8 @@ use Rattle.nfs3_types.specs.declared.calls.NfsCall.{NfsCall}
 use Rattle.nfs3_types.specs.declared.replies.Outcome.{Outcome}
 use Rattle.nfs3_msgs.specs.Messages.{arguments, results, arguments_of, result_of}
 use Rattle.nfs3_msgs.specs.Told as told
-use Rattle.nfs_history.specs.declared.fault.HistoryFault.{HistoryFault}
-use Rattle.nfs_history.specs.declared.fault.HistoryFault.TheVariants as faults
+use Rattle.history_file.specs.declared.fault.HistoryFault.{HistoryFault}
+use Rattle.history_file.specs.declared.fault.HistoryFault.TheVariants as faults
 use Rattle.nfs_history.specs.declared.history.Meaning.{Meaning}
 use Rattle.nfs_history.specs.declared.history.Meaning.TheVariants as meanings
 use Rattle.nfs_history.specs.declared.history.RecordedCall.{RecordedCall}

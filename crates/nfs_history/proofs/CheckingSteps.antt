@@ -3,14 +3,14 @@ use Rattle.std.proofs.Common.{◌≡◌, ◌||◌, ◌&&◌, inl, inr, ℕ, zero
 use Rattle.std.specs.List.{list_any}
 use Rattle.std.specs.HashSet.{contains}
 use Rattle.std.proofs.lemmas.List.{length-map, take_more, map_push, drop_all}
-use Rattle.nfs_history.specs.declared.fault.HistoryFault.{HistoryFault}
-use Rattle.nfs_history.specs.declared.file.SeenEvent.{SeenEvent}
-use Rattle.nfs_history.specs.declared.file.SeenEvent.TheVariants as seen
+use Rattle.history_file.specs.declared.fault.HistoryFault.{HistoryFault}
+use Rattle.history_file.specs.declared.event.Event as owned
+use Rattle.history_file.specs.declared.event.Event.TheVariants as owns
 use Rattle.nfs_history.specs.declared.checking.OpenCalls.{OpenCalls}
-use Rattle.nfs_history.specs.FileReading.{event_value, event_values}
+use Rattle.history_file.specs.Owning.{happened, all_happened}
 use Rattle.nfs_history.specs.Matching.{same_key}
-use Rattle.nfs_history.specs.Event.{Event}
-use Rattle.nfs_history.specs.Event.Event.{call, reply, close}
+use Rattle.history_file.specs.Event.{Event}
+use Rattle.history_file.specs.Event.Event.{call, reply, close}
 use Rattle.nfs_history.specs.Calls.{xid_of}
 use Rattle.nfs_history.specs.Standing.{is_unanswered, MayFollow, EachMayFollow, InOneEra}
 use Rattle.nfs_history.specs.EventFaults.{IsAtFault, FirstEventFault}
@@ -49,31 +49,33 @@ knows_close before old new lane same updates knows = record {
 }
 
 -- the events below i may follow one another, and what they leave open is known
-pub record IsCheckedTo (events : List SeenEvent) (i : ℕ) (known : OpenCalls) : Type 0 where
-  pub others : EachMayFollow (event_values (take i events)) (event_values (drop i events)) → EachMayFollow [] (event_values events)
-  pub faults_are : (fault : HistoryFault) → FirstEventFault (event_values (take i events)) (event_values (drop i events)) fault → FirstEventFault [] (event_values events) fault
-  pub knows : Knows known (event_values (take i events))
+pub record IsCheckedTo (events : List owned.Event) (i : ℕ) (known : OpenCalls) : Type 0 where
+  pub others : EachMayFollow (all_happened (take i events)) (all_happened (drop i events)) → EachMayFollow [] (all_happened events)
+  pub faults_are : (fault : HistoryFault) → FirstEventFault (all_happened (take i events)) (all_happened (drop i events)) fault → FirstEventFault [] (all_happened events) fault
+  pub knows : Knows known (all_happened (take i events))
 
-one_taken : (events : List SeenEvent) (i : ℕ) (d : SeenEvent) → i < length events → event_values (take (i + 1) events) ≡ event_values (take i events) ++ event_value (get_or events i d) ∷ []
-one_taken events i d lt = ap event_values (take_more events i d lt) ∙ map_push event_value (take i events) (get_or events i d)
+one_taken : (events : List owned.Event) (i : ℕ) (e : owned.Event) → i < length events → e ≡ get_or events i e → all_happened (take (i + 1) events) ≡ all_happened (take i events) ++ happened e ∷ []
+one_taken events i e lt is =
+    ap all_happened (take_more events i e lt) ∙ map_push happened (take i events) (get_or events i e) ∙ ap (λ x. all_happened (take i events) ++ happened x ∷ []) (sym is)
 
-one_dropped : (events : List SeenEvent) (i : ℕ) (d : SeenEvent) → i < length events → event_values (drop i events) ≡ event_value (get_or events i d) ∷ event_values (drop (i + 1) events)
-one_dropped events i d lt = ap event_values (drop-cons events i d lt) ∙ ap (λ n. event_value (get_or events i d) ∷ event_values (drop n events)) (sym (add-one i))
+one_dropped : (events : List owned.Event) (i : ℕ) (e : owned.Event) → i < length events → e ≡ get_or events i e → all_happened (drop i events) ≡ happened e ∷ all_happened (drop (i + 1) events)
+one_dropped events i e lt is =
+    ap all_happened (drop-cons events i e lt) ∙ ap (λ n. happened (get_or events i e) ∷ all_happened (drop n events)) (sym (add-one i)) ∙ ap (λ x. happened x ∷ all_happened (drop (i + 1) events)) (sym is)
 
-pub checked_more : (events : List SeenEvent) (i : ℕ) (d : SeenEvent) (old new : OpenCalls) → i < length events
-    → MayFollow (event_values (take i events)) (event_value (get_or events i d))
-    → Knows new (event_values (take i events) ++ event_value (get_or events i d) ∷ [])
+pub checked_more : (events : List owned.Event) (i : ℕ) (e : owned.Event) (old new : OpenCalls) → i < length events → e ≡ get_or events i e
+    → MayFollow (all_happened (take i events)) (happened e)
+    → Knows new (all_happened (take i events) ++ happened e ∷ [])
     → IsCheckedTo events i old → IsCheckedTo events (i + 1) new
-checked_more events i d old new lt follows knows so_far =
-    let taken = one_taken events i d lt in
-    let dropped = one_dropped events i d lt in
+checked_more events i e old new lt is follows knows so_far =
+    let taken = one_taken events i e lt is in
+    let dropped = one_dropped events i e lt is in
     record {
       others = λ rest. so_far.others (rw dropped (follows, rw taken at rest));
       faults_are = λ fault rest. so_far.faults_are fault (rw dropped (inr (follows, rw taken at rest)));
       knows = rw taken knows;
     }
 
-pub none_checked : (events : List SeenEvent) (known : OpenCalls) → known.unanswered.keys ≡ [] → known.closed.keys ≡ [] → IsCheckedTo events 0 known
+pub none_checked : (events : List owned.Event) (known : OpenCalls) → known.unanswered.keys ≡ [] → known.closed.keys ≡ [] → IsCheckedTo events 0 known
 none_checked events known unanswered closed = record {
   others = λ all. all;
   faults_are = λ fault h. h;
@@ -83,24 +85,24 @@ none_checked events known unanswered closed = record {
   };
 }
 
-pub all_checked : (events : List SeenEvent) (i : ℕ) (known : OpenCalls) → length events ≤ i → IsCheckedTo events i known → EachMayFollow [] (event_values events)
+pub all_checked : (events : List owned.Event) (i : ℕ) (known : OpenCalls) → length events ≤ i → IsCheckedTo events i known → EachMayFollow [] (all_happened events)
 all_checked events i known le so_far = so_far.others (rw (drop_all i events le) tt)
 
 -- the event behind those that were checked is at fault
-pub first_here : (events : List SeenEvent) (i : ℕ) (d : SeenEvent) (known : OpenCalls) (fault : HistoryFault) → i < length events
-    → IsAtFault (i + 1) (event_values (take i events)) (event_value (get_or events i d)) fault
-    → IsCheckedTo events i known → FirstEventFault [] (event_values events) fault
-first_here events i d known fault lt h so_far =
-    let number : length (event_values (take i events)) ≡ i = length-map (take i events) event_value ∙ length-take-le i events (omega arith) in
-    so_far.faults_are fault (rw (one_dropped events i d lt) (inl (rw number h)))
+pub first_here : (events : List owned.Event) (i : ℕ) (e : owned.Event) (known : OpenCalls) (fault : HistoryFault) → i < length events → e ≡ get_or events i e
+    → IsAtFault (i + 1) (all_happened (take i events)) (happened e) fault
+    → IsCheckedTo events i known → FirstEventFault [] (all_happened events) fault
+first_here events i e known fault lt is h so_far =
+    let number : length (all_happened (take i events)) ≡ i = length-map (take i events) happened ∙ length-take-le i events (omega arith) in
+    so_far.faults_are fault (rw (one_dropped events i e lt is) (inl (rw number h)))
 
 -- each event of one era is no crash
-pub event_in_one_era : (events : List SeenEvent) (i : ℕ) (d : SeenEvent) → i < length events → InOneEra (event_values events) → InOneEra (event_value (get_or events i d) ∷ [])
+pub event_in_one_era : (events : List owned.Event) (i : ℕ) (d : owned.Event) → i < length events → InOneEra (all_happened events) → InOneEra (happened (get_or events i d) ∷ [])
 event_in_one_era [] i d lt one_era = absurd (omega arith)
-event_in_one_era (seen.Call lane message ∷ events) zero d lt one_era = tt
-event_in_one_era (seen.Reply lane message ∷ events) zero d lt one_era = tt
-event_in_one_era (seen.Close lane ∷ events) zero d lt one_era = tt
-event_in_one_era (seen.Crash ∷ events) i d lt one_era = absurd one_era
-event_in_one_era (seen.Call lane message ∷ events) (suc i) d lt one_era = event_in_one_era events i d (omega arith) one_era
-event_in_one_era (seen.Reply lane message ∷ events) (suc i) d lt one_era = event_in_one_era events i d (omega arith) one_era
-event_in_one_era (seen.Close lane ∷ events) (suc i) d lt one_era = event_in_one_era events i d (omega arith) one_era
+event_in_one_era (owns.Call lane message ∷ events) zero d lt one_era = tt
+event_in_one_era (owns.Reply lane message ∷ events) zero d lt one_era = tt
+event_in_one_era (owns.Close lane ∷ events) zero d lt one_era = tt
+event_in_one_era (owns.Crash ∷ events) i d lt one_era = absurd one_era
+event_in_one_era (owns.Call lane message ∷ events) (suc i) d lt one_era = event_in_one_era events i d (omega arith) one_era
+event_in_one_era (owns.Reply lane message ∷ events) (suc i) d lt one_era = event_in_one_era events i d (omega arith) one_era
+event_in_one_era (owns.Close lane ∷ events) (suc i) d lt one_era = event_in_one_era events i d (omega arith) one_era

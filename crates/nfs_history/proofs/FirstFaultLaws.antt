@@ -3,16 +3,16 @@ use Rattle.std.proofs.Common.{◌≡◌, ◌⊎◌, inl, inr, ℕ, ◌+◌, Bool
 use Rattle.std.specs.List.{starts_with}
 use Rattle.xdr_records.specs.Reading.{all_of, kinds}
 use Rattle.xdr_records.proofs.Laws.{all_again}
-use Rattle.nfs_history.specs.declared.fault.HistoryFault.{HistoryFault}
-use Rattle.nfs_history.specs.declared.fault.HistoryFault.TheVariants as faults
+use Rattle.history_file.specs.declared.fault.HistoryFault.{HistoryFault}
+use Rattle.history_file.specs.declared.fault.HistoryFault.TheVariants as faults
 use Rattle.nfs_history.specs.declared.history.History.{History}
 use Rattle.nfs_history.specs.declared.history.RecordedCall.{RecordedCall}
 use Rattle.nfs_history.specs.History.{AreRecorded}
 use Rattle.rpc_reader.specs.Values.{Body}
-use Rattle.nfs_history.specs.Event.{Event, Recording}
-use Rattle.nfs_history.specs.Event.Event.{call, reply, close, crash}
-use Rattle.nfs_history.specs.HistoryFile.{HistoryFile, kind_of, recording, magic}
-use Rattle.nfs_history.specs.FileReading.{IsAnswer, recording_value, file_of}
+use Rattle.history_file.specs.Event.{Event, Recording}
+use Rattle.history_file.specs.Event.Event.{call, reply, close, crash}
+use Rattle.history_file.specs.HistoryFile.{HistoryFile, kind_of, recording, magic}
+use Rattle.history_file.specs.FileReading.{IsAnswer, recording_value, file_of}
 use Rattle.nfs_history.specs.Calls.{ReplyEvent, CallEvent, first_reply, calls_from, calls_of, xid_of}
 use Rattle.nfs_history.specs.Standing.{InOneEra, EachMayFollow}
 use Rattle.nfs_history.specs.Effects.{Says}
@@ -20,9 +20,9 @@ use Rattle.nfs_history.specs.EventFaults.{FirstEventFault, IsFineOrNoMemory, IsE
 use Rattle.nfs_history.specs.CallFaults.{FirstCallFault, AreReadable}
 use Rattle.nfs_history.specs.Later.{first_crash}
 use Rattle.nfs_history.specs.FirstFault.{AreKnown, FirstFaultOf, FirstFault, IsHistoryOf, IsHistoryFile}
-use Rattle.nfs_history.specs.Owning.{all_happened}
+use Rattle.history_file.specs.Owning.{all_happened}
 use Rattle.nfs_history.proofs.HistoryLaws.{one_era}
-use Rattle.nfs_history.proofs.FileLaws.{file_of-body}
+use Rattle.history_file.proofs.FileLaws.{file_of-body}
 use Rattle.nfs_history.proofs.EventFaultLaws.{first_fault_or_fine, one_first_fault}
 use Rattle.nfs_history.proofs.CallFaultLaws.{first_call_fault_or_fine, one_first_call_fault, all_fine}
 

@@ -1,9 +1,9 @@
 -- What is read of a file is a history.
 use Rattle.std.proofs.Common.{◌≡◌, ◌≤◌, ℕ, ◌+◌, List, [], ◌∷◌, length, None, subst, refl}
 use Rattle.xdr_records.specs.Spelling.{Spells}
-use Rattle.nfs_history.specs.Event.{Event, Recording}
-use Rattle.nfs_history.specs.Event.Event.{call, reply, close, crash}
-use Rattle.nfs_history.specs.HistoryFile.{HistoryFile, recording}
+use Rattle.history_file.specs.Event.{Event, Recording}
+use Rattle.history_file.specs.Event.Event.{call, reply, close, crash}
+use Rattle.history_file.specs.HistoryFile.{HistoryFile, recording}
 use Rattle.nfs_history.specs.Calls.{eras_from}
 use Rattle.nfs_history.specs.Standing.{InOneEra}
 use Rattle.nfs_history.specs.Later.{first_crash}

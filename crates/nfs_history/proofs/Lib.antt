@@ -1,5 +1,3 @@
-pub mod EventLoop
-pub mod FileLaws
 pub mod MatchingSteps
 pub mod Unanswered
 pub mod CheckingSteps
@@ -8,4 +6,3 @@ pub mod CallFaultLaws
 pub mod JudgingSteps
 pub mod FirstFaultLaws
 pub mod HistoryLaws
-pub mod WritingSteps

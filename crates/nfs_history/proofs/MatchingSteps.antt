@@ -3,14 +3,14 @@ use Rattle.std.proofs.Common.{◌≡◌, ℕ, zero, suc, ◌+◌, ◌-◌, ◌<�
 use Rattle.std.specs.HashMap.{get, IsEmpty}
 use Rattle.std.specs.Map.{lookup}
 use Rattle.std.proofs.lemmas.List.{reverse-append}
-use Rattle.nfs_history.specs.declared.file.SeenEvent.{SeenEvent}
-use Rattle.nfs_history.specs.declared.file.SeenEvent.TheVariants as seen
-use Rattle.nfs_history.specs.FileReading.{event_value, event_values}
+use Rattle.history_file.specs.declared.event.Event as owned
+use Rattle.history_file.specs.declared.event.Event.TheVariants as owns
+use Rattle.history_file.specs.Owning.{happened, all_happened}
 use Rattle.std.specs.declared.hash.FoldHasher.{FoldHasher}
 use Rattle.nfs_history.specs.declared.matching.SeenReply.{SeenReply}
 use Rattle.nfs_history.specs.declared.matching.SeenCall.{SeenCall}
-use Rattle.nfs_history.specs.Event.{Event}
-use Rattle.nfs_history.specs.Event.Event.{call, reply, close}
+use Rattle.history_file.specs.Event.{Event}
+use Rattle.history_file.specs.Event.Event.{call, reply, close}
 use Rattle.nfs_history.specs.Calls.{ReplyEvent, CallEvent, first_reply, calls_from, xid_of}
 use Rattle.nfs_history.specs.Matching.{seen_reply, seen_call, same_key}
 use Rattle.nfs_history.specs.Standing.{InOneEra}
@@ -64,26 +64,26 @@ pub met_close : (k lane : ℕ) (events : List Event) (table : Table) (calls : Li
 met_close k lane events table calls matched = record { calls_are = matched.calls_are; table_is = matched.table_is }
 
 -- the event before the place i, and what stands behind it
-pub one_before : (events : List SeenEvent) (i : ℕ) (d e : SeenEvent) → 0 < i → i ≤ length events → get_or events (i - 1) d ≡ e → event_values (drop (i - 1) events) ≡ event_value e ∷ event_values (drop ((i - 1) + 1) events)
+pub one_before : (events : List owned.Event) (i : ℕ) (d e : owned.Event) → 0 < i → i ≤ length events → get_or events (i - 1) d ≡ e → all_happened (drop (i - 1) events) ≡ happened e ∷ all_happened (drop ((i - 1) + 1) events)
 one_before events i d e some within is =
     let k : ℕ = i - 1 in
     let lt : k < length events = omega arith in
-    ap event_values (drop-cons events k d lt) ∙ ap (λ x. event_value x ∷ event_values (drop (suc k) events)) is ∙ ap (λ n. event_value e ∷ event_values (drop n events)) (sym (add-one k))
+    ap all_happened (drop-cons events k d lt) ∙ ap (λ x. happened x ∷ all_happened (drop (suc k) events)) is ∙ ap (λ n. happened e ∷ all_happened (drop n events)) (sym (add-one k))
 
 -- no event is a crash
-pub no_crash : (events : List SeenEvent) (k : ℕ) (d : SeenEvent) → k < length events → InOneEra (event_values events) → get_or events k d ≡ seen.Crash → ⊥
+pub no_crash : (events : List owned.Event) (k : ℕ) (d : owned.Event) → k < length events → InOneEra (all_happened events) → get_or events k d ≡ owns.Crash → ⊥
 no_crash [] k d lt one_era is = absurd (omega arith)
-no_crash (seen.Call lane message ∷ events) zero d lt one_era is = cc
-no_crash (seen.Reply lane message ∷ events) zero d lt one_era is = cc
-no_crash (seen.Close lane ∷ events) zero d lt one_era is = cc
-no_crash (seen.Crash ∷ events) zero d lt one_era is = one_era
-no_crash (seen.Call lane message ∷ events) (suc k) d lt one_era is = no_crash events k d (omega arith) one_era is
-no_crash (seen.Reply lane message ∷ events) (suc k) d lt one_era is = no_crash events k d (omega arith) one_era is
-no_crash (seen.Close lane ∷ events) (suc k) d lt one_era is = no_crash events k d (omega arith) one_era is
-no_crash (seen.Crash ∷ events) (suc k) d lt one_era is = absurd one_era
+no_crash (owns.Call lane message ∷ events) zero d lt one_era is = cc
+no_crash (owns.Reply lane message ∷ events) zero d lt one_era is = cc
+no_crash (owns.Close lane ∷ events) zero d lt one_era is = cc
+no_crash (owns.Crash ∷ events) zero d lt one_era is = one_era
+no_crash (owns.Call lane message ∷ events) (suc k) d lt one_era is = no_crash events k d (omega arith) one_era is
+no_crash (owns.Reply lane message ∷ events) (suc k) d lt one_era is = no_crash events k d (omega arith) one_era is
+no_crash (owns.Close lane ∷ events) (suc k) d lt one_era is = no_crash events k d (omega arith) one_era is
+no_crash (owns.Crash ∷ events) (suc k) d lt one_era is = absurd one_era
 
 -- the place before i, with what is known behind i
-pub behind_it : (events : List SeenEvent) (i : ℕ) (table : Table) (calls : List SeenCall) → 0 < i → IsMatched i (event_values (drop i events)) table calls → IsMatched ((i - 1) + 1) (event_values (drop ((i - 1) + 1) events)) table calls
+pub behind_it : (events : List owned.Event) (i : ℕ) (table : Table) (calls : List SeenCall) → 0 < i → IsMatched i (all_happened (drop i events)) table calls → IsMatched ((i - 1) + 1) (all_happened (drop ((i - 1) + 1) events)) table calls
 behind_it events i table calls some matched =
     let same : i ≡ (i - 1) + 1 = omega arith in
-    subst (λ n. IsMatched n (event_values (drop n events)) table calls) same matched
+    subst (λ n. IsMatched n (all_happened (drop n events)) table calls) same matched

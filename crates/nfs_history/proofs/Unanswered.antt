@@ -2,8 +2,8 @@
 use Rattle.std.proofs.Common.{◌≡◌, ◌==◌, ◌&&◌, ◌||◌, ℕ, ◌+◌, Bool, true, false, not, cond, is_none, List, [], ◌∷◌, ◌++◌, Option, Some, None, refl, sym, ap, ◌∙◌}
 use Rattle.std.specs.List.{list_any}
 use Rattle.std.proofs.lemmas.Bool.{eqb-true}
-use Rattle.nfs_history.specs.Event.{Event}
-use Rattle.nfs_history.specs.Event.Event.{call, reply, close, crash}
+use Rattle.history_file.specs.Event.{Event}
+use Rattle.history_file.specs.Event.Event.{call, reply, close, crash}
 use Rattle.nfs_history.specs.Calls.{ReplyEvent, CallEvent, first_reply, calls_from, xid_of}
 use Rattle.nfs_history.specs.Standing.{is_unanswered, is_closed_behind}
 

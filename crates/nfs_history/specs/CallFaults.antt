@@ -1,5 +1,5 @@
 -- The first call at fault, and why.
-use Rattle.std.specs.Prelude.{◌≡◌, ◌⊎◌, ◌==◌, ◌||◌, nat_lt, ℕ, ◌+◌, if◌then◌else◌, List, [], ◌∷◌, length, Option, Some, None, option_map, Result, Ok, Err}
+use Rattle.std.specs.Prelude.{◌≡◌, ◌⊎◌, ◌==◌, nat_lt, ℕ, ◌+◌, if◌then◌else◌, List, [], ◌∷◌, length, Option, Some, None, option_map, Result, Ok, Err}
 use Rattle.std.specs.List.{AllByRecursion}
 use Rattle.nfs3_types.specs.declared.calls.NfsCall.{NfsCall}
 use Rattle.nfs3_types.specs.declared.replies.NfsReply.{NfsReply}
@@ -10,10 +10,10 @@ use Rattle.rpc_reader.specs.Messages.{IsCall}
 use Rattle.xdr_records.specs.Unread.{At}
 use Rattle.nfs3_msgs.specs.declared.fault.Kind.{Kind}
 use Rattle.nfs3_msgs.specs.Messages.{arguments_of, result_of}
-use Rattle.nfs_history.specs.declared.fault.Which.{Which}
-use Rattle.nfs_history.specs.declared.fault.Which.TheVariants as which
-use Rattle.nfs_history.specs.declared.fault.HistoryFault.{HistoryFault}
-use Rattle.nfs_history.specs.declared.fault.HistoryFault.TheVariants as faults
+use Rattle.history_file.specs.declared.fault.Which.{Which}
+use Rattle.history_file.specs.declared.fault.Which.TheVariants as which
+use Rattle.history_file.specs.declared.fault.HistoryFault.{HistoryFault}
+use Rattle.history_file.specs.declared.fault.HistoryFault.TheVariants as faults
 use Rattle.nfs_history.specs.declared.history.Meaning.{Meaning}
 use Rattle.nfs_history.specs.Calls.{CallEvent}
 use Rattle.nfs_history.specs.Effects.{Says, results_of, is_judged, has_no_effect}

@@ -2,8 +2,8 @@
 -- that matches it). Events, calls and eras are numbered from 1.
 use Rattle.std.specs.Prelude.{◌==◌, ◌&&◌, ℕ, ◌+◌, nat_lt, if◌then◌else◌, List, [], ◌∷◌, length, Option, Some, None}
 use Rattle.xdr_records.specs.Items.{word_of}
-use Rattle.nfs_history.specs.Event.{Event}
-use Rattle.nfs_history.specs.Event.Event.{call, reply, close, crash}
+use Rattle.history_file.specs.Event.{Event}
+use Rattle.history_file.specs.Event.Event.{call, reply, close, crash}
 
 -- the transaction number of a message, its first word (RFC 5531, section 9)
 unfoldable pub xid_of : List ℕ → ℕ

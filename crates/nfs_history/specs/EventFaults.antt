@@ -2,10 +2,10 @@
 use Rattle.std.specs.Prelude.{◌≡◌, ◌⊎◌, ℕ, ◌+◌, true, false, List, [], ◌∷◌, ◌++◌, length, Option, Some, None, Result, Ok, Err}
 use Rattle.rpc_reader.specs.Values.{CallValue, ReplyValue}
 use Rattle.rpc_reader.specs.Messages.{IsCall, IsReply}
-use Rattle.nfs_history.specs.declared.fault.HistoryFault.{HistoryFault}
-use Rattle.nfs_history.specs.declared.fault.HistoryFault.TheVariants as faults
-use Rattle.nfs_history.specs.Event.{Event}
-use Rattle.nfs_history.specs.Event.Event.{call, reply, close, crash}
+use Rattle.history_file.specs.declared.fault.HistoryFault.{HistoryFault}
+use Rattle.history_file.specs.declared.fault.HistoryFault.TheVariants as faults
+use Rattle.history_file.specs.Event.{Event}
+use Rattle.history_file.specs.Event.Event.{call, reply, close, crash}
 use Rattle.nfs_history.specs.Calls.{xid_of}
 use Rattle.nfs_history.specs.Standing.{has_unanswered, is_closed, MayFollow}
 

@@ -1,12 +1,12 @@
 -- The first fault of a file of a history: those of the file, then those of its events, then those of its calls.
 use Rattle.std.specs.Prelude.{◌≡◌, ◌⊎◌, ℕ, List, [], Some, Err}
-use Rattle.nfs_history.specs.declared.fault.HistoryFault.{HistoryFault}
-use Rattle.nfs_history.specs.declared.fault.HistoryFault.TheVariants as faults
+use Rattle.history_file.specs.declared.fault.HistoryFault.{HistoryFault}
+use Rattle.history_file.specs.declared.fault.HistoryFault.TheVariants as faults
 use Rattle.nfs_history.specs.declared.history.History.{History}
 use Rattle.nfs_history.specs.declared.history.RecordedCall.{RecordedCall}
-use Rattle.nfs_history.specs.Event.{Event, Recording}
-use Rattle.nfs_history.specs.HistoryFile.{HistoryFile}
-use Rattle.nfs_history.specs.FileReading.{file_of}
+use Rattle.history_file.specs.Event.{Event, Recording}
+use Rattle.history_file.specs.HistoryFile.{HistoryFile}
+use Rattle.history_file.specs.FileReading.{file_of}
 use Rattle.nfs_history.specs.Calls.{calls_of}
 use Rattle.nfs_history.specs.Standing.{InOneEra, EachMayFollow}
 use Rattle.nfs_history.specs.EventFaults.{FirstEventFault}

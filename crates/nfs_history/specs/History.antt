@@ -14,16 +14,16 @@ use Rattle.nfs3_types.specs.declared.replies.Outcome.TheVariants as outcomes
 use Rattle.rpc_reader.specs.Values.{CallValue, Body}
 use Rattle.rpc_reader.specs.Messages.{IsCall}
 use Rattle.nfs3_msgs.specs.Messages.{IsArguments, IsResult}
-use Rattle.nfs_history.specs.declared.fault.Which.{Which}
-use Rattle.nfs_history.specs.declared.fault.Which.TheVariants as which
+use Rattle.history_file.specs.declared.fault.Which.{Which}
+use Rattle.history_file.specs.declared.fault.Which.TheVariants as which
 use Rattle.nfs_history.specs.declared.history.Meaning.{Meaning}
 use Rattle.nfs_history.specs.declared.history.Meaning.TheVariants as meanings
 use Rattle.nfs_history.specs.declared.history.RecordedCall.{RecordedCall}
 use Rattle.nfs_history.specs.declared.history.History.{History}
-use Rattle.nfs_history.specs.Event.{Recording}
+use Rattle.history_file.specs.Event.{Recording}
 use Rattle.nfs_history.specs.Calls.{CallEvent, calls_of, eras_from, xid_of}
 use Rattle.nfs_history.specs.Standing.{EachMayFollow}
-use Rattle.nfs_history.specs.Owning.{all_happened}
+use Rattle.history_file.specs.Owning.{all_happened}
 use Rattle.nfs_history.specs.Effects.{Says, was_refused, results_of, is_judged, has_no_effect}
 
 -- the most bytes of a file

@@ -1,7 +1,7 @@
 -- A server that went down is judged later.
 use Rattle.std.specs.Prelude.{ℕ, ◌+◌, List, [], ◌∷◌, Option, Some, None}
-use Rattle.nfs_history.specs.Event.{Event}
-use Rattle.nfs_history.specs.Event.Event.{call, reply, close, crash}
+use Rattle.history_file.specs.Event.{Event}
+use Rattle.history_file.specs.Event.Event.{call, reply, close, crash}
 
 -- the first crash among events that are numbered from i on
 abbrev pub first_crash : ℕ → List Event → Option ℕ

@@ -1,6 +1,3 @@
-pub mod Event
-pub mod HistoryFile
-pub mod FileReading
 pub mod Calls
 pub mod Matching
 pub mod Precedence
@@ -8,9 +5,7 @@ pub mod Standing
 pub mod EventFaults
 pub mod Checking
 pub mod Effects
-pub mod Owning
 pub mod History
 pub mod CallFaults
 pub mod FirstFault
-pub mod Writing
 pub mod Later

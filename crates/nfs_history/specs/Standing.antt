@@ -5,8 +5,8 @@ use Rattle.std.specs.Prelude.{◌≡◌, ◌==◌, ◌&&◌, ◌||◌, ℕ, Bool
 use Rattle.std.specs.List.{list_any}
 use Rattle.rpc_reader.specs.Values.{CallValue, ReplyValue}
 use Rattle.rpc_reader.specs.Messages.{IsCall, IsReply}
-use Rattle.nfs_history.specs.Event.{Event}
-use Rattle.nfs_history.specs.Event.Event.{call, reply, close, crash}
+use Rattle.history_file.specs.Event.{Event}
+use Rattle.history_file.specs.Event.Event.{call, reply, close, crash}
 use Rattle.nfs_history.specs.Calls.{CallEvent, calls_of, xid_of}
 
 -- a call with this transaction number is unanswered on the lane

@@ -1,16 +1,15 @@
 //! Whether the events of a recording may follow one another.
 
-ghost use Rattle.std.specs.Prelude.{List, [], ◌∷◌, ◌++◌, OnOk};
-ghost use Rattle.nfs_history.specs.Event.{Event};
-ghost use Rattle.nfs_history.specs.FileReading.{event_value, event_values};
-ghost use Rattle.nfs_history.specs.Standing.{MayFollow, EachMayFollow, InOneEra};
-ghost use Rattle.nfs_history.specs.EventFaults.{FirstEventFault, IsFaultOf, IsFineOrNoMemory, IsErrorOf, IsThatOrNoMemory};
-ghost use Rattle.nfs_history.specs.Checking.{Knows};
-ghost use Rattle.nfs_history.specs.declared.fault.HistoryFault.{HistoryFault};
+ghost use Rattle.std.specs.Prelude.{[], OnOk};
+ghost use Rattle.history_file.specs.Event.Event.{call, reply};
+ghost use Rattle.history_file.specs.Owning.{happened, all_happened};
+ghost use Rattle.nfs_history.specs.Standing.{EachMayFollow, InOneEra};
+ghost use Rattle.nfs_history.specs.EventFaults.{FirstEventFault, IsFineOrNoMemory, IsErrorOf, IsThatOrNoMemory};
+ghost use Rattle.nfs_history.specs.Checking.{IsFaultBehind, KnowsOneMore};
+ghost use Rattle.history_file.specs.declared.fault.HistoryFault.{HistoryFault};
 
-use crate::fault::HistoryFault;
-use crate::file::SeenEvent;
 use crate::matching::transaction;
+use history_file::{Event, HistoryFault, Message};
 use indexmap::IndexSet;
 use rpc_reader::{read_call, read_reply};
 use std::alloc::{AllocError, Global};
@@ -25,74 +24,88 @@ pub struct OpenCalls {
 }
 
 impl OpenCalls {
+    /// Why a call may not come next, as event `number`.
+    fn fault_of_call(&self, number: u64, lane: u32, message: &Message) -> Option<HistoryFault>
+        ensures { IsFaultBehind self.now number (call lane message.now) result }
+    {
+        let message = message.as_slice();
+        if self.closed.contains(&lane) {
+            return Some(HistoryFault::LaneClosed(number));
+        }
+        if read_call(message).is_err() {
+            return Some(HistoryFault::BadRpc(number));
+        }
+        if self.unanswered.contains(&(lane, transaction(message))) {
+            return Some(HistoryFault::XidInUse(number));
+        }
+        None
+    }
+
+    /// Why a reply may not come next, as event `number`.
+    fn fault_of_reply(&self, number: u64, lane: u32, message: &Message) -> Option<HistoryFault>
+        ensures { IsFaultBehind self.now number (reply lane message.now) result }
+    {
+        let message = message.as_slice();
+        if self.closed.contains(&lane) {
+            return Some(HistoryFault::LaneClosed(number));
+        }
+        if read_reply(message).is_err() {
+            return Some(HistoryFault::BadRpc(number));
+        }
+        if !self.unanswered.contains(&(lane, transaction(message))) {
+            return Some(HistoryFault::NoSuchCall(number));
+        }
+        None
+    }
+
     /// Why event `number` may not come next.
-    fn fault_of(&self, number: u64, event: SeenEvent<'_>) -> Option<HistoryFault>
-        ensures { (before : List Event) → Knows self.now before → IsFaultOf number before (event_value event.entry) result }
+    fn fault_of(&self, number: u64, event: &Event) -> Option<HistoryFault>
+        ensures { IsFaultBehind self.now number (happened event.now) result }
     {
         match event {
-            SeenEvent::Call { lane, message } => {
-                if self.closed.contains(&lane) {
-                    return Some(HistoryFault::LaneClosed(number));
-                }
-                if read_call(message).is_err() {
-                    return Some(HistoryFault::BadRpc(number));
-                }
-                if self.unanswered.contains(&(lane, transaction(message))) {
-                    return Some(HistoryFault::XidInUse(number));
-                }
-                None
-            }
-            SeenEvent::Reply { lane, message } => {
-                if self.closed.contains(&lane) {
-                    return Some(HistoryFault::LaneClosed(number));
-                }
-                if read_reply(message).is_err() {
-                    return Some(HistoryFault::BadRpc(number));
-                }
-                if !self.unanswered.contains(&(lane, transaction(message))) {
-                    return Some(HistoryFault::NoSuchCall(number));
-                }
-                None
-            }
-            SeenEvent::Close { lane } => {
-                if self.closed.contains(&lane) {
+            Event::Call { lane, message } => self.fault_of_call(number, *lane, message),
+            Event::Reply { lane, message } => self.fault_of_reply(number, *lane, message),
+            Event::Close { lane } => {
+                if self.closed.contains(lane) {
                     return Some(HistoryFault::LaneClosed(number));
                 }
                 None
             }
-            SeenEvent::Crash => None,
+            Event::Crash => None,
         }
     }
 
     /// Takes in the next event, but for a crash.
-    fn follow(&mut self, event: SeenEvent<'_>) -> Result<(), AllocError>
-        ensures { OnOk result ((before : List Event) → Knows self.old before → InOneEra (event_value event.entry ∷ []) → Knows self.new (before ++ event_value event.entry ∷ [])) }
+    fn follow(&mut self, event: &Event) -> Result<(), AllocError>
+        ensures { OnOk result (KnowsOneMore self.old self.new (happened event.now)) }
     {
         match event {
-            SeenEvent::Call { lane, message } => {
-                self.unanswered.insert((lane, transaction(message)))?;
+            Event::Call { lane, message } => {
+                self.unanswered
+                    .insert((*lane, transaction(message.as_slice())))?;
             }
-            SeenEvent::Reply { lane, message } => {
-                self.unanswered.swap_remove(&(lane, transaction(message)));
+            Event::Reply { lane, message } => {
+                self.unanswered
+                    .swap_remove(&(*lane, transaction(message.as_slice())));
             }
-            SeenEvent::Close { lane } => {
-                self.closed.insert(lane)?;
+            Event::Close { lane } => {
+                self.closed.insert(*lane)?;
             }
-            SeenEvent::Crash => {}
+            Event::Crash => {}
         }
         Ok(())
     }
 }
 
 /// Refuses the first event that may not follow those before it.
-pub fn check_events(alloc: Global, events: &[SeenEvent<'_>]) -> Result<(), HistoryFault>
-    requires { InOneEra (event_values events.now) }
-    ensures follow { OnOk result (EachMayFollow [] (event_values events.now)) }
+pub fn check_events(alloc: Global, events: &[Event]) -> Result<(), HistoryFault>
+    requires { InOneEra (all_happened events.now) }
+    ensures follow { OnOk result (EachMayFollow [] (all_happened events.now)) }
     // Where each may follow, nothing is refused, memory aside.
-    ensures only { EachMayFollow [] (event_values events.now) → IsFineOrNoMemory result }
-    ensures fault { IsErrorOf (FirstEventFault [] (event_values events.now)) result }
+    ensures only { EachMayFollow [] (all_happened events.now) → IsFineOrNoMemory result }
+    ensures fault { IsErrorOf (FirstEventFault [] (all_happened events.now)) result }
     // The first event at fault is named, memory aside.
-    ensures named { (fault : HistoryFault) → FirstEventFault [] (event_values events.now) fault
+    ensures named { (fault : HistoryFault) → FirstEventFault [] (all_happened events.now) fault
         → IsThatOrNoMemory fault result }
 {
     let mut calls = OpenCalls {
@@ -100,10 +113,10 @@ pub fn check_events(alloc: Global, events: &[SeenEvent<'_>]) -> Result<(), Histo
         closed: IndexSet::new(alloc),
     };
     for (index, event) in events.iter().enumerate() {
-        if let Some(fault) = calls.fault_of(index as u64 + 1, *event) {
+        if let Some(fault) = calls.fault_of(index as u64 + 1, event) {
             return Err(fault);
         }
-        calls.follow(*event)?;
+        calls.follow(event)?;
     }
     Ok(())
 }

@@ -4,7 +4,7 @@ ghost use Rattle.std.specs.Prelude.{◌≡◌, option_map, option_and_then};
 ghost use Rattle.std.specs.Option.{option_copied};
 ghost use Rattle.nfs_history.specs.Precedence.{call_at, end_of};
 
-use crate::event::{Event, Events};
+use history_file::{Event, Events};
 use nfs3_types::{FileHandle, NfsCall, Outcome};
 use std::marker::Model;
 

@@ -10,12 +10,12 @@ ghost use Rattle.nfs_history.specs.Effects.{Says, was_refused, results_of, has_f
 ghost use Rattle.nfs_history.specs.History.{asked_size, failed, reply_failed, too_far, outside, CameOut, IsKnownAs, IsRecorded, AreRecorded};
 ghost use Rattle.nfs_history.specs.CallFaults.{left_out, which_left_out, outside_fault, result_fault, judged_fault, fault_of, IsCallFault, IsFine, FirstCallFault, IsReadable, AreReadable};
 ghost use Rattle.nfs_history.specs.EventFaults.{IsFineOrNoMemory, IsErrorOf, IsThatOrNoMemory};
-ghost use Rattle.nfs_history.specs.declared.fault.HistoryFault.{HistoryFault};
+ghost use Rattle.history_file.specs.declared.fault.HistoryFault.{HistoryFault};
 
-use crate::fault::{HistoryFault, Which};
 use crate::history::{Meaning, RecordedCall};
 use crate::matching::{SeenCall, SeenReply, transaction};
 use byteorder::{BigEndian, ByteOrder};
+use history_file::{HistoryFault, Which};
 use nfs3_msgs::{MessageFault, read_args, read_result};
 use nfs3_types::{Answer, CreateMode, NfsCall, NfsReply, Outcome};
 use rpc_reader::{CallHead, ReplyBody, read_call, read_reply};
@@ -319,7 +319,7 @@ pub fn judged_calls(alloc: Global, seen: &[SeenCall<'_>]) -> Result<Vec<Recorded
     ensures named { (fault : HistoryFault) → FirstCallFault 1 (map seen_call seen.now) fault
         → IsThatOrNoMemory fault result }
 {
-    let mut calls = Vec::new(alloc);
+    let mut calls = Vec::with_capacity(alloc, seen.len())?;
     for (index, call) in seen.iter().enumerate() {
         let call = judged_call(alloc, index as u64 + 1, call)?;
         calls.push(call)?;

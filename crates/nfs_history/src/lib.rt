@@ -2,22 +2,15 @@
 #![tactic(auto)]
 
 mod checking;
-mod event;
-mod fault;
-mod file;
 mod history;
 mod judging;
 mod matching;
 mod not_yet;
-mod owning;
 mod reading;
-mod writing;
 
-pub use event::{Event, Events, Message};
-pub use fault::{HistoryFault, Which};
 pub use history::{History, Meaning, RecordedCall, RecordedCalls, find_call};
+pub use history_file::{Event, Events, HistoryFault, Message, Which, WriteFault, write_history};
 pub use reading::read_history;
-pub use writing::{WriteFault, write_history};
 
 #[cfg(test)]
 mod tests;

@@ -3,11 +3,11 @@
 ghost use Rattle.std.specs.Prelude.{◌≡◌, IfOk, map};
 ghost use Rattle.nfs_history.specs.Calls.{xid_of, calls_of};
 ghost use Rattle.nfs_history.specs.Matching.{seen_call};
-ghost use Rattle.nfs_history.specs.FileReading.{event_values};
+ghost use Rattle.history_file.specs.Owning.{all_happened};
 ghost use Rattle.nfs_history.specs.Standing.{InOneEra};
 
-use crate::file::SeenEvent;
 use byteorder::{BigEndian, ByteOrder};
+use history_file::Event;
 use indexmap::IndexMap;
 use std::alloc::{AllocError, Global};
 
@@ -43,29 +43,32 @@ pub fn transaction(message: &[u8]) -> u32
 /// transaction number. It goes from the last event to the first, so that a call finds its reply met.
 pub fn matched_calls<'a>(
     alloc: Global,
-    events: &[SeenEvent<'a>],
+    events: &'a [Event],
 ) -> Result<Vec<SeenCall<'a>>, AllocError>
-    requires { InOneEra (event_values events.now) }
-    ensures { IfOk result (λ v. map seen_call v.items ≡ calls_of (event_values events.now)) }
+    requires { InOneEra (all_happened events.now) }
+    ensures { IfOk result (λ v. map seen_call v.items ≡ calls_of (all_happened events.now)) }
 {
     let mut replies: IndexMap<(u32, u32), SeenReply<'a>> = IndexMap::new(alloc);
     let mut calls = Vec::new(alloc);
     for index in (0..events.len()).rev() {
         let number = index as u64 + 1;
-        match events[index] {
-            SeenEvent::Call { lane, message } => {
-                let answer = replies.get(&(lane, transaction(message))).copied();
+        match &events[index] {
+            Event::Call { lane, message } => {
+                let message = message.as_slice();
+                let answer = replies.get(&(*lane, transaction(message))).copied();
                 calls.push(SeenCall {
-                    lane,
+                    lane: *lane,
                     message,
                     begin: number,
                     answer,
                 })?;
             }
-            SeenEvent::Reply { lane, message } => {
-                replies.insert((lane, transaction(message)), SeenReply { number, message })?;
+            Event::Reply { lane, message } => {
+                let message = message.as_slice();
+                replies.insert((*lane, transaction(message)), SeenReply { number, message })?;
             }
-            SeenEvent::Close { .. } | SeenEvent::Crash => {}
+            Event::Close { .. } => {}
+            Event::Crash => {}
         }
     }
     calls.reverse();

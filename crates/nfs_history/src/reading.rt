@@ -1,30 +1,26 @@
 //! A history file, read and checked.
 
-ghost use Rattle.std.specs.Prelude.{◌≡◌, ◌≤◌, length, IfOk};
-ghost use Rattle.nfs_history.specs.Event.{Recording};
-ghost use Rattle.nfs_history.specs.FileReading.{event_values};
+ghost use Rattle.std.specs.Prelude.{IfOk};
+ghost use Rattle.history_file.specs.Event.{Recording};
 ghost use Rattle.nfs_history.specs.EventFaults.{IsFineOrNoMemory, IsErrorOf, IsThatOrNoMemory};
-ghost use Rattle.nfs_history.specs.Owning.{all_happened};
+ghost use Rattle.history_file.specs.Owning.{all_happened};
 ghost use Rattle.nfs_history.specs.FirstFault.{AreKnown, FirstFaultOf, FirstFault, IsHistoryOf, IsHistoryFile};
-ghost use Rattle.nfs_history.specs.declared.fault.HistoryFault.{HistoryFault};
+ghost use Rattle.history_file.specs.declared.fault.HistoryFault.{HistoryFault};
 ghost use Rattle.nfs_history.specs.declared.history.History.{History};
 
 use crate::checking::check_events;
-use crate::event::{Event, Events};
-use crate::fault::HistoryFault;
-use crate::file::{SeenEvent, read_file};
 use crate::history::{History, RecordedCall, RecordedCalls};
 use crate::judging::judged_calls;
 use crate::matching::matched_calls;
 use crate::not_yet::first_crash;
-use crate::owning::{owned_events, pointed_events};
+use history_file::{Event, Events, HistoryFault, read_file};
 use nfs3_types::FileHandle;
 use std::alloc::Global;
 
 /// What is known of the calls among these events.
-fn known_calls(alloc: Global, events: &[SeenEvent<'_>]) -> Result<Vec<RecordedCall>, HistoryFault>
-    ensures found { IfOk result (λ v. AreKnown (event_values events.now) v.items) }
-    ensures fault { IsErrorOf (FirstFaultOf (event_values events.now)) result }
+fn known_calls(alloc: Global, events: &[Event]) -> Result<Vec<RecordedCall>, HistoryFault>
+    ensures found { IfOk result (λ v. AreKnown (all_happened events.now) v.items) }
+    ensures fault { IsErrorOf (FirstFaultOf (all_happened events.now)) result }
 {
     if let Some(number) = first_crash(events) {
         return Err(HistoryFault::NotYet(number));
@@ -32,31 +28,6 @@ fn known_calls(alloc: Global, events: &[SeenEvent<'_>]) -> Result<Vec<RecordedCa
     check_events(alloc, events)?;
     let calls = matched_calls(alloc, events)?;
     judged_calls(alloc, calls.as_slice())
-}
-
-/// The history of these events.
-fn history_of(alloc: Global, root: &[u8], events: &[SeenEvent<'_>]) -> Result<History, HistoryFault>
-    requires { length root.now ≤ 64 }
-    ensures found { IfOk result (IsHistoryOf (record { root = root.now; events = event_values events.now })) }
-    ensures fault { IsErrorOf (FirstFaultOf (event_values events.now)) result }
-{
-    let calls = known_calls(alloc, events)?;
-    let events = owned_events(alloc, events)?;
-    Ok(History {
-        root: FileHandle::from_slice(alloc, root)?,
-        eras: 1,
-        calls: RecordedCalls::new(calls),
-        events: Events::new(events),
-    })
-}
-
-/// What is known of the calls among events that own their messages.
-fn calls_among(alloc: Global, events: &[Event]) -> Result<Vec<RecordedCall>, HistoryFault>
-    ensures found { IfOk result (λ v. AreKnown (all_happened events.now) v.items) }
-    ensures fault { IsErrorOf (FirstFaultOf (all_happened events.now)) result }
-{
-    let seen = pointed_events(alloc, events)?;
-    known_calls(alloc, seen.as_slice())
 }
 
 impl History {
@@ -75,7 +46,7 @@ impl History {
         ensures named { (fault : HistoryFault) → FirstFaultOf (all_happened events.items) fault
             → IsThatOrNoMemory fault result }
     {
-        let calls = calls_among(alloc, events.as_slice())?;
+        let calls = known_calls(alloc, events.as_slice())?;
         Ok(History {
             root,
             eras: 1,
@@ -96,5 +67,6 @@ pub fn read_history(alloc: Global, bytes: &[u8]) -> Result<History, HistoryFault
     ensures named { (fault : HistoryFault) → FirstFault bytes.now fault → IsThatOrNoMemory fault result }
 {
     let recording = read_file(alloc, bytes)?;
-    history_of(alloc, recording.root, recording.events.as_slice())
+    let root = FileHandle::from_slice(alloc, recording.root)?;
+    History::build(alloc, root, recording.events)
 }

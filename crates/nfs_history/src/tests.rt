@@ -1,8 +1,6 @@
 //! What the clauses don't say: which fault each bad history has, and that a good one is read.
 
-use crate::{
-    Event, History, HistoryFault, Meaning, Message, Which, WriteFault, read_history, write_history,
-};
+use crate::{Event, History, HistoryFault, Meaning, Message, Which, read_history};
 use nfs3_types::FileHandle;
 use std::alloc::{AllocError, Global};
 use std::test::Fail;
@@ -123,34 +121,6 @@ fn the_first_fault_decides(rt: HostRuntime) -> Result<(), Fail> {
             Some(fault),
             "at {at}"
         );
-    }
-    Ok(())
-}
-
-#[test]
-fn a_fault_prints_its_name_and_values(rt: HostRuntime) -> Result<(), Fail> {
-    let rows = [
-        (HistoryFault::BadMagic, "BadMagic"),
-        (HistoryFault::TooLarge, "TooLarge"),
-        (HistoryFault::Truncated, "Truncated"),
-        (HistoryFault::BadEvent(1), "BadEvent 1"),
-        (HistoryFault::Trailing, "Trailing"),
-        (HistoryFault::LaneClosed(2), "LaneClosed 2"),
-        (HistoryFault::BadRpc(3), "BadRpc 3"),
-        (HistoryFault::XidInUse(4), "XidInUse 4"),
-        (HistoryFault::NoSuchCall(5), "NoSuchCall 5"),
-        (HistoryFault::Sealed(6), "Sealed 6"),
-        (HistoryFault::BadArgs(7), "BadArgs 7"),
-        (HistoryFault::BadResult(8), "BadResult 8"),
-        (
-            HistoryFault::Outside(9, Which::CountDiffers),
-            "Outside 9 CountDiffers",
-        ),
-        (HistoryFault::Outside(9, Which::TooFar), "Outside 9 TooFar"),
-        (HistoryFault::NotYet(10), "NotYet 10"),
-    ];
-    for (fault, text) in rows {
-        assert_eq!(rt; fault.to_string(rt.alloc())?.as_str(), text);
     }
     Ok(())
 }
@@ -471,32 +441,5 @@ fn the_first_fault_of_events_is_named(rt: HostRuntime) -> Result<(), Fail> {
         fault_of(built_with(rt.alloc(), Event::Crash)),
         Some(HistoryFault::NotYet(3))
     );
-    Ok(())
-}
-
-#[test]
-fn what_is_written_is_the_file(rt: HostRuntime) -> Result<(), Fail> {
-    let history = read_history(rt.alloc(), EXAMPLE)?;
-    let bytes = write_history(rt.alloc(), &[0], history.events())?;
-    assert_eq!(rt; bytes.as_slice(), EXAMPLE);
-    let mut events = Vec::new(rt.alloc());
-    events.push(Event::Close { lane: 1 })?;
-    events.push(Event::Crash)?;
-    let bytes = write_history(rt.alloc(), &[0], events.as_slice())?;
-    let wanted = file_of(rt.alloc(), [CLOSE, CRASH].as_slice())?;
-    assert_eq!(rt; bytes.as_slice(), wanted.as_slice());
-    Ok(())
-}
-
-#[test]
-fn a_root_over_its_limit_is_not_written(rt: HostRuntime) -> Result<(), Fail> {
-    assert!(rt; write_history(rt.alloc(), &[7; 64], &[]).is_ok());
-    match write_history(rt.alloc(), &[7; 65], &[]) {
-        Ok(_) => assert!(rt; false),
-        Err(fault) => {
-            assert_eq!(rt; fault, WriteFault::TooLarge);
-            assert_eq!(rt; fault.to_string(rt.alloc())?.as_str(), "TooLarge");
-        }
-    }
     Ok(())
 }

@@ -10,18 +10,18 @@ judged_call-requires c = readable_at c.args.seen.now c.loop-index.index _ c.loop
 
 pub returns-in_err-call-clause-fault : goal.returns-in_err-call-clause-fault
 returns-in_err-call-clause-fault c =
-    let p = err_from_is_err_and c.from_residual.result c.from_residual.ensures.1 in
+    let p = err_from_is_err_and c.from_residual-in_err-call.result c.from_residual-in_err-call.ensures.1 in
     rw (p.1, p.2) (stops_here c.args.seen.now c.loop-index.index _ c.loop-index.calls.items c.in_err-call.field-0.0 c.loop-index-test.true c.in_err-call.ensures.fault c.loop-index.invariant)
 
 pub returns-in_err-call-clause-only : goal.returns-in_err-call-clause-only
 returns-in_err-call-clause-only c = λ fine.
-    let p = err_from_is_err_and c.from_residual.result c.from_residual.ensures.1 in
+    let p = err_from_is_err_and c.from_residual-in_err-call.result c.from_residual-in_err-call.ensures.1 in
     let stop = stops_here c.args.seen.now c.loop-index.index _ c.loop-index.calls.items c.in_err-call.field-0.0 c.loop-index-test.true c.in_err-call.ensures.fault c.loop-index.invariant in
     rw (p.1, p.2) (only_memory (map seen_call c.args.seen.now) c.in_err-call.field-0.0 stop fine)
 
 pub returns-in_err-call-clause-named : goal.returns-in_err-call-clause-named
 returns-in_err-call-clause-named c = λ fault h.
-    let p = err_from_is_err_and c.from_residual.result c.from_residual.ensures.1 in
+    let p = err_from_is_err_and c.from_residual-in_err-call.result c.from_residual-in_err-call.ensures.1 in
     let stop = stops_here c.args.seen.now c.loop-index.index _ c.loop-index.calls.items c.in_err-call.field-0.0 c.loop-index-test.true c.in_err-call.ensures.fault c.loop-index.invariant in
     rw (p.1, p.2) (that_or_memory (map seen_call c.args.seen.now) c.in_err-call.field-0.0 fault stop h)
 

@@ -1,9 +1,9 @@
-use Rattle.std.proofs.Common.{◌≡◌, ◌+◌, ◌-◌, [], Some, cond, inl, inr, length, drop, ap, subst, ◌∙◌, arith, refl, map}
+use Rattle.std.proofs.Common.{◌≡◌, ◌+◌, ◌-◌, [], Some, cond, length, drop, ap, subst, ◌∙◌, arith, refl, map, sym}
 use Rattle.std.specs.HashMap.{get}
 use Rattle.std.proofs.lemmas.List.{drop_all}
-use Rattle.nfs_history.specs.declared.file.SeenEvent.TheVariants as seen
+use Rattle.history_file.specs.declared.event.Event.TheVariants as owns
 use Rattle.nfs_history.specs.Matching.{seen_call, same_key}
-use Rattle.nfs_history.specs.FileReading.{event_values}
+use Rattle.history_file.specs.Owning.{all_happened}
 use Rattle.nfs_history.proofs.MatchingSteps.{IsMatched, none_met, met_call, met_reply, met_close, one_before, no_crash, behind_it}
 use Rattle.nfs_history.proofs.matching.matched_calls.Goals as goal
 
@@ -18,31 +18,34 @@ loop-index-preserved-in-Continue-1 c =
     let i = c.loop-index.index in
     let events = c.args.events.now in
     let matched = behind_it events i c.loop-index.replies c.loop-index.calls.items (omega arith) c.loop-index.invariant in
-    let is = one_before events i _ (seen.Call c.in-Call.lane c.in-Call.message) (omega arith) (omega arith) c.in-Call.is in
-    rw (is, c.in_ok-push-in-Call.ensures.items) (met_call (i - 1) (event_values (drop ((i - 1) + 1) events)) c.loop-index.replies c.loop-index.calls.items _ refl
+    let is = one_before events i c.index-events-index.result (owns.Call c.in-Call.lane c.in-Call.message) (omega arith) (omega arith) (sym c.index-events-index.is ∙ c.in-Call.is) in
+    rw (is, c.in_ok-push-in-Call.ensures.items, sym c.as_slice-message.ensures) (met_call (i - 1) (all_happened (drop ((i - 1) + 1) events)) c.loop-index.replies c.loop-index.calls.items _ refl
     (c.copied-answer.ensures ∙ c.get.ensures.value ∙ ap (λ x. get same_key c.loop-index.replies (c.in-Call.lane, x)) c.transaction.ensures) matched)
 
 pub loop-index-preserved-in_ok-insert-in-Reply : goal.loop-index-preserved-in_ok-insert-in-Reply
 loop-index-preserved-in_ok-insert-in-Reply c =
     let i = c.loop-index.index in
     let events = c.args.events.now in
+    let bytes = c.as_slice-message-in-Reply.result in
     let matched = behind_it events i c.loop-index.replies c.loop-index.calls.items (omega arith) c.loop-index.invariant in
-    let is = one_before events i _ (seen.Reply c.in-Reply.lane c.in-Reply.message) (omega arith) (omega arith) c.in-Reply.is in
-    rw is (met_reply (i - 1) (event_values (drop ((i - 1) + 1) events)) c.loop-index.replies c.insert.new.self c.loop-index.calls.items c.in-Reply.lane (record { number = (i - 1) + 1; message = c.in-Reply.message }) refl
-    (λ q. c.in_ok-insert-in-Reply.ensures.updates.0 q ∙ ap (λ x. cond (same_key (c.in-Reply.lane, x) q) (Some (record { number = (i - 1) + 1; message = c.in-Reply.message })) (get same_key c.loop-index.replies q)) c.transaction-in-Reply.ensures) matched)
+    let is = one_before events i c.index-events-index.result (owns.Reply c.in-Reply.lane c.in-Reply.message) (omega arith) (omega arith) (sym c.index-events-index.is ∙ c.in-Reply.is) in
+    rw (is, sym c.as_slice-message-in-Reply.ensures) (met_reply (i - 1) (all_happened (drop ((i - 1) + 1) events)) c.loop-index.replies c.insert.new.self c.loop-index.calls.items c.in-Reply.lane (record { number = (i - 1) + 1; message = bytes }) refl
+    (λ q. c.in_ok-insert-in-Reply.ensures.updates.0 q ∙ ap (λ x. cond (same_key (c.in-Reply.lane, x) q) (Some (record { number = (i - 1) + 1; message = bytes })) (get same_key c.loop-index.replies q)) c.transaction-in-Reply.ensures) matched)
 
-pub loop-index-preserved : goal.loop-index-preserved
-loop-index-preserved c =
+pub loop-index-preserved-in-Close : goal.loop-index-preserved-in-Close
+loop-index-preserved-in-Close c =
     let i = c.loop-index.index in
     let events = c.args.events.now in
     let matched = behind_it events i c.loop-index.replies c.loop-index.calls.items (omega arith) c.loop-index.invariant in
-    elim c.in-Close.is [
-      | inl closed ↦ rw (one_before events i _ (seen.Close closed.0) (omega arith) (omega arith) closed.1) (met_close (i - 1) closed.0 (event_values (drop ((i - 1) + 1) events)) c.loop-index.replies c.loop-index.calls.items matched)
-      | inr crashed ↦ absurd (no_crash events (i - 1) _ (omega arith) c.requires crashed)
-    ]
+    let is = one_before events i c.index-events-index.result (owns.Close c.in-Close.lane) (omega arith) (omega arith) (sym c.index-events-index.is ∙ c.in-Close.is) in
+    rw is (met_close (i - 1) c.in-Close.lane (all_happened (drop ((i - 1) + 1) events)) c.loop-index.replies c.loop-index.calls.items matched)
+
+pub loop-index-preserved : goal.loop-index-preserved
+loop-index-preserved c =
+    absurd (no_crash c.args.events.now (c.loop-index.index - 1) c.index-events-index.result (omega arith) c.requires (sym c.index-events-index.is ∙ c.in-Crash.is))
 
 pub returns : goal.returns
 returns c =
     let none : c.loop-index.index ≡ 0 = omega arith in
-    let matched = subst (λ n. IsMatched n (event_values (drop n c.args.events.now)) c.loop-index.replies c.loop-index.calls.items) none c.loop-index.invariant in
+    let matched = subst (λ n. IsMatched n (all_happened (drop n c.args.events.now)) c.loop-index.replies c.loop-index.calls.items) none c.loop-index.invariant in
     ap (map seen_call) c.reverse.ensures.items ∙ matched.calls_are

@@ -1,6 +1,6 @@
-use Rattle.std.proofs.Common.{Err, ap}
+use Rattle.std.proofs.Common.{Err}
 use Rattle.std.proofs.lemmas.Result.{err_from_is_err_and}
-use Rattle.nfs_history.specs.FileReading.{recording_value, event_values}
+use Rattle.history_file.specs.FileReading.{recording_value}
 use Rattle.nfs_history.proofs.HistoryLaws.{root_small}
 use Rattle.nfs_history.proofs.FirstFaultLaws.{only_memory_of, named_of, found_in, fault_in, file_stop}
 use Rattle.nfs_history.proofs.reading.read_history.Goals as goal
@@ -22,27 +22,25 @@ returns-in_err-recording-clause-named c = λ fault first.
     let stop = file_stop c.args.bytes.now c.in_err-recording.field-0.0 c.in_err-recording.ensures.exact in
     rw (p.1, p.2) (named_of c.args.bytes.now (Err c.in_err-recording.field-0.0) tt stop fault first)
 
-pub history_of-requires : goal.history_of-requires
-history_of-requires c = root_small c.args.bytes.now (recording_value c.in_ok-recording.recording) c.in_ok-recording.ensures.found
+pub from_slice-requires : goal.from_slice-requires
+from_slice-requires c = root_small c.args.bytes.now (recording_value c.in_ok-recording.recording) c.in_ok-recording.ensures.found
 
 pub returns-clause-found : goal.returns-clause-found
 returns-clause-found c =
-    let events = ap event_values c.as_slice.ensures.value in
-    found_in c.args.bytes.now (recording_value c.in_ok-recording.recording) c.history_of.result c.in_ok-recording.ensures.found (rw events at c.history_of.ensures.found)
+    let root = c.in_ok-root.ensures in
+    found_in c.args.bytes.now (recording_value c.in_ok-recording.recording) c.build.result c.in_ok-recording.ensures.found (rw root at c.build.ensures.found)
 
 pub returns-clause-fault : goal.returns-clause-fault
 returns-clause-fault c =
-    let events = ap event_values c.as_slice.ensures.value in
-    fault_in c.args.bytes.now (recording_value c.in_ok-recording.recording) c.history_of.result c.in_ok-recording.ensures.found (rw events at c.history_of.ensures.fault)
+    fault_in c.args.bytes.now (recording_value c.in_ok-recording.recording) c.build.result c.in_ok-recording.ensures.found c.build.ensures.fault
 
 pub returns-clause-only : goal.returns-clause-only
 returns-clause-only c = λ history is.
-    let events = ap event_values c.as_slice.ensures.value in
-    only_memory_of c.args.bytes.now c.history_of.result (fault_in c.args.bytes.now (recording_value c.in_ok-recording.recording) c.history_of.result c.in_ok-recording.ensures.found (rw events at c.history_of.ensures.fault)) history is
+    only_memory_of c.args.bytes.now c.build.result (fault_in c.args.bytes.now (recording_value c.in_ok-recording.recording) c.build.result c.in_ok-recording.ensures.found c.build.ensures.fault) history is
 
 pub returns-clause-named : goal.returns-clause-named
 returns-clause-named c = λ fault first.
-    let events = ap event_values c.as_slice.ensures.value in
+    let root = c.in_ok-root.ensures in
     let bytes = c.args.bytes.now in
     let seen = recording_value c.in_ok-recording.recording in
-    named_of bytes c.history_of.result (found_in bytes seen c.history_of.result c.in_ok-recording.ensures.found (rw events at c.history_of.ensures.found)) (fault_in bytes seen c.history_of.result c.in_ok-recording.ensures.found (rw events at c.history_of.ensures.fault)) fault first
+    named_of bytes c.build.result (found_in bytes seen c.build.result c.in_ok-recording.ensures.found (rw root at c.build.ensures.found)) (fault_in bytes seen c.build.result c.in_ok-recording.ensures.found c.build.ensures.fault) fault first

@@ -1,6 +1,6 @@
 use Rattle.std.proofs.Common.{refl, ap}
 use Rattle.std.proofs.lemmas.Result.{err_from_is_err_and}
-use Rattle.nfs_history.specs.Owning.{all_happened}
+use Rattle.history_file.specs.Owning.{all_happened}
 use Rattle.nfs_history.proofs.FirstFaultLaws.{known_history, fault_or_history, only_memory_in, named_in}
 use Rattle.nfs_history.proofs.history.History.build.Goals as goal
 

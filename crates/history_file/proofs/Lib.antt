@@ -1,0 +1,3 @@
+pub mod EventLoop
+pub mod FileLaws
+pub mod WritingSteps

@@ -1,0 +1,80 @@
+-- The file of a history, version 1 (this project's own format, in the items of RFC 4506).
+use Rattle.std.specs.Prelude.{◌≡◌, ℕ, zero, suc, ◌+◌, ◌≤◌, nat_le, if◌then◌else◌, List, [], ◌∷◌, ◌++◌, length, codes, Result, Ok, Err}
+use Rattle.xdr_records.specs.declared.fault.XdrFault.{XdrFault}
+use Rattle.xdr_records.specs.declared.fault.XdrFault.TheVariants as xdr
+use Rattle.xdr_records.specs.Grammar.{Grammar, ◌>>=◌}
+use Rattle.xdr_records.specs.Grammar.Grammar.{one_word, one_opaque, named, nothing}
+use Rattle.xdr_records.specs.Spelling.{Spells}
+use Rattle.history_file.specs.declared.fault.HistoryFault.{HistoryFault}
+use Rattle.history_file.specs.declared.fault.HistoryFault.TheVariants as faults
+use Rattle.history_file.specs.declared.file.EventKind.{EventKind}
+use Rattle.history_file.specs.declared.file.EventKind.TheVariants as kinds
+use Rattle.history_file.specs.Event.{Event, Recording}
+use Rattle.history_file.specs.Event.Event.{call, reply, close, crash}
+
+-- what is wrong where an item can't be read
+abbrev pub kind_of : XdrFault → HistoryFault
+kind_of xdr.Short = faults.Truncated
+kind_of xdr.BadFlag = faults.Truncated
+kind_of xdr.TooLong = faults.TooLarge
+kind_of xdr.Trailing = faults.Trailing
+
+-- the kind word of event i
+abbrev pub event_kind : ℕ → ℕ → Result EventKind HistoryFault
+event_kind i zero = Ok kinds.Call
+event_kind i (suc zero) = Ok kinds.Reply
+event_kind i (suc (suc zero)) = Ok kinds.Close
+event_kind i (suc (suc (suc zero))) = Ok kinds.Crash
+event_kind i (suc (suc (suc (suc n)))) = Err (faults.BadEvent i)
+
+-- a record of RPC is at most 2,097,152 bytes
+unfoldable pub message : Grammar HistoryFault (List ℕ)
+message = one_opaque 2097152
+
+abbrev pub event_of : EventKind → Grammar HistoryFault Event
+event_of kinds.Call = do
+  lane ← one_word
+  bytes ← message
+  nothing (call lane bytes)
+event_of kinds.Reply = do
+  lane ← one_word
+  bytes ← message
+  nothing (reply lane bytes)
+event_of kinds.Close = do
+  lane ← one_word
+  nothing (close lane)
+event_of kinds.Crash = nothing crash
+
+-- event i
+unfoldable pub event : ℕ → Grammar HistoryFault Event
+event i = named (event_kind i) >>= event_of
+
+-- so many events, numbered from i on
+unfoldable pub events : ℕ → ℕ → Grammar HistoryFault (List Event)
+events zero i = nothing []
+events (suc n) i = do
+  first ← event i
+  others ← events n (i + 1)
+  nothing (first ∷ others)
+
+-- at most 1,000,000 of them
+abbrev pub event_count : ℕ → Result ℕ HistoryFault
+event_count n = if nat_le n 1000000 then Ok n else Err faults.TooLarge
+
+-- what stands behind the magic
+unfoldable pub recording : Grammar HistoryFault Recording
+recording = do
+  root ← one_opaque 64
+  count ← named event_count
+  seen ← events count 1
+  nothing (record { root = root; events = seen })
+
+abbrev pub magic : List ℕ
+magic = codes "NFSHIST1"
+
+-- the bytes of a file are those of a recording
+pub record HistoryFile (bytes : List ℕ) (seen : Recording) : Type 0 where
+  pub body : List ℕ
+  pub parts : bytes ≡ magic ++ body
+  pub small : length bytes ≤ 268435456
+  pub spelled : Spells recording body seen

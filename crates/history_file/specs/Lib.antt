@@ -1,0 +1,5 @@
+pub mod Event
+pub mod HistoryFile
+pub mod Owning
+pub mod FileReading
+pub mod Writing

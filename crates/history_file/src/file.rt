@@ -1,0 +1,224 @@
+//! The events of a history file, in one pass. Each message is copied once, into its event.
+
+ghost use Rattle.std.specs.Prelude.{◌≡◌, nat_eq, IfOk};
+ghost use Rattle.std.specs.List.{starts_with};
+ghost use Rattle.xdr_records.specs.Grammar.Grammar.{one_word, one_opaque, named};
+ghost use Rattle.xdr_records.specs.Reading.{Answers, AnswersAll, all_of, item_here};
+ghost use Rattle.xdr_records.specs.Items.{end_at};
+ghost use Rattle.history_file.specs.HistoryFile.{kind_of, event_kind, event_count, message, event, events, recording, magic, HistoryFile};
+ghost use Rattle.history_file.specs.FileReading.{told, reading_of, recording_value, file_of, IsAnswer};
+ghost use Rattle.history_file.specs.Owning.{happened, all_happened};
+
+use crate::event::{Event, Message};
+use crate::fault::HistoryFault;
+use std::alloc::{AllocError, AllocFailed, Global};
+use xdr_records::{Reader, XdrFault};
+
+/// The most bytes of a history file.
+const FILE_LIMIT: usize = 268_435_456;
+/// The most events of a history.
+const EVENT_LIMIT: u32 = 1_000_000;
+/// The most bytes of a record of RPC.
+const RECORD_LIMIT: u32 = 2_097_152;
+/// The most bytes of the root handle.
+const ROOT_LIMIT: u32 = 64;
+/// The bytes of an event in memory, but for its message.
+const EVENT_SIZE: usize = 32;
+
+/// The kind word of an event.
+#[derive(Clone, Copy, Debug, PartialEq, Eq)]
+pub enum EventKind {
+    Call,
+    Reply,
+    Close,
+    Crash,
+}
+
+/// What stands in a history file.
+#[derive(Debug, Drop)]
+pub struct SeenRecording<'a> {
+    pub root: &'a [u8],
+    pub events: Vec<Event>,
+}
+
+/// Why a history file can't be read, and the item at fault.
+#[derive(Clone, Copy, Debug, PartialEq, Eq)]
+pub enum FileFault {
+    Fault { at: usize, fault: HistoryFault },
+    NoMemory,
+}
+
+impl From<AllocError> for FileFault {
+    ghost use Rattle.std.specs.Prelude.{◌≡◌};
+    ghost use Rattle.history_file.specs.declared.file.FileFault.TheVariants.{NoMemory};
+
+    ghost from_gives = { λ _ e. e ≡ NoMemory };
+
+    fn from(_error: AllocError) -> FileFault {
+        FileFault::NoMemory
+    }
+}
+
+impl<T: Drop> From<AllocFailed<T>> for FileFault {
+    ghost use Rattle.std.specs.Prelude.{◌≡◌};
+    ghost use Rattle.history_file.specs.declared.file.FileFault.TheVariants.{NoMemory};
+
+    ghost from_gives = { λ _ e. e ≡ NoMemory };
+
+    fn from(_error: AllocFailed<T>) -> FileFault {
+        FileFault::NoMemory
+    }
+}
+
+fn fault_at(at: usize, fault: XdrFault) -> FileFault
+    ensures { result ≡ FileFault.Fault at (kind_of fault) }
+{
+    let fault = match fault {
+        XdrFault::Short | XdrFault::BadFlag => HistoryFault::Truncated,
+        XdrFault::TooLong => HistoryFault::TooLarge,
+        XdrFault::Trailing => HistoryFault::Trailing,
+    };
+    FileFault::Fault { at, fault }
+}
+
+fn word(reader: &mut Reader<'_>) -> Result<u32, FileFault>
+    ensures { Answers told (λ n. n) reader.new result (reading_of one_word reader.old) }
+{
+    let at = reader.offset();
+    reader.u32().map_err(|fault| fault_at(at, fault))
+}
+
+fn opaque<'a>(reader: &mut Reader<'a>, limit: u32) -> Result<&'a [u8], FileFault>
+    ensures { Answers told (λ bytes. bytes.now) reader.new result (reading_of (one_opaque limit) reader.old) }
+{
+    let at = reader.offset();
+    reader.opaque(limit).map_err(|fault| fault_at(at, fault))
+}
+
+fn kind(reader: &mut Reader<'_>, number: u64) -> Result<EventKind, FileFault>
+    ensures { Answers told (λ k. k) reader.new result (reading_of (named (event_kind number)) reader.old) }
+{
+    let at = reader.offset();
+    match word(reader)? {
+        0 => Ok(EventKind::Call),
+        1 => Ok(EventKind::Reply),
+        2 => Ok(EventKind::Close),
+        3 => Ok(EventKind::Crash),
+        _ => Err(FileFault::Fault {
+            at,
+            fault: HistoryFault::BadEvent(number),
+        }),
+    }
+}
+
+fn count(reader: &mut Reader<'_>) -> Result<u32, FileFault>
+    ensures { Answers told (λ n. n) reader.new result (reading_of (named event_count) reader.old) }
+{
+    let at = reader.offset();
+    let count = word(reader)?;
+    if count > EVENT_LIMIT {
+        return Err(FileFault::Fault {
+            at,
+            fault: HistoryFault::TooLarge,
+        });
+    }
+    Ok(count)
+}
+
+#[tactic(auto, unfolding(crate::specs::HistoryFile::message))]
+fn message(alloc: Global, reader: &mut Reader<'_>) -> Result<Message, FileFault>
+    ensures { Answers told (λ m. m) reader.new result (reading_of message reader.old) }
+{
+    let bytes = opaque(reader, RECORD_LIMIT)?;
+    Ok(Message::from_slice(alloc, bytes)?)
+}
+
+#[tactic(auto, unfolding(crate::specs::HistoryFile::event))]
+fn one_event(alloc: Global, reader: &mut Reader<'_>, number: u64) -> Result<Event, FileFault>
+    ensures { Answers told happened reader.new result (reading_of (event number) reader.old) }
+{
+    match kind(reader, number)? {
+        EventKind::Call => {
+            let lane = word(reader)?;
+            let message = message(alloc, reader)?;
+            Ok(Event::Call { lane, message })
+        }
+        EventKind::Reply => {
+            let lane = word(reader)?;
+            let message = message(alloc, reader)?;
+            Ok(Event::Reply { lane, message })
+        }
+        EventKind::Close => {
+            let lane = word(reader)?;
+            Ok(Event::Close { lane })
+        }
+        EventKind::Crash => Ok(Event::Crash),
+    }
+}
+
+/// So many events, numbered from 1. The count is only what the file says: room is made for no more events than
+/// would cost as much as the bytes that are left.
+fn many_events(alloc: Global, reader: &mut Reader<'_>, count: u32) -> Result<Vec<Event>, FileFault>
+    ensures { Answers told (λ v. all_happened v.items) reader.new result (reading_of (events count 1) reader.old) }
+{
+    let room = (reader.left() / EVENT_SIZE).min(count as usize);
+    let mut seen = Vec::with_capacity(alloc, room)?;
+    for index in 0..count {
+        let event = one_event(alloc, reader, index as u64 + 1)?;
+        seen.push(event)?;
+    }
+    Ok(seen)
+}
+
+#[tactic(auto, unfolding(crate::specs::HistoryFile::recording))]
+fn root_and_events<'a>(
+    alloc: Global,
+    reader: &mut Reader<'a>,
+) -> Result<SeenRecording<'a>, FileFault>
+    ensures { Answers told recording_value reader.new result (reading_of recording reader.old) }
+{
+    let root = opaque(reader, ROOT_LIMIT)?;
+    let count = count(reader)?;
+    let events = many_events(alloc, reader, count)?;
+    Ok(SeenRecording { root, events })
+}
+
+fn ended(reader: &Reader<'_>) -> Result<(), FileFault>
+    ensures { AnswersAll told (λ n. n) result (item_here kind_of reader.now.at (end_at reader.now)) }
+{
+    let at = reader.offset();
+    reader.done().map_err(|fault| fault_at(at, fault))
+}
+
+fn body<'a>(alloc: Global, bytes: &'a [u8]) -> Result<SeenRecording<'a>, FileFault>
+    ensures { AnswersAll told recording_value result (all_of kind_of recording bytes.now) }
+{
+    let mut reader = Reader::new(bytes);
+    let seen = root_and_events(alloc, &mut reader)?;
+    ended(&reader)?;
+    Ok(seen)
+}
+
+fn has_magic(bytes: &[u8]) -> bool
+    ensures { result ≡ starts_with nat_eq bytes.now magic }
+{
+    bytes.starts_with(b"NFSHIST1".as_slice())
+}
+
+/// The recording that a file holds.
+pub fn read_file<'a>(alloc: Global, bytes: &'a [u8]) -> Result<SeenRecording<'a>, HistoryFault>
+    ensures exact { IsAnswer recording_value result (file_of bytes.now) }
+    ensures found { IfOk result (λ r. HistoryFile bytes.now (recording_value r)) }
+{
+    if !has_magic(bytes) {
+        return Err(HistoryFault::BadMagic);
+    }
+    if bytes.len() > FILE_LIMIT {
+        return Err(HistoryFault::TooLarge);
+    }
+    match body(alloc, &bytes[8..]) {
+        Ok(seen) => Ok(seen),
+        Err(FileFault::Fault { fault, .. }) => Err(fault),
+        Err(FileFault::NoMemory) => Err(HistoryFault::NoMemory),
+    }
+}

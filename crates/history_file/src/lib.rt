@@ -1,0 +1,15 @@
+//! What a recorder saw of an NFS server, and the file that holds it.
+#![tactic(auto)]
+
+mod event;
+mod fault;
+mod file;
+mod writing;
+
+pub use event::{Event, Events, Message};
+pub use fault::{HistoryFault, Which};
+pub use file::{SeenRecording, read_file};
+pub use writing::{WriteFault, write_history};
+
+#[cfg(test)]
+mod tests;

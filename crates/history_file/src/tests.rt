@@ -1,0 +1,115 @@
+//! What the clauses don't say: which fault each bad file has, and that a good one is read and written.
+
+use crate::{Event, HistoryFault, Which, WriteFault, read_file, write_history};
+use std::alloc::{AllocError, Global};
+use std::test::Fail;
+
+/// A call of two bytes on lane 1, a reply of one byte, the close of the lane, and a crash.
+const EXAMPLE: &[u8] = b"\
+    \x4e\x46\x53\x48\x49\x53\x54\x31\x00\x00\x00\x01\xaa\x00\x00\x00\x00\x00\x00\x04\
+    \x00\x00\x00\x00\x00\x00\x00\x01\x00\x00\x00\x02\x61\x62\x00\x00\
+    \x00\x00\x00\x01\x00\x00\x00\x01\x00\x00\x00\x01\x63\x00\x00\x00\
+    \x00\x00\x00\x02\x00\x00\x00\x01\
+    \x00\x00\x00\x03\
+";
+
+/// The example with another byte at one place.
+fn patched(alloc: Global, at: usize, byte: u8) -> Result<Vec<u8>, AllocError> {
+    let mut bytes = Vec::from_slice(alloc, EXAMPLE)?;
+    if at < bytes.len() {
+        bytes[at] = byte;
+    }
+    Ok(bytes)
+}
+
+fn fault_of(alloc: Global, bytes: &[u8]) -> Option<HistoryFault> {
+    match read_file(alloc, bytes) {
+        Ok(_) => None,
+        Err(fault) => Some(fault),
+    }
+}
+
+fn message_of(event: &Event) -> &[u8] {
+    match event {
+        Event::Call { message, .. } | Event::Reply { message, .. } => message.as_slice(),
+        _ => &[],
+    }
+}
+
+#[test]
+fn a_file_is_read_and_written(rt: HostRuntime) -> Result<(), Fail> {
+    let recording = read_file(rt.alloc(), EXAMPLE)?;
+    assert_eq!(rt; recording.root, [0xaa].as_slice());
+    assert_eq!(rt; recording.events.len(), 4);
+    assert_eq!(rt; message_of(&recording.events[0]), b"ab".as_slice());
+    assert_eq!(rt; message_of(&recording.events[1]), b"c".as_slice());
+    let bytes = write_history(rt.alloc(), recording.root, recording.events.as_slice())?;
+    assert_eq!(rt; bytes.as_slice(), EXAMPLE);
+    Ok(())
+}
+
+#[test]
+fn each_bad_file_has_its_fault(rt: HostRuntime) -> Result<(), Fail> {
+    let rows = [
+        (0, 0x4d, HistoryFault::BadMagic),
+        (11, 65, HistoryFault::TooLarge),
+        // 16,711,684 events, and 983,044.
+        (17, 0xff, HistoryFault::TooLarge),
+        (17, 0x0f, HistoryFault::Truncated),
+        (19, 5, HistoryFault::Truncated),
+        (19, 3, HistoryFault::Trailing),
+        (23, 9, HistoryFault::BadEvent(1)),
+        (28, 0xff, HistoryFault::TooLarge),
+        (55, 7, HistoryFault::BadEvent(3)),
+    ];
+    for (at, byte, fault) in rows {
+        let bytes = patched(rt.alloc(), at, byte)?;
+        assert_eq!(rt;
+            fault_of(rt.alloc(), bytes.as_slice()),
+            Some(fault),
+            "at {at}"
+        );
+    }
+    Ok(())
+}
+
+#[test]
+fn a_fault_prints_its_name_and_values(rt: HostRuntime) -> Result<(), Fail> {
+    let rows = [
+        (HistoryFault::BadMagic, "BadMagic"),
+        (HistoryFault::TooLarge, "TooLarge"),
+        (HistoryFault::Truncated, "Truncated"),
+        (HistoryFault::BadEvent(1), "BadEvent 1"),
+        (HistoryFault::Trailing, "Trailing"),
+        (HistoryFault::LaneClosed(2), "LaneClosed 2"),
+        (HistoryFault::BadRpc(3), "BadRpc 3"),
+        (HistoryFault::XidInUse(4), "XidInUse 4"),
+        (HistoryFault::NoSuchCall(5), "NoSuchCall 5"),
+        (HistoryFault::Sealed(6), "Sealed 6"),
+        (HistoryFault::BadArgs(7), "BadArgs 7"),
+        (HistoryFault::BadResult(8), "BadResult 8"),
+        (
+            HistoryFault::Outside(9, Which::CountDiffers),
+            "Outside 9 CountDiffers",
+        ),
+        (HistoryFault::Outside(9, Which::TooFar), "Outside 9 TooFar"),
+        (HistoryFault::NotYet(10), "NotYet 10"),
+    ];
+    for (fault, text) in rows {
+        assert_eq!(rt; fault.to_string(rt.alloc())?.as_str(), text);
+    }
+    Ok(())
+}
+
+#[test]
+fn a_root_over_its_limit_is_not_written(rt: HostRuntime) -> Result<(), Fail> {
+    assert!(rt; write_history(rt.alloc(), &[7; 64], &[]).is_ok());
+    match write_history(rt.alloc(), &[7; 65], &[]) {
+        Ok(_) => assert!(rt; false),
+        Err(fault) => {
+            assert_eq!(rt; fault, WriteFault::TooLarge);
+            assert_eq!(rt; fault.to_string(rt.alloc())?.as_str(), "TooLarge");
+        }
+    }
+    Ok(())
+}

@@ -1,0 +1,111 @@
+//! A history file, written.
+
+ghost use Rattle.std.specs.Prelude.{◌≡◌, ◌++◌, ◌<◌, ◌≤◌, length, OnOk, IfOk, Err};
+ghost use Rattle.xdr_records.specs.Texts.{word_text, opaque_text};
+ghost use Rattle.history_file.specs.HistoryFile.{HistoryFile};
+ghost use Rattle.history_file.specs.Owning.{happened, all_happened};
+ghost use Rattle.history_file.specs.Writing.{event_text, EventFits, IsLong, IsOverLimit, IsLargeOnlyIf};
+ghost use Rattle.history_file.specs.declared.writing.WriteFault.{WriteFault};
+
+use crate::event::{Event, Message};
+use std::alloc::{AllocError, AllocFailed, Global};
+use thiserror::Error;
+use xdr_records::{put_opaque, put_u32};
+
+/// The most bytes of a history file.
+const FILE_LIMIT: usize = 268_435_456;
+/// The most events of a history.
+const EVENT_LIMIT: usize = 1_000_000;
+/// The most bytes of a record of RPC.
+const RECORD_LIMIT: usize = 2_097_152;
+/// The most bytes of the root handle.
+const ROOT_LIMIT: usize = 64;
+
+/// Why a history can't be written.
+#[derive(Clone, Copy, Debug, PartialEq, Eq, Error)]
+pub enum WriteFault {
+    /// A limit is passed, by the file, its number of events, a message or the root handle.
+    #[error("TooLarge")]
+    TooLarge,
+    #[error("out of memory")]
+    NoMemory,
+}
+
+impl From<AllocError> for WriteFault {
+    ghost use Rattle.std.specs.Prelude.{◌≡◌};
+    ghost use Rattle.history_file.specs.declared.writing.WriteFault.TheVariants.{NoMemory};
+
+    ghost from_gives = { λ _ e. e ≡ NoMemory };
+
+    fn from(_error: AllocError) -> WriteFault {
+        WriteFault::NoMemory
+    }
+}
+
+impl<T: Drop> From<AllocFailed<T>> for WriteFault {
+    ghost use Rattle.std.specs.Prelude.{◌≡◌};
+    ghost use Rattle.history_file.specs.declared.writing.WriteFault.TheVariants.{NoMemory};
+
+    ghost from_gives = { λ _ e. e ≡ NoMemory };
+
+    fn from(_error: AllocFailed<T>) -> WriteFault {
+        WriteFault::NoMemory
+    }
+}
+
+/// Appends the kind word, the lane and the message of a call or a reply.
+fn put_message(out: &mut Vec<u8>, kind: u32, lane: u32, message: &Message) -> Result<(), WriteFault>
+    ensures ok { OnOk result (out.new.items ≡ out.old.items ++ (word_text kind ++ (word_text lane ++ opaque_text message.now))) }
+    ensures fits { OnOk result (length message.now ≤ 2097152) }
+    ensures large { IsLargeOnlyIf (2097152 < length message.now) result }
+{
+    let bytes = message.as_slice();
+    if bytes.len() > RECORD_LIMIT {
+        return Err(WriteFault::TooLarge);
+    }
+    put_u32(out, kind)?;
+    put_u32(out, lane)?;
+    put_opaque(out, bytes)?;
+    Ok(())
+}
+
+/// Appends an event.
+fn put_event(out: &mut Vec<u8>, event: &Event) -> Result<(), WriteFault>
+    ensures ok { OnOk result (out.new.items ≡ out.old.items ++ event_text (happened event.now)) }
+    ensures fits { OnOk result (EventFits (happened event.now)) }
+    ensures large { IsLargeOnlyIf (IsLong (happened event.now)) result }
+{
+    match event {
+        Event::Call { lane, message } => put_message(out, 0, *lane, message),
+        Event::Reply { lane, message } => put_message(out, 1, *lane, message),
+        Event::Close { lane } => {
+            put_u32(out, 2)?;
+            put_u32(out, *lane)?;
+            Ok(())
+        }
+        Event::Crash => {
+            put_u32(out, 3)?;
+            Ok(())
+        }
+    }
+}
+
+/// The file of these events, whether or not they are those of a history.
+pub fn write_history(alloc: Global, root: &[u8], events: &[Event]) -> Result<Vec<u8>, WriteFault>
+    ensures spelled { IfOk result (λ v. HistoryFile v.items (record { root = root.now; events = all_happened events.now })) }
+    ensures large { IsLargeOnlyIf (IsOverLimit root.now (all_happened events.now)) result }
+{
+    if root.len() > ROOT_LIMIT || events.len() > EVENT_LIMIT {
+        return Err(WriteFault::TooLarge);
+    }
+    let mut out = Vec::from_slice(alloc, b"NFSHIST1".as_slice())?;
+    put_opaque(&mut out, root)?;
+    put_u32(&mut out, events.len() as u32)?;
+    for event in events {
+        put_event(&mut out, event)?;
+        if out.len() > FILE_LIMIT {
+            return Err(WriteFault::TooLarge);
+        }
+    }
+    Ok(out)
+}
