@@ -4,6 +4,7 @@
 make_history.py N refused           the last event has an unknown kind word, so that nothing is replayed
 make_history.py N replayed          a CREATE, then WRITEs and READs of one file in turn, each answered
 make_history.py N common            the same, with handles of 32 bytes and AUTH_SYS credentials, as common clients have them
+make_history.py N taken             a CREATE, then WRITEs of such a client, none answered and each taken as done
 make_history.py N SHAPE FOLDER      the same, as the files FOLDER/history and FOLDER/certificate
 """
 import os
@@ -20,51 +21,68 @@ NOBODY = b"\0" * 16
 USER = struct.pack(">I", 1) + opaque(b"\0" * 4 + opaque(b"client") + struct.pack(">IIII", 1000, 1000, 1, 1000)) + b"\0" * 8
 
 
-def call(xid, procedure, credential, arguments):
-    head = struct.pack(">IIIIII", xid, 0, 2, 100003, 3, procedure)
-    return head + credential + arguments
+class Client:
+    """The calls of a client, and the replies to them; call n has transaction number n."""
+
+    def __init__(self, credential, width):
+        self.credential, self.width = credential, width
+        self.root, self.file = opaque(b"\0" * width), opaque(b"\xaa" * width)
+
+    def call(self, n, procedure, arguments):
+        return struct.pack(">IIIIII", n, 0, 2, 100003, 3, procedure) + self.credential + arguments
+
+    def create(self, n):
+        asked = self.call(n, 8, self.root + opaque(b"a") + b"\0" * 4 + b"\0" * 24)
+        return asked, reply(n, b"\0" * 4 + b"\0\0\0\1" + self.file + b"\0" * 12)
+
+    def write(self, n):
+        asked = self.call(n, 7, self.file + struct.pack(">QII", 0, 3, 2) + opaque(b"%03d" % (n % 1000)))
+        return asked, reply(n, b"\0" * 12 + struct.pack(">IIQ", 3, 2, 1))
+
+    def read(self, n):
+        asked = self.call(n, 6, self.file + struct.pack(">QI", 0, 10))
+        return asked, reply(n, b"\0" * 8 + struct.pack(">II", 3, 1) + opaque(b"%03d" % ((n - 1) % 1000)))
+
+    def exchange(self, n):
+        return self.create(n) if n == 1 else self.write(n) if n % 2 == 0 else self.read(n)
 
 
-def reply(xid, results):
-    return struct.pack(">III", xid, 1, 0) + b"\0" * 12 + results
+def reply(n, results):
+    return struct.pack(">III", n, 1, 0) + b"\0" * 12 + results
 
 
-def event(kind, lane, message):
-    return struct.pack(">II", kind, lane) + opaque(message)
+def event(kind, message):
+    return struct.pack(">II", kind, 1) + opaque(message)
 
 
-def exchanges(count, credential, width):
-    root, name, file = opaque(b"\0" * width), opaque(b"a"), opaque(b"\xaa" * width)
-    nothing = b"\0" * 8
-    for n in range(1, count + 1):
-        text = b"%03d" % (n % 1000)
-        if n == 1:
-            yield call(n, 8, credential, root + name + b"\0" * 4 + b"\0" * 24), reply(
-                n, b"\0" * 4 + b"\0\0\0\1" + file + b"\0" * 4 + nothing
-            )
-        elif n % 2 == 0:
-            asked = struct.pack(">QII", 0, 3, 2) + opaque(text)
-            done = nothing + struct.pack(">IIQ", 3, 2, 1)
-            yield call(n, 7, credential, file + asked), reply(n, b"\0" * 4 + done)
-        else:
-            text = b"%03d" % ((n - 1) % 1000)
-            read = b"\0" * 4 + struct.pack(">II", 3, 1) + opaque(text)
-            yield call(n, 6, credential, file + struct.pack(">QI", 0, 10)), reply(n, b"\0" * 4 + read)
+def answered(client, calls):
+    """The events of calls that are answered, and their places."""
+    for n in range(1, calls + 1):
+        asked, given = client.exchange(n)
+        yield event(0, asked) + event(1, given), "place %d" % n
+
+
+def unanswered(client, calls):
+    """The events of calls that get no reply, and their places."""
+    yield event(0, client.create(1)[0]), "take 1"
+    for n in range(2, calls + 1):
+        yield event(0, client.write(n)[0]), "take %d 3" % n
 
 
 def main():
     events, shape = int(sys.argv[1]), sys.argv[2]
-    credential, width = (USER, 32) if shape == "common" else (NOBODY, 1)
-    body = bytearray()
-    for asked, given in exchanges(events // 2, credential, width):
-        body += event(0, 1, asked) + event(1, 1, given)
-    count = events // 2 * 2
+    client = Client(USER, 32) if shape in ("common", "taken") else Client(NOBODY, 1)
+    count = events if shape == "taken" else events // 2 * 2
+    made = unanswered(client, count) if shape == "taken" else answered(client, count // 2)
+    body, lines = bytearray(), ["witness 1", "bind " + "aa" * client.width + " 1"]
+    for happened, place in made:
+        body += happened
+        lines.append(place)
     if shape == "refused":
         body += struct.pack(">I", 9)
         count += 1
-    history = b"NFSHIST1" + opaque(b"\0" * width) + struct.pack(">I", count) + bytes(body)
-    lines = ["witness 1", "bind " + "aa" * width + " 1"] + ["place %d" % n for n in range(1, events // 2 + 1)] + ["end"]
-    certificate = "\n".join(lines) + "\n"
+    history = b"NFSHIST1" + client.root + struct.pack(">I", count) + bytes(body)
+    certificate = "\n".join(lines + ["end"]) + "\n"
     if len(sys.argv) == 3:
         sys.stdout.write(history.hex() + "\n" + certificate)
         return
