@@ -3,11 +3,13 @@
 ghost use Rattle.std.specs.Prelude.{◌≡◌, ℕ, Err, None, IfOk, OnOk, IsSome, map, option_map};
 ghost use Rattle.std.specs.List.{filter_map};
 ghost use Rattle.order_check.specs.FirstFault.{IsCheck};
-ghost use Rattle.replay_law.specs.Run.{state_after, IsFirstIllegal};
+ghost use Rattle.replay_law.specs.Run.{state_after};
 ghost use Rattle.replay_law.specs.Steps.{taken_of};
 ghost use Rattle.tree_nodes.specs.Tree.{opening};
 ghost use Rattle.file_tree.specs.Success.{next_tree};
 ghost use Rattle.witness_check.specs.Run.{bindings_of, step_at, taken_outcome};
+ghost use Rattle.witness_check.specs.Verdict.{IsStuck};
+ghost use Rattle.order_check.specs.declared.fault.Fault.{Fault};
 
 use certificate::{Bind, Place};
 use file_tree::tree::FileTree;
@@ -97,9 +99,8 @@ pub fn run_era(
 ) -> Result<(), CheckFault>
     ensures ok { OnOk result (IsSome (state_after (next_tree (bindings_of history.now.root binds.now)) opening
         (filter_map (step_at history.now.calls) places.now))) }
-    ensures illegal { (number : ℕ) → result ≡ Err (CheckFault.No (Fault.Illegal number))
-        → IsFirstIllegal (next_tree (bindings_of history.now.root binds.now)) opening
-        (filter_map (step_at history.now.calls) places.now) number }
+    ensures illegal { (fault : Fault) → result ≡ Err (CheckFault.No fault)
+        → IsStuck (bindings_of history.now.root binds.now) history.now.calls places.now fault }
     // A run that has every next tree is refused for want of memory alone.
     ensures only { IsSome (state_after (next_tree (bindings_of history.now.root binds.now)) opening
         (filter_map (step_at history.now.calls) places.now)) → IsCheck result None }

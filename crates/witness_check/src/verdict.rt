@@ -1,9 +1,12 @@
 //! The verdict on a history and a certificate.
 
-ghost use Rattle.std.specs.Prelude.{◌≡◌, ◌≢◌, OnOk, Ok, None};
+ghost use Rattle.std.specs.Prelude.{◌≡◌, ◌≢◌, OnOk, IfOk, Ok, Err, None};
 ghost use Rattle.order_check.specs.declared.fault.Fault.{Fault};
 ghost use Rattle.order_check.specs.FirstFault.{IsCheck};
 ghost use Rattle.witness_check.specs.Witness.{IsWitness, AreAccepted};
+ghost use Rattle.witness_check.specs.Verdict.{IsPlanFault, AreRefuted, IsBadHistory, IsBadText};
+ghost use Rattle.history_file.specs.declared.fault.HistoryFault.{HistoryFault};
+ghost use Rattle.certificate.specs.declared.reading.TextFault.{TextFault};
 
 use crate::run::run_era;
 use certificate::{Certificate, TextFault, read_certificate};
@@ -41,6 +44,8 @@ fn check_parts(
 ) -> Result<(), CheckFault>
     ensures ok { OnOk result (IsWitness history.now certificate.now) }
     ensures only { history.now.eras ≡ 1 → IsWitness history.now certificate.now → IsCheck result None }
+    ensures fault { (fault : Fault) → history.now.eras ≡ 1 → result ≡ Err (CheckFault.No fault)
+        → IsPlanFault history.now certificate.now fault }
 {
     check_shape(alloc, history, certificate)?;
     check_order(history, certificate).map_err(CheckFault::No)?;
@@ -65,6 +70,9 @@ pub fn check(
     // A witness is never answered by a no.
     ensures only { (fault : Fault) → history.now.eras ≡ 1 → IsWitness history.now certificate.now
         → result ≢ Ok (Verdict.No fault) }
+    // A no names the first fault.
+    ensures no { (fault : Fault) → history.now.eras ≡ 1 → result ≡ Ok (Verdict.No fault)
+        → IsPlanFault history.now certificate.now fault }
 {
     match check_parts(alloc, history, certificate) {
         Ok(()) => Ok(Verdict::Yes),
@@ -80,6 +88,13 @@ pub fn check_files(
     certificate: &[u8],
 ) -> Result<FileVerdict, AllocError>
     ensures yes { result ≡ Ok FileVerdict.Yes → AreAccepted history.now certificate.now }
+    // What is accepted gets a yes, memory aside.
+    ensures only { AreAccepted history.now certificate.now → IfOk result (λ verdict. verdict ≡ FileVerdict.Yes) }
+    // A no and a refusal name the first fault.
+    ensures no { (fault : Fault) → result ≡ Ok (FileVerdict.No fault) → AreRefuted history.now certificate.now fault }
+    ensures bad_history { (fault : HistoryFault) → result ≡ Ok (FileVerdict.BadHistory fault) → IsBadHistory history.now fault }
+    ensures bad_text { (fault : TextFault) → result ≡ Ok (FileVerdict.BadText fault)
+        → IsBadText history.now certificate.now fault }
 {
     let history = match read_history(alloc, history) {
         Ok(history) => history,

@@ -9,6 +9,8 @@ use Rattle.tree_nodes.specs.Tree.{Tree, opening}
 use Rattle.tree_handles.specs.Binding.{Bindings}
 use Rattle.file_tree.specs.Success.{next_tree}
 use Rattle.witness_check.specs.Run.{bindings_of, step_at}
+use Rattle.witness_check.specs.Verdict.{IsStuck}
+use Rattle.order_check.specs.declared.fault.Fault.TheVariants.{Illegal}
 use Rattle.witness_check.proofs.run.run_era.Goals as goal
 use Rattle.witness_check.proofs.run.run_era.Goals.{After-drop-bindings-inside-in-Err-Illegal-2}
 
@@ -27,9 +29,9 @@ stuck_at c =
     (c.in-Err-Illegal.ensures.illegal c.in-Err-Illegal.number (ap (λ f. Err f) c.in-Err-Illegal.field-0-is))
 
 pub returns-in-Err-Illegal-clause-illegal : goal.returns-in-Err-Illegal-clause-illegal
-returns-in-Err-Illegal-clause-illegal c = λ number h.
-    let same : c.in-Err-Illegal.number ≡ number = cc in
-    subst (λ n. IsFirstIllegal (next_tree (bindings_of c.args.history.now.root c.args.binds.now)) opening (filter_map (step_at c.args.history.now.calls) c.args.places.now) n) same (stuck_at c)
+returns-in-Err-Illegal-clause-illegal c = λ fault h.
+    let same : Illegal c.in-Err-Illegal.number ≡ fault = cc in
+    subst (λ f. IsStuck (bindings_of c.args.history.now.root c.args.binds.now) c.args.history.now.calls c.args.places.now f) same (stuck_at c)
 
 -- what runs isn't stuck
 not_both : (o : Option Tree) → IsSome o → o ≡ None → ⊥

@@ -1,4 +1,4 @@
-use Rattle.std.proofs.Common.{◌≡◌, ℕ, ◌<◌, ◌≤◌, List, [], ◌∷◌, length, get_or, map, IsSome, sym, ap, subst, ◌∙◌, arith}
+use Rattle.std.proofs.Common.{◌≡◌, inr, ℕ, ◌<◌, ◌≤◌, List, [], ◌∷◌, length, get_or, map, IsSome, rules, sym, ap, subst, ◌∙◌, arith}
 use Rattle.std.specs.List.{filter_map}
 use Rattle.nfs_history.specs.declared.history.History.{History}
 use Rattle.certificate.specs.declared.plan.EraPlan.{EraPlan}
@@ -6,7 +6,10 @@ use Rattle.certificate.specs.declared.plan.Certificate.{Certificate}
 use Rattle.replay_law.specs.Run.{state_after}
 use Rattle.tree_nodes.specs.Tree.{opening}
 use Rattle.file_tree.specs.Success.{next_tree}
+use Rattle.order_check.specs.Order.{EachEraRespectsOrder}
+use Rattle.order_check.specs.Shape.{HasShape}
 use Rattle.witness_check.specs.Run.{Runs, bindings_of, step_at, era_of}
+use Rattle.witness_check.specs.Verdict.{IsStuck}
 use Rattle.witness_check.proofs.verdict.check_parts.Goals as goal
 
 -- a list of one
@@ -28,3 +31,14 @@ returns-clause-only c = λ one witness.
     let is = sym c.as_slice.ensures ∙ alone c.as_slice.result.now era c.era-item.is c.in-len1.len_at_least c.in-len1.len_below in
     let runs = one_runs history plan era is witness.runs in
     c.run_era.ensures.only (rw (c.as_slice-2.ensures, c.as_slice-3.ensures) runs)
+
+pub returns-clause-fault : goal.returns-clause-fault
+returns-clause-fault c = λ fault one refused.
+    let history = c.args.history.now in
+    let plan = c.args.certificate.now in
+    let era = c.era-item.result in
+    let is = sym c.as_slice.ensures ∙ alone c.as_slice.result.now era c.era-item.is c.in-len1.len_at_least c.in-len1.len_below in
+    let shape : HasShape history.eras history.calls plan.eras = search rules in
+    let order : EachEraRespectsOrder history.calls plan.eras = search rules in
+    let stuck : IsStuck (bindings_of history.root plan.binds) history.calls era.places fault = rw (sym c.as_slice-2.ensures, sym c.as_slice-3.ensures) (c.run_era.ensures.illegal fault refused) in
+    inr (inr (shape, order, (era, is, stuck)))
