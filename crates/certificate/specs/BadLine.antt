@@ -1,4 +1,4 @@
--- The line at which a text is no longer a certificate's.
+-- The line at which a text is no longer a certificate's (of this project's own format).
 use Rattle.std.specs.Prelude.{◌≡◌, ◌≢◌, ℕ, ◌+◌, List, ◌++◌, length}
 use Rattle.std.specs.List.{flat_map, AllByRecursion}
 use Rattle.certificate.specs.declared.plan.Certificate.{Certificate}

@@ -1,4 +1,4 @@
--- One line of a certificate's text, as what it says.
+-- One line of a certificate's text (of this project's own format), as what it says.
 use Rattle.std.specs.Prelude.{◌≡◌, ℕ, ◌<◌, ◌≤◌, ◌^◌, List, [], ◌∷◌, ◌++◌, length, map, Option, Some, None, codes, decimal}
 use Rattle.hex.specs.Hex.{IsBytes, encode_lower}
 use Rattle.certificate.specs.declared.line.Line.{Line}

@@ -1,4 +1,5 @@
--- The parts that make a certificate: the first bind, and the first era, that may not stand where it stands.
+-- The parts that make a certificate: the first bind, and the first era, that may not stand where it stands (by the rules
+-- of this project's own format).
 use Rattle.std.specs.Prelude.{ℕ, suc, Bool, cond, List, [], ◌∷◌, Option, Some, None, is_some, option_map}
 use Rattle.std.specs.Ordering.{nat_cmp, is_lt}
 use Rattle.std.specs.Cmp.Lexicographic.{slice_cmp}

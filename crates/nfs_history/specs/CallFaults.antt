@@ -1,4 +1,5 @@
--- The first call at fault, and why.
+-- The first call at fault, and why (RFC 5531, section 9, and RFC 1813, section 3.3; what lies outside the model, and the
+-- order of faults, are this project's own).
 use Rattle.std.specs.Prelude.{◌≡◌, ◌⊎◌, ◌==◌, nat_lt, ℕ, ◌+◌, if◌then◌else◌, List, [], ◌∷◌, length, Option, Some, None, option_map, Result, Ok, Err}
 use Rattle.std.specs.List.{AllByRecursion}
 use Rattle.nfs3_types.specs.declared.calls.NfsCall.{NfsCall}

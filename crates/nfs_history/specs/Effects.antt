@@ -27,7 +27,7 @@ abbrev pub has_failed_status : Option (List ℕ) → Bool
 has_failed_status None = false
 has_failed_status (Some results) = nat_le 4 (length results) && not (word_of results == 0)
 
--- NFS version 3 (RFC 1813, section 2.1)
+-- NFS version 3 (RFC 1813, section 2.2)
 abbrev pub is_of_nfs : CallValue → Bool
 is_of_nfs head = (head.program == 100003) && (head.version == 3)
 

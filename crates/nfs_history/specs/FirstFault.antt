@@ -1,4 +1,5 @@
--- The first fault of a file of a history: those of the file, then those of its events, then those of its calls.
+-- The first fault of a file of a history: those of the file, then those of its events, then those of its calls (an order
+-- of this project's own).
 use Rattle.std.specs.Prelude.{◌≡◌, ◌⊎◌, ℕ, List, [], Some, Err}
 use Rattle.history_file.specs.declared.fault.HistoryFault.{HistoryFault}
 use Rattle.history_file.specs.declared.fault.HistoryFault.TheVariants as faults

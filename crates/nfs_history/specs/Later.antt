@@ -1,4 +1,4 @@
--- A server that went down is judged later.
+-- A server that went down (a crash, Izraelevitz, Mendes and Scott 2016) is judged later.
 use Rattle.std.specs.Prelude.{ℕ, ◌+◌, List, [], ◌∷◌, Option, Some, None}
 use Rattle.history_file.specs.Event.{Event}
 use Rattle.history_file.specs.Event.Event.{call, reply, close, crash}

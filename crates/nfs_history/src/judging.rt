@@ -21,7 +21,7 @@ use nfs3_types::{Answer, CreateMode, NfsCall, NfsReply, Outcome};
 use rpc_reader::{CallHead, ReplyBody, read_call, read_reply};
 use std::alloc::Global;
 
-/// The program number of NFS (RFC 1813, section 2.1).
+/// The program number of NFS (RFC 1813, section 2.2).
 const NFS_PROGRAM: u32 = 100_003;
 /// The version that is judged.
 const NFS_VERSION: u32 = 3;

@@ -1,4 +1,5 @@
--- The places of a certificate as one serial order, and how a call may be placed.
+-- The places of a certificate as one serial order, and how a call may be placed (Herlihy and Wing 1990, section 2.2: an
+-- operation without a response may be completed; which calls change the tree: RFC 1813, section 3.3).
 use Rattle.std.specs.Prelude.{ℕ, ◌+◌, ◌&&◌, nat_le, Bool, true, false, List, [], ◌∷◌, ◌++◌, length, map, Option, Some, None, is_some, is_none}
 use Rattle.nfs3_types.specs.declared.calls.NfsCall.TheVariants as calls
 use Rattle.nfs_history.specs.declared.history.Meaning.{Meaning}

@@ -29,7 +29,7 @@ module _ {State Call Outcome : Type 0} (next : State → ℕ → Call → Outcom
     pub stops : state_after start (ahead ++ stuck ∷ []) ≡ None
     pub named : stuck.number ≡ number
 
--- the steps that outlive the crashes at the ends of these eras: the first ones of each, Izraelevitz, Mendes and Scott 2016, section 3
+-- the steps that outlive the crashes at the ends of these eras: the first ones of each, Izraelevitz, Mendes and Scott 2016, section 2
 abbrev pub kept_steps : {Call Outcome : Type 0} → List (Era Call Outcome) → List (Taken Call Outcome)
 kept_steps eras = flat_map (λ era. take era.kept era.steps) eras
 

@@ -1,4 +1,4 @@
--- names in directories: RFC 1813, section 1.5 and section 3.3.3
+-- names in directories: RFC 1813, section 3.2 and section 3.3.3
 use Rattle.std.specs.Prelude.{ℕ, ◌==◌, Bool, not, ◌||◌, if◌then◌else◌, List, [], ◌∷◌, ◌++◌, length, Option, None, option_and_then, option_map}
 use Rattle.std.specs.FinMap as map
 use Rattle.nfs3_types.specs.declared.calls.DirectoryName.{DirectoryName}

@@ -1,4 +1,4 @@
--- what an object is: RFC 1813, section 2.5, `ftype3`
+-- what an object is: RFC 1813, section 2.6, `ftype3`
 use Rattle.std.specs.Prelude.{Bool, true, false}
 use Rattle.tree_nodes.specs.declared.node.Content.{Content}
 use Rattle.tree_nodes.specs.declared.node.Content.TheVariants as contents

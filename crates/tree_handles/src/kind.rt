@@ -1,4 +1,4 @@
-//! What an object is (RFC 1813, section 2.5).
+//! What an object is (RFC 1813, section 2.6).
 
 ghost use Rattle.std.specs.Prelude.{◌≡◌};
 ghost use Rattle.tree_handles.specs.Kind.{is_directory, is_file, is_link};

@@ -1,4 +1,4 @@
--- what of an object lasts: RFC 1813, section 2.5 (`ftype3`, `fileid`)
+-- what of an object lasts: RFC 1813, section 2.6 (`ftype3`, `fileid`)
 use Rattle.std.specs.Prelude.{◌≡◌, ℕ, Some, ⊤}
 use Rattle.std.specs.FinMap as map
 use Rattle.nfs3_types.specs.declared.calls.NfsCall.{NfsCall}

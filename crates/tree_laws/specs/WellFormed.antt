@@ -1,4 +1,4 @@
--- what a file tree is: RFC 1813, sections 1.4 and 2.5
+-- what a file tree is: RFC 1813, section 2.6 (`ftype3`) and section 3.3.3
 use Rattle.std.specs.Prelude.{◌≡◌, ℕ, List, [], ◌∷◌, ◌++◌, Bool, true, not, ◌&&◌, if◌then◌else◌, Option, Some, None, IsSome, option_and_then}
 use Rattle.std.specs.FinMap as map
 use Rattle.nfs3_types.specs.declared.calls.DirectoryName.{DirectoryName}

@@ -13,7 +13,7 @@ pub struct Node {
     pub content: Content,
 }
 
-/// What an object is (RFC 1813, section 2.5, `ftype3`), as far as a tree has it.
+/// What an object is (RFC 1813, section 2.6, `ftype3`), as far as a tree has it.
 #[derive(Debug, Drop)]
 pub enum Content {
     Directory,

@@ -19,7 +19,7 @@ use Rattle.tree_handles.specs.Binding.{Bindings, same_bytes, is_bound}
 use Rattle.tree_handles.specs.Live.{live_entry, directory_of, file_of}
 use Rattle.tree_handles.specs.Entry.{is_dot, is_two_dots, entry_at}
 
--- GETATTR, RFC 1813, section 3.3.1: the type is the object's (`ftype3`, section 2.5), and a file's size is its length
+-- GETATTR, RFC 1813, section 3.3.1: the type is the object's (`ftype3`, section 2.6), and a file's size is its length
 abbrev pub type_number : FileType → ℕ
 type_number types.Regular = 1
 type_number types.Directory = 2

@@ -14,7 +14,7 @@ use tree_nodes::bytes::Path;
 use tree_nodes::node::{Content, Node};
 use tree_nodes::nodes::{Nodes, node_at};
 
-/// The number of a type in `ftype3` (RFC 1813, section 2.5).
+/// The number of a type in `ftype3` (RFC 1813, section 2.6).
 fn type_number(file_type: FileType) -> u32
     ensures { result ≡ type_number file_type }
 {

@@ -1,5 +1,5 @@
 -- What a no and a refusal say of two files: the first fault, in this order: the history's, the certificate's text's, the
--- plan's shape, its order, its run.
+-- plan's shape, its order, its run (an order of this project's own).
 use Rattle.std.specs.Prelude.{◌≡◌, ◌≢◌, ◌⊎◌, ℕ, List, [], ◌∷◌, Some}
 use Rattle.std.specs.List.{filter_map}
 use Rattle.history_file.specs.declared.fault.HistoryFault.{HistoryFault}

@@ -1,4 +1,4 @@
--- Which item is at fault: it stands behind items that are right, and is wrong itself.
+-- Which item of RFC 4506 is at fault: it stands behind items that are right, and is wrong itself.
 use Rattle.std.specs.Prelude.{◌≡◌, ◌≢◌, ◌<◌, ◌≤◌, ℕ, ◌+◌, ◌⊎◌, true, List, [], ◌∷◌, ◌++◌, length, Err}
 use Rattle.xdr_records.specs.declared.fault.XdrFault.{XdrFault}
 use Rattle.xdr_records.specs.declared.fault.XdrFault.TheVariants.{Short, BadFlag, TooLong, Trailing}
