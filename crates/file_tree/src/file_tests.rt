@@ -1,9 +1,9 @@
 //! What SETATTR, WRITE and CREATE make of the tree.
 
-use crate::sample::{ILLEGAL, NO_CHANGES, TREE, attributes, becomes, handle, place};
+use crate::sample::{ILLEGAL, TREE, attributes, becomes, handle, no_changes, place};
 use nfs3_types::{
-    Answer, CreateArguments, CreateMode, CreateSuccess, Data, FileHandle, NfsCall, NfsReply,
-    Outcome, SetAttrArguments, StableHow, Verifier, WriteArguments, WriteSuccess,
+    Answer, CreateArguments, CreateMode, CreateSuccess, Data, FileHandle, Held, NfsCall, NfsReply,
+    Optional, Outcome, SetAttrArguments, StableHow, Verifier, WriteArguments, WriteSuccess,
 };
 use std::alloc::{AllocError, Global};
 use std::test::Fail;
@@ -15,12 +15,15 @@ fn set_size(
     size: Option<u64>,
     wanted: &[u8],
 ) -> Result<bool, AllocError> {
-    let call = NfsCall::SetAttr(SetAttrArguments {
-        object: handle(alloc, object)?,
-        attributes: attributes(size),
-        guard: None,
-    });
-    let reply = NfsReply::SetAttr(Answer::Done(NO_CHANGES));
+    let call = NfsCall::SetAttr(Held::new(
+        alloc,
+        SetAttrArguments {
+            object: handle(alloc, object)?,
+            attributes: attributes(size),
+            guard: None,
+        },
+    )?);
+    let reply = NfsReply::SetAttr(Answer::Done(no_changes()));
     becomes(alloc, call, Outcome::Received(reply), wanted)
 }
 
@@ -64,7 +67,7 @@ fn write(
     wanted: &[u8],
 ) -> Result<bool, AllocError> {
     let reply = NfsReply::Write(Answer::Done(WriteSuccess {
-        wcc: NO_CHANGES,
+        wcc: no_changes(),
         count,
         level,
         verifier: Verifier { value: 0 },
@@ -137,15 +140,21 @@ fn create(
     object: Option<FileHandle>,
     wanted: &[u8],
 ) -> Result<bool, AllocError> {
-    let call = NfsCall::Create(CreateArguments {
-        place: place(alloc, 0, name)?,
-        mode,
-    });
-    let reply = NfsReply::Create(Answer::Done(CreateSuccess {
-        object,
-        attributes: None,
-        wcc: NO_CHANGES,
-    }));
+    let call = NfsCall::Create(Held::new(
+        alloc,
+        CreateArguments {
+            place: place(alloc, 0, name)?,
+            mode,
+        },
+    )?);
+    let reply = NfsReply::Create(Answer::Done(Held::new(
+        alloc,
+        CreateSuccess {
+            object,
+            attributes: Optional::none(),
+            wcc: no_changes(),
+        },
+    )?));
     becomes(alloc, call, Outcome::Received(reply), wanted)
 }
 

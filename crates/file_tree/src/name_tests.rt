@@ -1,20 +1,21 @@
 //! What MKDIR, SYMLINK, REMOVE, RMDIR and RENAME make of the tree.
 
-use crate::sample::{ILLEGAL, NO_CHANGES, TREE, attributes, becomes, handle, place};
+use crate::sample::{ILLEGAL, TREE, attributes, becomes, handle, no_changes, place};
 use nfs3_types::{
-    Answer, CreateSuccess, LinkText, MkDirArguments, NfsCall, NfsReply, Outcome, RenameArguments,
-    RenameWcc, SymLinkArguments, WccData,
+    Answer, CreateSuccess, Held, LinkText, MkDirArguments, NfsCall, NfsReply, Optional, Outcome,
+    RenameArguments, RenameWcc, SymLinkArguments, WccData,
 };
 use std::alloc::{AllocError, Global};
 use std::test::Fail;
 
 /// A success that gives the handle of an object.
-fn made(alloc: Global, object: u8) -> Result<Answer<CreateSuccess, WccData>, AllocError> {
-    Ok(Answer::Done(CreateSuccess {
+fn made(alloc: Global, object: u8) -> Result<Answer<Held<CreateSuccess>, WccData>, AllocError> {
+    let success = CreateSuccess {
         object: Some(handle(alloc, object)?),
-        attributes: None,
-        wcc: NO_CHANGES,
-    }))
+        attributes: Optional::none(),
+        wcc: no_changes(),
+    };
+    Ok(Answer::Done(Held::new(alloc, success)?))
 }
 
 /// MKDIR in the directory of a handle that gives the handle of an object.
@@ -25,10 +26,13 @@ fn make_directory(
     object: u8,
     wanted: &[u8],
 ) -> Result<bool, AllocError> {
-    let call = NfsCall::MkDir(MkDirArguments {
-        place: place(alloc, directory, name)?,
-        attributes: attributes(Some(3)),
-    });
+    let call = NfsCall::MkDir(Held::new(
+        alloc,
+        MkDirArguments {
+            place: place(alloc, directory, name)?,
+            attributes: attributes(Some(3)),
+        },
+    )?);
     let reply = NfsReply::MkDir(made(alloc, object)?);
     becomes(alloc, call, Outcome::Received(reply), wanted)
 }
@@ -47,11 +51,14 @@ fn an_absent_name_is_made_a_directory(rt: HostRuntime) -> Result<(), Fail> {
 
 /// SYMLINK in the root that gives the handle of an object.
 fn make_link(alloc: Global, name: &[u8], object: u8, wanted: &[u8]) -> Result<bool, AllocError> {
-    let call = NfsCall::SymLink(SymLinkArguments {
-        place: place(alloc, 0, name)?,
-        attributes: attributes(Some(3)),
-        target: LinkText::from_slice(alloc, b"t")?,
-    });
+    let call = NfsCall::SymLink(Held::new(
+        alloc,
+        SymLinkArguments {
+            place: place(alloc, 0, name)?,
+            attributes: attributes(Some(3)),
+            target: LinkText::from_slice(alloc, b"t")?,
+        },
+    )?);
     let reply = NfsReply::SymLink(made(alloc, object)?);
     becomes(alloc, call, Outcome::Received(reply), wanted)
 }
@@ -70,7 +77,7 @@ fn an_absent_name_is_made_a_link(rt: HostRuntime) -> Result<(), Fail> {
 /// REMOVE in the root.
 fn remove(alloc: Global, name: &[u8], wanted: &[u8]) -> Result<bool, AllocError> {
     let call = NfsCall::Remove(place(alloc, 0, name)?);
-    let reply = NfsReply::Remove(Answer::Done(NO_CHANGES));
+    let reply = NfsReply::Remove(Answer::Done(no_changes()));
     becomes(alloc, call, Outcome::Received(reply), wanted)
 }
 
@@ -89,7 +96,7 @@ fn what_is_no_directory_is_removed(rt: HostRuntime) -> Result<(), Fail> {
 /// RMDIR in the root.
 fn remove_directory(alloc: Global, name: &[u8], wanted: &[u8]) -> Result<bool, AllocError> {
     let call = NfsCall::RmDir(place(alloc, 0, name)?);
-    let reply = NfsReply::RmDir(Answer::Done(NO_CHANGES));
+    let reply = NfsReply::RmDir(Answer::Done(no_changes()));
     becomes(alloc, call, Outcome::Received(reply), wanted)
 }
 
@@ -112,14 +119,20 @@ fn rename(
     to: &[u8],
     wanted: &[u8],
 ) -> Result<bool, AllocError> {
-    let call = NfsCall::Rename(RenameArguments {
-        from: place(alloc, 0, from)?,
-        to: place(alloc, directory, to)?,
-    });
-    let reply = NfsReply::Rename(Answer::Done(RenameWcc {
-        from: NO_CHANGES,
-        to: NO_CHANGES,
-    }));
+    let call = NfsCall::Rename(Held::new(
+        alloc,
+        RenameArguments {
+            from: place(alloc, 0, from)?,
+            to: place(alloc, directory, to)?,
+        },
+    )?);
+    let reply = NfsReply::Rename(Answer::Done(Held::new(
+        alloc,
+        RenameWcc {
+            from: no_changes(),
+            to: no_changes(),
+        },
+    )?));
     becomes(alloc, call, Outcome::Received(reply), wanted)
 }
 

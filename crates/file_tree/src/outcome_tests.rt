@@ -1,9 +1,9 @@
 //! What failures and calls that are taken make of the tree.
 
-use crate::sample::{ILLEGAL, NO_CHANGES, TREE, attributes, becomes, handle, place};
+use crate::sample::{ILLEGAL, TREE, attributes, becomes, handle, no_changes, place};
 use nfs3_types::{
-    Answer, CommitArguments, CreateArguments, CreateMode, Data, Failure, MkDirArguments, NfsCall,
-    NfsReply, Outcome, StableHow, WccData, WriteArguments,
+    Answer, CommitArguments, CreateArguments, CreateMode, Data, Failure, Held, MkDirArguments,
+    NfsCall, NfsReply, Optional, Outcome, StableHow, WccData, WriteArguments,
 };
 use std::alloc::{AllocError, Global};
 use std::test::Fail;
@@ -16,7 +16,7 @@ fn look_up(
     wanted: &[u8],
 ) -> Result<bool, AllocError> {
     let call = NfsCall::Lookup(place(alloc, 0, name)?);
-    let reply = NfsReply::Lookup(Answer::Failed(failure, None));
+    let reply = NfsReply::Lookup(Answer::Failed(failure, Optional::none()));
     becomes(alloc, call, Outcome::Received(reply), wanted)
 }
 
@@ -43,8 +43,8 @@ fn answer_otherwise(alloc: Global, answer: Answer<WccData, WccData>) -> Result<b
 #[test]
 fn no_other_procedure_answers(rt: HostRuntime) -> Result<(), Fail> {
     let alloc = rt.alloc();
-    assert!(rt; answer_otherwise(alloc, Answer::Done(NO_CHANGES))?);
-    assert!(rt; answer_otherwise(alloc, Answer::Failed(Failure::InputOutput, NO_CHANGES))?);
+    assert!(rt; answer_otherwise(alloc, Answer::Done(no_changes()))?);
+    assert!(rt; answer_otherwise(alloc, Answer::Failed(Failure::InputOutput, no_changes()))?);
     Ok(())
 }
 
@@ -77,19 +77,25 @@ fn take_make_directory(
     count: Option<u32>,
     wanted: &[u8],
 ) -> Result<bool, AllocError> {
-    let call = NfsCall::MkDir(MkDirArguments {
-        place: place(alloc, 0, name)?,
-        attributes: attributes(None),
-    });
+    let call = NfsCall::MkDir(Held::new(
+        alloc,
+        MkDirArguments {
+            place: place(alloc, 0, name)?,
+            attributes: attributes(None),
+        },
+    )?);
     becomes(alloc, call, Outcome::Taken(count), wanted)
 }
 
 /// CREATE in the root that is taken.
 fn take_create(alloc: Global, name: &[u8], wanted: &[u8]) -> Result<bool, AllocError> {
-    let call = NfsCall::Create(CreateArguments {
-        place: place(alloc, 0, name)?,
-        mode: CreateMode::Guarded(attributes(None)),
-    });
+    let call = NfsCall::Create(Held::new(
+        alloc,
+        CreateArguments {
+            place: place(alloc, 0, name)?,
+            mode: CreateMode::Guarded(attributes(None)),
+        },
+    )?);
     becomes(alloc, call, Outcome::Taken(None), wanted)
 }
 

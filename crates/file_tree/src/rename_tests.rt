@@ -7,7 +7,8 @@ use crate::change::Undo;
 use crate::tests::handle;
 use crate::tree::FileTree;
 use nfs3_types::{
-    DirectoryName, MkDirArguments, Name, NfsCall, Outcome, RenameArguments, SetAttributes, SetTime,
+    DirectoryName, Held, MkDirArguments, Name, NfsCall, Outcome, RenameArguments, SetAttributes,
+    SetTime,
 };
 use replay_law::replay::{Replayable, StepFault};
 use std::alloc::{AllocError, Global};
@@ -37,25 +38,31 @@ fn step(
 
 /// MKDIR of a name in the directory of a handle.
 fn make(alloc: Global, byte: u8, name: u8) -> Result<NfsCall, AllocError> {
-    Ok(NfsCall::MkDir(MkDirArguments {
-        place: place(alloc, byte, name)?,
-        attributes: SetAttributes {
-            mode: None,
-            user: None,
-            group: None,
-            size: None,
-            access_time: SetTime::Keep,
-            modify_time: SetTime::Keep,
+    Ok(NfsCall::MkDir(Held::new(
+        alloc,
+        MkDirArguments {
+            place: place(alloc, byte, name)?,
+            attributes: SetAttributes {
+                mode: None,
+                user: None,
+                group: None,
+                size: None,
+                access_time: SetTime::Keep,
+                modify_time: SetTime::Keep,
+            },
         },
-    }))
+    )?))
 }
 
 /// RENAME of `a` in the root to `c` there.
 fn rename(alloc: Global) -> Result<NfsCall, AllocError> {
-    Ok(NfsCall::Rename(RenameArguments {
-        from: place(alloc, 0, b'a')?,
-        to: place(alloc, 0, b'c')?,
-    }))
+    Ok(NfsCall::Rename(Held::new(
+        alloc,
+        RenameArguments {
+            from: place(alloc, 0, b'a')?,
+            to: place(alloc, 0, b'c')?,
+        },
+    )?))
 }
 
 /// The root's handle 00, and aa for object 1.

@@ -5,7 +5,8 @@
 use crate::change::Change;
 use crate::success::change_of;
 use nfs3_types::{
-    DirectoryName, FileHandle, Name, NfsCall, Outcome, SetAttributes, SetTime, Verifier, WccData,
+    DirectoryName, FileHandle, Name, NfsCall, Optional, Outcome, SetAttributes, SetTime, Verifier,
+    WccData,
 };
 use replay_law::replay::StepFault;
 use std::alloc::{AllocError, Global};
@@ -21,10 +22,13 @@ pub(crate) const TREE: &[u8] = b"0 /d2 /d/g3= /e5 /f1=abc /l4>x/y /v6=!1 ";
 /// No tree.
 pub(crate) const ILLEGAL: &[u8] = b"";
 
-pub(crate) const NO_CHANGES: WccData = WccData {
-    before: None,
-    after: None,
-};
+/// Attributes neither before nor after.
+pub(crate) fn no_changes() -> WccData {
+    WccData {
+        before: Optional::none(),
+        after: Optional::none(),
+    }
+}
 
 /// No attribute but this size, if any, is set.
 pub(crate) fn attributes(size: Option<u64>) -> SetAttributes {

@@ -4,9 +4,9 @@ ghost use Rattle.file_tree.specs.Undo.{TakesBack};
 use crate::change::Undo;
 use crate::tree::FileTree;
 use nfs3_types::{
-    Answer, CreateArguments, CreateMode, CreateSuccess, Data, DirectoryName, FileHandle, Name,
-    NfsCall, NfsReply, Outcome, ReadArguments, ReadSuccess, SetAttributes, SetTime, StableHow,
-    Verifier, WccData, WriteArguments, WriteSuccess,
+    Answer, CreateArguments, CreateMode, CreateSuccess, Data, DirectoryName, FileHandle, Held,
+    Name, NfsCall, NfsReply, Optional, Outcome, ReadArguments, ReadSuccess, SetAttributes, SetTime,
+    StableHow, Verifier, WccData, WriteArguments, WriteSuccess,
 };
 use replay_law::replay::{Replayable, StepFault};
 use replay_law::run::{RunFault, Step, run_steps};
@@ -14,10 +14,13 @@ use std::alloc::{AllocError, Global};
 use std::test::Fail;
 use tree_handles::binds::Binds;
 
-const NO_CHANGES: WccData = WccData {
-    before: None,
-    after: None,
-};
+/// Attributes neither before nor after.
+fn no_changes() -> WccData {
+    WccData {
+        before: Optional::none(),
+        after: Optional::none(),
+    }
+}
 
 /// The tree of one file `abc` at the name `a`.
 const ONE_FILE: [u8; 56] = [
@@ -44,17 +47,17 @@ fn create(alloc: Global) -> Result<NfsCall, AllocError> {
         access_time: SetTime::Keep,
         modify_time: SetTime::Keep,
     });
-    Ok(NfsCall::Create(CreateArguments { place, mode }))
+    Ok(NfsCall::Create(Held::new(alloc, CreateArguments { place, mode })?))
 }
 
 /// Its success with this handle.
 fn created(alloc: Global, byte: u8) -> Result<Outcome, AllocError> {
     let success = CreateSuccess {
         object: Some(handle(alloc, byte)?),
-        attributes: None,
-        wcc: NO_CHANGES,
+        attributes: Optional::none(),
+        wcc: no_changes(),
     };
-    Ok(Outcome::Received(NfsReply::Create(Answer::Done(success))))
+    Ok(Outcome::Received(NfsReply::Create(Answer::Done(Held::new(alloc, success)?))))
 }
 
 /// WRITE of `abc` to the file of handle aa, FILE_SYNC.
@@ -71,7 +74,7 @@ fn write(alloc: Global) -> Result<NfsCall, AllocError> {
 /// Its success.
 fn wrote(count: u32, level: StableHow) -> Outcome {
     Outcome::Received(NfsReply::Write(Answer::Done(WriteSuccess {
-        wcc: NO_CHANGES,
+        wcc: no_changes(),
         count,
         level,
         verifier: Verifier { value: 1 },
@@ -91,7 +94,7 @@ fn read(alloc: Global) -> Result<NfsCall, AllocError> {
 fn got(alloc: Global, bytes: &[u8], eof: bool) -> Result<Outcome, AllocError> {
     let bytes = Data::from_slice(alloc, &bytes[..bytes.len().min(10)])?;
     let success = ReadSuccess {
-        attributes: None,
+        attributes: Optional::none(),
         count: bytes.as_slice().len() as u32,
         eof,
         bytes,

@@ -7,8 +7,9 @@ ghost use Rattle.message_bench.specs.Counts.{data_count, entry_count, count_of};
 use crate::request::MessageKind;
 use nfs3_msgs::{put_args, put_result};
 use nfs3_types::{
-    Answer, Data, Device, DirectoryEntryPlus, Entries, FileAttributes, FileHandle, FileType, Name,
-    NfsCall, NfsReply, ReadDirPlusSuccess, StableHow, Time, Verifier, WriteArguments,
+    Answer, Data, Device, DirectoryEntryPlus, Entries, FileAttributes, FileHandle, FileType, Held,
+    Name, NfsCall, NfsReply, Optional, ReadDirPlusSuccess, StableHow, Time, Verifier,
+    WriteArguments,
 };
 use std::alloc::{AllocError, Global};
 
@@ -47,7 +48,7 @@ fn entry(alloc: Global, number: u64) -> Result<DirectoryEntryPlus, AllocError> {
         file_number: number,
         name: Name::from_slice(alloc, NAME.as_bytes())?,
         cookie: number,
-        attributes: Some(attributes(FileType::Regular, number)),
+        attributes: Optional::some(alloc, attributes(FileType::Regular, number))?,
         object: Some(FileHandle::from_slice(alloc, &HANDLE)?),
     })
 }
@@ -83,12 +84,15 @@ fn listing(alloc: Global, size: u32) -> Result<NfsReply, AllocError>
     ensures procedure { IfOk result (λ reply. procedure_of_reply reply ≡ 17) }
     ensures size { IfOk result (λ reply. entry_count reply ≡ Some size) }
 {
-    Ok(NfsReply::ReadDirPlus(Answer::Done(ReadDirPlusSuccess {
-        attributes: Some(attributes(FileType::Directory, 1)),
-        verifier: Verifier { value: 1 },
-        entries: entries(alloc, size)?,
-        eof: true,
-    })))
+    Ok(NfsReply::ReadDirPlus(Answer::Done(Held::new(
+        alloc,
+        ReadDirPlusSuccess {
+            attributes: Optional::some(alloc, attributes(FileType::Directory, 1))?,
+            verifier: Verifier { value: 1 },
+            entries: entries(alloc, size)?,
+            eof: true,
+        },
+    )?)))
 }
 
 // The arguments of a call as bytes.

@@ -6,7 +6,8 @@ ghost use Rattle.nfs3_msgs.specs.Attributes.{times_text, sizes_text, TimesFit, S
 use crate::fault::MessageFault;
 use crate::value::{XdrValue, bad_enum, read_word};
 use nfs3_types::{
-    Device, FileAttributes, FileType, SetAttributes, SetTime, Time, WccAttributes, WccData,
+    Device, FileAttributes, FileType, Optional, SetAttributes, SetTime, Time, WccAttributes,
+    WccData,
 };
 use std::alloc::{AllocError, Global};
 use xdr_records::{Reader, put_u32};
@@ -225,8 +226,8 @@ impl XdrValue for WccData {
 
     #[tactic(auto, unfolding(crate::specs::Attributes::wcc_data))]
     fn read(alloc: Global, reader: &mut Reader<'_>) -> Result<WccData, MessageFault> {
-        let before = Option::<WccAttributes>::read(alloc, reader)?;
-        let after = Option::<FileAttributes>::read(alloc, reader)?;
+        let before = Optional::<WccAttributes>::read(alloc, reader)?;
+        let after = Optional::<FileAttributes>::read(alloc, reader)?;
         Ok(WccData { before, after })
     }
 

@@ -15,10 +15,10 @@ use crate::fault::{Kind, MessageFault};
 use crate::value::{XdrValue, fault_at};
 use nfs3_types::{
     Answer, CommitArguments, CommitSuccess, CreateArguments, CreateSuccess, DirectoryName,
-    FileAttributes, FileHandle, LookupSuccess, MkDirArguments, NfsCall, NfsReply, ReadArguments,
-    ReadDirArguments, ReadDirPlusArguments, ReadDirPlusSuccess, ReadDirSuccess, ReadLinkSuccess,
-    ReadSuccess, RenameArguments, RenameWcc, SetAttrArguments, SymLinkArguments, WccData,
-    WriteArguments, WriteSuccess,
+    FileAttributes, FileHandle, Held, LookupSuccess, MkDirArguments, NfsCall, NfsReply, Optional,
+    ReadArguments, ReadDirArguments, ReadDirPlusArguments, ReadDirPlusSuccess, ReadDirSuccess,
+    ReadLinkSuccess, ReadSuccess, RenameArguments, RenameWcc, SetAttrArguments, SymLinkArguments,
+    WccData, WriteArguments, WriteSuccess,
 };
 use std::alloc::{AllocError, Global};
 use xdr_records::Reader;
@@ -44,17 +44,17 @@ fn read_call(
 {
     match procedure {
         1 => Ok(NfsCall::GetAttr(FileHandle::read(alloc, reader)?)),
-        2 => Ok(NfsCall::SetAttr(SetAttrArguments::read(alloc, reader)?)),
+        2 => Ok(NfsCall::SetAttr(Held::<SetAttrArguments>::read(alloc, reader)?)),
         3 => Ok(NfsCall::Lookup(DirectoryName::read(alloc, reader)?)),
         5 => Ok(NfsCall::ReadLink(FileHandle::read(alloc, reader)?)),
         6 => Ok(NfsCall::Read(ReadArguments::read(alloc, reader)?)),
         7 => Ok(NfsCall::Write(WriteArguments::read(alloc, reader)?)),
-        8 => Ok(NfsCall::Create(CreateArguments::read(alloc, reader)?)),
-        9 => Ok(NfsCall::MkDir(MkDirArguments::read(alloc, reader)?)),
-        10 => Ok(NfsCall::SymLink(SymLinkArguments::read(alloc, reader)?)),
+        8 => Ok(NfsCall::Create(Held::<CreateArguments>::read(alloc, reader)?)),
+        9 => Ok(NfsCall::MkDir(Held::<MkDirArguments>::read(alloc, reader)?)),
+        10 => Ok(NfsCall::SymLink(Held::<SymLinkArguments>::read(alloc, reader)?)),
         12 => Ok(NfsCall::Remove(DirectoryName::read(alloc, reader)?)),
         13 => Ok(NfsCall::RmDir(DirectoryName::read(alloc, reader)?)),
-        14 => Ok(NfsCall::Rename(RenameArguments::read(alloc, reader)?)),
+        14 => Ok(NfsCall::Rename(Held::<RenameArguments>::read(alloc, reader)?)),
         16 => Ok(NfsCall::ReadDir(ReadDirArguments::read(alloc, reader)?)),
         17 => Ok(NfsCall::ReadDirPlus(ReadDirPlusArguments::read(alloc, reader)?)),
         21 => Ok(NfsCall::Commit(CommitArguments::read(alloc, reader)?)),
@@ -72,30 +72,33 @@ fn read_reply(
     ensures { Reads (results procedure) reader.old reader.new result }
 {
     match procedure {
-        1 => Ok(NfsReply::GetAttr(Answer::<FileAttributes, ()>::read(alloc, reader)?)),
+        1 => Ok(NfsReply::GetAttr(Answer::<Held<FileAttributes>, ()>::read(alloc, reader)?)),
         2 => Ok(NfsReply::SetAttr(Answer::<WccData, WccData>::read(alloc, reader)?)),
-        3 => Ok(NfsReply::Lookup(Answer::<LookupSuccess, Option<FileAttributes>>::read(
+        3 => Ok(NfsReply::Lookup(Answer::<Held<LookupSuccess>, Optional<FileAttributes>>::read(
             alloc, reader,
         )?)),
-        5 => Ok(NfsReply::ReadLink(Answer::<ReadLinkSuccess, Option<FileAttributes>>::read(
+        5 => Ok(NfsReply::ReadLink(Answer::<ReadLinkSuccess, Optional<FileAttributes>>::read(
             alloc, reader,
         )?)),
-        6 => Ok(NfsReply::Read(Answer::<ReadSuccess, Option<FileAttributes>>::read(
+        6 => Ok(NfsReply::Read(Answer::<ReadSuccess, Optional<FileAttributes>>::read(
             alloc, reader,
         )?)),
         7 => Ok(NfsReply::Write(Answer::<WriteSuccess, WccData>::read(alloc, reader)?)),
-        8 => Ok(NfsReply::Create(Answer::<CreateSuccess, WccData>::read(alloc, reader)?)),
-        9 => Ok(NfsReply::MkDir(Answer::<CreateSuccess, WccData>::read(alloc, reader)?)),
-        10 => Ok(NfsReply::SymLink(Answer::<CreateSuccess, WccData>::read(alloc, reader)?)),
+        8 => Ok(NfsReply::Create(Answer::<Held<CreateSuccess>, WccData>::read(alloc, reader)?)),
+        9 => Ok(NfsReply::MkDir(Answer::<Held<CreateSuccess>, WccData>::read(alloc, reader)?)),
+        10 => Ok(NfsReply::SymLink(Answer::<Held<CreateSuccess>, WccData>::read(alloc, reader)?)),
         12 => Ok(NfsReply::Remove(Answer::<WccData, WccData>::read(alloc, reader)?)),
         13 => Ok(NfsReply::RmDir(Answer::<WccData, WccData>::read(alloc, reader)?)),
-        14 => Ok(NfsReply::Rename(Answer::<RenameWcc, RenameWcc>::read(alloc, reader)?)),
-        16 => Ok(NfsReply::ReadDir(Answer::<ReadDirSuccess, Option<FileAttributes>>::read(
+        14 => Ok(NfsReply::Rename(Answer::<Held<RenameWcc>, Held<RenameWcc>>::read(
             alloc, reader,
         )?)),
-        17 => Ok(NfsReply::ReadDirPlus(Answer::<ReadDirPlusSuccess, Option<FileAttributes>>::read(
+        16 => Ok(NfsReply::ReadDir(Answer::<Held<ReadDirSuccess>, Optional<FileAttributes>>::read(
             alloc, reader,
         )?)),
+        17 => Ok(NfsReply::ReadDirPlus(Answer::<
+            Held<ReadDirPlusSuccess>,
+            Optional<FileAttributes>,
+        >::read(alloc, reader)?)),
         21 => Ok(NfsReply::Commit(Answer::<CommitSuccess, WccData>::read(alloc, reader)?)),
         _ => Err(not_judged(reader)),
     }

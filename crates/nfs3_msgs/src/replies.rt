@@ -10,9 +10,9 @@ use crate::fault::MessageFault;
 use crate::value::{XdrValue, bad_enum, read_word};
 use nfs3_types::{
     Answer, CommitSuccess, CreateSuccess, Data, DirectoryEntry, DirectoryEntryPlus, Entries,
-    Failure, FileAttributes, FileHandle, LinkText, LookupSuccess, Name, ReadDirPlusSuccess,
-    ReadDirSuccess, ReadLinkSuccess, ReadSuccess, RenameWcc, StableHow, Verifier, WccData,
-    WriteSuccess,
+    Failure, FileAttributes, FileHandle, LinkText, LookupSuccess, Name, Optional,
+    ReadDirPlusSuccess, ReadDirSuccess, ReadLinkSuccess, ReadSuccess, RenameWcc, StableHow,
+    Verifier, WccData, WriteSuccess,
 };
 use std::alloc::{AllocError, Global};
 use xdr_records::{Reader, put_u32};
@@ -127,7 +127,7 @@ impl XdrValue for ReadSuccess {
 
     #[tactic(auto, unfolding(crate::specs::Replies::read_success))]
     fn read(alloc: Global, reader: &mut Reader<'_>) -> Result<ReadSuccess, MessageFault> {
-        let attributes = Option::<FileAttributes>::read(alloc, reader)?;
+        let attributes = Optional::<FileAttributes>::read(alloc, reader)?;
         let count = u32::read(alloc, reader)?;
         let eof = bool::read(alloc, reader)?;
         let bytes = Data::read(alloc, reader)?;
@@ -198,7 +198,7 @@ impl XdrValue for CreateSuccess {
     #[tactic(auto, unfolding(crate::specs::Replies::create_success))]
     fn read(alloc: Global, reader: &mut Reader<'_>) -> Result<CreateSuccess, MessageFault> {
         let object = Option::<FileHandle>::read(alloc, reader)?;
-        let attributes = Option::<FileAttributes>::read(alloc, reader)?;
+        let attributes = Optional::<FileAttributes>::read(alloc, reader)?;
         let wcc = WccData::read(alloc, reader)?;
         Ok(CreateSuccess {
             object,
@@ -230,8 +230,8 @@ impl XdrValue for LookupSuccess {
     #[tactic(auto, unfolding(crate::specs::Replies::lookup_success))]
     fn read(alloc: Global, reader: &mut Reader<'_>) -> Result<LookupSuccess, MessageFault> {
         let object = FileHandle::read(alloc, reader)?;
-        let attributes = Option::<FileAttributes>::read(alloc, reader)?;
-        let directory_attributes = Option::<FileAttributes>::read(alloc, reader)?;
+        let attributes = Optional::<FileAttributes>::read(alloc, reader)?;
+        let directory_attributes = Optional::<FileAttributes>::read(alloc, reader)?;
         Ok(LookupSuccess {
             object,
             attributes,
@@ -261,7 +261,7 @@ impl XdrValue for ReadLinkSuccess {
 
     #[tactic(auto, unfolding(crate::specs::Replies::read_link_success))]
     fn read(alloc: Global, reader: &mut Reader<'_>) -> Result<ReadLinkSuccess, MessageFault> {
-        let attributes = Option::<FileAttributes>::read(alloc, reader)?;
+        let attributes = Optional::<FileAttributes>::read(alloc, reader)?;
         let target = LinkText::read(alloc, reader)?;
         Ok(ReadLinkSuccess { attributes, target })
     }
@@ -345,7 +345,7 @@ impl XdrValue for ReadDirSuccess {
 
     #[tactic(auto, unfolding(crate::specs::Replies::read_dir_success))]
     fn read(alloc: Global, reader: &mut Reader<'_>) -> Result<ReadDirSuccess, MessageFault> {
-        let attributes = Option::<FileAttributes>::read(alloc, reader)?;
+        let attributes = Optional::<FileAttributes>::read(alloc, reader)?;
         let verifier = Verifier::read(alloc, reader)?;
         let entries = Entries::<DirectoryEntry>::read(alloc, reader)?;
         let eof = bool::read(alloc, reader)?;
@@ -383,7 +383,7 @@ impl XdrValue for DirectoryEntryPlus {
         let file_number = u64::read(alloc, reader)?;
         let name = Name::read(alloc, reader)?;
         let cookie = u64::read(alloc, reader)?;
-        let attributes = Option::<FileAttributes>::read(alloc, reader)?;
+        let attributes = Optional::<FileAttributes>::read(alloc, reader)?;
         let object = Option::<FileHandle>::read(alloc, reader)?;
         Ok(DirectoryEntryPlus {
             file_number,
@@ -418,7 +418,7 @@ impl XdrValue for ReadDirPlusSuccess {
 
     #[tactic(auto, unfolding(crate::specs::Replies::read_dir_plus_success))]
     fn read(alloc: Global, reader: &mut Reader<'_>) -> Result<ReadDirPlusSuccess, MessageFault> {
-        let attributes = Option::<FileAttributes>::read(alloc, reader)?;
+        let attributes = Optional::<FileAttributes>::read(alloc, reader)?;
         let verifier = Verifier::read(alloc, reader)?;
         let entries = Entries::<DirectoryEntryPlus>::read(alloc, reader)?;
         let eof = bool::read(alloc, reader)?;

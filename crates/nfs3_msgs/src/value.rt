@@ -5,6 +5,7 @@ ghost use Rattle.xdr_records.specs.Grammar.Grammar.{one_word};
 ghost use Rattle.nfs3_msgs.specs.Told.{kind_of, Reads};
 
 use crate::fault::{Kind, MessageFault};
+use nfs3_types::{Held, Optional};
 use std::alloc::{AllocError, Global};
 use xdr_records::{Reader, XdrFault, put_flag, put_u32, put_u64};
 
@@ -171,4 +172,59 @@ impl<T: XdrValue> XdrValue for Option<T> {
     }
 
     ghost spelled = { optional_of_spelled T.grammar T.text T.fits T.spelled };
+}
+
+impl<T: XdrValue> XdrValue for Optional<T> {
+    ghost use Rattle.std.specs.Prelude.{IfSome};
+    ghost use Rattle.xdr_records.specs.Texts.{optional_text};
+    ghost use Rattle.nfs3_msgs.specs.Bytes.{optional_of};
+    ghost use Rattle.nfs3_msgs.specs.Spelled.{optional_of_spelled};
+
+    ghost grammar = { optional_of T.grammar };
+
+    ghost text = { optional_text T.text };
+
+    ghost fits = { λ value. IfSome value T.fits };
+
+    #[tactic(auto, unfolding(crate::specs::Bytes::optional_of))]
+    fn read(alloc: Global, reader: &mut Reader<'_>) -> Result<Optional<T>, MessageFault> {
+        if bool::read(alloc, reader)? {
+            let value = T::read(alloc, reader)?;
+            Ok(Optional::some(alloc, value)?)
+        } else {
+            Ok(Optional::none())
+        }
+    }
+
+    #[tactic(auto, unfolding(xdr_records::specs::Texts::optional_text))]
+    fn put(&self, out: &mut Vec<u8>) -> Result<(), AllocError> {
+        let value = self.as_ref();
+        put_flag(out, value.is_some())?;
+        match value {
+            Some(value) => value.put(out),
+            None => Ok(()),
+        }
+    }
+
+    ghost spelled = { optional_of_spelled T.grammar T.text T.fits T.spelled };
+}
+
+impl<T: XdrValue> XdrValue for Held<T> {
+    ghost grammar = { T.grammar };
+
+    ghost text = { T.text };
+
+    ghost fits = { T.fits };
+
+    fn read(alloc: Global, reader: &mut Reader<'_>) -> Result<Held<T>, MessageFault> {
+        let value = T::read(alloc, reader)?;
+        Ok(Held::new(alloc, value)?)
+    }
+
+    fn put(&self, out: &mut Vec<u8>) -> Result<(), AllocError> {
+        let value: &T = self;
+        value.put(out)
+    }
+
+    ghost spelled = { T.spelled };
 }

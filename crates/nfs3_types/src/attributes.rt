@@ -1,5 +1,7 @@
 //! Attributes of files, before and after an operation, and as a call asks for them.
 
+use crate::held::Optional;
+
 /// What kind of object a handle names, `ftype3` (RFC 1813, section 2.6).
 #[derive(Clone, Copy, Debug, PartialEq, Eq)]
 pub enum FileType {
@@ -72,10 +74,10 @@ pub struct WccAttributes {
 }
 
 /// Attributes before and after an operation, `wcc_data` (weak cache consistency).
-#[derive(Clone, Copy, Debug, PartialEq, Eq)]
+#[derive(Clone, Debug, PartialEq, Eq, Drop)]
 pub struct WccData {
-    pub before: Option<WccAttributes>,
-    pub after: Option<FileAttributes>,
+    pub before: Optional<WccAttributes>,
+    pub after: Optional<FileAttributes>,
 }
 
 /// How a call sets a time, `set_atime` and `set_mtime`.

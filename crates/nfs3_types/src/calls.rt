@@ -4,6 +4,7 @@ ghost use Rattle.std.specs.Prelude.{◌≡◌, IfOk};
 
 use crate::attributes::{SetAttributes, Time, Verifier};
 use crate::bytes::{Data, FileHandle, LinkText, Name};
+use crate::held::Held;
 use std::alloc::AllocError;
 
 /// A name in a directory, `diropargs3`.
@@ -126,17 +127,17 @@ pub struct CommitArguments {
 #[derive(Clone, Debug, PartialEq, Eq, Drop)]
 pub enum NfsCall {
     GetAttr(FileHandle),
-    SetAttr(SetAttrArguments),
+    SetAttr(Held<SetAttrArguments>),
     Lookup(DirectoryName),
     ReadLink(FileHandle),
     Read(ReadArguments),
     Write(WriteArguments),
-    Create(CreateArguments),
-    MkDir(MkDirArguments),
-    SymLink(SymLinkArguments),
+    Create(Held<CreateArguments>),
+    MkDir(Held<MkDirArguments>),
+    SymLink(Held<SymLinkArguments>),
     Remove(DirectoryName),
     RmDir(DirectoryName),
-    Rename(RenameArguments),
+    Rename(Held<RenameArguments>),
     ReadDir(ReadDirArguments),
     ReadDirPlus(ReadDirPlusArguments),
     Commit(CommitArguments),

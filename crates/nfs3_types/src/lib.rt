@@ -6,6 +6,7 @@ mod attributes;
 mod bytes;
 mod calls;
 mod entries;
+mod held;
 mod replies;
 mod status;
 
@@ -20,6 +21,7 @@ pub use calls::{
     StableHow, SymLinkArguments, WriteArguments,
 };
 pub use entries::Entries;
+pub use held::{Held, Optional};
 pub use replies::{
     Answer, CommitSuccess, CreateSuccess, DirectoryEntry, DirectoryEntryPlus, LookupSuccess,
     NfsReply, Outcome, ReadDirPlusSuccess, ReadDirSuccess, ReadLinkSuccess, ReadSuccess, RenameWcc,

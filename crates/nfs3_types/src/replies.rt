@@ -6,6 +6,7 @@ use crate::attributes::{FileAttributes, Verifier, WccData};
 use crate::bytes::{Data, FileHandle, LinkText, Name};
 use crate::calls::StableHow;
 use crate::entries::Entries;
+use crate::held::{Held, Optional};
 use crate::status::Failure;
 use std::alloc::AllocError;
 
@@ -20,29 +21,29 @@ pub enum Answer<S, F> {
 #[derive(Clone, Debug, PartialEq, Eq, Drop)]
 pub struct LookupSuccess {
     pub object: FileHandle,
-    pub attributes: Option<FileAttributes>,
+    pub attributes: Optional<FileAttributes>,
     /// `dir_attributes`
-    pub directory_attributes: Option<FileAttributes>,
+    pub directory_attributes: Optional<FileAttributes>,
 }
 
 /// `READLINK3resok` (RFC 1813, section 3.3.5).
 #[derive(Clone, Debug, PartialEq, Eq, Drop)]
 pub struct ReadLinkSuccess {
-    pub attributes: Option<FileAttributes>,
+    pub attributes: Optional<FileAttributes>,
     pub target: LinkText,
 }
 
 /// `READ3resok` (RFC 1813, section 3.3.6).
 #[derive(Clone, Debug, PartialEq, Eq, Drop)]
 pub struct ReadSuccess {
-    pub attributes: Option<FileAttributes>,
+    pub attributes: Optional<FileAttributes>,
     pub count: u32,
     pub eof: bool,
     pub bytes: Data,
 }
 
 /// `WRITE3resok` (RFC 1813, section 3.3.7).
-#[derive(Clone, Copy, Debug, PartialEq, Eq)]
+#[derive(Clone, Debug, PartialEq, Eq, Drop)]
 pub struct WriteSuccess {
     pub wcc: WccData,
     pub count: u32,
@@ -55,13 +56,13 @@ pub struct WriteSuccess {
 #[derive(Clone, Debug, PartialEq, Eq, Drop)]
 pub struct CreateSuccess {
     pub object: Option<FileHandle>,
-    pub attributes: Option<FileAttributes>,
+    pub attributes: Optional<FileAttributes>,
     /// Of the directory.
     pub wcc: WccData,
 }
 
 /// What stands behind the status of a RENAME, done or failed (RFC 1813, section 3.3.14).
-#[derive(Clone, Copy, Debug, PartialEq, Eq)]
+#[derive(Clone, Debug, PartialEq, Eq, Drop)]
 pub struct RenameWcc {
     /// `fromdir_wcc`
     pub from: WccData,
@@ -94,7 +95,7 @@ impl Clone for DirectoryEntry {
 #[derive(Debug, PartialEq, Eq, Drop)]
 pub struct ReadDirSuccess {
     /// Of the directory.
-    pub attributes: Option<FileAttributes>,
+    pub attributes: Optional<FileAttributes>,
     pub verifier: Verifier,
     pub entries: Entries<DirectoryEntry>,
     pub eof: bool,
@@ -106,7 +107,7 @@ impl Clone for ReadDirSuccess {
     #[tactic(auto, using(crate::proofs::Copies::same_items))]
     fn clone(&self) -> Result<ReadDirSuccess, AllocError> {
         Ok(ReadDirSuccess {
-            attributes: self.attributes,
+            attributes: self.attributes.clone()?,
             verifier: self.verifier,
             entries: self.entries.clone()?,
             eof: self.eof,
@@ -121,7 +122,7 @@ pub struct DirectoryEntryPlus {
     pub file_number: u64,
     pub name: Name,
     pub cookie: u64,
-    pub attributes: Option<FileAttributes>,
+    pub attributes: Optional<FileAttributes>,
     pub object: Option<FileHandle>,
 }
 
@@ -133,7 +134,7 @@ impl Clone for DirectoryEntryPlus {
             file_number: self.file_number,
             name: self.name.clone()?,
             cookie: self.cookie,
-            attributes: self.attributes,
+            attributes: self.attributes.clone()?,
             object: self.object.clone()?,
         })
     }
@@ -143,7 +144,7 @@ impl Clone for DirectoryEntryPlus {
 #[derive(Debug, PartialEq, Eq, Drop)]
 pub struct ReadDirPlusSuccess {
     /// Of the directory.
-    pub attributes: Option<FileAttributes>,
+    pub attributes: Optional<FileAttributes>,
     pub verifier: Verifier,
     pub entries: Entries<DirectoryEntryPlus>,
     pub eof: bool,
@@ -155,7 +156,7 @@ impl Clone for ReadDirPlusSuccess {
     #[tactic(auto, using(crate::proofs::Copies::same_items))]
     fn clone(&self) -> Result<ReadDirPlusSuccess, AllocError> {
         Ok(ReadDirPlusSuccess {
-            attributes: self.attributes,
+            attributes: self.attributes.clone()?,
             verifier: self.verifier,
             entries: self.entries.clone()?,
             eof: self.eof,
@@ -164,7 +165,7 @@ impl Clone for ReadDirPlusSuccess {
 }
 
 /// `COMMIT3resok` (RFC 1813, section 3.3.21).
-#[derive(Clone, Copy, Debug, PartialEq, Eq)]
+#[derive(Clone, Debug, PartialEq, Eq, Drop)]
 pub struct CommitSuccess {
     pub wcc: WccData,
     pub verifier: Verifier,
@@ -173,20 +174,20 @@ pub struct CommitSuccess {
 /// The result of a judged procedure, which it names.
 #[derive(Clone, Debug, PartialEq, Eq, Drop)]
 pub enum NfsReply {
-    GetAttr(Answer<FileAttributes, ()>),
+    GetAttr(Answer<Held<FileAttributes>, ()>),
     SetAttr(Answer<WccData, WccData>),
-    Lookup(Answer<LookupSuccess, Option<FileAttributes>>),
-    ReadLink(Answer<ReadLinkSuccess, Option<FileAttributes>>),
-    Read(Answer<ReadSuccess, Option<FileAttributes>>),
+    Lookup(Answer<Held<LookupSuccess>, Optional<FileAttributes>>),
+    ReadLink(Answer<ReadLinkSuccess, Optional<FileAttributes>>),
+    Read(Answer<ReadSuccess, Optional<FileAttributes>>),
     Write(Answer<WriteSuccess, WccData>),
-    Create(Answer<CreateSuccess, WccData>),
-    MkDir(Answer<CreateSuccess, WccData>),
-    SymLink(Answer<CreateSuccess, WccData>),
+    Create(Answer<Held<CreateSuccess>, WccData>),
+    MkDir(Answer<Held<CreateSuccess>, WccData>),
+    SymLink(Answer<Held<CreateSuccess>, WccData>),
     Remove(Answer<WccData, WccData>),
     RmDir(Answer<WccData, WccData>),
-    Rename(Answer<RenameWcc, RenameWcc>),
-    ReadDir(Answer<ReadDirSuccess, Option<FileAttributes>>),
-    ReadDirPlus(Answer<ReadDirPlusSuccess, Option<FileAttributes>>),
+    Rename(Answer<Held<RenameWcc>, Held<RenameWcc>>),
+    ReadDir(Answer<Held<ReadDirSuccess>, Optional<FileAttributes>>),
+    ReadDirPlus(Answer<Held<ReadDirPlusSuccess>, Optional<FileAttributes>>),
     Commit(Answer<CommitSuccess, WccData>),
 }
 

@@ -1,8 +1,8 @@
 //! What the clauses don't say: that the calls succeed with memory.
 
 use crate::{
-    Answer, Data, DirectoryEntryPlus, DirectoryName, Entries, FileHandle, LinkText, Name, NfsCall,
-    NfsReply, Outcome, ReadDirPlusSuccess, Verifier,
+    Answer, Data, DirectoryEntryPlus, DirectoryName, Entries, FileHandle, Held, LinkText, Name,
+    NfsCall, NfsReply, Optional, Outcome, ReadDirPlusSuccess, Verifier,
 };
 use std::alloc::{AllocError, Global};
 use std::test::Fail;
@@ -35,15 +35,17 @@ fn listed(alloc: Global, cookie: u64) -> Result<Outcome, Fail> {
         file_number: 1,
         name: Name::from_slice(alloc, b"a")?,
         cookie,
-        attributes: None,
+        attributes: Optional::none(),
         object: Some(FileHandle::from_slice(alloc, &[0xaa])?),
     })?;
-    Ok(Outcome::Received(NfsReply::ReadDirPlus(Answer::Done(ReadDirPlusSuccess {
-        attributes: None,
+    let success = ReadDirPlusSuccess {
+        attributes: Optional::none(),
         verifier: Verifier { value: 1 },
         entries: Entries::new(entries),
         eof: true,
-    }))))
+    };
+    let answer = Answer::Done(Held::new(alloc, success)?);
+    Ok(Outcome::Received(NfsReply::ReadDirPlus(answer)))
 }
 
 #[test]

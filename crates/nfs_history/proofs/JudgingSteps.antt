@@ -1,5 +1,5 @@
 -- Calls are judged one after the other.
-use Rattle.std.proofs.Common.{◌≡◌, ◌⊎◌, inl, inr, ℕ, suc, zero, ◌+◌, ◌<◌, ◌≤◌, List, [], ◌∷◌, ◌++◌, length, take, drop, get_or, map, sym, ap, ◌∙◌, arith, drop-cons, add-one}
+use Rattle.std.proofs.Common.{◌≡◌, ◌⊎◌, inl, inr, ℕ, suc, zero, ◌+◌, ◌<◌, ◌≤◌, List, [], ◌∷◌, ◌++◌, length, take, drop, get_or, map, subst, sym, ap, ◌∙◌, arith, drop-cons, add-one}
 use Rattle.std.specs.List.{AllByRecursion}
 use Rattle.std.proofs.lemmas.List.{take_more, map_push, take_all}
 use Rattle.history_file.specs.declared.fault.HistoryFault.{HistoryFault}
@@ -26,26 +26,30 @@ pub record AreJudgedTo (seen : List SeenCall) (i : ℕ) (calls : List RecordedCa
 one_dropped : (seen : List SeenCall) (i : ℕ) (d : SeenCall) → i < length seen → map seen_call (drop i seen) ≡ seen_call (get_or seen i d) ∷ map seen_call (drop (i + 1) seen)
 one_dropped seen i d lt = ap (map seen_call) (drop-cons seen i d lt) ∙ ap (λ n. seen_call (get_or seen i d) ∷ map seen_call (drop n seen)) (sym (add-one i))
 
-pub judged_more : (seen : List SeenCall) (i : ℕ) (d : SeenCall) (old new : List RecordedCall) (call : RecordedCall) → i < length seen → new ≡ old ++ call ∷ [] → IsRecorded (seen_call (get_or seen i d)) call → AreJudgedTo seen i old → AreJudgedTo seen (i + 1) new
-judged_more seen i d old new call lt pushed one so_far =
+pub judged_more : (seen : List SeenCall) (i : ℕ) (d this : SeenCall) (old new : List RecordedCall) (call : RecordedCall) → i < length seen → this ≡ get_or seen i d → new ≡ old ++ call ∷ [] → IsRecorded (seen_call this) call → AreJudgedTo seen i old → AreJudgedTo seen (i + 1) new
+judged_more seen i d this old new call lt is pushed recorded so_far =
+    let one : IsRecorded (seen_call (get_or seen i d)) call = subst (λ c. IsRecorded (seen_call c) call) is recorded in
     let taken : map seen_call (take (i + 1) seen) ≡ map seen_call (take i seen) ++ seen_call (get_or seen i d) ∷ [] = ap (map seen_call) (take_more seen i d lt) ∙ map_push seen_call (take i seen) (get_or seen i d) in
     record {
       recorded = rw (taken, pushed) (AreRecorded-push (map seen_call (take i seen)) old (seen_call (get_or seen i d)) call so_far.recorded one);
       faults_are = λ fault rest. so_far.faults_are fault (rw (one_dropped seen i d lt) (inr ((call.meaning, call.outcome, one.means), rest)));
     }
 
-pub stops_here : (seen : List SeenCall) (i : ℕ) (d : SeenCall) (calls : List RecordedCall) (fault : HistoryFault) → i < length seen
-    → (fault ≡ faults.NoMemory) ⊎ IsCallFault (i + 1) (seen_call (get_or seen i d)) fault → AreJudgedTo seen i calls → (fault ≡ faults.NoMemory) ⊎ FirstCallFault 1 (map seen_call seen) fault
-stops_here seen i d calls fault lt (inl none) so_far = inl none
-stops_here seen i d calls fault lt (inr h) so_far = inr (so_far.faults_are fault (rw (one_dropped seen i d lt) (inl h)))
+pub stops_here : (seen : List SeenCall) (i : ℕ) (d this : SeenCall) (calls : List RecordedCall) (fault : HistoryFault) → i < length seen → this ≡ get_or seen i d
+    → (fault ≡ faults.NoMemory) ⊎ IsCallFault (i + 1) (seen_call this) fault → AreJudgedTo seen i calls → (fault ≡ faults.NoMemory) ⊎ FirstCallFault 1 (map seen_call seen) fault
+stops_here seen i d this calls fault lt is (inl none) so_far = inl none
+stops_here seen i d this calls fault lt is (inr h) so_far = inr (so_far.faults_are fault (rw (one_dropped seen i d lt) (inl (subst (λ c. IsCallFault (i + 1) (seen_call c) fault) is h))))
 
 pub all_judged : (seen : List SeenCall) (i : ℕ) (calls : List RecordedCall) → length seen ≤ i → AreJudgedTo seen i calls → AreRecorded (map seen_call seen) calls
 all_judged seen i calls le so_far = rw (take_all i seen le) at so_far.recorded
 
-pub readable_at : (seen : List SeenCall) (i : ℕ) (d : SeenCall) → i < length seen → AreReadable (map seen_call seen) → IsReadable (seen_call (get_or seen i d))
+readable_at : (seen : List SeenCall) (i : ℕ) (d : SeenCall) → i < length seen → AreReadable (map seen_call seen) → IsReadable (seen_call (get_or seen i d))
 readable_at [] i d lt all = absurd (omega arith)
 readable_at (c ∷ seen) zero d lt all = all.0
 readable_at (c ∷ seen) (suc i) d lt all = readable_at seen i d (omega arith) all.1
+
+pub readable_here : (seen : List SeenCall) (i : ℕ) (d this : SeenCall) → i < length seen → this ≡ get_or seen i d → AreReadable (map seen_call seen) → IsReadable (seen_call this)
+readable_here seen i d this lt is all = subst (λ c. IsReadable (seen_call c)) (sym is) (readable_at seen i d lt all)
 
 -- where a fault is the first, there is no other
 pub only_memory : (events : List CallEvent) (fault : HistoryFault) → (fault ≡ faults.NoMemory) ⊎ FirstCallFault 1 events fault → AllByRecursion IsFine events → fault ≡ faults.NoMemory

@@ -49,12 +49,12 @@ met_call k events table calls c begin answer matched =
       table_is = matched.table_is;
     }
 
-pub met_reply : (k : ℕ) (events : List Event) (old new : Table) (calls : List SeenCall) (lane : ℕ) (r : SeenReply) → r.number ≡ k + 1 → ((q : ℕ × ℕ) → get same_key new q ≡ cond (same_key (lane, xid_of r.message.now) q) (Some r) (get same_key old q)) → IsMatched (k + 1) events old calls → IsMatched k (reply lane r.message.now ∷ events) new calls
-met_reply k events old new calls lane r number updates matched = record {
+pub met_reply : (k : ℕ) (events : List Event) (old new : Table) (calls : List SeenCall) (lane xid : ℕ) (r : SeenReply) → ((q : ℕ × ℕ) → get same_key new q ≡ cond (same_key (lane, xid) q) (Some r) (get same_key old q)) → xid ≡ xid_of r.message.now → r.number ≡ k + 1 → IsMatched (k + 1) events old calls → IsMatched k (reply lane r.message.now ∷ events) new calls
+met_reply k events old new calls lane xid r updates transaction number matched = record {
   calls_are = matched.calls_are;
   table_is = λ l x.
       let same = same_key (lane, xid_of r.message.now) (l, x) in
-      ap (option_map seen_reply) (updates (l, x))
+      ap (option_map seen_reply) (updates (l, x) ∙ ap (λ n. cond (same_key (lane, n) (l, x)) (Some r) (get same_key old (l, x))) transaction)
       ∙ chosen same r (get same_key old (l, x))
       ∙ ap (λ n. cond same (Some (record { number = n; message = r.message.now })) (option_map seen_reply (get same_key old (l, x)))) number
       ∙ ap (λ o. cond same (Some (record { number = k + 1; message = r.message.now })) o) (matched.table_is l x);

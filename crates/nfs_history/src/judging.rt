@@ -276,7 +276,7 @@ fn body_of<'a>(answer: &Option<SeenReply<'a>>) -> Result<Option<ReplyBody<'a>>, 
     let Some(reply) = answer else {
         return Ok(None);
     };
-    match read_reply(reply.message) {
+    match read_reply(reply.message.as_slice()) {
         Ok(head) => Ok(Some(head.body)),
         Err(_) => Err(HistoryFault::BadRpc(reply.number)),
     }
@@ -292,14 +292,15 @@ fn judged_call(
     ensures found { IfOk result (IsRecorded (seen_call seen.now)) }
     ensures fault { IsErrorOf (IsCallFault number (seen_call seen.now)) result }
 {
-    let Ok(head) = read_call(seen.message) else {
+    let message = seen.message.as_slice();
+    let Ok(head) = read_call(message) else {
         return Err(HistoryFault::BadRpc(seen.begin));
     };
     let body = body_of(&seen.answer)?;
     let (meaning, outcome) = known_of(alloc, number, &head, &body)?;
     Ok(RecordedCall {
         lane: seen.lane,
-        xid: transaction(seen.message),
+        xid: transaction(message),
         meaning,
         begin: seen.begin,
         end: seen.answer.map(|reply| reply.number),

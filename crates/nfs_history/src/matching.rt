@@ -7,7 +7,7 @@ ghost use Rattle.history_file.specs.Owning.{all_happened};
 ghost use Rattle.nfs_history.specs.Standing.{InOneEra};
 
 use byteorder::{BigEndian, ByteOrder};
-use history_file::Event;
+use history_file::{Event, Message};
 use indexmap::IndexMap;
 use std::alloc::{AllocError, Global};
 
@@ -15,14 +15,14 @@ use std::alloc::{AllocError, Global};
 #[derive(Clone, Copy, Debug)]
 pub struct SeenReply<'a> {
     pub number: u64,
-    pub message: &'a [u8],
+    pub message: &'a Message,
 }
 
 /// A call, with the number of its event and the reply that answers it.
 #[derive(Clone, Copy, Debug)]
 pub struct SeenCall<'a> {
     pub lane: u32,
-    pub message: &'a [u8],
+    pub message: &'a Message,
     pub begin: u64,
     pub answer: Option<SeenReply<'a>>,
 }
@@ -54,8 +54,8 @@ pub fn matched_calls<'a>(
         let number = index as u64 + 1;
         match &events[index] {
             Event::Call { lane, message } => {
-                let message = message.as_slice();
-                let answer = replies.get(&(*lane, transaction(message))).copied();
+                let xid = transaction(message.as_slice());
+                let answer = replies.get(&(*lane, xid)).copied();
                 calls.push(SeenCall {
                     lane: *lane,
                     message,
@@ -64,8 +64,8 @@ pub fn matched_calls<'a>(
                 })?;
             }
             Event::Reply { lane, message } => {
-                let message = message.as_slice();
-                replies.insert((*lane, transaction(message)), SeenReply { number, message })?;
+                let xid = transaction(message.as_slice());
+                replies.insert((*lane, xid), SeenReply { number, message })?;
             }
             Event::Close { .. } => {}
             Event::Crash => {}

@@ -4,8 +4,8 @@ use crate::{CheckFault, Fault, check_order, check_shape};
 use certificate::{BindList, Certificate, EraPlan, EraPlanList, Place, PlaceList};
 use nfs_history::{Events, History, Meaning, RecordedCall, RecordedCalls};
 use nfs3_types::{
-    Answer, Data, Failure, FileHandle, NfsCall, NfsReply, Outcome, ReadArguments, StableHow,
-    WriteArguments,
+    Answer, Data, Failure, FileHandle, NfsCall, NfsReply, Optional, Outcome, ReadArguments,
+    StableHow, WriteArguments,
 };
 use std::alloc::{AllocError, Global};
 use std::test::Fail;
@@ -23,7 +23,7 @@ fn answered_read(
         offset: 0,
         count: 1,
     };
-    let reply = NfsReply::Read(Answer::Failed(Failure::Stale, None));
+    let reply = NfsReply::Read(Answer::Failed(Failure::Stale, Optional::none()));
     Ok(RecordedCall {
         lane: begin,
         xid: begin,

@@ -4,7 +4,7 @@
 
 use crate::failure::is_permitted;
 use nfs3_types::{
-    CommitArguments, CreateArguments, CreateMode, Data, DirectoryName, Failure, FileHandle,
+    CommitArguments, CreateArguments, CreateMode, Data, DirectoryName, Failure, FileHandle, Held,
     LinkText, MkDirArguments, Name, NfsCall, ReadArguments, ReadDirArguments, ReadDirPlusArguments,
     RenameArguments, SetAttrArguments, SetAttributes, SetTime, StableHow, SymLinkArguments, Time,
     Verifier, WriteArguments,
@@ -113,7 +113,7 @@ pub(crate) fn set_size(
         },
         guard: None,
     };
-    may_fail(alloc, NfsCall::SetAttr(call), failure)
+    may_fail(alloc, NfsCall::SetAttr(Held::new(alloc, call)?), failure)
 }
 
 /// SETATTR of nothing, with a guard, if any.
@@ -128,7 +128,7 @@ pub(crate) fn set_guarded(
         attributes: NO_ATTRIBUTES,
         guard,
     };
-    may_fail(alloc, NfsCall::SetAttr(call), failure)
+    may_fail(alloc, NfsCall::SetAttr(Held::new(alloc, call)?), failure)
 }
 
 /// LOOKUP.
@@ -197,15 +197,18 @@ pub(crate) fn create(
         place: place(alloc, 0, name)?,
         mode,
     };
-    may_fail(alloc, NfsCall::Create(call), failure)
+    may_fail(alloc, NfsCall::Create(Held::new(alloc, call)?), failure)
 }
 
 /// A MKDIR in the root.
 pub(crate) fn make_directory_call(alloc: Global, name: &[u8]) -> Result<NfsCall, AllocError> {
-    Ok(NfsCall::MkDir(MkDirArguments {
-        place: place(alloc, 0, name)?,
-        attributes: NO_ATTRIBUTES,
-    }))
+    Ok(NfsCall::MkDir(Held::new(
+        alloc,
+        MkDirArguments {
+            place: place(alloc, 0, name)?,
+            attributes: NO_ATTRIBUTES,
+        },
+    )?))
 }
 
 /// MKDIR in the root.
@@ -224,7 +227,7 @@ pub(crate) fn make_link(alloc: Global, name: &[u8], failure: Failure) -> Result<
         attributes: NO_ATTRIBUTES,
         target: LinkText::from_slice(alloc, b"t")?,
     };
-    may_fail(alloc, NfsCall::SymLink(call), failure)
+    may_fail(alloc, NfsCall::SymLink(Held::new(alloc, call)?), failure)
 }
 
 /// REMOVE in the root.
@@ -248,10 +251,13 @@ pub(crate) fn rename_call(
     directory: u8,
     to: &[u8],
 ) -> Result<NfsCall, AllocError> {
-    Ok(NfsCall::Rename(RenameArguments {
-        from: place(alloc, 0, from)?,
-        to: place(alloc, directory, to)?,
-    }))
+    Ok(NfsCall::Rename(Held::new(
+        alloc,
+        RenameArguments {
+            from: place(alloc, 0, from)?,
+            to: place(alloc, directory, to)?,
+        },
+    )?))
 }
 
 /// RENAME of a name in the root to another one there.

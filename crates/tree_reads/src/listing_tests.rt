@@ -3,8 +3,8 @@
 use crate::listing::{listed, listed_plus};
 use crate::sample::{binds, handle, name, nodes};
 use nfs3_types::{
-    Answer, DirectoryEntry, DirectoryEntryPlus, Entries, NfsReply, ReadDirArguments,
-    ReadDirPlusArguments, ReadDirPlusSuccess, ReadDirSuccess, Verifier,
+    Answer, DirectoryEntry, DirectoryEntryPlus, Entries, Held, NfsReply, Optional,
+    ReadDirArguments, ReadDirPlusArguments, ReadDirPlusSuccess, ReadDirSuccess, Verifier,
 };
 use std::alloc::{AllocError, Global};
 use std::test::Fail;
@@ -33,12 +33,15 @@ fn may_list(
         verifier: VERIFIER,
         count: 1000,
     };
-    let reply = NfsReply::ReadDir(Answer::Done(ReadDirSuccess {
-        attributes: None,
-        verifier: VERIFIER,
-        entries: Entries::new(entries),
-        eof,
-    }));
+    let reply = NfsReply::ReadDir(Answer::Done(Held::new(
+        alloc,
+        ReadDirSuccess {
+            attributes: Optional::none(),
+            verifier: VERIFIER,
+            entries: Entries::new(entries),
+            eof,
+        },
+    )?));
     listed(alloc, &binds(alloc)?, &nodes(alloc)?, &call, &reply)
 }
 
@@ -96,7 +99,7 @@ fn entry_plus(alloc: Global, byte: u8, object: u8) -> Result<DirectoryEntryPlus,
         file_number: 0,
         name: name(alloc, &[byte])?,
         cookie: 1,
-        attributes: None,
+        attributes: Optional::none(),
         object: Some(handle(alloc, object)?),
     })
 }
@@ -114,12 +117,15 @@ fn lists_plus(alloc: Global, pairs: &[(u8, u8)], eof: bool) -> Result<bool, Allo
         directory_count: 1000,
         whole_count: 1000,
     };
-    let reply = NfsReply::ReadDirPlus(Answer::Done(ReadDirPlusSuccess {
-        attributes: None,
-        verifier: VERIFIER,
-        entries: Entries::new(entries),
-        eof,
-    }));
+    let reply = NfsReply::ReadDirPlus(Answer::Done(Held::new(
+        alloc,
+        ReadDirPlusSuccess {
+            attributes: Optional::none(),
+            verifier: VERIFIER,
+            entries: Entries::new(entries),
+            eof,
+        },
+    )?));
     listed_plus(alloc, &binds(alloc)?, &nodes(alloc)?, &call, &reply)
 }
 

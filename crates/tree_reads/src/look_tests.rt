@@ -3,8 +3,8 @@
 use crate::look::{committed, got_attributes, got_text, looked_up};
 use crate::sample::{binds, handle, nodes, place};
 use nfs3_types::{
-    Answer, CommitSuccess, Device, FileAttributes, FileType, LinkText, LookupSuccess, NfsReply,
-    ReadLinkSuccess, Time, Verifier, WccData,
+    Answer, CommitSuccess, Device, FileAttributes, FileType, Held, LinkText, LookupSuccess,
+    NfsReply, Optional, ReadLinkSuccess, Time, Verifier, WccData,
 };
 use std::alloc::{AllocError, Global};
 use std::test::Fail;
@@ -31,7 +31,7 @@ fn shows(alloc: Global, object: u8, file_type: FileType, size: u64) -> Result<bo
         modify_time: TIME,
         change_time: TIME,
     };
-    let reply = NfsReply::GetAttr(Answer::Done(attributes));
+    let reply = NfsReply::GetAttr(Answer::Done(Held::new(alloc, attributes)?));
     Ok(got_attributes(
         &binds(alloc)?,
         &nodes(alloc)?,
@@ -62,11 +62,14 @@ fn an_object_has_its_type(rt: HostRuntime) -> Result<(), Fail> {
 
 /// Whether a LOOKUP may give the handle of an object.
 fn finds(alloc: Global, directory: u8, name: &[u8], object: u8) -> Result<bool, AllocError> {
-    let reply = NfsReply::Lookup(Answer::Done(LookupSuccess {
-        object: handle(alloc, object)?,
-        attributes: None,
-        directory_attributes: None,
-    }));
+    let reply = NfsReply::Lookup(Answer::Done(Held::new(
+        alloc,
+        LookupSuccess {
+            object: handle(alloc, object)?,
+            attributes: Optional::none(),
+            directory_attributes: Optional::none(),
+        },
+    )?));
     looked_up(
         alloc,
         &binds(alloc)?,
@@ -103,7 +106,7 @@ fn dots_lead_to_directories(rt: HostRuntime) -> Result<(), Fail> {
 /// Whether a READLINK may give this text.
 fn leads_to(alloc: Global, object: u8, text: &[u8; 3]) -> Result<bool, AllocError> {
     let reply = NfsReply::ReadLink(Answer::Done(ReadLinkSuccess {
-        attributes: None,
+        attributes: Optional::none(),
         target: LinkText::from_slice(alloc, text)?,
     }));
     Ok(got_text(
@@ -127,8 +130,8 @@ fn a_link_has_its_text(rt: HostRuntime) -> Result<(), Fail> {
 fn commits(alloc: Global, object: u8) -> Result<bool, AllocError> {
     let success = CommitSuccess {
         wcc: WccData {
-            before: None,
-            after: None,
+            before: Optional::none(),
+            after: Optional::none(),
         },
         verifier: Verifier { value: 0 },
     };

@@ -2,7 +2,7 @@
 
 use crate::read::got_bytes;
 use crate::sample::{binds, handle, nodes};
-use nfs3_types::{Answer, Data, NfsReply, ReadArguments, ReadSuccess};
+use nfs3_types::{Answer, Data, NfsReply, Optional, ReadArguments, ReadSuccess};
 use std::alloc::{AllocError, Global};
 use std::test::Fail;
 
@@ -20,7 +20,7 @@ fn counts(
         count: asked,
     };
     let reply = NfsReply::Read(Answer::Done(ReadSuccess {
-        attributes: None,
+        attributes: Optional::none(),
         count,
         eof,
         bytes: Data::from_slice(alloc, &bytes[..bytes.len().min(9)])?,
@@ -73,7 +73,7 @@ fn is_read(alloc: Global, object: u8) -> Result<bool, AllocError> {
         count: 9,
     };
     let reply = NfsReply::Read(Answer::Done(ReadSuccess {
-        attributes: None,
+        attributes: Optional::none(),
         count: 0,
         eof: true,
         bytes: Data::from_slice(alloc, b"")?,

@@ -2,6 +2,7 @@ use Rattle.std.proofs.Common.{◌≡◌, ◌+◌, ◌-◌, [], Some, cond, lengt
 use Rattle.std.specs.HashMap.{get}
 use Rattle.std.proofs.lemmas.List.{drop_all}
 use Rattle.history_file.specs.declared.event.Event.TheVariants as owns
+use Rattle.nfs_history.specs.Calls.{xid_of}
 use Rattle.nfs_history.specs.Matching.{seen_call, same_key}
 use Rattle.history_file.specs.Owning.{all_happened}
 use Rattle.nfs_history.proofs.MatchingSteps.{IsMatched, none_met, met_call, met_reply, met_close, one_before, no_crash, behind_it}
@@ -19,18 +20,16 @@ loop-index-preserved-in-Continue-1 c =
     let events = c.args.events.now in
     let matched = behind_it events i c.loop-index.replies c.loop-index.calls.items (omega arith) c.loop-index.invariant in
     let is = one_before events i c.index-events-index.result (owns.Call c.in-Call.lane c.in-Call.message) (omega arith) (omega arith) (sym c.index-events-index.is ∙ c.in-Call.is) in
-    rw (is, c.in_ok-push-in-Call.ensures.items, sym c.as_slice-message.ensures) (met_call (i - 1) (all_happened (drop ((i - 1) + 1) events)) c.loop-index.replies c.loop-index.calls.items _ refl
-    (c.copied-answer.ensures ∙ c.get.ensures.value ∙ ap (λ x. get same_key c.loop-index.replies (c.in-Call.lane, x)) c.transaction.ensures) matched)
+    rw (is, c.in_ok-push-in-Call.ensures.items) (met_call (i - 1) (all_happened (drop ((i - 1) + 1) events)) c.loop-index.replies c.loop-index.calls.items _ refl
+    (c.copied-answer.ensures ∙ c.get.ensures.value ∙ ap (λ x. get same_key c.loop-index.replies (c.in-Call.lane, x)) (c.transaction-xid.ensures ∙ ap xid_of c.as_slice.ensures)) matched)
 
 pub loop-index-preserved-in_ok-insert-in-Reply : goal.loop-index-preserved-in_ok-insert-in-Reply
 loop-index-preserved-in_ok-insert-in-Reply c =
     let i = c.loop-index.index in
     let events = c.args.events.now in
-    let bytes = c.as_slice-message-in-Reply.result in
     let matched = behind_it events i c.loop-index.replies c.loop-index.calls.items (omega arith) c.loop-index.invariant in
     let is = one_before events i c.index-events-index.result (owns.Reply c.in-Reply.lane c.in-Reply.message) (omega arith) (omega arith) (sym c.index-events-index.is ∙ c.in-Reply.is) in
-    rw (is, sym c.as_slice-message-in-Reply.ensures) (met_reply (i - 1) (all_happened (drop ((i - 1) + 1) events)) c.loop-index.replies c.insert.new.self c.loop-index.calls.items c.in-Reply.lane (record { number = (i - 1) + 1; message = bytes }) refl
-    (λ q. c.in_ok-insert-in-Reply.ensures.updates.0 q ∙ ap (λ x. cond (same_key (c.in-Reply.lane, x) q) (Some (record { number = (i - 1) + 1; message = bytes })) (get same_key c.loop-index.replies q)) c.transaction-in-Reply.ensures) matched)
+    rw is (met_reply (i - 1) (all_happened (drop ((i - 1) + 1) events)) c.loop-index.replies c.insert.new.self c.loop-index.calls.items c.in-Reply.lane _ _ c.in_ok-insert-in-Reply.ensures.updates.0 (c.transaction-xid-in-Reply.ensures ∙ ap xid_of c.as_slice-in-Reply.ensures) refl matched)
 
 pub loop-index-preserved-in-Close : goal.loop-index-preserved-in-Close
 loop-index-preserved-in-Close c =
