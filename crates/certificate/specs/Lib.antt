@@ -4,3 +4,4 @@ pub mod Parts
 pub mod Line
 pub mod Draft
 pub mod BadLine
+pub mod FaultText

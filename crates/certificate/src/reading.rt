@@ -12,19 +12,33 @@ ghost use Rattle.certificate.specs.Draft.{TakesLine, AreBinds, ArePlaces, spelle
 use crate::line::{Line, behind, read_line, split_at_byte};
 use crate::plan::{Bind, BindList, Certificate, EraPlan, EraPlanList, Place, PlaceList};
 use std::alloc::{AllocError, Global};
-use std::mem;
-use thiserror::Error;
+use std::error::Error;
+use std::{fmt, mem};
 
 /// Why a text is no certificate.
-#[derive(Clone, Copy, Debug, PartialEq, Eq, Error)]
+#[derive(Clone, Copy, Debug, PartialEq, Eq)]
 pub enum TextFault {
     /// The first line, from 1, with which the text so far begins no certificate: or it is missing, or has no
     /// line feed.
-    #[error("BadLine {0}")]
     BadLine(u64),
-    #[error("out of memory")]
     NoMemory,
 }
+
+impl fmt::Display for TextFault {
+    ghost use Rattle.std.specs.Prelude.{Some};
+    ghost use Rattle.certificate.specs.FaultText.{text_fault_words};
+
+    ghost output = { λ fault. Some (text_fault_words fault) };
+
+    fn fmt<W: fmt::Write>(&self, f: &mut fmt::Formatter<W>) -> fmt::Result {
+        match self {
+            TextFault::BadLine(line) => write!(f, "BadLine {line}"),
+            TextFault::NoMemory => f.write_str("out of memory"),
+        }
+    }
+}
+
+impl Error for TextFault {}
 
 impl From<AllocError> for TextFault {
     ghost use Rattle.std.specs.Prelude.{◌≡◌};

@@ -81,18 +81,24 @@ more_at root seen i d old new lt pushed fits small so_far =
       size = small;
     }
 
+-- the text of all events
+pub text_written : (root : List ℕ) (seen : List owned.Event) (i : ℕ) (out : List ℕ) → length seen ≤ i → IsWrittenTo root seen i out → out ≡ file_text root (all_happened seen)
+text_written root seen i out le so_far =
+    let whole : take i seen ≡ seen = take_all i seen le in
+    let es = all_happened seen in
+    let count : length es ≡ length seen = length-map seen happened in
+    let text : out ≡ ((magic ++ opaque_text root) ++ word_text (length seen)) ++ events_text es = so_far.text ∙ ap (λ xs. ((magic ++ opaque_text root) ++ word_text (length seen)) ++ events_text (all_happened xs)) whole in
+    text ∙ ap (λ n. ((magic ++ opaque_text root) ++ word_text n) ++ events_text es) (sym count)
+    ∙ append_assoc (magic ++ opaque_text root) (word_text (length es)) (events_text es) ∙ append_assoc magic (opaque_text root) (word_text (length es) ++ events_text es)
+
 pub all_written : (root : List ℕ) (seen : List owned.Event) (i : ℕ) (out : List ℕ) → length root ≤ 64 → length seen ≤ 1000000 → length seen ≤ i → IsWrittenTo root seen i out → HistoryFile out (record { root = root; events = all_happened seen })
 all_written root seen i out small few le so_far =
     let whole : take i seen ≡ seen = take_all i seen le in
     let es = all_happened seen in
     let count : length es ≡ length seen = length-map seen happened in
-    let text : out ≡ ((magic ++ opaque_text root) ++ word_text (length seen)) ++ events_text es = so_far.text ∙ ap (λ xs. ((magic ++ opaque_text root) ++ word_text (length seen)) ++ events_text (all_happened xs)) whole in
-    let grouped : out ≡ magic ++ (opaque_text root ++ (word_text (length es) ++ events_text es)) =
-    text ∙ ap (λ n. ((magic ++ opaque_text root) ++ word_text n) ++ events_text es) (sym count)
-    ∙ append_assoc (magic ++ opaque_text root) (word_text (length es)) (events_text es) ∙ append_assoc magic (opaque_text root) (word_text (length es) ++ events_text es) in
     record {
       body = opaque_text root ++ (word_text (length es) ++ events_text es);
-      parts = grouped;
+      parts = text_written root seen i out le so_far;
       small = so_far.size;
       spelled = body_spelled root es small (omega (arith, count, few)) (rw whole at so_far.fits);
     }

@@ -3,3 +3,4 @@ pub mod HistoryFile
 pub mod Owning
 pub mod FileReading
 pub mod Writing
+pub mod FaultText

@@ -1,73 +1,102 @@
 //! Why bytes are no history.
 
 use std::alloc::{AllocError, AllocFailed};
-use thiserror::Error;
+use std::error::Error;
+use std::fmt;
 
 /// What a history holds that lies outside the model.
-#[derive(Clone, Copy, Debug, PartialEq, Eq, Error)]
+#[derive(Clone, Copy, Debug, PartialEq, Eq)]
 pub enum Which {
     /// A LINK that may have succeeded.
-    #[error("Link")]
     Link,
     /// A MKNOD that may have succeeded.
-    #[error("Node")]
     Node,
     /// A WRITE whose count isn't the length of its data.
-    #[error("CountDiffers")]
     CountDiffers,
     /// A file that would pass 16,777,216 bytes.
-    #[error("TooFar")]
     TooFar,
 }
 
+impl fmt::Display for Which {
+    ghost use Rattle.std.specs.Prelude.{Some};
+    ghost use Rattle.history_file.specs.FaultText.{which_words};
+
+    ghost output = { λ which. Some (which_words which) };
+
+    fn fmt<W: fmt::Write>(&self, f: &mut fmt::Formatter<W>) -> fmt::Result {
+        match self {
+            Which::Link => f.write_str("Link"),
+            Which::Node => f.write_str("Node"),
+            Which::CountDiffers => f.write_str("CountDiffers"),
+            Which::TooFar => f.write_str("TooFar"),
+        }
+    }
+}
+
+impl Error for Which {}
+
 /// Why bytes are no history: the first fault, where events and calls are numbered from 1.
-#[derive(Clone, Copy, Debug, PartialEq, Eq, Error)]
+#[derive(Clone, Copy, Debug, PartialEq, Eq)]
 pub enum HistoryFault {
     /// The file doesn't begin as one.
-    #[error("BadMagic")]
     BadMagic,
     /// A limit is passed, by the file, its number of events, a record or the root handle.
-    #[error("TooLarge")]
     TooLarge,
     /// Bytes of an item are missing.
-    #[error("Truncated")]
     Truncated,
     /// The kind word of an event isn't one.
-    #[error("BadEvent {0}")]
     BadEvent(u64),
     /// Bytes stand behind the last event.
-    #[error("Trailing")]
     Trailing,
     /// An event on a lane that is closed.
-    #[error("LaneClosed {0}")]
     LaneClosed(u64),
     /// The message of an event isn't an RPC call, or reply, as the event says.
-    #[error("BadRpc {0}")]
     BadRpc(u64),
     /// A call whose transaction number has an unanswered call on its lane.
-    #[error("XidInUse {0}")]
     XidInUse(u64),
     /// A reply to no unanswered call of its lane.
-    #[error("NoSuchCall {0}")]
     NoSuchCall(u64),
     /// A call with the credential flavor of RPCSEC_GSS, whose arguments can't be read.
-    #[error("Sealed {0}")]
     Sealed(u64),
     /// The arguments of a call aren't those of its procedure.
-    #[error("BadArgs {0}")]
     BadArgs(u64),
     /// The result of a call isn't one of its procedure.
-    #[error("BadResult {0}")]
     BadResult(u64),
     /// A call that lies outside the model.
-    #[error("Outside {0} {1}")]
     Outside(u64, Which),
     /// An event of a kind that isn't judged yet.
-    #[error("NotYet {0}")]
     NotYet(u64),
-    #[error("out of memory")]
     NoMemory,
 }
+
+impl fmt::Display for HistoryFault {
+    ghost use Rattle.std.specs.Prelude.{Some};
+    ghost use Rattle.history_file.specs.FaultText.{history_fault_words};
+
+    ghost output = { λ fault. Some (history_fault_words fault) };
+
+    fn fmt<W: fmt::Write>(&self, f: &mut fmt::Formatter<W>) -> fmt::Result {
+        match self {
+            HistoryFault::BadMagic => f.write_str("BadMagic"),
+            HistoryFault::TooLarge => f.write_str("TooLarge"),
+            HistoryFault::Truncated => f.write_str("Truncated"),
+            HistoryFault::Trailing => f.write_str("Trailing"),
+            HistoryFault::BadEvent(number) => write!(f, "BadEvent {number}"),
+            HistoryFault::LaneClosed(number) => write!(f, "LaneClosed {number}"),
+            HistoryFault::BadRpc(number) => write!(f, "BadRpc {number}"),
+            HistoryFault::XidInUse(number) => write!(f, "XidInUse {number}"),
+            HistoryFault::NoSuchCall(number) => write!(f, "NoSuchCall {number}"),
+            HistoryFault::Sealed(number) => write!(f, "Sealed {number}"),
+            HistoryFault::BadArgs(number) => write!(f, "BadArgs {number}"),
+            HistoryFault::BadResult(number) => write!(f, "BadResult {number}"),
+            HistoryFault::NotYet(number) => write!(f, "NotYet {number}"),
+            HistoryFault::Outside(number, which) => write!(f, "Outside {number} {which}"),
+            HistoryFault::NoMemory => f.write_str("out of memory"),
+        }
+    }
+}
+
+impl Error for HistoryFault {}
 
 impl From<AllocError> for HistoryFault {
     ghost use Rattle.std.specs.Prelude.{◌≡◌};

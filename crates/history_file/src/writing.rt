@@ -4,7 +4,7 @@ ghost use Rattle.std.specs.Prelude.{◌≡◌, ◌++◌, ◌<◌, ◌≤◌, len
 ghost use Rattle.xdr_records.specs.Texts.{word_text, opaque_text};
 ghost use Rattle.history_file.specs.HistoryFile.{HistoryFile};
 ghost use Rattle.history_file.specs.Owning.{happened, all_happened};
-ghost use Rattle.history_file.specs.Writing.{event_text, EventFits, IsLong, IsOverLimit, IsLargeOnlyIf};
+ghost use Rattle.history_file.specs.Writing.{event_text, file_text, EventFits, IsLong, IsOverLimit, IsLargeOnlyIf};
 ghost use Rattle.history_file.specs.declared.writing.WriteFault.{WriteFault};
 
 use crate::event::{Event, Message};
@@ -93,6 +93,8 @@ fn put_event(out: &mut Vec<u8>, event: &Event) -> Result<(), WriteFault>
 /// The file of these events, whether or not they are those of a history.
 pub fn write_history(alloc: Global, root: &[u8], events: &[Event]) -> Result<Vec<u8>, WriteFault>
     ensures spelled { IfOk result (λ v. HistoryFile v.items (record { root = root.now; events = all_happened events.now })) }
+    // Each item in the one spelling that is written.
+    ensures text { IfOk result (λ v. v.items ≡ file_text root.now (all_happened events.now)) }
     ensures large { IsLargeOnlyIf (IsOverLimit root.now (all_happened events.now)) result }
 {
     if root.len() > ROOT_LIMIT || events.len() > EVENT_LIMIT {

@@ -1,7 +1,9 @@
 -- What a bundle is: a history and a certificate in one stream of bytes.
 use Rattle.std.specs.Prelude.{◌≡◌, ℕ, Bool, ◌&&◌, ◌||◌, nat_le, List, [], ◌∷◌, ◌++◌}
 use Rattle.hex.specs.Hex.{IsBytes, encode_lower}
+use Rattle.order_check.specs.declared.fault.Fault.{Fault}
 use Rattle.witness_check.specs.Witness.{AreAccepted}
+use Rattle.witness_check.specs.Verdict.{AreRefuted}
 
 -- the history's bytes in base 16 (RFC 4648, section 8) with lower case letters, a line feed, the certificate's text
 pub record IsBundle (bytes history certificate : List ℕ) : Type 0 where
@@ -22,6 +24,13 @@ pub record IsAcceptedBundle (bytes : List ℕ) : Type 0 where
   pub certificate : List ℕ
   pub spelled : IsBundle bytes history certificate
   pub accepted : AreAccepted history certificate
+
+-- a history and a certificate whose plan has this first fault
+pub record IsRefutedBundle (fault : Fault) (bytes : List ℕ) : Type 0 where
+  pub history : List ℕ
+  pub certificate : List ℕ
+  pub spelled : IsBundle bytes history certificate
+  pub refuted : AreRefuted history certificate fault
 
 -- whether a byte is one of the sixteen digits, 48 to 57 and 97 to 102
 abbrev pub is_lower_digit : ℕ → Bool

@@ -1,8 +1,10 @@
 //! A reader that gives up after many reads.
 
-ghost use Rattle.std.specs.Prelude.{◌≡◌, ◌<◌, ◌+◌, OnOk};
+ghost use Rattle.std.specs.Prelude.{◌≡◌, ◌≢◌, ◌<◌, ◌+◌, OnOk, IfErr};
 ghost use Rattle.std.specs.Io.{ReadsAtMost};
 ghost use Rattle.std.specs.Io.KnownBytes.{ReadConsumes};
+ghost use Rattle.std.specs.IoError.{error_kind};
+ghost use Rattle.std.specs.declared.io.ErrorKind.TheVariants.{OutOfMemory};
 
 use std::io::{self, ErrorKind, Read};
 
@@ -33,8 +35,10 @@ impl<R: Read> Read for Counted<R> {
         ensures bound { ReadsAtMost result buf.new }
         ensures bytes { ReadConsumes (R.remaining self.old.inner) (R.remaining self.new.inner)
             result buf.new }
-        ensures limit { OnOk result (self.old.reads < READ_LIMIT) }
-        ensures counted { OnOk result (self.new.reads ≡ self.old.reads + 1) }
+        ensures limit { OnOk result (self.old.reads < 1000000) }
+        // Below the limit the reader is asked, and the read counts, whatever the answer.
+        ensures counted { self.old.reads < 1000000 → self.new.reads ≡ self.old.reads + 1 }
+        ensures memory { IfErr result (λ error. error_kind error ≢ OutOfMemory) }
     {
         if self.reads >= READ_LIMIT {
             return Err(io::Error::from(ErrorKind::Other));

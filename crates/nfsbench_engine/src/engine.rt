@@ -2,8 +2,9 @@
 
 ghost use Rattle.std.specs.Prelude.{◌≡◌, ◌⊎◌, ◌<◌, ◌++◌, ◌∷◌, [], ℕ, List, codes, IfOk, IfSome, OnOk, string_bytes};
 ghost use Rattle.std.specs.Io.KnownBytes.{Appends};
-ghost use Rattle.nfsbench_engine.specs.Bundle.{IsAcceptedBundle, IsSomeBundle};
-ghost use Rattle.nfsbench_engine.specs.Report.{GoesWith, IsBadBundle};
+ghost use Rattle.nfsbench_engine.specs.Bundle.{IsAcceptedBundle, IsRefutedBundle, IsSomeBundle};
+ghost use Rattle.nfsbench_engine.specs.Report.{GoesWith, IsBadBundle, no_line};
+ghost use Rattle.order_check.specs.declared.fault.Fault.{Fault};
 
 use crate::bundle::{BundleFault, read_bundle};
 use crate::report::Report;
@@ -21,7 +22,8 @@ fn judge_input<R: Read>(alloc: Global, reader: &mut R) -> Result<Report, AllocEr
     ensures yes { IfOk result (λ report. report.status ≡ 0
         → IfSome (R.remaining reader.old) IsAcceptedBundle) }
     ensures no { IfOk result (λ report. report.status ≡ 1
-        → IfSome (R.remaining reader.old) IsSomeBundle) }
+        → (fault : Fault) × IfSome (R.remaining reader.old) (IsRefutedBundle fault)
+        × (string_bytes report.line ≡ no_line fault)) }
     ensures bad_bundle { IfOk result (λ report. IfSome (R.remaining reader.old) (λ bytes.
         ¬ (IsSomeBundle bytes) → IsBadBundle report.status (string_bytes report.line))) }
     ensures line { IfOk result (λ report. GoesWith report.status (string_bytes report.line)) }
@@ -65,7 +67,9 @@ fn tell<W: Write>(writer: &mut W, line: &[u8], status: u8) -> u8
 /// failed write, 3 for want of memory.
 pub fn run_bundle<R: Read, W: Write>(alloc: Global, reader: &mut R, writer: &mut W) -> u8
     ensures yes { result ≡ 0 → IfSome (R.remaining reader.old) IsAcceptedBundle }
-    ensures no { result ≡ 1 → IfSome (R.remaining reader.old) IsSomeBundle }
+    // At 1 the line names the first fault of the plan.
+    ensures no { result ≡ 1 → (fault : Fault) × IfSome (R.remaining reader.old) (IsRefutedBundle fault)
+        × Appends (W.contents writer.old) (W.contents writer.new) (no_line fault) }
 
     // What is written. At 2 a line that begins with `refused: `, or a part of a line where the write failed.
     ensures yes_line { result ≡ 0

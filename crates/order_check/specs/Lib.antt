@@ -2,3 +2,4 @@ pub mod Places
 pub mod Shape
 pub mod FirstFault
 pub mod Order
+pub mod FaultText

@@ -1,6 +1,6 @@
 use Rattle.std.proofs.Common.{◌∙◌, arith}
 use Rattle.std.proofs.lemmas.Result.{err_from_is_err_and}
-use Rattle.history_file.proofs.WritingSteps.{none_written, written_more, long_here, file_over, all_written}
+use Rattle.history_file.proofs.WritingSteps.{none_written, written_more, long_here, file_over, all_written, text_written}
 use Rattle.history_file.proofs.writing.write_history.Goals as goal
 
 pub loop-event-init : goal.loop-event-init
@@ -23,3 +23,6 @@ loop-event-preserved c =
 pub returns-clause-spelled : goal.returns-clause-spelled
 returns-clause-spelled c =
     all_written c.args.root.now c.args.events.now c.loop-event.event-index c.loop-event.out.items c.if-root-gt-ROOT_LIMIT.false c.if-events-gt-EVENT_LIMIT.false c.loop-event-test.false c.loop-event.invariant
+
+pub returns-clause-text : goal.returns-clause-text
+returns-clause-text c = text_written c.args.root.now c.args.events.now c.loop-event.event-index c.loop-event.out.items c.loop-event-test.false c.loop-event.invariant
