@@ -1,3 +1,4 @@
 pub mod FirstLine
+pub mod Fronts
 pub mod LowerHex
 pub mod Told

@@ -1,13 +1,17 @@
 -- What the line of a verdict tells.
-use Rattle.std.proofs.Common.{◌≡◌, ℕ, List, [], ◌∷◌, ◌++◌, codes, Some, None, IfOk, Result, Ok, Err, refl, ap, ◌∙◌, arith}
+use Rattle.std.proofs.Common.{◌≡◌, inl, inr, ℕ, List, [], ◌∷◌, ◌++◌, codes, Option, Some, None, IfSome, IfOk, Result, Ok, Err, refl, ap, ◌∙◌, arith}
 use Rattle.order_check.specs.declared.fault.Fault.{Fault}
 use Rattle.witness_check.specs.declared.verdict.FileVerdict.{FileVerdict}
 use Rattle.witness_check.specs.declared.verdict.FileVerdict.TheVariants.{Yes, No, BadHistory, BadText}
-use Rattle.witness_check.specs.Verdict.{AreRefuted}
+use Rattle.history_file.specs.declared.fault.HistoryFault.{HistoryFault}
+use Rattle.certificate.specs.declared.reading.TextFault.{TextFault}
+use Rattle.witness_check.specs.Witness.{AreAccepted}
+use Rattle.witness_check.specs.Verdict.{AreRefuted, IsBadHistory, IsBadText}
+use Rattle.nfsbench_engine.specs.Bundle.{IsBundle}
 use Rattle.order_check.specs.FaultText.{fault_words}
 use Rattle.history_file.specs.FaultText.{history_fault_words}
 use Rattle.certificate.specs.FaultText.{text_fault_words}
-use Rattle.nfsbench_engine.specs.Report.{IsLine, TellsVerdict, TellsRefuted, GoesWith, status_of}
+use Rattle.nfsbench_engine.specs.Report.{IsLine, TellsVerdict, TellsRefuted, TellsFiles, MayTell, GoesWith, status_of}
 
 -- what is known of the text may be forgotten
 forgotten : (words text line : List ℕ) → IsLine words (Some text) line → IsLine words None line
@@ -60,3 +64,46 @@ pub tells_refuted : {A E : Type 0} (r : Result A E) (status : A → ℕ) (line :
     → IfOk r (λ x. status x ≡ 1 → TellsRefuted history certificate (line x))
 tells_refuted (Err e) status line v history certificate found is told = tt
 tells_refuted (Ok x) status line v history certificate found is told = refuted v (status x) (line x) history certificate found is told
+
+told : (v : FileVerdict) (line history certificate : List ℕ) → (v ≡ Yes → AreAccepted history certificate)
+    → ((fault : Fault) → v ≡ No fault → AreRefuted history certificate fault)
+    → ((fault : HistoryFault) → v ≡ BadHistory fault → IsBadHistory history fault)
+    → ((fault : TextFault) → v ≡ BadText fault → IsBadText history certificate fault)
+    → TellsVerdict v line → TellsFiles history certificate line
+told Yes line history certificate accepted refused bad_history bad_text t = inl (accepted refl, t)
+told (No fault) line history certificate accepted refused bad_history bad_text t =
+    inr (inl (fault, refused fault refl, t.2 ∙ ap (λ (text : List ℕ). codes "no: " ++ text ++ 10 ∷ []) t.1))
+told (BadHistory fault) line history certificate accepted refused bad_history bad_text t =
+    inr (inr (inl (fault, bad_history fault refl, t.2 ∙ ap (λ (text : List ℕ). codes "refused: " ++ text ++ 10 ∷ []) t.1)))
+told (BadText fault) line history certificate accepted refused bad_history bad_text t =
+    inr (inr (inr (fault, bad_text fault refl, t.2 ∙ ap (λ (text : List ℕ). codes "refused: " ++ text ++ 10 ∷ []) t.1)))
+
+-- the line tells the verdict on the two texts
+pub tells_files : {A E : Type 0} (r : Result A E) (line : A → List ℕ) (v : FileVerdict) (history certificate : List ℕ)
+    → (v ≡ Yes → AreAccepted history certificate)
+    → ((fault : Fault) → v ≡ No fault → AreRefuted history certificate fault)
+    → ((fault : HistoryFault) → v ≡ BadHistory fault → IsBadHistory history fault)
+    → ((fault : TextFault) → v ≡ BadText fault → IsBadText history certificate fault)
+    → IfOk r (λ x. TellsVerdict v (line x)) → IfOk r (λ x. TellsFiles history certificate (line x))
+tells_files (Err e) line v history certificate accepted refused bad_history bad_text t = tt
+tells_files (Ok x) line v history certificate accepted refused bad_history bad_text t = told v (line x) history certificate accepted refused bad_history bad_text t
+
+-- the verdict on a bundle may be told of the bytes that are left
+pub verdict_told : {A E : Type 0} (r : Result A E) (line : A → List ℕ) (o : Option (List ℕ)) (history certificate : List ℕ)
+    → IfSome o (λ bytes. IsBundle bytes history certificate) → IfOk r (λ x. TellsFiles history certificate (line x))
+    → IfOk r (λ x. IfSome o (λ bytes. MayTell bytes (line x)))
+verdict_told (Err e) line o history certificate bundle t = tt
+verdict_told (Ok x) line None history certificate bundle t = tt
+verdict_told (Ok x) line (Some bytes) history certificate bundle t = inl (history, certificate, bundle, t)
+
+-- so may that there is no bundle
+pub no_bundle_told : {A E : Type 0} (r : Result A E) (line : A → List ℕ) (o : Option (List ℕ))
+    → IfOk r (λ x. IsLine (codes "refused: ") (Some (codes "bad bundle")) (line x)) → IfOk r (λ x. IfSome o (λ bytes. MayTell bytes (line x)))
+no_bundle_told (Err e) line o t = tt
+no_bundle_told (Ok x) line None t = tt
+no_bundle_told (Ok x) line (Some bytes) t = inr (inl (t.2 ∙ ap (λ (text : List ℕ). codes "refused: " ++ text ++ 10 ∷ []) t.1))
+
+-- and that memory ran out
+pub memory_told : (o : Option (List ℕ)) → IfSome o (λ bytes. MayTell bytes (codes "out of memory" ++ 10 ∷ []))
+memory_told None = tt
+memory_told (Some bytes) = inr (inr refl)

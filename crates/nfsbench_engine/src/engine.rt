@@ -3,13 +3,13 @@
 ghost use Rattle.std.specs.Prelude.{◌≡◌, ◌⊎◌, ◌<◌, ◌++◌, ◌∷◌, [], ℕ, List, codes, IfOk, IfSome, OnOk, string_bytes};
 ghost use Rattle.std.specs.Io.KnownBytes.{Appends};
 ghost use Rattle.nfsbench_engine.specs.Bundle.{IsAcceptedBundle, IsRefutedBundle, IsSomeBundle};
-ghost use Rattle.nfsbench_engine.specs.Report.{GoesWith, IsBadBundle, no_line};
+ghost use Rattle.nfsbench_engine.specs.Report.{GoesWith, IsBadBundle, MayTell, AppendsFront, no_line};
 ghost use Rattle.order_check.specs.declared.fault.Fault.{Fault};
 
 use crate::bundle::{BundleFault, read_bundle};
 use crate::report::Report;
 use std::alloc::{AllocError, Global};
-use std::io::{self, Read, Write};
+use std::io::{self, ErrorKind, Read, Write};
 
 /// The exit status where the line can't be written.
 const WRITE_FAILED: u8 = 2;
@@ -26,6 +26,8 @@ fn judge_input<R: Read>(alloc: Global, reader: &mut R) -> Result<Report, AllocEr
         × (string_bytes report.line ≡ no_line fault)) }
     ensures bad_bundle { IfOk result (λ report. IfSome (R.remaining reader.old) (λ bytes.
         ¬ (IsSomeBundle bytes) → IsBadBundle report.status (string_bytes report.line))) }
+    ensures told { IfOk result (λ report. IfSome (R.remaining reader.old) (λ bytes.
+        MayTell bytes (string_bytes report.line))) }
     ensures line { IfOk result (λ report. GoesWith report.status (string_bytes report.line)) }
     ensures known { IfOk result (λ report. report.status < 3) }
 {
@@ -44,17 +46,31 @@ fn judge_input<R: Read>(alloc: Global, reader: &mut R) -> Result<Report, AllocEr
     }
 }
 
+/// Writes a line, or a front of it where a write fails.
 fn write_line<W: Write>(writer: &mut W, line: &[u8]) -> io::Result<()>
-    ensures { OnOk result (Appends (W.contents writer.old) (W.contents writer.new) line.now) }
+    ensures whole { OnOk result (Appends (W.contents writer.old) (W.contents writer.new) line.now) }
+    ensures front { AppendsFront (W.contents writer.old) (W.contents writer.new) line.now }
 {
-    writer.write_all(line)?;
-    writer.flush()
+    let mut written = 0;
+    for _ in 0..u64::MAX {
+        if written == line.len() {
+            return writer.flush();
+        }
+        match writer.write(&line[written..]) {
+            Ok(0) => return Err(io::Error::from(ErrorKind::WriteZero)),
+            Ok(count) => written += count,
+            Err(error) if error.kind() == ErrorKind::Interrupted => {}
+            Err(error) => return Err(error),
+        }
+    }
+    Err(io::Error::from(ErrorKind::Other))
 }
 
 /// Writes a line, and gives its exit status where it is written.
 fn tell<W: Write>(writer: &mut W, line: &[u8], status: u8) -> u8
-    ensures { (result ≡ 2) ⊎ ((result ≡ status)
+    ensures whole { (result ≡ 2) ⊎ ((result ≡ status)
         × Appends (W.contents writer.old) (W.contents writer.new) line.now) }
+    ensures front { AppendsFront (W.contents writer.old) (W.contents writer.new) line.now }
 {
     match write_line(writer, line) {
         Ok(()) => status,
@@ -71,7 +87,9 @@ pub fn run_bundle<R: Read, W: Write>(alloc: Global, reader: &mut R, writer: &mut
     ensures no { result ≡ 1 → (fault : Fault) × IfSome (R.remaining reader.old) (IsRefutedBundle fault)
         × Appends (W.contents writer.old) (W.contents writer.new) (no_line fault) }
 
-    // What is written. At 2 a line that begins with `refused: `, or a part of a line where the write failed.
+    // What is written: at any status a front of a line that may be told, which ends early only where a write failed.
+    ensures told { (line : List ℕ) × IfSome (R.remaining reader.old) (λ bytes. MayTell bytes line)
+        × AppendsFront (W.contents writer.old) (W.contents writer.new) line }
     ensures yes_line { result ≡ 0
         → Appends (W.contents writer.old) (W.contents writer.new) (codes "yes" ++ 10 ∷ []) }
     ensures no_line { result ≡ 1 → (fault : List ℕ)

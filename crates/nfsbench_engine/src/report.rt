@@ -15,7 +15,7 @@ pub(crate) struct Report {
 }
 
 impl Report {
-    ghost use Rattle.nfsbench_engine.specs.Report.{IsLine, GoesWith, TellsVerdict, TellsRefuted, status_of};
+    ghost use Rattle.nfsbench_engine.specs.Report.{IsLine, GoesWith, TellsVerdict, TellsRefuted, TellsFiles, status_of};
     ghost use Rattle.witness_check.specs.Witness.{AreAccepted};
 
     /// An input that is no history, no certificate or no bundle.
@@ -58,6 +58,8 @@ impl Report {
             report.status ≡ 0 → AreAccepted history.now certificate.now) }
         ensures no { IfOk result (λ report.
             report.status ≡ 1 → TellsRefuted history.now certificate.now (string_bytes report.line)) }
+        ensures told { IfOk result (λ report.
+            TellsFiles history.now certificate.now (string_bytes report.line)) }
         ensures line { IfOk result (λ report. GoesWith report.status (string_bytes report.line)) }
         ensures known { IfOk result (λ report. report.status < 3) }
     {
