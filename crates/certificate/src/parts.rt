@@ -5,18 +5,33 @@ ghost use Rattle.certificate.specs.declared.parts.CertificateFault.TheVariants.{
 ghost use Rattle.certificate.specs.Parts.{first_bad_bind, first_wrong_cut, first_bad_era};
 
 use crate::plan::{Bind, BindList, Certificate, EraPlan, EraPlanList};
-use thiserror::Error;
+use std::error::Error;
+use std::fmt;
 
 /// Why binds and eras make no certificate.
-#[derive(Clone, Copy, Debug, PartialEq, Eq, Error)]
+#[derive(Clone, Copy, Debug, PartialEq, Eq)]
 pub enum CertificateFault {
     /// The first bind, from 1, whose handle is empty or not above the one before.
-    #[error("BadBind {0}")]
     BadBind(u64),
     /// The first era, from 1, that is the last and has a cut, or isn't and has none; 1 where there is no era.
-    #[error("BadEra {0}")]
     BadEra(u64),
 }
+
+impl fmt::Display for CertificateFault {
+    ghost use Rattle.std.specs.Prelude.{Some};
+    ghost use Rattle.certificate.specs.FaultText.{certificate_fault_words};
+
+    ghost output = { λ fault. Some (certificate_fault_words fault) };
+
+    fn fmt<W: fmt::Write>(&self, f: &mut fmt::Formatter<W>) -> fmt::Result {
+        match self {
+            CertificateFault::BadBind(number) => write!(f, "BadBind {number}"),
+            CertificateFault::BadEra(number) => write!(f, "BadEra {number}"),
+        }
+    }
+}
+
+impl Error for CertificateFault {}
 
 fn bad_bind(binds: &[Bind]) -> Option<u64>
     ensures { result ≡ first_bad_bind [] binds.now }

@@ -36,53 +36,23 @@ use Rattle.tree_handles.specs.Live.{FileEntry, live_entry, as_directory, directo
 use Rattle.tree_handles.specs.Entry.{is_plain, named}
 use Rattle.tree_handles.specs.Kind.{is_directory}
 use Rattle.tree_reads.specs.Look.{got_attributes, looked_up, got_text, got_bytes, committed}
-use Rattle.tree_failures.specs.Asked.{is_answered, failure_in}
+use Rattle.nfs3_types.specs.Procedures.{is_answered, failure_in}
 use Rattle.tree_failures.specs.Failure.{is_permitted}
 use Rattle.nfs3_types.specs.declared.status.Failure.{Failure}
 use Rattle.tree_reads.specs.Listing.{listed, listed_plus}
 use Rattle.tree_nodes.specs.Sound.{IsSound}
 use Rattle.file_tree.specs.Success.{made_by, set_size, create_over, create_present, create_at, create_change, write_at, write_change, set_attributes, make_entry, remove_entry, remove_directory, may_replace, rename, change_renamed, change_set, change_directory_made, change_link_made, change_removed, change_directory_removed, change_written, change_created, change_done, change_answered, change_received, change_taken, change_of}
+use Rattle.tree_nodes.proofs.Chains.{chained, passed, same_some, both_pass, negated}
 use Rattle.tree_nodes.proofs.Entries.{path_total}
+use Rattle.tree_nodes.proofs.Found.{found_stands}
 use Rattle.tree_nodes.proofs.Soundness.{FitsAt, GrowsAt, sound_put, sound_removed}
 
--- ---- values of chains
-
-chained : {A B : Type 0} (f : A → Option B) (o : Option A) (y : B) → option_and_then f o ≡ Some y → (x : A) × (o ≡ Some x) × (f x ≡ Some y)
-chained f None y e = absurd (cc)
-chained f (Some x) y e = (x, refl, e)
-
-passed : {A : Type 0} (b : Bool) (o : Option A) (y : A) → cond b o None ≡ Some y → (b ≡ true) × (o ≡ Some y)
-passed true o y e = (refl, e)
-passed false o y e = absurd (cc)
-
-same_some : {A : Type 0} (x y : A) → Some x ≡ Some y → x ≡ y
-same_some x y e = cc
-
-both_pass : (a b : Bool) → (a && b) ≡ true → (a ≡ true) × (b ≡ true)
-both_pass true b e = (refl, e)
-both_pass false b e = absurd (cc)
-
 -- ---- what a handle names stands
-
-found_stands : (test : Names × Node → Bool) (xs : List (Names × Node)) (e : Names × Node) → find test xs ≡ Some e → IsSome (es.find path_cmp e.0 xs)
-found_stands test [] e h = absurd (cc)
-found_stands test (x ∷ xs) e h = go (test x) h (λ later. found_stands test xs e later) where
-  skip : (b : Bool) → IsSome (es.find path_cmp e.0 xs) → IsSome (cond b (Some x.1) (es.find path_cmp e.0 xs))
-  skip true later = refl
-  skip false later = later
-
-  at_once : (y : Names × Node) → x ≡ y → IsSome (cond (is_eq (path_cmp y.0 x.0)) (Some x.1) (es.find path_cmp y.0 xs))
-  at_once y same = subst (λ (z : Names × Node). IsSome (cond (is_eq (path_cmp z.0 x.0)) (Some x.1) (es.find path_cmp z.0 xs))) same
-      (subst (λ r. IsSome (cond (is_eq r) (Some x.1) (es.find path_cmp x.0 xs))) (sym (tied_itself path_total x.0)) refl)
-
-  go : (b : Bool) → cond b (Some x) (find test xs) ≡ Some e → (find test xs ≡ Some e → IsSome (es.find path_cmp e.0 xs)) → IsSome (es.find path_cmp e.0 (x ∷ xs))
-  go true is later = at_once e (cc)
-  go false is later = skip (is_eq (path_cmp e.0 x.0)) (later is)
 
 live_stands : (binds : Bindings) (tree : Tree) (handle : List ℕ) (e : Names × Node) → live_entry binds tree handle ≡ Some e → IsSome (map.get tree e.0)
 live_stands binds tree handle e h =
     let found = chained (entry_of tree) (object_of binds handle) e h in
-    subst IsSome (sym (map.get-entries tree e.0)) (found_stands (λ x. x.1.object == found.0) (map.entries tree) e found.2)
+    subst IsSome (sym (found_stands tree (λ x. x.1.object == found.0) e found.2)) refl
 
 directory_path : (path : Names) (content : Content) (p : Names) → as_directory path content ≡ Some p → path ≡ p
 directory_path path contents.Directory p e = cc
@@ -214,10 +184,6 @@ remove_fits binds tree place c e = goes_bare tree (λ e. not (is_directory e.1.c
 
 remove_directory_fits : (binds : Bindings) (tree : Tree) (place : DirectoryName) (c : Change) → remove_directory binds tree place ≡ Some c → ChangeFits tree c
 remove_directory_fits binds tree place c e = goes_bare tree (λ e. is_directory e.1.content) (named binds tree place) c e
-
-negated : (b : Bool) → not b ≡ true → b ≡ false
-negated true e = absurd (cc)
-negated false e = refl
 
 rename_at_fits : (tree : Tree) (p : Names) (content : Content) (directory : Names) (name : List ℕ) (b : Bool) (c : Change) → IsSome (map.get tree directory)
     → cond b (Some Keep) (cond (not (is_from (directory ++ name ∷ []) p) && may_replace content (map.get tree (directory ++ name ∷ [])) && is_bare tree (directory ++ name ∷ []))

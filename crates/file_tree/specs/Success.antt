@@ -26,7 +26,8 @@ use Rattle.tree_nodes.specs.declared.node.Node.{Node}
 use Rattle.tree_nodes.specs.declared.node.Content.{Content}
 use Rattle.tree_nodes.specs.declared.node.Content.TheVariants as contents
 use Rattle.tree_nodes.specs.declared.node.File.{File}
-use Rattle.tree_nodes.specs.Files.{file_limit, node_limit, file_node, resized, written}
+use Rattle.nfs3_types.specs.Limits.{file_limit}
+use Rattle.tree_nodes.specs.Files.{node_limit, file_node, resized, written}
 use Rattle.tree_nodes.specs.Tree.{Names, Tree, same_path, entry_of, is_bare}
 use Rattle.tree_nodes.specs.Moved.{is_from, moved}
 use Rattle.tree_handles.specs.Binding.{Bindings, gives_object}
@@ -34,7 +35,7 @@ use Rattle.tree_handles.specs.Live.{FileEntry, live_entry, directory_of, file_of
 use Rattle.tree_handles.specs.Entry.{is_plain, named}
 use Rattle.tree_handles.specs.Kind.{is_directory}
 use Rattle.tree_reads.specs.Look.{same_flag, got_attributes, looked_up, got_text, got_bytes, committed}
-use Rattle.tree_failures.specs.Asked.{is_answered, failure_in}
+use Rattle.nfs3_types.specs.Procedures.{is_answered, failure_in}
 use Rattle.tree_failures.specs.Failure.{is_permitted}
 use Rattle.nfs3_types.specs.declared.status.Failure.{Failure}
 use Rattle.tree_reads.specs.Listing.{listed, listed_plus}

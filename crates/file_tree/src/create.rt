@@ -7,14 +7,14 @@ ghost use Rattle.file_tree.specs.Success.{first_size, first_verifier, made_by, c
 ghost use Rattle.tree_nodes.specs.Files.{file_node};
 
 use crate::change::Change;
-use nfs3_types::{CreateArguments, CreateMode, FileHandle, Verifier};
+use nfs3_types::{CreateArguments, CreateMode, FILE_LIMIT, FileHandle, Verifier};
 use replay_law::replay::StepFault;
 use std::alloc::{AllocError, Global};
 use tree_handles::binds::Binds;
 use tree_handles::entry::is_plain;
 use tree_handles::live::{directory_of, gives_object};
 use tree_nodes::bytes::{Bytes, Path};
-use tree_nodes::content::{FILE_LIMIT, resized};
+use tree_nodes::content::resized;
 use tree_nodes::node::{Content, File, Node};
 use tree_nodes::nodes::{Nodes, count, entry_of, node_at};
 

@@ -16,7 +16,6 @@ use nfs3_types::{
 };
 use replay_law::replay::StepFault;
 use std::alloc::Global;
-use tree_failures::asked::{failure_in, is_answered};
 use tree_failures::failure::is_permitted;
 use tree_handles::binds::Binds;
 use tree_nodes::nodes::Nodes;
@@ -238,10 +237,10 @@ fn change_received(
 ) -> Result<Change, StepFault>
     ensures { Answers result (change_received binds.now (tree_of nodes.now) number call.now reply.now) }
 {
-    let Some(failure) = failure_in(reply) else {
+    let Some(failure) = reply.failure() else {
         return change_done(alloc, binds, nodes, number, call, reply);
     };
-    if !is_answered(call, reply) {
+    if !call.is_answered_by(reply) {
         return Err(StepFault::NotAllowed);
     }
     keep_if(is_permitted(alloc, binds, nodes, call, failure).map_err(|_| StepFault::NoMemory)?)

@@ -4,6 +4,8 @@ use Rattle.history_file.specs.declared.fault.Which.{Which}
 use Rattle.history_file.specs.declared.fault.Which.TheVariants as which
 use Rattle.history_file.specs.declared.fault.HistoryFault.{HistoryFault}
 use Rattle.history_file.specs.declared.fault.HistoryFault.TheVariants as faults
+use Rattle.history_file.specs.declared.writing.WriteFault.{WriteFault}
+use Rattle.history_file.specs.declared.writing.WriteFault.TheVariants as write_faults
 
 abbrev pub which_words : Which → List ℕ
 which_words which.Link = codes "Link"
@@ -27,3 +29,7 @@ history_fault_words (faults.BadResult i) = codes "BadResult " ++ decimal i
 history_fault_words (faults.NotYet i) = codes "NotYet " ++ decimal i
 history_fault_words (faults.Outside i w) = codes "Outside " ++ (decimal i ++ (32 ∷ which_words w))
 history_fault_words faults.NoMemory = codes "out of memory"
+
+abbrev pub write_fault_words : WriteFault → List ℕ
+write_fault_words write_faults.TooLarge = codes "TooLarge"
+write_fault_words write_faults.NoMemory = codes "out of memory"

@@ -5,10 +5,12 @@ use Rattle.xdr_records.specs.declared.fault.XdrFault.TheVariants as xdr
 use Rattle.xdr_records.specs.Grammar.{Grammar, ◌>>=◌}
 use Rattle.xdr_records.specs.Grammar.Grammar.{one_word, one_opaque, named, nothing}
 use Rattle.xdr_records.specs.Spelling.{Spells}
+use Rattle.xdr_records.specs.Record.{record_limit}
 use Rattle.history_file.specs.declared.fault.HistoryFault.{HistoryFault}
 use Rattle.history_file.specs.declared.fault.HistoryFault.TheVariants as faults
 use Rattle.history_file.specs.declared.file.EventKind.{EventKind}
 use Rattle.history_file.specs.declared.file.EventKind.TheVariants as kinds
+use Rattle.history_file.specs.Limits.{file_limit, event_limit, root_limit}
 use Rattle.history_file.specs.Event.{Event, Recording}
 use Rattle.history_file.specs.Event.Event.{call, reply, close, crash}
 
@@ -27,9 +29,9 @@ event_kind i (suc (suc zero)) = Ok kinds.Close
 event_kind i (suc (suc (suc zero))) = Ok kinds.Crash
 event_kind i (suc (suc (suc (suc n)))) = Err (faults.BadEvent i)
 
--- a record of RPC is at most 2,097,152 bytes
+-- a record of RPC, within its limit
 unfoldable pub message : Grammar HistoryFault (List ℕ)
-message = one_opaque 2097152
+message = one_opaque record_limit
 
 abbrev pub event_of : EventKind → Grammar HistoryFault Event
 event_of kinds.Call = do
@@ -57,14 +59,14 @@ events (suc n) i = do
   others ← events n (i + 1)
   nothing (first ∷ others)
 
--- at most 1,000,000 of them
+-- within the limit
 abbrev pub event_count : ℕ → Result ℕ HistoryFault
-event_count n = if nat_le n 1000000 then Ok n else Err faults.TooLarge
+event_count n = if nat_le n event_limit then Ok n else Err faults.TooLarge
 
 -- what stands behind the magic
 unfoldable pub recording : Grammar HistoryFault Recording
 recording = do
-  root ← one_opaque 64
+  root ← one_opaque root_limit
   count ← named event_count
   seen ← events count 1
   nothing (record { root = root; events = seen })
@@ -76,5 +78,5 @@ magic = codes "NFSHIST1"
 pub record HistoryFile (bytes : List ℕ) (seen : Recording) : Type 0 where
   pub body : List ℕ
   pub parts : bytes ≡ magic ++ body
-  pub small : length bytes ≤ 268435456
+  pub small : length bytes ≤ file_limit
   pub spelled : Spells recording body seen

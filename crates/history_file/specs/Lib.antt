@@ -1,4 +1,5 @@
 pub mod Event
+pub mod Limits
 pub mod HistoryFile
 pub mod Owning
 pub mod FileReading

@@ -1,6 +1,8 @@
 -- The one spelling of a history that is written, in the items of RFC 4506, and its limits.
 use Rattle.std.specs.Prelude.{◌⊎◌, ℕ, ◌<◌, ◌≤◌, ◌^◌, List, [], ◌∷◌, ◌++◌, length, Result, Ok, Err}
 use Rattle.xdr_records.specs.Texts.{word_text, opaque_text}
+use Rattle.xdr_records.specs.Record.{record_limit}
+use Rattle.history_file.specs.Limits.{file_limit, event_limit, root_limit}
 use Rattle.history_file.specs.declared.writing.WriteFault.{WriteFault}
 use Rattle.history_file.specs.declared.writing.WriteFault.TheVariants as faults
 use Rattle.history_file.specs.Event.{Event}
@@ -22,15 +24,15 @@ file_text root events = magic ++ (opaque_text root ++ (word_text (length events)
 
 -- the lane is a word, and the message is within the limit of a record
 abbrev pub EventFits : Event → Type 0
-EventFits (call lane message) = (lane < 2 ^ 32) × (length message ≤ 2097152)
-EventFits (reply lane message) = (lane < 2 ^ 32) × (length message ≤ 2097152)
+EventFits (call lane message) = (lane < 2 ^ 32) × (length message ≤ record_limit)
+EventFits (reply lane message) = (lane < 2 ^ 32) × (length message ≤ record_limit)
 EventFits (close lane) = lane < 2 ^ 32
 EventFits crash = Unit {0}
 
 -- the message is over the limit
 abbrev pub IsLong : Event → Type 0
-IsLong (call lane message) = 2097152 < length message
-IsLong (reply lane message) = 2097152 < length message
+IsLong (call lane message) = record_limit < length message
+IsLong (reply lane message) = record_limit < length message
 IsLong (close lane) = ⊥
 IsLong crash = ⊥
 
@@ -40,7 +42,7 @@ SomeLong (e ∷ events) = IsLong e ⊎ SomeLong events
 
 -- a limit is passed by the root handle, the number of events, a message or the file
 abbrev pub IsOverLimit : List ℕ → List Event → Type 0
-IsOverLimit root events = (64 < length root) ⊎ (1000000 < length events) ⊎ SomeLong events ⊎ (268435456 < length (file_text root events))
+IsOverLimit root events = (root_limit < length root) ⊎ (event_limit < length events) ⊎ SomeLong events ⊎ (file_limit < length (file_text root events))
 
 -- TooLarge is answered only where this holds
 abbrev pub IsLargeOnlyIf : {X : Type 0} → Type 0 → Result X WriteFault → Type 0

@@ -11,17 +11,10 @@ ghost use Rattle.history_file.specs.Owning.{happened, all_happened};
 
 use crate::event::{Event, Message};
 use crate::fault::HistoryFault;
+use crate::limits::{EVENT_LIMIT, FILE_LIMIT, ROOT_LIMIT};
 use std::alloc::{AllocError, AllocFailed, Global};
-use xdr_records::{Reader, XdrFault};
+use xdr_records::{RECORD_LIMIT, Reader, XdrFault};
 
-/// The most bytes of a history file.
-const FILE_LIMIT: usize = 268_435_456;
-/// The most events of a history.
-const EVENT_LIMIT: u32 = 1_000_000;
-/// The most bytes of a record of RPC.
-const RECORD_LIMIT: u32 = 2_097_152;
-/// The most bytes of the root handle.
-const ROOT_LIMIT: u32 = 64;
 /// The bytes of an event in memory, but for its message.
 const EVENT_SIZE: usize = 32;
 
@@ -129,7 +122,7 @@ fn count(reader: &mut Reader<'_>) -> Result<u32, FileFault>
 fn message(alloc: Global, reader: &mut Reader<'_>) -> Result<Message, FileFault>
     ensures { Answers told (λ m. m) reader.new result (reading_of message reader.old) }
 {
-    let bytes = opaque(reader, RECORD_LIMIT)?;
+    let bytes = opaque(reader, RECORD_LIMIT as u32)?;
     Ok(Message::from_slice(alloc, bytes)?)
 }
 

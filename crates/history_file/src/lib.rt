@@ -4,6 +4,7 @@
 mod event;
 mod fault;
 mod file;
+mod limits;
 mod writing;
 
 pub use event::{Event, Events, Message};

@@ -2,34 +2,42 @@
 
 ghost use Rattle.std.specs.Prelude.{◌≡◌, ◌++◌, ◌<◌, ◌≤◌, length, OnOk, IfOk, Err};
 ghost use Rattle.xdr_records.specs.Texts.{word_text, opaque_text};
+ghost use Rattle.xdr_records.specs.Record.{record_limit};
 ghost use Rattle.history_file.specs.HistoryFile.{HistoryFile};
 ghost use Rattle.history_file.specs.Owning.{happened, all_happened};
 ghost use Rattle.history_file.specs.Writing.{event_text, file_text, EventFits, IsLong, IsOverLimit, IsLargeOnlyIf};
 ghost use Rattle.history_file.specs.declared.writing.WriteFault.{WriteFault};
 
 use crate::event::{Event, Message};
+use crate::limits::{EVENT_LIMIT, FILE_LIMIT, ROOT_LIMIT};
 use std::alloc::{AllocError, AllocFailed, Global};
-use thiserror::Error;
-use xdr_records::{put_opaque, put_u32};
-
-/// The most bytes of a history file.
-const FILE_LIMIT: usize = 268_435_456;
-/// The most events of a history.
-const EVENT_LIMIT: usize = 1_000_000;
-/// The most bytes of a record of RPC.
-const RECORD_LIMIT: usize = 2_097_152;
-/// The most bytes of the root handle.
-const ROOT_LIMIT: usize = 64;
+use std::error::Error;
+use std::fmt;
+use xdr_records::{RECORD_LIMIT, put_opaque, put_u32};
 
 /// Why a history can't be written.
-#[derive(Clone, Copy, Debug, PartialEq, Eq, Error)]
+#[derive(Clone, Copy, Debug, PartialEq, Eq)]
 pub enum WriteFault {
     /// A limit is passed, by the file, its number of events, a message or the root handle.
-    #[error("TooLarge")]
     TooLarge,
-    #[error("out of memory")]
     NoMemory,
 }
+
+impl fmt::Display for WriteFault {
+    ghost use Rattle.std.specs.Prelude.{Some};
+    ghost use Rattle.history_file.specs.FaultText.{write_fault_words};
+
+    ghost output = { λ fault. Some (write_fault_words fault) };
+
+    fn fmt<W: fmt::Write>(&self, f: &mut fmt::Formatter<W>) -> fmt::Result {
+        match self {
+            WriteFault::TooLarge => f.write_str("TooLarge"),
+            WriteFault::NoMemory => f.write_str("out of memory"),
+        }
+    }
+}
+
+impl Error for WriteFault {}
 
 impl From<AllocError> for WriteFault {
     ghost use Rattle.std.specs.Prelude.{◌≡◌};
@@ -56,8 +64,8 @@ impl<T: Drop> From<AllocFailed<T>> for WriteFault {
 /// Appends the kind word, the lane and the message of a call or a reply.
 fn put_message(out: &mut Vec<u8>, kind: u32, lane: u32, message: &Message) -> Result<(), WriteFault>
     ensures ok { OnOk result (out.new.items ≡ out.old.items ++ (word_text kind ++ (word_text lane ++ opaque_text message.now))) }
-    ensures fits { OnOk result (length message.now ≤ 2097152) }
-    ensures large { IsLargeOnlyIf (2097152 < length message.now) result }
+    ensures fits { OnOk result (length message.now ≤ record_limit) }
+    ensures large { IsLargeOnlyIf (record_limit < length message.now) result }
 {
     let bytes = message.as_slice();
     if bytes.len() > RECORD_LIMIT {
@@ -97,7 +105,7 @@ pub fn write_history(alloc: Global, root: &[u8], events: &[Event]) -> Result<Vec
     ensures text { IfOk result (λ v. v.items ≡ file_text root.now (all_happened events.now)) }
     ensures large { IsLargeOnlyIf (IsOverLimit root.now (all_happened events.now)) result }
 {
-    if root.len() > ROOT_LIMIT || events.len() > EVENT_LIMIT {
+    if root.len() > ROOT_LIMIT as usize || events.len() > EVENT_LIMIT as usize {
         return Err(WriteFault::TooLarge);
     }
     let mut out = Vec::from_slice(alloc, b"NFSHIST1".as_slice())?;

@@ -9,3 +9,4 @@ pub mod Spelled
 pub mod SpelledCalls
 pub mod SpelledReplies
 pub mod SpelledMessages
+pub mod FaultText

@@ -4,36 +4,50 @@ ghost use Rattle.std.specs.Prelude.{◌≡◌};
 ghost use Rattle.nfs3_msgs.specs.declared.fault.MessageFault.TheVariants.{NoMemory};
 
 use std::alloc::{AllocError, AllocFailed};
-use thiserror::Error;
+use std::error::Error;
+use std::fmt;
 
 /// What is wrong with an item of a message.
-#[derive(Clone, Copy, Debug, PartialEq, Eq, Error)]
+#[derive(Clone, Copy, Debug, PartialEq, Eq)]
 pub enum Kind {
     /// Bytes of the item are missing.
-    #[error("bytes are missing")]
     Short,
     /// A flag is neither 0 nor 1.
-    #[error("a flag is neither 0 nor 1")]
     BadFlag,
     /// A length is over its limit.
-    #[error("a length is over its limit")]
     TooLong,
     /// Bytes stand behind the last item.
-    #[error("bytes stand behind the last item")]
     Trailing,
     /// A status, type, level, mode or time word is outside its list.
-    #[error("a word is outside its list")]
     BadEnum,
     /// The procedure's messages are not read.
-    #[error("the procedure is not judged")]
     NotJudged,
 }
 
+impl fmt::Display for Kind {
+    ghost use Rattle.std.specs.Prelude.{Some};
+    ghost use Rattle.nfs3_msgs.specs.FaultText.{kind_words};
+
+    ghost output = { λ fault. Some (kind_words fault) };
+
+    fn fmt<W: fmt::Write>(&self, f: &mut fmt::Formatter<W>) -> fmt::Result {
+        match self {
+            Kind::Short => f.write_str("bytes are missing"),
+            Kind::BadFlag => f.write_str("a flag is neither 0 nor 1"),
+            Kind::TooLong => f.write_str("a length is over its limit"),
+            Kind::Trailing => f.write_str("bytes stand behind the last item"),
+            Kind::BadEnum => f.write_str("a word is outside its list"),
+            Kind::NotJudged => f.write_str("the procedure is not judged"),
+        }
+    }
+}
+
+impl Error for Kind {}
+
 /// Why a message gave no value.
-#[derive(Clone, Copy, Debug, PartialEq, Eq, Error)]
+#[derive(Clone, Copy, Debug, PartialEq, Eq)]
 pub enum MessageFault {
     /// The first item at fault, and the offset at which it stands.
-    #[error("at byte {at}: {kind}")]
     BadMessage {
         /// Bytes before the item.
         at: usize,
@@ -41,9 +55,24 @@ pub enum MessageFault {
         kind: Kind,
     },
     /// A growth was refused.
-    #[error("out of memory")]
     NoMemory,
 }
+
+impl fmt::Display for MessageFault {
+    ghost use Rattle.std.specs.Prelude.{Some};
+    ghost use Rattle.nfs3_msgs.specs.FaultText.{message_fault_words};
+
+    ghost output = { λ fault. Some (message_fault_words fault) };
+
+    fn fmt<W: fmt::Write>(&self, f: &mut fmt::Formatter<W>) -> fmt::Result {
+        match self {
+            MessageFault::BadMessage { at, kind } => write!(f, "at byte {at}: {kind}"),
+            MessageFault::NoMemory => f.write_str("out of memory"),
+        }
+    }
+}
+
+impl Error for MessageFault {}
 
 impl From<AllocError> for MessageFault {
     ghost from_gives = { λ _ fault. fault ≡ NoMemory };

@@ -132,11 +132,6 @@ fn faults_of_arguments_stand_at_their_item(rt: HostRuntime) {
         arguments_fault(alloc, 6, &WRITE_ARGUMENTS),
         Some((20, Kind::Trailing))
     );
-    // A handle of 65 bytes, none of which is there.
-    assert_eq!(rt;
-        arguments_fault(alloc, 6, &[0, 0, 0, 65]),
-        Some((0, Kind::TooLong))
-    );
     // The level is 3.
     let mut level = WRITE_ARGUMENTS;
     level[23] = 3;
@@ -151,6 +146,16 @@ fn faults_of_arguments_stand_at_their_item(rt: HostRuntime) {
             Some((0, Kind::NotJudged))
         );
     }
+}
+
+#[test]
+fn faults_of_lengths_stand_at_their_word(rt: HostRuntime) {
+    let alloc = rt.alloc();
+    // A handle of 65 bytes, none of which is there.
+    assert_eq!(rt;
+        arguments_fault(alloc, 6, &[0, 0, 0, 65]),
+        Some((0, Kind::TooLong))
+    );
     // A LOOKUP whose name would have 2^32 - 1 bytes.
     let long_name = [
         0, 0, 0, 1, 0xd1, 0, 0, 0, 0xff, 0xff, 0xff, 0xff, 0x61, 0, 0, 0,

@@ -11,6 +11,9 @@ use std::marker::Model;
 /// The most bytes of a file handle (RFC 1813, section 2.4, `NFS3_FHSIZE`).
 pub const HANDLE_LIMIT: usize = 64;
 
+/// The most bytes of a file: a limit of the model.
+pub const FILE_LIMIT: u64 = 16_777_216;
+
 /// A file handle, `nfs_fh3`: at most 64 bytes that only the server understands.
 #[derive(Debug, Drop)]
 pub struct FileHandle {

@@ -7,6 +7,7 @@ mod bytes;
 mod calls;
 mod entries;
 mod held;
+mod procedures;
 mod replies;
 mod status;
 
@@ -14,7 +15,7 @@ pub use attributes::{
     Device, FileAttributes, FileType, SetAttributes, SetTime, Time, Verifier, WccAttributes,
     WccData,
 };
-pub use bytes::{Data, FileHandle, HANDLE_LIMIT, LinkText, Name};
+pub use bytes::{Data, FILE_LIMIT, FileHandle, HANDLE_LIMIT, LinkText, Name};
 pub use calls::{
     CommitArguments, CreateArguments, CreateMode, DirectoryName, MkDirArguments, NfsCall,
     ReadArguments, ReadDirArguments, ReadDirPlusArguments, RenameArguments, SetAttrArguments,

@@ -9,7 +9,9 @@ use Rattle.nfs_history.specs.declared.history.RecordedCall.{RecordedCall}
 use Rattle.nfs_history.specs.Calls.{CallEvent}
 use Rattle.nfs_history.specs.Matching.{seen_call}
 use Rattle.nfs_history.specs.History.{IsRecorded, AreRecorded}
-use Rattle.nfs_history.specs.CallFaults.{IsCallFault, IsFine, FirstCallFault, IsReadable, AreReadable}
+use Rattle.nfs_history.specs.CallFaults.{IsFine, FirstCallFault, IsReadable, AreReadable}
+use Rattle.nfs_history.specs.Judging.{IsFound}
+use Rattle.nfs_history.proofs.CallFaultTable.{call_fault_found}
 use Rattle.nfs_history.proofs.CallFaultLaws.{first_call_fault_or_fine, one_first_call_fault}
 
 AreRecorded-push : (events : List CallEvent) (calls : List RecordedCall) (event : CallEvent) (call : RecordedCall) → AreRecorded events calls → IsRecorded event call → AreRecorded (events ++ event ∷ []) (calls ++ call ∷ [])
@@ -36,9 +38,9 @@ judged_more seen i d this old new call lt is pushed recorded so_far =
     }
 
 pub stops_here : (seen : List SeenCall) (i : ℕ) (d this : SeenCall) (calls : List RecordedCall) (fault : HistoryFault) → i < length seen → this ≡ get_or seen i d
-    → (fault ≡ faults.NoMemory) ⊎ IsCallFault (i + 1) (seen_call this) fault → AreJudgedTo seen i calls → (fault ≡ faults.NoMemory) ⊎ FirstCallFault 1 (map seen_call seen) fault
+    → (fault ≡ faults.NoMemory) ⊎ IsFound (i + 1) (seen_call this) fault → AreJudgedTo seen i calls → (fault ≡ faults.NoMemory) ⊎ FirstCallFault 1 (map seen_call seen) fault
 stops_here seen i d this calls fault lt is (inl none) so_far = inl none
-stops_here seen i d this calls fault lt is (inr h) so_far = inr (so_far.faults_are fault (rw (one_dropped seen i d lt) (inl (subst (λ c. IsCallFault (i + 1) (seen_call c) fault) is h))))
+stops_here seen i d this calls fault lt is (inr h) so_far = inr (so_far.faults_are fault (rw (one_dropped seen i d lt) (inl (call_fault_found (i + 1) (seen_call (get_or seen i d)) fault (subst (λ c. IsFound (i + 1) (seen_call c) fault) is h)))))
 
 pub all_judged : (seen : List SeenCall) (i : ℕ) (calls : List RecordedCall) → length seen ≤ i → AreJudgedTo seen i calls → AreRecorded (map seen_call seen) calls
 all_judged seen i calls le so_far = rw (take_all i seen le) at so_far.recorded

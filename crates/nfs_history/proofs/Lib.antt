@@ -2,6 +2,7 @@ pub mod MatchingSteps
 pub mod Unanswered
 pub mod CheckingSteps
 pub mod EventFaultLaws
+pub mod CallFaultTable
 pub mod CallFaultLaws
 pub mod JudgingSteps
 pub mod FirstFaultLaws

@@ -1,71 +1,68 @@
 -- The first call at fault, and why (RFC 5531, section 9, and RFC 1813, section 3.3; what lies outside the model, and the
 -- order of faults, are this project's own).
-use Rattle.std.specs.Prelude.{◌≡◌, ◌⊎◌, ◌==◌, nat_lt, ℕ, ◌+◌, if◌then◌else◌, List, [], ◌∷◌, length, Option, Some, None, option_map, Result, Ok, Err}
+use Rattle.std.specs.Prelude.{◌≡◌, ◌≢◌, ◌⊎◌, ◌==◌, ◌<◌, ℕ, ◌+◌, true, false, if◌then◌else◌, List, [], ◌∷◌, length, Option, Some, None}
 use Rattle.std.specs.List.{AllByRecursion}
 use Rattle.nfs3_types.specs.declared.calls.NfsCall.{NfsCall}
 use Rattle.nfs3_types.specs.declared.replies.NfsReply.{NfsReply}
 use Rattle.nfs3_types.specs.declared.replies.Outcome.{Outcome}
-use Rattle.nfs3_types.specs.declared.replies.Outcome.TheVariants as outcomes
 use Rattle.rpc_reader.specs.Values.{CallValue, Body}
 use Rattle.rpc_reader.specs.Messages.{IsCall}
-use Rattle.xdr_records.specs.Unread.{At}
-use Rattle.nfs3_msgs.specs.declared.fault.Kind.{Kind}
-use Rattle.nfs3_msgs.specs.Messages.{arguments_of, result_of}
+use Rattle.nfs3_msgs.specs.Messages.{IsArguments, IsResult}
 use Rattle.history_file.specs.declared.fault.Which.{Which}
 use Rattle.history_file.specs.declared.fault.Which.TheVariants as which
 use Rattle.history_file.specs.declared.fault.HistoryFault.{HistoryFault}
 use Rattle.history_file.specs.declared.fault.HistoryFault.TheVariants as faults
 use Rattle.nfs_history.specs.declared.history.Meaning.{Meaning}
 use Rattle.nfs_history.specs.Calls.{CallEvent}
-use Rattle.nfs_history.specs.Effects.{Says, results_of, is_judged, has_no_effect}
-use Rattle.nfs_history.specs.History.{outside, Means}
-
--- MKNOD or LINK that wasn't answered by a failure; a result without a status isn't one
-abbrev pub left_out : ℕ → Which → Option (List ℕ) → HistoryFault
-left_out n which None = faults.Outside n which
-left_out n which (Some results) = if nat_lt (length results) 4 then faults.BadResult n else faults.Outside n which
-
--- what is outside the model where the call came out like this
-abbrev pub outside_fault : ℕ → NfsCall → Option Outcome → Option HistoryFault
-outside_fault n call outcome = option_map (λ which. faults.Outside n which) (outside call outcome)
-
--- where the result is read: a call and a result that lie outside the model
-abbrev pub answered_fault : ℕ → NfsCall → Result NfsReply (At Kind) → Option HistoryFault
-answered_fault n call (Ok answer) = outside_fault n call (Some (outcomes.Received answer))
-answered_fault n call (Err fault) = Some (faults.BadResult n)
-
--- where the arguments are read: the result can't be read, or it all lies outside the model
-abbrev pub result_fault : ℕ → ℕ → NfsCall → Option (List ℕ) → Option HistoryFault
-result_fault n procedure call None = outside_fault n call None
-result_fault n procedure call (Some results) = answered_fault n call (result_of procedure results)
-
-abbrev pub argued_fault : ℕ → ℕ → Option (List ℕ) → Result NfsCall (At Kind) → Option HistoryFault
-argued_fault n procedure results (Err fault) = Some (faults.BadArgs n)
-argued_fault n procedure results (Ok call) = result_fault n procedure call results
-
--- a judged call: its arguments can't be read, or its result is at fault
-abbrev pub judged_fault : ℕ → ℕ → List ℕ → Option (List ℕ) → Option HistoryFault
-judged_fault n procedure args results = argued_fault n procedure results (arguments_of procedure args)
+use Rattle.nfs_history.specs.Effects.{Says, results_of, is_judged, is_left_out, has_no_effect}
+use Rattle.nfs_history.specs.History.{CameOut, outside, Means}
 
 -- MKNOD or LINK
 abbrev pub which_left_out : ℕ → Which
 which_left_out procedure = if procedure == 15 then which.Link else which.Node
 
--- a call that may have an effect: it is sealed (RPCSEC_GSS, flavor 6), or what its procedure says
-abbrev pub effect_fault : ℕ → CallValue → Option (List ℕ) → Option HistoryFault
-effect_fault n head results =
-    if head.flavor == 6 then Some (faults.Sealed n)
-    else (if is_judged head.procedure then judged_fault n head.procedure head.args results
-    else Some (left_out n (which_left_out head.procedure) results))
+-- a result of less than four bytes, so without a status word
+abbrev pub HasNoStatus : Option (List ℕ) → Type 0
+HasNoStatus None = ⊥
+HasNoStatus (Some results) = length results < 4
 
--- the fault of call n with this head and this reply
-abbrev pub fault_of : ℕ → CallValue → Option Body → Option HistoryFault
-fault_of n head body = if has_no_effect head body then None else effect_fault n head (results_of body)
+-- the bytes are no arguments, or no result, of the procedure
+abbrev pub AreNoArguments : ℕ → List ℕ → Type 0
+AreNoArguments procedure bytes = ¬ ((call : NfsCall) × IsArguments procedure bytes call)
+
+abbrev pub IsNoResult : ℕ → List ℕ → Type 0
+IsNoResult procedure bytes = ¬ ((reply : NfsReply) × IsResult procedure bytes reply)
+
+-- a result was shown that is none: of LINK and MKNOD one without a status; of a judged procedure, with its arguments, one that
+-- isn't its result
+abbrev pub IsBadResult : CallValue → Option (List ℕ) → Type 0
+IsBadResult head results =
+    ((is_left_out head.procedure ≡ true) × HasNoStatus results)
+    ⊎ ((is_judged head.procedure ≡ true) × ((call : NfsCall) × IsArguments head.procedure head.args call)
+    × ((bytes : List ℕ) × (results ≡ Some bytes) × IsNoResult head.procedure bytes))
+
+-- the call lies outside the model: a LINK or MKNOD, or a judged call that is outside, as it came out
+abbrev pub LiesOutside : CallValue → Option (List ℕ) → Which → Type 0
+LiesOutside head results which =
+    ((is_left_out head.procedure ≡ true) × (¬ HasNoStatus results) × (which ≡ which_left_out head.procedure))
+    ⊎ ((is_judged head.procedure ≡ true) × (call : NfsCall) × (outcome : Option Outcome) × IsArguments head.procedure head.args call
+        × CameOut head.procedure results outcome × (outside call outcome ≡ Some which))
+
+-- what is wrong with a call that may have an effect, and has this number, head and result; RPCSEC_GSS (flavor 6) hides its
+-- arguments
+abbrev pub IsEffectFault : ℕ → CallValue → Option (List ℕ) → HistoryFault → Type 0
+IsEffectFault n head results (faults.Sealed at) = (at ≡ n) × (head.flavor ≡ 6)
+IsEffectFault n head results (faults.BadArgs at) =
+    (at ≡ n) × (head.flavor ≢ 6) × (is_judged head.procedure ≡ true) × AreNoArguments head.procedure head.args
+IsEffectFault n head results (faults.BadResult at) = (at ≡ n) × (head.flavor ≢ 6) × IsBadResult head results
+IsEffectFault n head results (faults.Outside at which) = (at ≡ n) × (head.flavor ≢ 6) × LiesOutside head results which
+IsEffectFault n head results fault = ⊥
 
 -- call n is at fault
 abbrev pub IsCallFault : ℕ → CallEvent → HistoryFault → Type 0
 IsCallFault n event fault =
-    (head : CallValue) × (body : Option Body) × IsCall event.message head × Says event.answer body × (fault_of n head body ≡ Some fault)
+    (head : CallValue) × (body : Option Body) × IsCall event.message head × Says event.answer body
+    × (has_no_effect head body ≡ false) × IsEffectFault n head (results_of body) fault
 
 -- it is known what the call was
 abbrev pub IsFine : CallEvent → Type 0

@@ -1,14 +1,13 @@
 -- A history: what each of its calls was, when it began and ended, and how it came out (Herlihy and Wing 1990,
 -- section 2; the calls are those of RFC 1813, section 3.3).
-use Rattle.std.specs.Prelude.{◌≡◌, ◌≢◌, ◌==◌, ◌&&◌, not, nat_lt, ℕ, ◌+◌, Bool, true, false, if◌then◌else◌, List, [], ◌∷◌, length, Option, Some, None, option_map, unwrap_or}
+use Rattle.std.specs.Prelude.{◌≡◌, ◌≢◌, ◌==◌, ◌&&◌, not, nat_lt, ℕ, ◌+◌, Bool, true, false, if◌then◌else◌, List, [], ◌∷◌, length, Option, Some, None, is_some, option_map, unwrap_or}
 use Rattle.nfs3_types.specs.declared.calls.NfsCall.{NfsCall}
 use Rattle.nfs3_types.specs.declared.calls.NfsCall.TheVariants as calls
 use Rattle.nfs3_types.specs.declared.calls.CreateMode.{CreateMode}
 use Rattle.nfs3_types.specs.declared.calls.CreateMode.TheVariants as modes
-use Rattle.nfs3_types.specs.declared.replies.Answer.{Answer}
-use Rattle.nfs3_types.specs.declared.replies.Answer.TheVariants as answers
 use Rattle.nfs3_types.specs.declared.replies.NfsReply.{NfsReply}
-use Rattle.nfs3_types.specs.declared.replies.NfsReply.TheVariants as replies
+use Rattle.nfs3_types.specs.Procedures.{failure_in}
+use Rattle.nfs3_types.specs.Limits.{file_limit}
 use Rattle.nfs3_types.specs.declared.replies.Outcome.{Outcome}
 use Rattle.nfs3_types.specs.declared.replies.Outcome.TheVariants as outcomes
 use Rattle.rpc_reader.specs.Values.{CallValue, Body}
@@ -26,34 +25,9 @@ use Rattle.nfs_history.specs.Standing.{EachMayFollow}
 use Rattle.history_file.specs.Owning.{all_happened}
 use Rattle.nfs_history.specs.Effects.{Says, was_refused, results_of, is_judged, has_no_effect}
 
--- the most bytes of a file
-abbrev pub file_limit : ℕ
-file_limit = 16777216
-
-abbrev pub is_failed : {S F : Type 0} → Answer S F → Bool
-is_failed (answers.Done s) = false
-is_failed (answers.Failed status f) = true
-
-abbrev pub reply_failed : NfsReply → Bool
-reply_failed (replies.GetAttr answer) = is_failed answer
-reply_failed (replies.SetAttr answer) = is_failed answer
-reply_failed (replies.Lookup answer) = is_failed answer
-reply_failed (replies.ReadLink answer) = is_failed answer
-reply_failed (replies.Read answer) = is_failed answer
-reply_failed (replies.Write answer) = is_failed answer
-reply_failed (replies.Create answer) = is_failed answer
-reply_failed (replies.MkDir answer) = is_failed answer
-reply_failed (replies.SymLink answer) = is_failed answer
-reply_failed (replies.Remove answer) = is_failed answer
-reply_failed (replies.RmDir answer) = is_failed answer
-reply_failed (replies.Rename answer) = is_failed answer
-reply_failed (replies.ReadDir answer) = is_failed answer
-reply_failed (replies.ReadDirPlus answer) = is_failed answer
-reply_failed (replies.Commit answer) = is_failed answer
-
 -- a call that was answered by a failure
 abbrev pub failed : Option Outcome → Bool
-failed (Some (outcomes.Received reply)) = reply_failed reply
+failed (Some (outcomes.Received reply)) = is_some (failure_in reply)
 failed (Some (outcomes.Taken count)) = false
 failed None = false
 

@@ -7,5 +7,6 @@ pub mod Checking
 pub mod Effects
 pub mod History
 pub mod CallFaults
+pub mod Judging
 pub mod FirstFault
 pub mod Later

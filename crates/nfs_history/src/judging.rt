@@ -7,8 +7,9 @@ ghost use Rattle.rpc_reader.specs.Views.{call_value, body_value};
 ghost use Rattle.nfs3_msgs.specs.Messages.{IsArguments};
 ghost use Rattle.nfs_history.specs.Matching.{seen_call, seen_reply, bytes_of};
 ghost use Rattle.nfs_history.specs.Effects.{Says, was_refused, results_of, has_failed_status, is_judged, has_no_effect};
-ghost use Rattle.nfs_history.specs.History.{asked_size, failed, reply_failed, too_far, outside, CameOut, IsKnownAs, IsRecorded, AreRecorded};
-ghost use Rattle.nfs_history.specs.CallFaults.{left_out, which_left_out, outside_fault, result_fault, judged_fault, fault_of, IsCallFault, IsFine, FirstCallFault, IsReadable, AreReadable};
+ghost use Rattle.nfs_history.specs.History.{asked_size, failed, too_far, outside, CameOut, IsKnownAs, IsRecorded, AreRecorded};
+ghost use Rattle.nfs_history.specs.CallFaults.{which_left_out, IsFine, FirstCallFault, IsReadable, AreReadable};
+ghost use Rattle.nfs_history.specs.Judging.{left_out, outside_fault, result_fault, judged_fault, fault_of, IsFound};
 ghost use Rattle.nfs_history.specs.EventFaults.{IsFineOrNoMemory, IsErrorOf, IsThatOrNoMemory};
 ghost use Rattle.history_file.specs.declared.fault.HistoryFault.{HistoryFault};
 
@@ -17,7 +18,7 @@ use crate::matching::{SeenCall, SeenReply, transaction};
 use byteorder::{BigEndian, ByteOrder};
 use history_file::{HistoryFault, Which};
 use nfs3_msgs::{MessageFault, read_args, read_result};
-use nfs3_types::{Answer, CreateMode, NfsCall, NfsReply, Outcome};
+use nfs3_types::{CreateMode, FILE_LIMIT, NfsCall, Outcome};
 use rpc_reader::{CallHead, ReplyBody, read_call, read_reply};
 use std::alloc::Global;
 
@@ -31,36 +32,12 @@ const SEALED_FLAVOR: u32 = 6;
 const MKNOD: u32 = 11;
 
 const LINK: u32 = 15;
-/// The most bytes of a file.
-const FILE_LIMIT: u64 = 16_777_216;
-
-fn is_failed_reply(reply: &NfsReply) -> bool
-    ensures { result ≡ reply_failed reply.now }
-{
-    match reply {
-        NfsReply::GetAttr(answer) => matches!(answer, Answer::Failed(..)),
-        NfsReply::SetAttr(answer) => matches!(answer, Answer::Failed(..)),
-        NfsReply::Lookup(answer) => matches!(answer, Answer::Failed(..)),
-        NfsReply::ReadLink(answer) => matches!(answer, Answer::Failed(..)),
-        NfsReply::Read(answer) => matches!(answer, Answer::Failed(..)),
-        NfsReply::Write(answer) => matches!(answer, Answer::Failed(..)),
-        NfsReply::Create(answer) => matches!(answer, Answer::Failed(..)),
-        NfsReply::MkDir(answer) => matches!(answer, Answer::Failed(..)),
-        NfsReply::SymLink(answer) => matches!(answer, Answer::Failed(..)),
-        NfsReply::Remove(answer) => matches!(answer, Answer::Failed(..)),
-        NfsReply::RmDir(answer) => matches!(answer, Answer::Failed(..)),
-        NfsReply::Rename(answer) => matches!(answer, Answer::Failed(..)),
-        NfsReply::ReadDir(answer) => matches!(answer, Answer::Failed(..)),
-        NfsReply::ReadDirPlus(answer) => matches!(answer, Answer::Failed(..)),
-        NfsReply::Commit(answer) => matches!(answer, Answer::Failed(..)),
-    }
-}
 
 fn is_failure(outcome: &Option<Outcome>) -> bool
     ensures { result ≡ failed outcome.now }
 {
     match outcome {
-        Some(Outcome::Received(reply)) => is_failed_reply(reply),
+        Some(Outcome::Received(reply)) => reply.failure().is_some(),
         _ => false,
     }
 }
@@ -290,7 +267,7 @@ fn judged_call(
 ) -> Result<RecordedCall, HistoryFault>
     requires { IsReadable (seen_call seen.now) }
     ensures found { IfOk result (IsRecorded (seen_call seen.now)) }
-    ensures fault { IsErrorOf (IsCallFault number (seen_call seen.now)) result }
+    ensures fault { IsErrorOf (IsFound number (seen_call seen.now)) result }
 {
     let message = seen.message.as_slice();
     let Ok(head) = read_call(message) else {

@@ -2,6 +2,8 @@
 use Rattle.std.specs.Prelude.{ℕ, List, ◌∷◌, ◌++◌, codes, decimal}
 use Rattle.order_check.specs.declared.fault.Fault.{Fault}
 use Rattle.order_check.specs.declared.fault.Fault.TheVariants as faults
+use Rattle.order_check.specs.declared.fault.CheckFault.{CheckFault}
+use Rattle.order_check.specs.declared.fault.CheckFault.TheVariants as check_faults
 
 abbrev pub fault_words : Fault → List ℕ
 fault_words faults.WrongEras = codes "WrongEras"
@@ -13,3 +15,7 @@ fault_words (faults.Missing i) = codes "Missing " ++ decimal i
 fault_words (faults.BadCut i) = codes "BadCut " ++ decimal i
 fault_words (faults.Illegal i) = codes "Illegal " ++ decimal i
 fault_words (faults.Early i j) = codes "Early " ++ (decimal i ++ (32 ∷ decimal j))
+
+abbrev pub check_fault_words : CheckFault → List ℕ
+check_fault_words (check_faults.No fault) = fault_words fault
+check_fault_words check_faults.NoMemory = codes "out of memory"

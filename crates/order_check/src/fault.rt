@@ -3,7 +3,6 @@
 use std::alloc::AllocError;
 use std::error::Error as StdError;
 use std::fmt;
-use thiserror::Error;
 
 /// The first fault of a plan, in the order of the variants. Calls, eras and places are numbered from 1.
 #[derive(Clone, Copy, Debug, PartialEq, Eq)]
@@ -53,13 +52,27 @@ impl fmt::Display for Fault {
 impl StdError for Fault {}
 
 /// Why a plan isn't known to be right.
-#[derive(Clone, Copy, Debug, PartialEq, Eq, Error)]
+#[derive(Clone, Copy, Debug, PartialEq, Eq)]
 pub enum CheckFault {
-    #[error("{0}")]
     No(Fault),
-    #[error("out of memory")]
     NoMemory,
 }
+
+impl fmt::Display for CheckFault {
+    ghost use Rattle.std.specs.Prelude.{Some};
+    ghost use Rattle.order_check.specs.FaultText.{check_fault_words};
+
+    ghost output = { λ fault. Some (check_fault_words fault) };
+
+    fn fmt<W: fmt::Write>(&self, f: &mut fmt::Formatter<W>) -> fmt::Result {
+        match self {
+            CheckFault::No(fault) => write!(f, "{fault}"),
+            CheckFault::NoMemory => f.write_str("out of memory"),
+        }
+    }
+}
+
+impl StdError for CheckFault {}
 
 impl From<AllocError> for CheckFault {
     ghost use Rattle.std.specs.Prelude.{◌≡◌};

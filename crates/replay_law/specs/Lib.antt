@@ -1,3 +1,4 @@
 pub mod Register
 pub mod Run
 pub mod Steps
+pub mod FaultText

@@ -2,18 +2,33 @@
 ghost use Rattle.std.specs.Prelude.{◌≡◌, ℕ, Option, Some, None, List, ◌++◌, OnOk, OnErr, IfOk};
 
 use std::alloc::{AllocError, Global};
-use thiserror::Error;
+use std::error::Error;
+use std::fmt;
 
 /// Why a step was refused. The state is then as it was.
-#[derive(Clone, Copy, Debug, PartialEq, Eq, Drop, Error)]
+#[derive(Clone, Copy, Debug, PartialEq, Eq, Drop)]
 pub enum StepFault {
     /// The state has no next state after this call with this outcome.
-    #[error("the outcome isn't allowed here")]
     NotAllowed,
     /// A growth was refused.
-    #[error("out of memory")]
     NoMemory,
 }
+
+impl fmt::Display for StepFault {
+    ghost use Rattle.std.specs.Prelude.{Some};
+    ghost use Rattle.replay_law.specs.FaultText.{step_fault_words};
+
+    ghost output = { λ fault. Some (step_fault_words fault) };
+
+    fn fmt<W: fmt::Write>(&self, f: &mut fmt::Formatter<W>) -> fmt::Result {
+        match self {
+            StepFault::NotAllowed => f.write_str("the outcome isn't allowed here"),
+            StepFault::NoMemory => f.write_str("out of memory"),
+        }
+    }
+}
+
+impl Error for StepFault {}
 
 /// A state that a numbered call with its outcome takes to at most one next state.
 pub trait Replayable: Drop {

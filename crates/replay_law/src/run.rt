@@ -5,7 +5,8 @@ ghost use Rattle.replay_law.specs.Steps.{taken_of};
 
 use crate::replay::{Replayable, StepFault};
 use std::alloc::{AllocError, Global};
-use thiserror::Error;
+use std::error::Error;
+use std::fmt;
 
 /// A numbered call with its outcome, both lent.
 #[derive(Drop)]
@@ -16,15 +17,29 @@ pub struct Step<'a, C, O> {
 }
 
 /// Why a run was refused.
-#[derive(Clone, Copy, Debug, PartialEq, Eq, Drop, Error)]
+#[derive(Clone, Copy, Debug, PartialEq, Eq, Drop)]
 pub enum RunFault {
     /// The first step without a next state has this number.
-    #[error("step {0} isn't allowed")]
     Illegal(u64),
     /// A growth was refused.
-    #[error("out of memory")]
     NoMemory,
 }
+
+impl fmt::Display for RunFault {
+    ghost use Rattle.std.specs.Prelude.{Some};
+    ghost use Rattle.replay_law.specs.FaultText.{run_fault_words};
+
+    ghost output = { λ fault. Some (run_fault_words fault) };
+
+    fn fmt<W: fmt::Write>(&self, f: &mut fmt::Formatter<W>) -> fmt::Result {
+        match self {
+            RunFault::Illegal(number) => write!(f, "step {number} isn't allowed"),
+            RunFault::NoMemory => f.write_str("out of memory"),
+        }
+    }
+}
+
+impl Error for RunFault {}
 
 /// Whether each of these steps has a next state, from the state before any.
 pub fn run_steps<R: Replayable>(

@@ -1,3 +1,4 @@
 pub mod Calls
 pub mod Replies
 pub mod Spelled
+pub mod OneMessage

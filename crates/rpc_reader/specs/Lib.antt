@@ -3,3 +3,4 @@ pub mod Heads
 pub mod Messages
 pub mod Views
 pub mod Texts
+pub mod FaultText

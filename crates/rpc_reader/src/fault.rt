@@ -3,31 +3,46 @@
 ghost use Rattle.std.specs.Prelude.{◌≡◌};
 ghost use Rattle.rpc_reader.specs.Heads.{kind_of};
 
-use thiserror::Error;
+use std::error::Error;
+use std::fmt;
 use xdr_records::XdrFault;
 
 /// What is wrong with the first item of a head that is at fault.
-#[derive(Clone, Copy, PartialEq, Eq, Debug, Error)]
+#[derive(Clone, Copy, PartialEq, Eq, Debug)]
 pub enum RpcFault {
     /// Bytes of the item are missing.
-    #[error("bytes are missing")]
     Short,
     /// The message is a reply.
-    #[error("the message is no call")]
     NotCall,
     /// The message is a call.
-    #[error("the message is no reply")]
     NotReply,
     /// The version of the protocol isn't 2.
-    #[error("the version of the protocol isn't 2")]
     BadVersion,
     /// A word is none of its list.
-    #[error("a word is none of its list")]
     BadEnum,
     /// A credential or a verifier has more than 400 bytes.
-    #[error("a credential or a verifier is too long")]
     AuthTooLong,
     /// Bytes stand behind a reply that has no results.
-    #[error("bytes stand behind the reply")]
     Trailing,
 }
+
+impl fmt::Display for RpcFault {
+    ghost use Rattle.std.specs.Prelude.{Some};
+    ghost use Rattle.rpc_reader.specs.FaultText.{rpc_fault_words};
+
+    ghost output = { λ fault. Some (rpc_fault_words fault) };
+
+    fn fmt<W: fmt::Write>(&self, f: &mut fmt::Formatter<W>) -> fmt::Result {
+        match self {
+            RpcFault::Short => f.write_str("bytes are missing"),
+            RpcFault::NotCall => f.write_str("the message is no call"),
+            RpcFault::NotReply => f.write_str("the message is no reply"),
+            RpcFault::BadVersion => f.write_str("the version of the protocol isn't 2"),
+            RpcFault::BadEnum => f.write_str("a word is none of its list"),
+            RpcFault::AuthTooLong => f.write_str("a credential or a verifier is too long"),
+            RpcFault::Trailing => f.write_str("bytes stand behind the reply"),
+        }
+    }
+}
+
+impl Error for RpcFault {}

@@ -33,7 +33,7 @@ is_of_no_directory binds tree handle = option_map_or (λ content. not (is_direct
 
 abbrev pub handle_of_no_directory : Bindings → Tree → NfsCall → Bool
 handle_of_no_directory binds tree call =
-    wants_directory call && is_of_no_directory binds tree (first_handle call) || option_map_or (is_of_no_directory binds tree) (second_handle call) false
+    (wants_directory call && is_of_no_directory binds tree (first_handle call)) || option_map_or (is_of_no_directory binds tree) (second_handle call) false
 
 -- READLINK of what is there and is no link
 abbrev pub readlink_of_no_link : Bindings → Tree → NfsCall → Bool

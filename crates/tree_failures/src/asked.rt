@@ -1,96 +1,10 @@
-//! What a call speaks of, and whether a reply is a failure.
+//! What a call speaks of.
 
 ghost use Rattle.std.specs.Prelude.{◌≡◌};
 ghost use Rattle.std.specs.Option.{option_copied};
-ghost use Rattle.tree_failures.specs.Asked.{procedure_called, procedure_answered, is_answered, failed, failure_in, first_handle, first_place, second_place, second_handle, is_listing_call, wants_directory, file_wanted, entry_wanted};
+ghost use Rattle.tree_failures.specs.Asked.{first_handle, first_place, second_place, second_handle, is_listing_call, wants_directory, file_wanted, entry_wanted};
 
-use nfs3_types::{Answer, DirectoryName, Failure, FileHandle, NfsCall, NfsReply};
-
-/// The number of the procedure that is called (RFC 1813, section 3.3).
-fn procedure_called(call: &NfsCall) -> u32
-    ensures { result ≡ procedure_called call.now }
-{
-    match call {
-        NfsCall::GetAttr(_) => 1,
-        NfsCall::SetAttr(_) => 2,
-        NfsCall::Lookup(_) => 3,
-        NfsCall::ReadLink(_) => 5,
-        NfsCall::Read(_) => 6,
-        NfsCall::Write(_) => 7,
-        NfsCall::Create(_) => 8,
-        NfsCall::MkDir(_) => 9,
-        NfsCall::SymLink(_) => 10,
-        NfsCall::Remove(_) => 12,
-        NfsCall::RmDir(_) => 13,
-        NfsCall::Rename(_) => 14,
-        NfsCall::ReadDir(_) => 16,
-        NfsCall::ReadDirPlus(_) => 17,
-        NfsCall::Commit(_) => 21,
-    }
-}
-
-/// The number of the procedure that is answered.
-fn procedure_answered(reply: &NfsReply) -> u32
-    ensures { result ≡ procedure_answered reply.now }
-{
-    match reply {
-        NfsReply::GetAttr(_) => 1,
-        NfsReply::SetAttr(_) => 2,
-        NfsReply::Lookup(_) => 3,
-        NfsReply::ReadLink(_) => 5,
-        NfsReply::Read(_) => 6,
-        NfsReply::Write(_) => 7,
-        NfsReply::Create(_) => 8,
-        NfsReply::MkDir(_) => 9,
-        NfsReply::SymLink(_) => 10,
-        NfsReply::Remove(_) => 12,
-        NfsReply::RmDir(_) => 13,
-        NfsReply::Rename(_) => 14,
-        NfsReply::ReadDir(_) => 16,
-        NfsReply::ReadDirPlus(_) => 17,
-        NfsReply::Commit(_) => 21,
-    }
-}
-
-/// Whether a reply is one to such a call.
-pub fn is_answered(call: &NfsCall, reply: &NfsReply) -> bool
-    ensures { result ≡ is_answered call.now reply.now }
-{
-    procedure_called(call) == procedure_answered(reply)
-}
-
-/// The status of an answer that is no success.
-fn failed<S, F>(answer: &Answer<S, F>) -> Option<Failure>
-    ensures { result ≡ failed answer.now }
-{
-    match answer {
-        Answer::Done(_) => None,
-        Answer::Failed(failure, _) => Some(*failure),
-    }
-}
-
-/// The status of a reply that is no success.
-pub fn failure_in(reply: &NfsReply) -> Option<Failure>
-    ensures { result ≡ failure_in reply.now }
-{
-    match reply {
-        NfsReply::GetAttr(answer) => failed(answer),
-        NfsReply::SetAttr(answer) => failed(answer),
-        NfsReply::Lookup(answer) => failed(answer),
-        NfsReply::ReadLink(answer) => failed(answer),
-        NfsReply::Read(answer) => failed(answer),
-        NfsReply::Write(answer) => failed(answer),
-        NfsReply::Create(answer) => failed(answer),
-        NfsReply::MkDir(answer) => failed(answer),
-        NfsReply::SymLink(answer) => failed(answer),
-        NfsReply::Remove(answer) => failed(answer),
-        NfsReply::RmDir(answer) => failed(answer),
-        NfsReply::Rename(answer) => failed(answer),
-        NfsReply::ReadDir(answer) => failed(answer),
-        NfsReply::ReadDirPlus(answer) => failed(answer),
-        NfsReply::Commit(answer) => failed(answer),
-    }
-}
+use nfs3_types::{DirectoryName, FileHandle, NfsCall};
 
 /// The first handle of a call.
 pub(crate) fn first_handle(call: &NfsCall) -> &FileHandle

@@ -81,6 +81,22 @@ fn is_one_of(failure: Failure, statuses: &[Failure]) -> bool
     false
 }
 
+/// Whether a status stands beside a name that can't be an entry's.
+fn stands_beside_odd_names(failure: Failure) -> bool
+    ensures { result ≡ list_any (same_status failure) (row Cause.NameIsntPlain).statuses }
+{
+    is_one_of(
+        failure,
+        &[
+            Failure::Invalid,
+            Failure::Exists,
+            Failure::NoEntry,
+            Failure::IsDirectory,
+            Failure::NotEmpty,
+        ],
+    )
+}
+
 /// Whether a status stands beside a cause.
 fn gives(cause: Cause, failure: Failure) -> bool
     ensures { result ≡ list_any (same_status failure) (row cause).statuses }
@@ -107,16 +123,7 @@ fn gives(cause: Cause, failure: Failure) -> bool
             &[Failure::NotEmpty, Failure::Exists],
         ),
         Cause::RenameBelowItself => is_one_of(failure, &[Failure::Invalid]),
-        Cause::NameIsntPlain => is_one_of(
-            failure,
-            &[
-                Failure::Invalid,
-                Failure::Exists,
-                Failure::NoEntry,
-                Failure::IsDirectory,
-                Failure::NotEmpty,
-            ],
-        ),
+        Cause::NameIsntPlain => stands_beside_odd_names(failure),
         Cause::NameHasOddByte => is_one_of(failure, &[Failure::Invalid]),
         Cause::SetAttrWithGuard => is_one_of(failure, &[Failure::NotSynchronized]),
         Cause::ListingWithCookie => is_one_of(failure, &[Failure::BadCookie]),

@@ -12,8 +12,8 @@ use Rattle.tree_reads.specs.Look.{same_flag}
 use Rattle.file_tree.specs.Success.{only_if, may_replace}
 use Rattle.tree_laws.specs.OneGone.{is_no_directory}
 use Rattle.tree_laws.specs.WellFormed.{IsDirectoryAt, IsWellFormed, NothingBelow, NoDirectoryIsBare, RemoveAsksOnly, may_take_place, RenameAsksOnly}
-use Rattle.tree_laws.proofs.Chains.{empty_or, negated, absent}
-use Rattle.tree_laws.proofs.Found.{bare_of_nothing}
+use Rattle.tree_nodes.proofs.Chains.{empty_or, negated, absent}
+use Rattle.tree_nodes.proofs.Found.{bare_of_nothing}
 use Rattle.tree_laws.proofs.Keeping.{stands_there, no_directory_at}
 use Rattle.tree_laws.proofs.Removing.{named_stands}
 

@@ -33,14 +33,14 @@ use Rattle.tree_handles.specs.Entry.{is_plain, named}
 use Rattle.tree_handles.specs.Kind.{is_directory}
 use Rattle.tree_reads.specs.Look.{got_attributes, looked_up, got_text, got_bytes, committed}
 use Rattle.tree_reads.specs.Listing.{listed, listed_plus}
-use Rattle.tree_failures.specs.Asked.{is_answered, failure_in}
+use Rattle.nfs3_types.specs.Procedures.{is_answered, failure_in}
 use Rattle.tree_failures.specs.Failure.{is_permitted}
 use Rattle.file_tree.specs.Success.{made_by, set_size, create_over, create_present, create_at, create_change, write_at, write_change, set_attributes, make_entry, may_replace, rename, change_written, change_done, change_answered, change_taken, change_of}
 use Rattle.tree_laws.specs.OnePath.{path_of, file_path, path_asked, is_rename}
 use Rattle.tree_laws.specs.LiveHandles.{path_taken}
 use Rattle.tree_laws.specs.Types.{MayBecome}
 use Rattle.tree_laws.specs.WellFormed.{IsDirectoryAt}
-use Rattle.tree_laws.proofs.Chains.{chained, passed, same_some, both_pass, negated, none_is}
+use Rattle.tree_nodes.proofs.Chains.{chained, passed, same_some, both_pass, negated, none_is}
 use Rattle.tree_laws.proofs.Handles.{IsFileAt, directory_stands, file_stands}
 use Rattle.tree_laws.proofs.Removing.{named_stands}
 

@@ -11,8 +11,8 @@ use Rattle.tree_nodes.specs.Tree.{Names, Tree, entry_of}
 use Rattle.tree_handles.specs.Binding.{Bindings, object_of}
 use Rattle.tree_handles.specs.Live.{FileEntry, live_entry, as_directory, directory_of, as_file, file_of}
 use Rattle.tree_laws.specs.WellFormed.{IsDirectoryAt}
-use Rattle.tree_laws.proofs.Chains.{chained}
-use Rattle.tree_laws.proofs.Found.{found_stands, found_passes}
+use Rattle.tree_nodes.proofs.Chains.{chained}
+use Rattle.tree_nodes.proofs.Found.{found_stands, found_passes}
 
 pub live_stands : (binds : Bindings) (tree : Tree) (handle : List ℕ) (e : Names × Node) → live_entry binds tree handle ≡ Some e → map.get tree e.0 ≡ Some e.1
 live_stands binds tree handle e h =

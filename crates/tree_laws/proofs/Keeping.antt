@@ -12,8 +12,8 @@ use Rattle.tree_nodes.proofs.Soundness.{same_path, ahead_same}
 use Rattle.tree_handles.specs.Kind.{is_directory}
 use Rattle.tree_laws.specs.Renaming.{IsOutside, HasMoved}
 use Rattle.tree_laws.specs.WellFormed.{IsDirectoryAt, IsWellFormed}
-use Rattle.tree_laws.proofs.Chains.{same_some, differ, decide, absent, value_of}
-use Rattle.tree_laws.proofs.Found.{tied, parts_of, from_front, some_found, bare_below}
+use Rattle.tree_nodes.proofs.Chains.{same_some, differ, decide, absent, value_of}
+use Rattle.tree_nodes.proofs.Found.{tied, ended, parts_of, from_front, some_found, bare_below}
 use Rattle.tree_laws.proofs.Changing.{IsChild, Replaces, Grows, Shrinks, Moves}
 use Rattle.tree_laws.proofs.Staying.{get_put, get_left}
 use Rattle.tree_laws.proofs.Moved.{cancel}
@@ -141,14 +141,6 @@ module _ (tree : Tree) (k : Names) (formed : IsWellFormed tree) (what : Shrinks 
   }
 
 -- ---- nodes that are moved
-
--- a list is empty, or has a last item
-ended : (r : Names) → (r ≡ []) ⊎ ((front : Names) × (last : List ℕ) × (r ≡ front ++ last ∷ []))
-ended [] = inl refl
-ended (x ∷ r) = go (ended r) where
-  go : (r ≡ []) ⊎ ((front : Names) × (last : List ℕ) × (r ≡ front ++ last ∷ [])) → (x ∷ r ≡ []) ⊎ ((front : Names) × (last : List ℕ) × (x ∷ r ≡ front ++ last ∷ []))
-  go (inl none) = inr ([], x, ap (λ (t : Names). x ∷ t) none)
-  go (inr some) = inr (x ∷ some.0, some.1, ap (λ (t : Names). x ∷ t) some.2)
 
 -- a path ahead of one that is outside is outside
 ahead_outside : (front path : Names) (name : List ℕ) → IsOutside front (path ++ name ∷ []) → IsOutside front path

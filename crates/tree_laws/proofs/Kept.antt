@@ -9,7 +9,7 @@ use Rattle.nfs3_types.specs.declared.status.Failure.{Failure}
 use Rattle.file_tree.specs.declared.change.Change.TheVariants.{Keep}
 use Rattle.tree_nodes.specs.Tree.{Tree}
 use Rattle.tree_handles.specs.Binding.{Bindings}
-use Rattle.tree_failures.specs.Asked.{is_answered, failure_in}
+use Rattle.nfs3_types.specs.Procedures.{is_answered, failure_in}
 use Rattle.tree_failures.specs.Failure.{is_permitted}
 use Rattle.tree_reads.specs.Look.{got_attributes, looked_up, got_text, got_bytes, committed}
 use Rattle.tree_reads.specs.Listing.{listed, listed_plus}

@@ -15,7 +15,7 @@ use Rattle.tree_laws.specs.OnePath.{path_asked, is_rename}
 use Rattle.tree_laws.specs.Renaming.{HasMoved}
 use Rattle.tree_laws.specs.Types.{MayBecome, ObjectsLast}
 use Rattle.tree_laws.specs.WellFormed.{IsWellFormed}
-use Rattle.tree_laws.proofs.Chains.{mapped, same_some}
+use Rattle.tree_nodes.proofs.Chains.{mapped, same_some}
 use Rattle.tree_laws.proofs.Changing.{Replaces, Grows, Moves, Fits, change_fits}
 use Rattle.tree_laws.proofs.Keeping.{is_or_isnt, put_there, unused, left, Came, came}
 use Rattle.tree_laws.proofs.Moved.{has_moved}

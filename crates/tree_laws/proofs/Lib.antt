@@ -1,6 +1,4 @@
-pub mod Chains
 pub mod Kept
-pub mod Found
 pub mod Removing
 pub mod Handles
 pub mod Changing

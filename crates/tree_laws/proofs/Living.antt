@@ -13,9 +13,9 @@ use Rattle.file_tree.specs.Success.{changed, change_of}
 use Rattle.tree_laws.specs.OnePath.{path_asked, is_rename}
 use Rattle.tree_laws.specs.LiveHandles.{path_taken, HandlesLast}
 use Rattle.tree_laws.specs.Renaming.{HasMoved}
-use Rattle.tree_laws.proofs.Chains.{chained, mapped, value_of, absent, decide, differ}
+use Rattle.tree_nodes.proofs.Chains.{chained, mapped, value_of, absent, decide, differ}
 use Rattle.tree_laws.proofs.Changing.{Replaces, Grows, Moves, Fits, change_fits}
-use Rattle.tree_laws.proofs.Found.{some_found, from_front, parts_of, bare_below}
+use Rattle.tree_nodes.proofs.Found.{some_found, from_front, parts_of, bare_below}
 use Rattle.tree_laws.proofs.Handles.{entry_object, live_stands}
 use Rattle.tree_laws.proofs.Keeping.{is_or_isnt, put_there}
 use Rattle.tree_laws.proofs.Moved.{has_moved}

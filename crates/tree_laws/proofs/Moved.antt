@@ -11,8 +11,8 @@ use Rattle.tree_nodes.specs.Moved.{is_from, moved_path, moved_entries, put_all, 
 use Rattle.tree_nodes.proofs.Entries.{path_total}
 use Rattle.tree_nodes.proofs.Soundness.{same_path, same_names}
 use Rattle.tree_laws.specs.Renaming.{IsOutside, HasMoved}
-use Rattle.tree_laws.proofs.Chains.{negated, differ, decide, absent}
-use Rattle.tree_laws.proofs.Found.{tied, untied, same_lists, parts_of, from_front, behind_front, lies_below, bare_below}
+use Rattle.tree_nodes.proofs.Chains.{negated, differ, decide, absent}
+use Rattle.tree_nodes.proofs.Found.{tied, untied, same_lists, parts_of, from_front, behind_front, lies_below, bare_below}
 
 built : (xs : List (Names × Node)) → put_all map.empty xs ≡ map.from_entries {R = path_cmp} xs
 built [] = refl

@@ -14,7 +14,7 @@ use Rattle.nfs3_types.specs.declared.replies.Outcome.{Outcome}
 use Rattle.replay_law.specs.Run.{Taken, state_after}
 use Rattle.tree_nodes.specs.Moved.{moved, moved_entries, put_all}
 use Rattle.tree_nodes.proofs.Entries.{path_ties}
-use Rattle.tree_laws.proofs.Found.{tied}
+use Rattle.tree_nodes.proofs.Found.{tied}
 use Rattle.tree_laws.proofs.Staying.{get_put, get_left}
 use Rattle.tree_laws.proofs.Keeping.{is_or_isnt}
 use Rattle.tree_laws.specs.Outcomes.{step}

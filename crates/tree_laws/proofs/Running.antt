@@ -14,7 +14,7 @@ use Rattle.file_tree.specs.Success.{changed, change_of, next_tree}
 use Rattle.tree_laws.specs.LiveHandles.{path_taken}
 use Rattle.tree_laws.specs.OnePath.{path_asked, is_rename}
 use Rattle.tree_laws.specs.WellFormed.{IsWellFormed, StepsKeep, RunsKeep}
-use Rattle.tree_laws.proofs.Chains.{chained, mapped, same_some}
+use Rattle.tree_nodes.proofs.Chains.{chained, mapped, same_some}
 use Rattle.tree_laws.proofs.Changing.{Replaces, Grows, Fits, change_fits}
 use Rattle.tree_laws.proofs.Moved.{has_moved}
 use Rattle.tree_laws.proofs.Keeping.{formed_replaced, formed_grown, formed_shrunk, formed_moved, formed_opening}

@@ -14,15 +14,16 @@ use Rattle.nfs3_types.specs.declared.replies.Outcome.TheVariants.{Received, Take
 use Rattle.nfs3_types.specs.declared.status.Failure.{Failure}
 use Rattle.file_tree.specs.declared.change.Change.TheVariants.{Keep, Put}
 use Rattle.tree_nodes.specs.declared.node.File.{File}
-use Rattle.tree_nodes.specs.Files.{file_limit, file_node, resized, written}
+use Rattle.nfs3_types.specs.Limits.{file_limit}
+use Rattle.tree_nodes.specs.Files.{file_node, resized, written}
 use Rattle.tree_nodes.specs.Tree.{Tree}
 use Rattle.tree_handles.specs.Binding.{Bindings}
 use Rattle.tree_handles.specs.Live.{FileEntry, live_entry, file_of}
-use Rattle.tree_failures.specs.Asked.{failure_in}
+use Rattle.nfs3_types.specs.Procedures.{failure_in}
 use Rattle.file_tree.specs.Success.{changed, set_size, set_attributes, change_set, change_answered, write_at, write_change}
 use Rattle.tree_laws.specs.WellFormed.{IsWellFormed}
 use Rattle.tree_laws.specs.FileBytes.{BytesBecome, AreWritten, WriteSets, AreResized, SetAttrSets}
-use Rattle.tree_laws.proofs.Chains.{chained, mapped, passed, same_some, both_pass}
+use Rattle.tree_nodes.proofs.Chains.{chained, mapped, passed, same_some, both_pass}
 use Rattle.tree_laws.proofs.Handles.{IsFileAt}
 use Rattle.tree_laws.proofs.Keeping.{put_there}
 use Rattle.tree_laws.proofs.Running.{steps_keep}

@@ -9,8 +9,8 @@ use Rattle.tree_nodes.proofs.Entries.{path_total}
 use Rattle.file_tree.specs.Success.{changed, change_of}
 use Rattle.tree_laws.specs.LiveHandles.{path_taken}
 use Rattle.tree_laws.specs.OnePath.{OthersStay, path_asked, is_rename}
-use Rattle.tree_laws.proofs.Chains.{mapped}
-use Rattle.tree_laws.proofs.Found.{untied}
+use Rattle.tree_nodes.proofs.Chains.{mapped}
+use Rattle.tree_nodes.proofs.Found.{untied}
 use Rattle.tree_laws.proofs.Changing.{Fits, change_fits}
 
 pub get_put : (tree : Tree) (path other : Names) (node : Node) → (other ≡ path → ⊥) → map.get (map.insert tree path node) other ≡ map.get tree other

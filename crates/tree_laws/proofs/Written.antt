@@ -31,8 +31,8 @@ use Rattle.tree_laws.specs.Leaving.{only_looks}
 use Rattle.tree_laws.specs.Outcomes.{step}
 use Rattle.tree_laws.specs.WellFormed.{IsWellFormed}
 use Rattle.tree_laws.specs.ReadBack.{count_written, ReadsBack, OnlyWhatWasWritten, WhatWasWritten, RunsReadBack}
-use Rattle.tree_laws.proofs.Chains.{chained, mapped, passed, same_some, both_pass, value_of}
-use Rattle.tree_laws.proofs.Found.{found_stands, some_found, pointwise_same}
+use Rattle.tree_nodes.proofs.Chains.{chained, mapped, passed, same_some, both_pass, value_of}
+use Rattle.tree_nodes.proofs.Found.{found_stands, some_found, pointwise_same}
 use Rattle.tree_laws.proofs.Handles.{IsFileAt, entry_object}
 use Rattle.tree_laws.proofs.Kept.{looking_leaves}
 use Rattle.tree_laws.proofs.Keeping.{put_there}

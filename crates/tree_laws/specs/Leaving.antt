@@ -8,7 +8,7 @@ use Rattle.nfs3_types.specs.declared.replies.Outcome.TheVariants.{Received}
 use Rattle.nfs3_types.specs.declared.status.Failure.{Failure}
 use Rattle.tree_nodes.specs.Tree.{Tree}
 use Rattle.tree_handles.specs.Binding.{Bindings}
-use Rattle.tree_failures.specs.Asked.{failure_in}
+use Rattle.nfs3_types.specs.Procedures.{failure_in}
 use Rattle.file_tree.specs.Success.{next_tree}
 
 -- a call that fails leaves the tree

@@ -4,7 +4,7 @@ use Rattle.nfs3_types.specs.declared.calls.NfsCall.{NfsCall}
 use Rattle.nfs3_types.specs.declared.replies.Outcome.{Outcome}
 use Rattle.nfs3_types.specs.declared.replies.Outcome.TheVariants.{Received, Taken}
 use Rattle.replay_law.specs.Run as run
-use Rattle.tree_failures.specs.Asked.{failure_in}
+use Rattle.nfs3_types.specs.Procedures.{failure_in}
 
 -- a success that was received, or a call that is taken as done though no reply came
 abbrev pub IsSuccess : Outcome → Type 0

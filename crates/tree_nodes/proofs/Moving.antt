@@ -15,55 +15,13 @@ use Rattle.tree_nodes.specs.Moved.{is_from, moved_path, moved_entries, put_all, 
 use Rattle.tree_nodes.specs.Sound.{IsSound}
 use Rattle.tree_nodes.proofs.Entries.{path_total}
 use Rattle.tree_nodes.proofs.Soundness.{same_path, bare_under, ahead_same, no_node, same_names}
+use Rattle.tree_nodes.proofs.Chains.{decide, differ, isnt}
+use Rattle.tree_nodes.proofs.Found.{same_lists, parts_of, from_front, behind_front, ended}
 
 -- ---- fronts of paths
 
-both_true : (a b : Bool) → (a && b) ≡ true → (a ≡ true) × (b ≡ true)
-both_true true b e = (refl, e)
-both_true false b e = absurd (cc)
-
-pointwise_same : {A : Type 0} (E : A → A → Bool) → ((x y : A) → E x y ≡ true → x ≡ y) → (a b : List A) → pointwise E a b ≡ true → a ≡ b
-pointwise_same E same [] [] e = refl
-pointwise_same E same [] (y ∷ b) e = absurd (cc)
-pointwise_same E same (x ∷ a) [] e = absurd (cc)
-pointwise_same E same (x ∷ a) (y ∷ b) e =
-    let both = both_true (E x y) (pointwise E a b) e in
-    let head = same x y both.0 in
-    let tail = pointwise_same E same a b both.1 in
-    (λ i. head i ∷ tail i)
-
-same_lists : (a b : Names) → pointwise (pointwise nat_eq) a b ≡ true → a ≡ b
-same_lists = pointwise_same (pointwise nat_eq) (pointwise_same nat_eq eqb-true)
-
--- a path from a front is the front with the rest behind it
-parts_of : (path p : Names) → is_from path p ≡ true → path ≡ p ++ drop (length p) path
-parts_of path p e = sym (take-append-drop (length p) path) ∙ ap (λ (a : Names). a ++ drop (length p) path) (sym (same_lists p (take (length p) path) e))
-
-from_front : (p r : Names) → is_from (p ++ r) p ≡ true
-from_front p r = ap (pointwise (pointwise nat_eq) p) (take-append_seam p r) ∙ same_names p
-
-behind_front : (p r : Names) → drop (length p) (p ++ r) ≡ r
-behind_front [] r = refl
-behind_front (x ∷ p) r = behind_front p r
-
 longer : (d : Names) (n : List ℕ) → d ≡ d ++ n ∷ [] → ⊥
 longer d n e = omega (arith, ap length e, length-append d (n ∷ []))
-
-decide : (b : Bool) → (b ≡ true) ⊎ (b ≡ false)
-decide true = inl refl
-decide false = inr refl
-
-differ : (b : Bool) → b ≡ true → b ≡ false → ⊥
-differ true e f = absurd (cc)
-differ false e f = absurd (cc)
-
--- a list is empty, or has a last item
-ended : (r : Names) → (r ≡ []) ⊎ ((front : Names) × (last : List ℕ) × (r ≡ front ++ last ∷ []))
-ended [] = inl refl
-ended (x ∷ r) = go (ended r) where
-  go : (r ≡ []) ⊎ ((front : Names) × (last : List ℕ) × (r ≡ front ++ last ∷ [])) → (x ∷ r ≡ []) ⊎ ((front : Names) × (last : List ℕ) × (x ∷ r ≡ front ++ last ∷ []))
-  go (inl none) = inr ([], x, ap (λ (t : Names). x ∷ t) none)
-  go (inr some) = inr (x ∷ some.0, some.1, ap (λ (t : Names). x ∷ t) some.2)
 
 -- ---- where a path comes from
 
@@ -170,10 +128,6 @@ stays tree p q y there other apart = subst (λ (z : Names). IsSome (map.get (mov
 goes_along : (tree : Tree) (p q r : Names) → IsSome (map.get tree (p ++ r)) → is_same (p ++ r) q ≡ false → IsSome (map.get (moved tree p q) (q ++ r))
 goes_along tree p q r there other = subst (λ (z : Names). IsSome (map.get (moved tree p q) z))
     (ap (λ b. cond b (q ++ drop (length p) (p ++ r)) (p ++ r)) (from_front p r) ∙ ap (λ (t : Names). q ++ t) (behind_front p r)) (goes tree p q (p ++ r) there other)
-
-isnt : (b : Bool) → (b ≡ true → ⊥) → b ≡ false
-isnt true h = absurd (h refl)
-isnt false h = refl
 
 module _ (tree : Tree) (p q : Names) (sound : IsSound tree) (move : IsMove tree p q) where
   -- the target's directory isn't from p on, and isn't the target

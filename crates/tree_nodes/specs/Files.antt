@@ -1,13 +1,10 @@
--- the bytes of files, and the limits of a tree
+-- the bytes of files, and the limit of a tree
 use Rattle.std.specs.Prelude.{ℕ, ◌+◌, ◌-◌, List, ◌++◌, length, take, drop, replicate, Option}
 use Rattle.nfs3_types.specs.declared.attributes.Verifier.{Verifier}
 use Rattle.tree_nodes.specs.declared.node.Node.{Node}
 use Rattle.tree_nodes.specs.declared.node.Content.TheVariants as contents
 
--- the most bytes of a file, and the most nodes of a tree, that a success may leave: this project's limits
-abbrev pub file_limit : ℕ
-file_limit = 16777216
-
+-- the most nodes of a tree that a success may leave: this project's limit
 abbrev pub node_limit : ℕ
 node_limit = 4294967295
 

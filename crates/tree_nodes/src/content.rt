@@ -1,12 +1,11 @@
 //! The bytes of files: cut, filled, written and read.
 
 ghost use Rattle.std.specs.Prelude.{ℕ, slice_index, ◌≡◌, ◌+◌, ◌-◌, ◌^◌, ◌<◌, ◌≤◌, ◌++◌, IfOk, length, take, drop, replicate, max, nat_le};
-ghost use Rattle.tree_nodes.specs.Files.{resized, written, file_limit};
+ghost use Rattle.nfs3_types.specs.Limits.{file_limit};
+ghost use Rattle.tree_nodes.specs.Files.{resized, written};
 
+use nfs3_types::FILE_LIMIT;
 use std::alloc::{AllocError, Global};
-
-/// The most bytes of a file.
-pub const FILE_LIMIT: u64 = 16_777_216;
 
 /// Bytes cut, or filled with zeros, to a size.
 pub fn resized(alloc: Global, bytes: &[u8], size: usize) -> Result<Vec<u8>, AllocError>

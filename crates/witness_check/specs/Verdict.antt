@@ -15,7 +15,7 @@ use Rattle.certificate.specs.declared.reading.TextFault.TheVariants.{BadLine, No
 use Rattle.certificate.specs.CertificateText.{CertificateText}
 use Rattle.certificate.specs.BadLine.{IsBadLine}
 use Rattle.order_check.specs.declared.fault.Fault.{Fault}
-use Rattle.order_check.specs.declared.fault.Fault.TheVariants.{Illegal}
+use Rattle.order_check.specs.declared.fault.Fault.TheVariants.{Illegal, WrongEras}
 use Rattle.order_check.specs.FirstFault.{shape_fault}
 use Rattle.order_check.specs.Shape.{HasShape}
 use Rattle.order_check.specs.Order.{EachEraRespectsOrder, IsEarlyFault}
@@ -40,6 +40,12 @@ IsPlanFault history plan fault =
     (shape_fault history.eras history.calls plan.eras ≡ Some fault)
     ⊎ (HasShape history.eras history.calls plan.eras × IsEarlyFault history.calls plan.eras fault)
     ⊎ (HasShape history.eras history.calls plan.eras × EachEraRespectsOrder history.calls plan.eras × IsIllegal history plan fault)
+
+-- a plan whose history has several eras: where it has the history's shape and order, it is refused as if it had another
+-- number of eras, since its run isn't judged yet
+abbrev pub IsNotJudged : History → Certificate → Fault → Type 0
+IsNotJudged history plan fault =
+    (history.eras ≢ 1) × HasShape history.eras history.calls plan.eras × EachEraRespectsOrder history.calls plan.eras × (fault ≡ WrongEras)
 
 -- the texts are a history's file and a certificate's text, and the plan has this first fault
 pub record AreRefuted (history_file certificate_text : List ℕ) (fault : Fault) : Type 0 where

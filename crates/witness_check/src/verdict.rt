@@ -1,10 +1,10 @@
 //! The verdict on a history and a certificate.
 
-ghost use Rattle.std.specs.Prelude.{◌≡◌, ◌≢◌, OnOk, IfOk, Ok, Err, None};
+ghost use Rattle.std.specs.Prelude.{◌≡◌, ◌≢◌, ◌⊎◌, OnOk, IfOk, Ok, Err, None};
 ghost use Rattle.order_check.specs.declared.fault.Fault.{Fault};
 ghost use Rattle.order_check.specs.FirstFault.{IsCheck};
 ghost use Rattle.witness_check.specs.Witness.{IsWitness, AreAccepted};
-ghost use Rattle.witness_check.specs.Verdict.{IsPlanFault, AreRefuted, IsBadHistory, IsBadText};
+ghost use Rattle.witness_check.specs.Verdict.{IsPlanFault, IsNotJudged, AreRefuted, IsBadHistory, IsBadText};
 ghost use Rattle.history_file.specs.declared.fault.HistoryFault.{HistoryFault};
 ghost use Rattle.certificate.specs.declared.reading.TextFault.{TextFault};
 
@@ -44,8 +44,8 @@ fn check_parts(
 ) -> Result<(), CheckFault>
     ensures ok { OnOk result (IsWitness history.now certificate.now) }
     ensures only { history.now.eras ≡ 1 → IsWitness history.now certificate.now → IsCheck result None }
-    ensures fault { (fault : Fault) → history.now.eras ≡ 1 → result ≡ Err (CheckFault.No fault)
-        → IsPlanFault history.now certificate.now fault }
+    ensures fault { (fault : Fault) → result ≡ Err (CheckFault.No fault)
+        → IsPlanFault history.now certificate.now fault ⊎ IsNotJudged history.now certificate.now fault }
 {
     check_shape(alloc, history, certificate)?;
     check_order(history, certificate).map_err(CheckFault::No)?;
@@ -60,7 +60,8 @@ fn check_parts(
     )
 }
 
-/// Whether the certificate is a witness of the history. A history of several eras isn't judged yet.
+/// Whether the certificate is a witness of the history. A history of several eras isn't judged yet: a plan of its
+/// shape and order is refused with `WrongEras`.
 pub fn check(
     alloc: Global,
     history: &History,
@@ -71,8 +72,8 @@ pub fn check(
     ensures only { (fault : Fault) → history.now.eras ≡ 1 → IsWitness history.now certificate.now
         → result ≢ Ok (Verdict.No fault) }
     // A no names the first fault.
-    ensures no { (fault : Fault) → history.now.eras ≡ 1 → result ≡ Ok (Verdict.No fault)
-        → IsPlanFault history.now certificate.now fault }
+    ensures no { (fault : Fault) → result ≡ Ok (Verdict.No fault)
+        → IsPlanFault history.now certificate.now fault ⊎ IsNotJudged history.now certificate.now fault }
 {
     match check_parts(alloc, history, certificate) {
         Ok(()) => Ok(Verdict::Yes),

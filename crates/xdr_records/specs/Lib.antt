@@ -11,3 +11,4 @@ pub mod Record
 pub mod Feed
 pub mod Scan
 pub mod Cuts
+pub mod FaultText

@@ -5,7 +5,7 @@ use Rattle.history_file.proofs.writing.write_history.Goals as goal
 
 pub loop-event-init : goal.loop-event-init
 loop-event-init c =
-    none_written c.args.root.now c.args.events.now c.in_ok-out.out.items c.put_opaque.new.out.items c.put_u32.new.out.items c.if-root-gt-ROOT_LIMIT.false (c.in_ok-out.ensures.items ∙ c.as_slice.ensures) c.in_ok-put_opaque.ensures.ok c.in_ok-put_u32.ensures.ok
+    none_written c.args.root.now c.args.events.now c.in_ok-out.out.items c.put_opaque.new.out.items c.put_u32.new.out.items c.if-root.false (c.in_ok-out.ensures.items ∙ c.as_slice.ensures) c.in_ok-put_opaque.ensures.ok c.in_ok-put_u32.ensures.ok
 
 pub returns-in_err-put_event-clause-large : goal.returns-in_err-put_event-clause-large
 returns-in_err-put_event-clause-large c =
@@ -22,7 +22,7 @@ loop-event-preserved c =
 
 pub returns-clause-spelled : goal.returns-clause-spelled
 returns-clause-spelled c =
-    all_written c.args.root.now c.args.events.now c.loop-event.event-index c.loop-event.out.items c.if-root-gt-ROOT_LIMIT.false c.if-events-gt-EVENT_LIMIT.false c.loop-event-test.false c.loop-event.invariant
+    all_written c.args.root.now c.args.events.now c.loop-event.event-index c.loop-event.out.items c.if-root.false c.if-events.false c.loop-event-test.false c.loop-event.invariant
 
 pub returns-clause-text : goal.returns-clause-text
 returns-clause-text c = text_written c.args.root.now c.args.events.now c.loop-event.event-index c.loop-event.out.items c.loop-event-test.false c.loop-event.invariant

@@ -13,12 +13,18 @@ use Rattle.certificate.specs.declared.plan.Certificate.{Certificate}
 use Rattle.certificate.specs.declared.reading.TextFault.{TextFault}
 use Rattle.certificate.specs.declared.reading.TextFault.TheVariants as texts
 use Rattle.witness_check.specs.Witness.{IsWitness}
+use Rattle.witness_check.specs.Verdict.{IsPlanFault, IsNotJudged}
 use Rattle.witness_check.proofs.OneHistory.{one_history}
 use Rattle.witness_check.proofs.verdict.check_files.Goals as goal
 
 -- the history of a file without a crash has one era
 eras_of : (bytes : List ℕ) (history : History) → IsHistoryFile bytes history → history.eras ≡ 1
 eras_of bytes history file = file.3.eras ∙ one_era 1 file.0.events file.2
+
+-- a history of one era is judged
+judged : (history : History) (plan : Certificate) (fault : Fault) → history.eras ≡ 1 → IsPlanFault history plan fault ⊎ IsNotJudged history plan fault → IsPlanFault history plan fault
+judged history plan fault one (inl first) = first
+judged history plan fault one (inr unjudged) = absurd (unjudged.0 one)
 
 same_fault : (a b : Fault) → ◌≡◌ {A = Result FileVerdict AllocError} (Ok (told.No a)) (Ok (told.No b)) → a ≡ b
 same_fault a b e = cc
@@ -31,7 +37,7 @@ returns-clause-no c = λ fault refused.
     let history = c.in-Ok.history in
     let file : IsHistoryFile c.args.history.now history = c.in-Ok.ensures.found in
     let is = answered c.check.result c.in_ok-check.field-0 c.in-No.fault fault c.in_ok-check.was c.in-No.is (same_fault c.in-No.fault fault refused) in
-    record { history = history; plan = c.in-Ok-read_certificate.certificate; file = file; text = c.in-Ok-read_certificate.ensures.found; first = c.check.ensures.no fault (eras_of c.args.history.now history file) is }
+    record { history = history; plan = c.in-Ok-read_certificate.certificate; file = file; text = c.in-Ok-read_certificate.ensures.found; first = judged history c.in-Ok-read_certificate.certificate fault (eras_of c.args.history.now history file) (c.check.ensures.no fault is) }
 
 same_plan : (a b : Certificate) → ◌≡◌ {A = Result Certificate TextFault} (Ok a) (Ok b) ⊎ ◌≡◌ {A = Result Certificate TextFault} (Ok a) (Err texts.NoMemory) → a ≡ b
 same_plan a b (inl e) = cc

@@ -1,4 +1,4 @@
-use Rattle.std.proofs.Common.{◌≡◌, inr, ℕ, ◌<◌, ◌≤◌, List, [], ◌∷◌, length, get_or, map, IsSome, rules, sym, ap, subst, ◌∙◌, arith}
+use Rattle.std.proofs.Common.{◌≡◌, inl, inr, ℕ, ◌<◌, ◌≤◌, List, [], ◌∷◌, length, get_or, map, IsSome, rules, sym, ap, subst, ◌∙◌, arith}
 use Rattle.std.specs.List.{filter_map}
 use Rattle.nfs_history.specs.declared.history.History.{History}
 use Rattle.certificate.specs.declared.plan.EraPlan.{EraPlan}
@@ -33,7 +33,7 @@ returns-clause-only c = λ one witness.
     c.run_era.ensures.only (rw (c.as_slice-2.ensures, c.as_slice-3.ensures) runs)
 
 pub returns-clause-fault : goal.returns-clause-fault
-returns-clause-fault c = λ fault one refused.
+returns-clause-fault c = λ fault refused.
     let history = c.args.history.now in
     let plan = c.args.certificate.now in
     let era = c.era-item.result in
@@ -41,4 +41,4 @@ returns-clause-fault c = λ fault one refused.
     let shape : HasShape history.eras history.calls plan.eras = search rules in
     let order : EachEraRespectsOrder history.calls plan.eras = search rules in
     let stuck : IsStuck (bindings_of history.root plan.binds) history.calls era.places fault = rw (sym c.as_slice-2.ensures, sym c.as_slice-3.ensures) (c.run_era.ensures.illegal fault refused) in
-    inr (inr (shape, order, (era, is, stuck)))
+    inl (inr (inr (shape, order, (era, is, stuck))))

@@ -15,7 +15,7 @@ use Rattle.tree_nodes.specs.Tree.{Names, Tree, path_cmp, same_path as is_same, i
 use Rattle.tree_nodes.specs.Moved.{is_from}
 use Rattle.tree_nodes.proofs.Entries.{path_total}
 use Rattle.tree_nodes.proofs.Soundness.{same_path, same_names, no_node}
-use Rattle.tree_laws.proofs.Chains.{both_pass, negated, differ, isnt, absent, value_of, empty_or}
+use Rattle.tree_nodes.proofs.Chains.{both_pass, negated, differ, isnt, absent, value_of, empty_or}
 
 -- ---- paths
 
@@ -54,6 +54,14 @@ from_front p r = ap (pointwise (pointwise nat_eq) p) (take-append_seam p r) ∙ 
 pub behind_front : (p r : Names) → drop (length p) (p ++ r) ≡ r
 behind_front [] r = refl
 behind_front (x ∷ p) r = behind_front p r
+
+-- a list is empty, or has a last item
+pub ended : (r : Names) → (r ≡ []) ⊎ ((front : Names) × (last : List ℕ) × (r ≡ front ++ last ∷ []))
+ended [] = inl refl
+ended (x ∷ r) = go (ended r) where
+  go : (r ≡ []) ⊎ ((front : Names) × (last : List ℕ) × (r ≡ front ++ last ∷ [])) → (x ∷ r ≡ []) ⊎ ((front : Names) × (last : List ℕ) × (x ∷ r ≡ front ++ last ∷ []))
+  go (inl none) = inr ([], x, ap (λ (t : Names). x ∷ t) none)
+  go (inr some) = inr (x ∷ some.0, some.1, ap (λ (t : Names). x ∷ t) some.2)
 
 is_true : (b : Bool) → T b → b ≡ true
 is_true true h = refl
