@@ -12,6 +12,3 @@ pub use parts::CertificateFault;
 pub use plan::{Bind, BindList, Certificate, EraPlan, EraPlanList, Place, PlaceList};
 pub use reading::{TextFault, read_certificate};
 pub use writing::write_certificate;
-
-#[cfg(test)]
-mod tests;

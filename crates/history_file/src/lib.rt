@@ -11,6 +11,3 @@ pub use event::{Event, Events, Message};
 pub use fault::{HistoryFault, Which};
 pub use file::{SeenRecording, read_file};
 pub use writing::{WriteFault, write_history};
-
-#[cfg(test)]
-mod tests;

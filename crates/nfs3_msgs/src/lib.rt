@@ -13,6 +13,3 @@ mod value;
 
 pub use fault::{Kind, MessageFault};
 pub use messages::{put_args, put_result, read_args, read_result};
-
-#[cfg(test)]
-mod tests;

@@ -29,6 +29,3 @@ pub use replies::{
     WriteSuccess,
 };
 pub use status::Failure;
-
-#[cfg(test)]
-mod tests;

@@ -11,6 +11,3 @@ mod reading;
 pub use history::{History, Meaning, RecordedCall, RecordedCalls, find_call};
 pub use history_file::{Event, Events, HistoryFault, Message, Which, WriteFault, write_history};
 pub use reading::read_history;
-
-#[cfg(test)]
-mod tests;

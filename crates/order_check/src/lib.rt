@@ -10,6 +10,3 @@ mod shape;
 pub use fault::{CheckFault, Fault};
 pub use order::check_order;
 pub use shape::check_shape;
-
-#[cfg(test)]
-mod tests;

@@ -4,5 +4,3 @@
 pub mod register;
 pub mod replay;
 pub mod run;
-#[cfg(test)]
-mod tests;

@@ -11,6 +11,3 @@ pub use call::{CallHead, read_call};
 pub use fault::RpcFault;
 pub use reply::{ReplyBody, ReplyHead, read_reply};
 pub use writer::{put_call, put_reply};
-
-#[cfg(test)]
-mod tests;

@@ -5,5 +5,3 @@ pub mod binds;
 pub mod entry;
 pub mod kind;
 pub mod live;
-#[cfg(test)]
-mod tests;

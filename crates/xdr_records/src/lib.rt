@@ -21,8 +21,3 @@ pub use reader::Reader;
 pub use scan::RECORD_LIMIT;
 pub use spelled::{items_are_spelled, texts_are_spelled};
 pub use writer::{put_fixed, put_flag, put_opaque, put_u32, put_u64};
-
-#[cfg(test)]
-mod feed_tests;
-#[cfg(test)]
-mod tests;

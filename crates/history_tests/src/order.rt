@@ -1,6 +1,6 @@
 //! Plans against small histories: of two faults that compete the one that is named, and the pair of an early place.
 
-use crate::{CheckFault, Fault, check_order, check_shape};
+use order_check::{CheckFault, Fault, check_order, check_shape};
 use certificate::{BindList, Certificate, EraPlan, EraPlanList, Place, PlaceList};
 use nfs_history::{Events, History, Meaning, RecordedCall, RecordedCalls};
 use nfs3_types::{

@@ -1,6 +1,6 @@
 //! What the clauses don't say: that the calls succeed with memory.
 
-use crate::{
+use nfs3_types::{
     Answer, Data, DirectoryEntryPlus, DirectoryName, Entries, FileHandle, Held, LinkText, Name,
     NfsCall, NfsReply, Optional, Outcome, ReadDirPlusSuccess, Verifier,
 };

@@ -1,6 +1,6 @@
 //! What the clauses don't say: which fault each bad file has, and that a good one is read and written.
 
-use crate::{Event, HistoryFault, Which, WriteFault, read_file, write_history};
+use history_file::{Event, HistoryFault, Which, WriteFault, read_file, write_history};
 use std::alloc::{AllocError, Global};
 use std::test::Fail;
 

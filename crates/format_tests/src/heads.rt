@@ -2,7 +2,7 @@
 
 ghost use Rattle.std.specs.Prelude.{length, ◌<◌, ◌^◌};
 
-use super::*;
+use rpc_reader::*;
 use std::alloc::{AllocError, Global};
 use std::test::*;
 use xdr_records::{put_opaque, put_u32};

@@ -1,4 +1,4 @@
-use super::*;
+use xdr_records::*;
 use std::alloc::{AllocError, Global};
 use std::test::*;
 

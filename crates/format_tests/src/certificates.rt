@@ -2,7 +2,7 @@
 
 ghost use Rattle.std.specs.Prelude.{◌≤◌, length};
 
-use crate::{
+use certificate::{
     Bind, Certificate, CertificateFault, EraPlan, Place, PlaceList, TextFault, read_certificate,
     write_certificate,
 };

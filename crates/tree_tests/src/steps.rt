@@ -1,6 +1,6 @@
-use crate::register::{Call, Outcome, Register};
-use crate::replay::{Replayable, StepFault};
-use crate::run::{RunFault, Step, run_steps};
+use replay_law::register::{Call, Outcome, Register};
+use replay_law::replay::{Replayable, StepFault};
+use replay_law::run::{RunFault, Step, run_steps};
 use std::test::Fail;
 
 fn step<'a>(number: u64, call: &'a Call, outcome: &'a Outcome) -> Step<'a, Call, Outcome> {

@@ -1,9 +1,9 @@
 //! What handles and names lead to in a tree of a file `f`, a directory `d` and a link `l`, objects 1 to 3.
 
-use crate::binds::Binds;
-use crate::entry::{entry_at, is_plain, named};
-use crate::kind::{is_directory, is_file, is_link};
-use crate::live::{directory_of, file_of, gives_object, is_bound, live_entry};
+use tree_handles::binds::Binds;
+use tree_handles::entry::{entry_at, is_plain, named};
+use tree_handles::kind::{is_directory, is_file, is_link};
+use tree_handles::live::{directory_of, file_of, gives_object, is_bound, live_entry};
 use nfs3_types::{DirectoryName, FileHandle, Name};
 use std::alloc::{AllocError, Global};
 use std::test::Fail;

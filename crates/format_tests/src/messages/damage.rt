@@ -1,7 +1,7 @@
 //! Messages that are cut or have flipped bits: what is still read is written and read again as the same value.
 
 use super::layouts::LAYOUTS;
-use crate::{MessageFault, put_args, put_result, read_args, read_result};
+use nfs3_msgs::{MessageFault, put_args, put_result, read_args, read_result};
 use rand_core::utils::NextWord;
 use rand_pcg::Pcg32;
 use std::alloc::Global;

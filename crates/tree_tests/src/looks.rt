@@ -1,6 +1,6 @@
 //! What GETATTR, LOOKUP, READLINK and COMMIT may tell of the tree.
 
-use crate::look::{committed, got_attributes, got_text, looked_up};
+use tree_reads::look::{committed, got_attributes, got_text, looked_up};
 use crate::sample::{binds, handle, nodes, place};
 use nfs3_types::{
     Answer, CommitSuccess, Device, FileAttributes, FileType, Held, LinkText, LookupSuccess,

@@ -1,6 +1,6 @@
 //! What the clauses don't say: which fault each bad history has, and that a good one is read.
 
-use crate::{Event, History, HistoryFault, Meaning, Message, Which, read_history};
+use nfs_history::{Event, History, HistoryFault, Meaning, Message, Which, read_history};
 use nfs3_types::FileHandle;
 use std::alloc::{AllocError, Global};
 use std::test::Fail;

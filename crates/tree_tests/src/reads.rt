@@ -1,6 +1,6 @@
 //! What a READ may tell of a file `abc`.
 
-use crate::read::got_bytes;
+use tree_reads::read::got_bytes;
 use crate::sample::{binds, handle, nodes};
 use nfs3_types::{Answer, Data, NfsReply, Optional, ReadArguments, ReadSuccess};
 use std::alloc::{AllocError, Global};

@@ -1,6 +1,6 @@
 //! What READDIR and READDIRPLUS may list of the root, which has the entries `d`, `f` and `l`.
 
-use crate::listing::{listed, listed_plus};
+use tree_reads::listing::{listed, listed_plus};
 use crate::sample::{binds, handle, name, nodes};
 use nfs3_types::{
     Answer, DirectoryEntry, DirectoryEntryPlus, Entries, Held, NfsReply, Optional,
