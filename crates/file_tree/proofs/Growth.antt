@@ -1,10 +1,7 @@
 -- where the change of a step puts a node
 use Rattle.std.proofs.Common.{◌≡◌, ℕ, inl, inr, Bool, true, false, cond, List, [], ◌∷◌, ◌++◌, take, Option, Some, None, refl, sym, subst, ltb→lt, T}
-use Rattle.std.specs.Prelude.{not, is_some, ◌&&◌, ◌==◌, IsSome, option_and_then, ⊤, find}
+use Rattle.std.specs.Prelude.{not, is_some, ◌&&◌, ◌==◌, IsSome, option_and_then, ⊤}
 use Rattle.std.specs.FinMap as map
-use Rattle.std.specs.FinMap.Entries as es
-use Rattle.std.specs.Ordering.{is_eq}
-use Rattle.std.proofs.lemmas.Cmp.{tied_itself}
 use Rattle.nfs3_types.specs.declared.calls.CreateMode.{CreateMode}
 use Rattle.nfs3_types.specs.declared.calls.CreateMode.TheVariants.{Unchecked, Guarded, Exclusive}
 use Rattle.nfs3_types.specs.declared.calls.StableHow.{StableHow}
@@ -28,7 +25,7 @@ use Rattle.tree_nodes.specs.declared.node.Node.{Node}
 use Rattle.tree_nodes.specs.declared.node.File.{File}
 use Rattle.tree_nodes.specs.declared.node.Content.{Content}
 use Rattle.tree_nodes.specs.declared.node.Content.TheVariants as contents
-use Rattle.tree_nodes.specs.Tree.{Names, Tree, path_cmp, same_path, entry_of, is_bare}
+use Rattle.tree_nodes.specs.Tree.{Names, Tree, same_path, entry_of, is_bare}
 use Rattle.tree_nodes.specs.Moved.{is_from, moved}
 use Rattle.tree_nodes.proofs.Moving.{IsMove, sound_moved}
 use Rattle.tree_handles.specs.Binding.{Bindings, object_of, gives_object}
@@ -43,7 +40,6 @@ use Rattle.tree_reads.specs.Listing.{listed, listed_plus}
 use Rattle.tree_nodes.specs.Sound.{IsSound}
 use Rattle.file_tree.specs.Success.{made_by, set_size, create_over, create_present, create_at, create_change, write_at, write_change, set_attributes, make_entry, remove_entry, remove_directory, may_replace, rename, change_renamed, change_set, change_directory_made, change_link_made, change_removed, change_directory_removed, change_written, change_created, change_done, change_answered, change_received, change_taken, change_of}
 use Rattle.tree_nodes.proofs.Chains.{chained, passed, same_some, both_pass, negated}
-use Rattle.tree_nodes.proofs.Entries.{path_total}
 use Rattle.tree_nodes.proofs.Found.{found_stands}
 use Rattle.tree_nodes.proofs.Soundness.{FitsAt, GrowsAt, sound_put, sound_removed}
 

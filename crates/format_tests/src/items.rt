@@ -1,6 +1,6 @@
-use xdr_records::*;
 use std::alloc::{AllocError, Global};
 use std::test::*;
+use xdr_records::*;
 
 #[test]
 fn opaque_is_padded(rt: HostRuntime) -> Result<(), Fail> {

@@ -3,8 +3,8 @@
 mod damage;
 mod layouts;
 
-use nfs3_msgs::{Kind, MessageFault, put_args, put_result, read_args, read_result};
 use layouts::LAYOUTS;
+use nfs3_msgs::{Kind, MessageFault, put_args, put_result, read_args, read_result};
 use nfs3_types::{Answer, CreateMode, NfsCall, NfsReply};
 use std::alloc::Global;
 use std::test::Fail;

@@ -1,5 +1,5 @@
-use xdr_records::*;
 use std::test::*;
+use xdr_records::*;
 
 #[test]
 fn a_header_may_come_in_pieces(rt: HostRuntime) -> Result<(), Fail> {

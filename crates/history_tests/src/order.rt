@@ -1,12 +1,12 @@
 //! Plans against small histories: of two faults that compete the one that is named, and the pair of an early place.
 
-use order_check::{CheckFault, Fault, check_order, check_shape};
 use certificate::{BindList, Certificate, EraPlan, EraPlanList, Place, PlaceList};
 use nfs_history::{Events, History, Meaning, RecordedCall, RecordedCalls};
 use nfs3_types::{
     Answer, Data, Failure, FileHandle, NfsCall, NfsReply, Optional, Outcome, ReadArguments,
     StableHow, WriteArguments,
 };
+use order_check::{CheckFault, Fault, check_order, check_shape};
 use std::alloc::{AllocError, Global};
 use std::test::Fail;
 

@@ -1,12 +1,9 @@
 -- Calls of which it is known what they were have no first fault, and others have one at most.
-use Rattle.std.proofs.Common.{◌≡◌, inl, inr, ℕ, ◌+◌, Bool, true, false, cond, List, [], ◌∷◌, length, Option, Some, None, option_map, Ok, refl, sym, ap, subst, ◌∙◌}
+use Rattle.std.proofs.Common.{◌≡◌, inl, inr, ℕ, ◌+◌, Bool, true, false, cond, List, [], ◌∷◌, Option, Some, None, option_map, Ok, refl, sym, ap, subst, ◌∙◌}
 use Rattle.std.specs.List.{AllByRecursion}
 use Rattle.std.proofs.lemmas.Bool.{ne_eqb}
-use Rattle.xdr_records.specs.Unread.{Unread, whole}
-use Rattle.xdr_records.specs.Spelling.{Spells}
 use Rattle.xdr_records.proofs.Laws.{all_again}
-use Rattle.rpc_reader.specs.Values.{CallValue, ReplyValue, Body}
-use Rattle.rpc_reader.specs.Messages.{IsCall, IsReply}
+use Rattle.rpc_reader.specs.Values.{CallValue, Body}
 use Rattle.rpc_reader.proofs.OneMessage.{one_head, one_body}
 use Rattle.nfs3_types.specs.declared.calls.NfsCall.{NfsCall}
 use Rattle.nfs3_types.specs.declared.replies.Outcome.{Outcome}

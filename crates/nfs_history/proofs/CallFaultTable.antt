@@ -1,5 +1,5 @@
 -- The fault that is found of a call is the table's.
-use Rattle.std.proofs.Common.{◌≡◌, inl, inr, ◌≢◌, ◌⊎◌, ◌==◌, ◌||◌, ◌&&◌, not, ℕ, Bool, true, false, cond, List, length, nat_lt, ◌<◌, Option, Some, None, option_map, Result, Ok, Err, refl, sym, ap, subst, ◌∙◌, arith, T, ltb→lt, lt→ltb}
+use Rattle.std.proofs.Common.{◌≡◌, inl, inr, ◌≢◌, ◌==◌, ◌||◌, ◌&&◌, not, ℕ, Bool, true, false, cond, List, length, nat_lt, Option, Some, None, option_map, Result, Ok, Err, refl, sym, ap, subst, ◌∙◌, T, ltb→lt, lt→ltb}
 use Rattle.std.proofs.lemmas.Bool.{ne_eqb, eqb-true}
 use Rattle.xdr_records.specs.Unread.{At}
 use Rattle.xdr_records.proofs.Laws.{all_found, all_again}
@@ -9,7 +9,7 @@ use Rattle.nfs3_types.specs.declared.replies.Outcome.{Outcome}
 use Rattle.nfs3_types.specs.declared.replies.Outcome.TheVariants as outcomes
 use Rattle.rpc_reader.specs.Values.{CallValue, Body}
 use Rattle.nfs3_msgs.specs.declared.fault.Kind.{Kind}
-use Rattle.nfs3_msgs.specs.Messages.{arguments, results, arguments_of, result_of, IsArguments, IsResult}
+use Rattle.nfs3_msgs.specs.Messages.{arguments, results, arguments_of, result_of, IsArguments}
 use Rattle.nfs3_msgs.specs.Told as told
 use Rattle.history_file.specs.declared.fault.Which.{Which}
 use Rattle.history_file.specs.declared.fault.HistoryFault.{HistoryFault}
@@ -17,7 +17,7 @@ use Rattle.history_file.specs.declared.fault.HistoryFault.TheVariants as faults
 use Rattle.nfs_history.specs.Calls.{CallEvent}
 use Rattle.nfs_history.specs.Effects.{was_refused, is_of_nfs, has_failed_status, results_of, is_judged, is_left_out, has_no_effect}
 use Rattle.nfs_history.specs.History.{CameOut, outside}
-use Rattle.nfs_history.specs.CallFaults.{which_left_out, HasNoStatus, AreNoArguments, IsNoResult, IsBadResult, LiesOutside, IsEffectFault, IsCallFault}
+use Rattle.nfs_history.specs.CallFaults.{which_left_out, AreNoArguments, IsBadResult, LiesOutside, IsEffectFault, IsCallFault}
 use Rattle.nfs_history.specs.Judging.{left_out, outside_fault, answered_fault, result_fault, argued_fault, judged_fault, effect_fault, fault_of, IsFound}
 
 -- ---- Bools

@@ -46,7 +46,7 @@ abbrev pub LiesOutside : CallValue → Option (List ℕ) → Which → Type 0
 LiesOutside head results which =
     ((is_left_out head.procedure ≡ true) × (¬ HasNoStatus results) × (which ≡ which_left_out head.procedure))
     ⊎ ((is_judged head.procedure ≡ true) × (call : NfsCall) × (outcome : Option Outcome) × IsArguments head.procedure head.args call
-        × CameOut head.procedure results outcome × (outside call outcome ≡ Some which))
+    × CameOut head.procedure results outcome × (outside call outcome ≡ Some which))
 
 -- what is wrong with a call that may have an effect, and has this number, head and result; RPCSEC_GSS (flavor 6) hides its
 -- arguments

@@ -1,20 +1,16 @@
 -- what a rename keeps of a tree
-use Rattle.std.proofs.Common.{◌≡◌, ℕ, ◌+◌, ◌≤◌, ◌⊎◌, inl, inr, Bool, true, false, cond, List, [], ◌∷◌, ◌++◌, length, take, drop, Some, refl, sym, ap, ◌∙◌, subst, arith, append_assoc, append-nil, length-append}
-use Rattle.std.proofs.lemmas.Bool.{eqb-true}
-use Rattle.std.specs.Prelude.{IsSome, ◌&&◌, nat_eq}
+use Rattle.std.proofs.Common.{◌≡◌, ℕ, ◌+◌, ◌≤◌, ◌⊎◌, inl, inr, Bool, true, false, cond, List, [], ◌∷◌, ◌++◌, length, drop, Some, refl, sym, ap, ◌∙◌, subst, arith, append_assoc, append-nil, length-append}
+use Rattle.std.specs.Prelude.{IsSome}
 use Rattle.std.specs.Ordering.{eq_by_cmp, is_eq}
-use Rattle.std.specs.Cmp.Lexicographic.{pointwise}
 use Rattle.std.specs.FinMap as map
 use Rattle.std.specs.FinMap.Entries as es
 use Rattle.std.proofs.lemmas.Cmp.{tied_itself}
-use Rattle.std.proofs.lemmas.List.{take-append-drop}
-use Rattle.std.proofs.Math.Seq.{take-append_seam}
 use Rattle.tree_nodes.specs.declared.node.Node.{Node}
 use Rattle.tree_nodes.specs.Tree.{Names, Tree, path_cmp, same_path as is_same, is_bare}
 use Rattle.tree_nodes.specs.Moved.{is_from, moved_path, moved_entries, put_all, moved}
 use Rattle.tree_nodes.specs.Sound.{IsSound}
 use Rattle.tree_nodes.proofs.Entries.{path_total}
-use Rattle.tree_nodes.proofs.Soundness.{same_path, bare_under, ahead_same, no_node, same_names}
+use Rattle.tree_nodes.proofs.Soundness.{same_path, bare_under, ahead_same, no_node}
 use Rattle.tree_nodes.proofs.Chains.{decide, differ, isnt}
 use Rattle.tree_nodes.proofs.Found.{same_lists, parts_of, from_front, behind_front, ended}
 

@@ -1,12 +1,12 @@
 //! What handles and names lead to in a tree of a file `f`, a directory `d` and a link `l`, objects 1 to 3.
 
+use nfs3_types::{DirectoryName, FileHandle, Name};
+use std::alloc::{AllocError, Global};
+use std::test::Fail;
 use tree_handles::binds::Binds;
 use tree_handles::entry::{entry_at, is_plain, named};
 use tree_handles::kind::{is_directory, is_file, is_link};
 use tree_handles::live::{directory_of, file_of, gives_object, is_bound, live_entry};
-use nfs3_types::{DirectoryName, FileHandle, Name};
-use std::alloc::{AllocError, Global};
-use std::test::Fail;
 use tree_nodes::bytes::{Bytes, Path};
 use tree_nodes::node::{Content, File, Node};
 use tree_nodes::nodes::{Nodes, put, root_alone};

@@ -1,6 +1,5 @@
 //! What READDIR and READDIRPLUS may list of the root, which has the entries `d`, `f` and `l`.
 
-use tree_reads::listing::{listed, listed_plus};
 use crate::sample::{binds, handle, name, nodes};
 use nfs3_types::{
     Answer, DirectoryEntry, DirectoryEntryPlus, Entries, Held, NfsReply, Optional,
@@ -8,6 +7,7 @@ use nfs3_types::{
 };
 use std::alloc::{AllocError, Global};
 use std::test::Fail;
+use tree_reads::listing::{listed, listed_plus};
 
 const VERIFIER: Verifier = Verifier { value: 0 };
 

@@ -1,6 +1,5 @@
 //! What GETATTR, LOOKUP, READLINK and COMMIT may tell of the tree.
 
-use tree_reads::look::{committed, got_attributes, got_text, looked_up};
 use crate::sample::{binds, handle, nodes, place};
 use nfs3_types::{
     Answer, CommitSuccess, Device, FileAttributes, FileType, Held, LinkText, LookupSuccess,
@@ -8,6 +7,7 @@ use nfs3_types::{
 };
 use std::alloc::{AllocError, Global};
 use std::test::Fail;
+use tree_reads::look::{committed, got_attributes, got_text, looked_up};
 
 const TIME: Time = Time {
     seconds: 0,

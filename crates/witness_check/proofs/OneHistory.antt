@@ -1,8 +1,8 @@
 -- The bytes of a file are those of one history.
-use Rattle.std.proofs.Common.{◌≡◌, ◌==◌, ℕ, ◌+◌, true, false, List, [], ◌∷◌, length, map, Option, Some, None, Result, Ok, refl, sym, ap, subst, ◌∙◌}
+use Rattle.std.proofs.Common.{◌≡◌, ℕ, true, false, List, [], ◌∷◌, map, Option, Some, None, Result, Ok, refl, sym, ap, subst, ◌∙◌}
 use Rattle.std.proofs.lemmas.Bool.{ne_eqb}
 use Rattle.xdr_records.proofs.Laws.{one_value}
-use Rattle.rpc_reader.specs.Values.{CallValue, ReplyValue, Body}
+use Rattle.rpc_reader.specs.Values.{CallValue, Body}
 use Rattle.rpc_reader.proofs.OneMessage.{one_head}
 use Rattle.nfs3_types.specs.declared.calls.NfsCall.{NfsCall}
 use Rattle.nfs3_types.specs.declared.replies.NfsReply.{NfsReply}
@@ -22,8 +22,8 @@ use Rattle.nfs_history.specs.declared.history.Meaning.{Meaning}
 use Rattle.nfs_history.specs.declared.history.Meaning.TheVariants as meanings
 use Rattle.nfs_history.specs.declared.history.RecordedCall.{RecordedCall}
 use Rattle.nfs_history.specs.declared.history.History.{History}
-use Rattle.nfs_history.specs.Calls.{ReplyEvent, CallEvent, calls_of}
-use Rattle.nfs_history.specs.Effects.{Says, results_of, is_judged, is_left_out, has_no_effect}
+use Rattle.nfs_history.specs.Calls.{CallEvent, calls_of}
+use Rattle.nfs_history.specs.Effects.{results_of, has_no_effect}
 use Rattle.nfs_history.specs.History.{CameOut, IsJudged, IsKnownAs, Means, IsRecorded, AreRecorded, IsHistory}
 use Rattle.nfs_history.specs.FirstFault.{IsHistoryFile}
 use Rattle.nfs_history.proofs.CallFaultLaws.{one_answer}

@@ -1,6 +1,6 @@
 -- The run of a plan (a legal sequential history, Herlihy and Wing 1990, section 2.1; what a crash leaves,
 -- Izraelevitz, Mendes and Scott 2016): from the opening tree, each era from what the eras ahead of it kept.
-use Rattle.std.specs.Prelude.{◌≡◌, ℕ, List, [], ◌∷◌, map, Option, Some, None, option_and_then, option_map}
+use Rattle.std.specs.Prelude.{ℕ, List, map, Option, Some, None, option_and_then}
 use Rattle.std.specs.List.{filter_map}
 use Rattle.nfs3_types.specs.declared.calls.NfsCall.{NfsCall}
 use Rattle.nfs3_types.specs.declared.replies.Outcome.{Outcome}
@@ -18,7 +18,7 @@ use Rattle.certificate.specs.declared.plan.Certificate.{Certificate}
 use Rattle.certificate.specs.Plan.{cut_of}
 use Rattle.replay_law.specs.Run.{Era, EveryEraRuns}
 use Rattle.replay_law.specs.Run as run
-use Rattle.tree_nodes.specs.Tree.{Tree, opening}
+use Rattle.tree_nodes.specs.Tree.{opening}
 use Rattle.tree_handles.specs.Binding.{Bindings}
 use Rattle.file_tree.specs.Success.{next_tree}
 

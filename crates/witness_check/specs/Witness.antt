@@ -1,6 +1,6 @@
 -- When a plan is a witness of a history, and what two files show with a yes (Herlihy and Wing 1990, section 2.2: a
 -- linearization is a legal sequential history that respects the precedence of operations).
-use Rattle.std.specs.Prelude.{◌≡◌, ℕ, List}
+use Rattle.std.specs.Prelude.{ℕ, List}
 use Rattle.nfs_history.specs.declared.history.History.{History}
 use Rattle.nfs_history.specs.FirstFault.{IsHistoryFile}
 use Rattle.certificate.specs.declared.plan.Certificate.{Certificate}

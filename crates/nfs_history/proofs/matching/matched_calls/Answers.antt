@@ -1,4 +1,4 @@
-use Rattle.std.proofs.Common.{◌≡◌, ◌+◌, ◌-◌, [], Some, cond, length, drop, ap, subst, ◌∙◌, arith, refl, map, sym}
+use Rattle.std.proofs.Common.{◌≡◌, ◌+◌, ◌-◌, [], length, drop, ap, subst, ◌∙◌, arith, refl, map, sym}
 use Rattle.std.specs.HashMap.{get}
 use Rattle.std.proofs.lemmas.List.{drop_all}
 use Rattle.history_file.specs.declared.event.Event.TheVariants as owns
