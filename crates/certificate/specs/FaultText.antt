@@ -1,4 +1,4 @@
--- The words that are printed of a fault of a certificate's text.
+-- The words that are printed of a fault of a certificate's text (words of this project's own).
 use Rattle.std.specs.Prelude.{ℕ, List, ◌++◌, codes, decimal}
 use Rattle.certificate.specs.declared.reading.TextFault.{TextFault}
 use Rattle.certificate.specs.declared.reading.TextFault.TheVariants.{BadLine, NoMemory}

@@ -1,6 +1,6 @@
 //! One line of a certificate.
 
-ghost use Rattle.std.specs.Prelude.{◌≡◌, ℕ, ◌<◌, ◌≤◌, ◌^◌, ◌++◌, ◌∷◌, List, length, codes, decimal, IfOk, MatchOption, ◌==◌, position, Ok};
+ghost use Rattle.std.specs.Prelude.{◌≡◌, ℕ, ◌<◌, ◌^◌, ◌++◌, ◌∷◌, List, codes, decimal, IfOk, MatchOption, ◌==◌, position, Ok};
 ghost use Rattle.hex.specs.Hex.{decode_of};
 ghost use Rattle.certificate.specs.BadLine.{Lacks};
 ghost use Rattle.certificate.specs.declared.plan.Bind.{Bind};

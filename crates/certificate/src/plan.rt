@@ -1,6 +1,6 @@
 //! The values that a certificate holds. A contract sees each list as the list of its items.
 
-ghost use Rattle.std.specs.Prelude.{◌≡◌, List, length};
+ghost use Rattle.std.specs.Prelude.{◌≡◌, List};
 
 use nfs3_types::FileHandle;
 use std::marker::Model;

@@ -1,6 +1,6 @@
 //! A certificate's text, read line by line in one pass.
 
-ghost use Rattle.std.specs.Prelude.{◌≡◌, ◌∷◌, [], IfOk, length, Some, None, codes, decimal, ◌++◌, ◌<◌, ◌^◌, ◌↔◌, ◌⊎◌, ℕ, Ok, Err, MatchResult, IsTrue};
+ghost use Rattle.std.specs.Prelude.{◌≡◌, [], IfOk, Some, None, codes, decimal, ◌++◌, ◌<◌, ◌^◌, ◌↔◌, ◌⊎◌, ℕ, Ok, Err, MatchResult, IsTrue};
 ghost use Rattle.certificate.specs.CertificateText.{CertificateText, line, bind_words, place_words, HasHandle, HasNumbers};
 ghost use Rattle.certificate.specs.declared.line.Line.TheVariants as lines;
 ghost use Rattle.certificate.specs.Line.{Follows, last_of, bind_list};

@@ -2,7 +2,6 @@
 
 ghost use Rattle.std.specs.Prelude.{◌≡◌, ◌++◌, decimal, codes, IfOk, OnOk};
 ghost use Rattle.std.specs.List.{flat_map};
-ghost use Rattle.hex.specs.Hex.{encode_lower};
 ghost use Rattle.certificate.specs.CertificateText.{line, bind_words, place_words, bind_lines, place_lines, cut_lines, era_lines, spelling};
 
 use crate::plan::{Bind, Certificate, EraPlan, Place};

@@ -1,4 +1,4 @@
-//! What the clauses don't say: which fault each bad file has, and that a good one is read and written.
+//! One file of each fault, and one that is read and written.
 
 use history_file::{Event, HistoryFault, Which, WriteFault, read_file, write_history};
 use std::alloc::{AllocError, Global};

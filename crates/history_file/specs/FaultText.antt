@@ -1,4 +1,4 @@
--- The words that are printed of a fault of a history: its name, and what it names.
+-- The words that are printed of a fault of a history: its name, and what it names (words of this project's own).
 use Rattle.std.specs.Prelude.{ℕ, List, ◌∷◌, ◌++◌, codes, decimal}
 use Rattle.history_file.specs.declared.fault.Which.{Which}
 use Rattle.history_file.specs.declared.fault.Which.TheVariants as which

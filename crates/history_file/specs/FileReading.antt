@@ -30,7 +30,8 @@ recording_value seen = record { root = seen.root.now; events = all_happened seen
 abbrev pub with_front : List Event → Result (List Event × Unread) (At HistoryFault) → Result (List Event × Unread) (At HistoryFault)
 with_front front read = bound read (λ x. Ok (front ++ x.0, x.1))
 
--- the same of the whole file
+-- what is read of a whole file, or its first fault: of its magic, of its size, of the items behind them (an order of this
+-- project's own)
 abbrev pub file_of : List ℕ → Result Recording HistoryFault
 file_of bytes =
     if starts_with nat_eq bytes magic

@@ -1,4 +1,4 @@
-//! What the clauses don't say: which fault each bad history has, and that a good one is read.
+//! One history of each fault, and some that are read.
 
 use nfs_history::{Event, History, HistoryFault, Meaning, Message, Which, read_history};
 use nfs3_types::FileHandle;

@@ -1,7 +1,8 @@
 //! The bytes of a message of a given size.
 
 ghost use Rattle.std.specs.Prelude.{◌≡◌, Some, Ok, IfOk, length};
-ghost use Rattle.nfs3_msgs.specs.Messages.{arguments_of, result_of, procedure_of_call, procedure_of_reply};
+ghost use Rattle.nfs3_types.specs.Procedures.{procedure_called, procedure_answered};
+ghost use Rattle.nfs3_msgs.specs.Messages.{arguments_of, result_of};
 ghost use Rattle.message_bench.specs.Counts.{data_count, entry_count, count_of};
 
 use crate::request::MessageKind;
@@ -66,7 +67,7 @@ fn entries(alloc: Global, size: u32) -> Result<Entries<DirectoryEntryPlus>, Allo
 
 // A WRITE of so many bytes.
 fn write_call(alloc: Global, size: u32) -> Result<NfsCall, AllocError>
-    ensures procedure { IfOk result (λ call. procedure_of_call call ≡ 7) }
+    ensures procedure { IfOk result (λ call. procedure_called call ≡ 7) }
     ensures size { IfOk result (λ call. data_count call ≡ Some size) }
 {
     let content = vec![in alloc; 0x5a; size as usize]?;
@@ -81,7 +82,7 @@ fn write_call(alloc: Global, size: u32) -> Result<NfsCall, AllocError>
 
 // The result of a READDIRPLUS that lists so many entries, which are all.
 fn listing(alloc: Global, size: u32) -> Result<NfsReply, AllocError>
-    ensures procedure { IfOk result (λ reply. procedure_of_reply reply ≡ 17) }
+    ensures procedure { IfOk result (λ reply. procedure_answered reply ≡ 17) }
     ensures size { IfOk result (λ reply. entry_count reply ≡ Some size) }
 {
     Ok(NfsReply::ReadDirPlus(Answer::Done(Held::new(
@@ -97,7 +98,7 @@ fn listing(alloc: Global, size: u32) -> Result<NfsReply, AllocError>
 
 // The arguments of a call as bytes.
 fn call_bytes(alloc: Global, call: &NfsCall) -> Result<Vec<u8>, AllocError>
-    ensures { IfOk result (λ bytes. arguments_of (procedure_of_call call.now) bytes.items ≡ Ok call.now) }
+    ensures { IfOk result (λ bytes. arguments_of (procedure_called call.now) bytes.items ≡ Ok call.now) }
 {
     let mut bytes = Vec::new(alloc);
     put_args(&mut bytes, call)?;
@@ -106,7 +107,7 @@ fn call_bytes(alloc: Global, call: &NfsCall) -> Result<Vec<u8>, AllocError>
 
 // A result as bytes.
 fn reply_bytes(alloc: Global, reply: &NfsReply) -> Result<Vec<u8>, AllocError>
-    ensures { IfOk result (λ bytes. result_of (procedure_of_reply reply.now) bytes.items ≡ Ok reply.now) }
+    ensures { IfOk result (λ bytes. result_of (procedure_answered reply.now) bytes.items ≡ Ok reply.now) }
 {
     let mut bytes = Vec::new(alloc);
     put_result(&mut bytes, reply)?;

@@ -1,4 +1,4 @@
--- The words that are printed of a fault.
+-- The words that are printed of a fault (words of this project's own).
 use Rattle.std.specs.Prelude.{ℕ, List, ◌++◌, codes, decimal}
 use Rattle.nfs3_msgs.specs.declared.fault.Kind.{Kind}
 use Rattle.nfs3_msgs.specs.declared.fault.Kind.TheVariants as kinds

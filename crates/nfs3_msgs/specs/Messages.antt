@@ -83,42 +83,6 @@ arguments_of procedure bytes = all_of kind_of (arguments procedure) bytes
 abbrev pub result_of : ℕ → List ℕ → Result NfsReply (At Kind)
 result_of procedure bytes = all_of kind_of (results procedure) bytes
 
--- the number of a call's procedure, RFC 1813, section 3.3
-abbrev pub procedure_of_call : NfsCall → ℕ
-procedure_of_call (calls.GetAttr a) = 1
-procedure_of_call (calls.SetAttr a) = 2
-procedure_of_call (calls.Lookup a) = 3
-procedure_of_call (calls.ReadLink a) = 5
-procedure_of_call (calls.Read a) = 6
-procedure_of_call (calls.Write a) = 7
-procedure_of_call (calls.Create a) = 8
-procedure_of_call (calls.MkDir a) = 9
-procedure_of_call (calls.SymLink a) = 10
-procedure_of_call (calls.Remove a) = 12
-procedure_of_call (calls.RmDir a) = 13
-procedure_of_call (calls.Rename a) = 14
-procedure_of_call (calls.ReadDir a) = 16
-procedure_of_call (calls.ReadDirPlus a) = 17
-procedure_of_call (calls.Commit a) = 21
-
--- the number of a reply's procedure
-abbrev pub procedure_of_reply : NfsReply → ℕ
-procedure_of_reply (replies.GetAttr r) = 1
-procedure_of_reply (replies.SetAttr r) = 2
-procedure_of_reply (replies.Lookup r) = 3
-procedure_of_reply (replies.ReadLink r) = 5
-procedure_of_reply (replies.Read r) = 6
-procedure_of_reply (replies.Write r) = 7
-procedure_of_reply (replies.Create r) = 8
-procedure_of_reply (replies.MkDir r) = 9
-procedure_of_reply (replies.SymLink r) = 10
-procedure_of_reply (replies.Remove r) = 12
-procedure_of_reply (replies.RmDir r) = 13
-procedure_of_reply (replies.Rename r) = 14
-procedure_of_reply (replies.ReadDir r) = 16
-procedure_of_reply (replies.ReadDirPlus r) = 17
-procedure_of_reply (replies.Commit r) = 21
-
 -- the one spelling that is written of a call's arguments
 unfoldable pub arguments_text : NfsCall → List ℕ
 arguments_text (calls.GetAttr a) = opaque_text a

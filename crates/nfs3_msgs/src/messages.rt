@@ -8,8 +8,9 @@ ghost use Rattle.nfs3_types.specs.declared.calls.NfsCall.{NfsCall};
 ghost use Rattle.nfs3_types.specs.declared.replies.NfsReply.{NfsReply};
 ghost use Rattle.nfs3_msgs.specs.declared.fault.Kind.{Kind};
 ghost use Rattle.nfs3_msgs.specs.Told.{kind_of, Reads, IsButForMemory};
-ghost use Rattle.nfs3_msgs.specs.Messages.{arguments, IsArguments, IsArgumentsFault, arguments_of, procedure_of_call, arguments_text, CallFits};
-ghost use Rattle.nfs3_msgs.specs.Messages.{results, IsResult, IsResultFault, result_of, procedure_of_reply, result_text, ReplyFits};
+ghost use Rattle.nfs3_types.specs.Procedures.{procedure_called, procedure_answered};
+ghost use Rattle.nfs3_msgs.specs.Messages.{arguments, IsArguments, IsArgumentsFault, arguments_of, arguments_text, CallFits};
+ghost use Rattle.nfs3_msgs.specs.Messages.{results, IsResult, IsResultFault, result_of, result_text, ReplyFits};
 
 use crate::fault::{Kind, MessageFault};
 use crate::value::{XdrValue, fault_at};
@@ -227,9 +228,9 @@ pub fn put_args(out: &mut Vec<u8>, call: &NfsCall) -> Result<(), AllocError>
     ensures err { OnErr result (out.new.items ≡ out.old.items) }
     // What is written spells the call, and is read back as it.
     ensures spelled { OnOk result
-        (IsArguments (procedure_of_call call.now) (arguments_text call.now) call.now) }
+        (IsArguments (procedure_called call.now) (arguments_text call.now) call.now) }
     ensures reads_back { OnOk result
-        (arguments_of (procedure_of_call call.now) (arguments_text call.now) ≡ Ok call.now) }
+        (arguments_of (procedure_called call.now) (arguments_text call.now) ≡ Ok call.now) }
 {
     let mut text = Vec::new(*out.allocator());
     put_call(&mut text, call)?;
@@ -243,9 +244,9 @@ pub fn put_result(out: &mut Vec<u8>, reply: &NfsReply) -> Result<(), AllocError>
     ensures err { OnErr result (out.new.items ≡ out.old.items) }
     // What is written spells the reply, and is read back as it.
     ensures spelled { OnOk result
-        (IsResult (procedure_of_reply reply.now) (result_text reply.now) reply.now) }
+        (IsResult (procedure_answered reply.now) (result_text reply.now) reply.now) }
     ensures reads_back { OnOk result
-        (result_of (procedure_of_reply reply.now) (result_text reply.now) ≡ Ok reply.now) }
+        (result_of (procedure_answered reply.now) (result_text reply.now) ≡ Ok reply.now) }
 {
     let mut text = Vec::new(*out.allocator());
     put_reply(&mut text, reply)?;

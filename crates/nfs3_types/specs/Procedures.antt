@@ -26,6 +26,7 @@ procedure_called (calls.ReadDir _) = 16
 procedure_called (calls.ReadDirPlus _) = 17
 procedure_called (calls.Commit _) = 21
 
+-- the number of the procedure whose result a reply has
 abbrev pub procedure_answered : NfsReply → ℕ
 procedure_answered (replies.GetAttr _) = 1
 procedure_answered (replies.SetAttr _) = 2
@@ -43,6 +44,7 @@ procedure_answered (replies.ReadDir _) = 16
 procedure_answered (replies.ReadDirPlus _) = 17
 procedure_answered (replies.Commit _) = 21
 
+-- whether the reply is one to such a call
 abbrev pub is_answered : NfsCall → NfsReply → Bool
 is_answered call reply = procedure_called call == procedure_answered reply
 

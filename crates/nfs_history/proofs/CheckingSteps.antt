@@ -75,16 +75,6 @@ checked_more events i e old new lt is follows knows so_far =
       knows = rw taken knows;
     }
 
-pub none_checked : (events : List owned.Event) (known : OpenCalls) → known.unanswered.keys ≡ [] → known.closed.keys ≡ [] → IsCheckedTo events 0 known
-none_checked events known unanswered closed = record {
-  others = λ all. all;
-  faults_are = λ fault h. h;
-  knows = record {
-    unanswered = λ lane xid. ap (λ ks. list_any (same_key (lane, xid)) ks) unanswered;
-    closed = λ lane. ap (λ ks. list_any (nat_eq lane) ks) closed;
-  };
-}
-
 pub all_checked : (events : List owned.Event) (i : ℕ) (known : OpenCalls) → length events ≤ i → IsCheckedTo events i known → EachMayFollow [] (all_happened events)
 all_checked events i known le so_far = so_far.others (rw (drop_all i events le) tt)
 

@@ -33,23 +33,24 @@ AreNoArguments procedure bytes = ¬ ((call : NfsCall) × IsArguments procedure b
 abbrev pub IsNoResult : ℕ → List ℕ → Type 0
 IsNoResult procedure bytes = ¬ ((reply : NfsReply) × IsResult procedure bytes reply)
 
--- a result was shown that is none: of LINK and MKNOD one without a status; of a judged procedure, with its arguments, one that
--- isn't its result
+-- a reply came whose bytes are no result: of a LINK or MKNOD they have no status; of a judged call, whose arguments can be read,
+-- they are no result of its procedure
 abbrev pub IsBadResult : CallValue → Option (List ℕ) → Type 0
 IsBadResult head results =
     ((is_left_out head.procedure ≡ true) × HasNoStatus results)
     ⊎ ((is_judged head.procedure ≡ true) × ((call : NfsCall) × IsArguments head.procedure head.args call)
     × ((bytes : List ℕ) × (results ≡ Some bytes) × IsNoResult head.procedure bytes))
 
--- the call lies outside the model: a LINK or MKNOD, or a judged call that is outside, as it came out
+-- the call lies outside the model: a LINK or MKNOD (one that was answered by a failure has no effect, and isn't asked here), or a
+-- judged call that is outside, as it came out
 abbrev pub LiesOutside : CallValue → Option (List ℕ) → Which → Type 0
 LiesOutside head results which =
     ((is_left_out head.procedure ≡ true) × (¬ HasNoStatus results) × (which ≡ which_left_out head.procedure))
     ⊎ ((is_judged head.procedure ≡ true) × (call : NfsCall) × (outcome : Option Outcome) × IsArguments head.procedure head.args call
     × CameOut head.procedure results outcome × (outside call outcome ≡ Some which))
 
--- what is wrong with a call that may have an effect, and has this number, head and result; RPCSEC_GSS (flavor 6) hides its
--- arguments
+-- what is wrong with a call that may have an effect, and has this number, head and result; RPCSEC_GSS (flavor 6, RFC 2203) hides
+-- its arguments
 abbrev pub IsEffectFault : ℕ → CallValue → Option (List ℕ) → HistoryFault → Type 0
 IsEffectFault n head results (faults.Sealed at) = (at ≡ n) × (head.flavor ≡ 6)
 IsEffectFault n head results (faults.BadArgs at) =

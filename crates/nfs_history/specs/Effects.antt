@@ -44,7 +44,7 @@ abbrev pub is_left_out : ℕ → Bool
 is_left_out procedure = procedure == 11 || procedure == 15
 
 -- a call that failed in RPC, of another program or version, of a procedure that isn't judged, or a LINK or MKNOD that
--- was answered by a failure; what RPCSEC_GSS (flavor 6) hides may have an effect
+-- was answered by a failure; what RPCSEC_GSS (flavor 6, RFC 2203) hides may have an effect
 abbrev pub has_no_effect : CallValue → Option Body → Bool
 has_no_effect head body =
     (was_refused body || not (is_of_nfs head))

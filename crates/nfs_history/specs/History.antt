@@ -57,7 +57,7 @@ CameOut procedure None outcome = outcome ≡ None
 CameOut procedure (Some results) outcome = (answer : NfsReply) × IsResult procedure results answer × (outcome ≡ Some (outcomes.Received answer))
 
 -- the call is one of NFS version 3 (RFC 1813, section 3), of a judged procedure, with a credential that doesn't hide its
--- arguments (not RPCSEC_GSS, flavor 6)
+-- arguments (not RPCSEC_GSS, flavor 6, RFC 2203)
 pub record IsCallOfNfs (head : CallValue) (call : NfsCall) : Type 0 where
   pub program : head.program ≡ 100003
   pub version : head.version ≡ 3

@@ -44,7 +44,7 @@ argued_fault n procedure results (Ok call) = result_fault n procedure call resul
 abbrev pub judged_fault : ℕ → ℕ → List ℕ → Option (List ℕ) → Option HistoryFault
 judged_fault n procedure args results = argued_fault n procedure results (arguments_of procedure args)
 
--- a call that may have an effect: it is sealed (RPCSEC_GSS, flavor 6), or what its procedure says
+-- a call that may have an effect: it is sealed (RPCSEC_GSS, flavor 6, RFC 2203), or what its procedure says
 abbrev pub effect_fault : ℕ → CallValue → Option (List ℕ) → Option HistoryFault
 effect_fault n head results =
     if head.flavor == 6 then Some (faults.Sealed n)

@@ -1,6 +1,6 @@
 //! What each call of a history was, and how it came out.
 
-ghost use Rattle.std.specs.Prelude.{◌≡◌, ℕ, map, true, false, IfOk, IfErr, IsOkAnd, Option, Some, None, option_map};
+ghost use Rattle.std.specs.Prelude.{◌≡◌, map, true, false, IfOk, IfErr, IsOkAnd, Option, Some, None, option_map};
 ghost use Rattle.std.specs.List.{AllByRecursion};
 ghost use Rattle.rpc_reader.specs.Values.{Body};
 ghost use Rattle.rpc_reader.specs.Views.{call_value, body_value};

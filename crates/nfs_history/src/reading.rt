@@ -1,7 +1,6 @@
 //! A history file, read and checked.
 
 ghost use Rattle.std.specs.Prelude.{IfOk};
-ghost use Rattle.history_file.specs.Event.{Recording};
 ghost use Rattle.nfs_history.specs.EventFaults.{IsFineOrNoMemory, IsErrorOf, IsThatOrNoMemory};
 ghost use Rattle.history_file.specs.Owning.{all_happened};
 ghost use Rattle.nfs_history.specs.FirstFault.{AreKnown, FirstFaultOf, FirstFault, IsHistoryOf, IsHistoryFile};

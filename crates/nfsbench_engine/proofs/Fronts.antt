@@ -1,11 +1,6 @@
 -- A line that is written piece by piece.
-use Rattle.std.proofs.Common.{◌≡◌, ℕ, ◌+◌, ◌≤◌, List, [], ◌∷◌, ◌++◌, ◌-◌, length, take, drop, Option, Some, None, sym, ap, subst, ◌∙◌, arith, append_assoc, append-nil, take-add, take_all, length-drop}
+use Rattle.std.proofs.Common.{◌≡◌, ℕ, ◌+◌, ◌≤◌, List, ◌++◌, ◌-◌, length, take, drop, Option, Some, None, sym, ap, subst, ◌∙◌, arith, append_assoc, take-add, take_all, length-drop}
 use Rattle.std.specs.Io.KnownBytes.{Appends, Keeps}
-
--- nothing is written yet
-pub nothing_yet : (o : Option (List ℕ)) (line : List ℕ) → Appends o o (take 0 line)
-nothing_yet None line = tt
-nothing_yet (Some xs) line = sym (append-nil xs)
 
 -- two pieces, one behind the other
 both : (old mid new : Option (List ℕ)) (front more : List ℕ) → Appends old mid front → Appends mid new more → Appends old new (front ++ more)

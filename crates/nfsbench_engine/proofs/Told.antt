@@ -95,15 +95,3 @@ pub verdict_told : {A E : Type 0} (r : Result A E) (line : A → List ℕ) (o : 
 verdict_told (Err e) line o history certificate bundle t = tt
 verdict_told (Ok x) line None history certificate bundle t = tt
 verdict_told (Ok x) line (Some bytes) history certificate bundle t = inl (history, certificate, bundle, t)
-
--- so may that there is no bundle
-pub no_bundle_told : {A E : Type 0} (r : Result A E) (line : A → List ℕ) (o : Option (List ℕ))
-    → IfOk r (λ x. IsLine (codes "refused: ") (Some (codes "bad bundle")) (line x)) → IfOk r (λ x. IfSome o (λ bytes. MayTell bytes (line x)))
-no_bundle_told (Err e) line o t = tt
-no_bundle_told (Ok x) line None t = tt
-no_bundle_told (Ok x) line (Some bytes) t = inr (inl (t.2 ∙ ap (λ (text : List ℕ). codes "refused: " ++ text ++ 10 ∷ []) t.1))
-
--- and that memory ran out
-pub memory_told : (o : Option (List ℕ)) → IfSome o (λ bytes. MayTell bytes (codes "out of memory" ++ 10 ∷ []))
-memory_told None = tt
-memory_told (Some bytes) = inr (inr refl)

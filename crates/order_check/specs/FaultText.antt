@@ -1,4 +1,4 @@
--- The words that are printed of a fault of a plan: its name, and the numbers that it names.
+-- The words that are printed of a fault of a plan: its name, and the numbers that it names (words of this project's own).
 use Rattle.std.specs.Prelude.{ℕ, List, ◌∷◌, ◌++◌, codes, decimal}
 use Rattle.order_check.specs.declared.fault.Fault.{Fault}
 use Rattle.order_check.specs.declared.fault.Fault.TheVariants as faults

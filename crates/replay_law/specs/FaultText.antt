@@ -1,4 +1,4 @@
--- The words that are printed of a fault.
+-- The words that are printed of a fault (words of this project's own).
 use Rattle.std.specs.Prelude.{ℕ, List, ◌++◌, codes, decimal}
 use Rattle.replay_law.specs.declared.run.RunFault.{RunFault}
 use Rattle.replay_law.specs.declared.run.RunFault.TheVariants as run_faults

@@ -1,5 +1,5 @@
 //! A register of one number.
-ghost use Rattle.std.specs.Prelude.{◌≡◌, ℕ, ◌<◌, ◌^◌, Option, Some, None, List, ◌++◌, OnOk, OnErr, IfOk};
+ghost use Rattle.std.specs.Prelude.{◌≡◌, ◌<◌, ◌^◌};
 ghost use Rattle.replay_law.specs.Register.{after, register_text, same_register};
 
 use crate::replay::{Replayable, StepFault};

@@ -1,6 +1,6 @@
 //! Runs of steps from the state before any.
-ghost use Rattle.std.specs.Prelude.{◌≡◌, ℕ, List, [], ◌∷◌, map, Option, Some, None, IsSome, OnOk};
-ghost use Rattle.replay_law.specs.Run.{Taken, state_after, IsFirstIllegal, EveryEraRuns};
+ghost use Rattle.std.specs.Prelude.{◌≡◌, ℕ, [], ◌∷◌, map, Some, IsSome, OnOk};
+ghost use Rattle.replay_law.specs.Run.{state_after, IsFirstIllegal, EveryEraRuns};
 ghost use Rattle.replay_law.specs.Steps.{taken_of};
 
 use crate::replay::{Replayable, StepFault};

@@ -1,4 +1,4 @@
--- The words that are printed of a fault.
+-- The words that are printed of a fault (words of this project's own).
 use Rattle.std.specs.Prelude.{ℕ, List, codes}
 use Rattle.rpc_reader.specs.declared.fault.RpcFault.{RpcFault}
 use Rattle.rpc_reader.specs.declared.fault.RpcFault.TheVariants as faults

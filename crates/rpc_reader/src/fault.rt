@@ -1,8 +1,5 @@
 //! Why a message is no call or no reply.
 
-ghost use Rattle.std.specs.Prelude.{◌≡◌};
-ghost use Rattle.rpc_reader.specs.Heads.{kind_of};
-
 use std::error::Error;
 use std::fmt;
 use xdr_records::XdrFault;

@@ -1,7 +1,7 @@
 //! The items that heads are made of.
 
 ghost use Rattle.std.specs.Prelude.{◌≡◌};
-ghost use Rattle.xdr_records.specs.Grammar.Grammar.{one_word, one_opaque};
+ghost use Rattle.xdr_records.specs.Grammar.Grammar.{one_word};
 ghost use Rattle.xdr_records.specs.Kinds.{Tells, kind_reading};
 ghost use Rattle.rpc_reader.specs.Heads.{kind_of, auth};
 

@@ -1,7 +1,7 @@
 //! Which failures may answer a call on a file tree.
 #![tactic(auto)]
 
-pub mod asked;
+mod asked;
 pub mod failure;
 mod handle_causes;
 #[cfg(test)]

@@ -41,9 +41,6 @@ pointwise_same E same (x ∷ a) (y ∷ b) e =
 pub same_lists : (a b : Names) → is_same a b ≡ true → a ≡ b
 same_lists = pointwise_same (pointwise nat_eq) (pointwise_same nat_eq eqb-true)
 
-pub isnt_same : (a b : Names) → (a ≡ b → ⊥) → is_same a b ≡ false
-isnt_same a b h = isnt _ (λ e. h (same_lists a b e))
-
 -- a path from a front is the front with the rest behind it
 pub parts_of : (path p : Names) → is_from path p ≡ true → path ≡ p ++ drop (length p) path
 parts_of path p e = sym (take-append-drop (length p) path) ∙ ap (λ (a : Names). a ++ drop (length p) path) (sym (same_lists p (take (length p) path) e))

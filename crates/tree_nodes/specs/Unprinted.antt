@@ -54,10 +54,6 @@ longs m n r s fm fn e =
     let parts = fronts (long_text m) (long_text n) r s refl e in
     (sym (from_be_bytes-to_be_bytes_8 m fm) ∙ ap (from_be_bytes w64) parts.0 ∙ from_be_bytes-to_be_bytes_8 n fn, parts.1)
 
--- two texts in a row
-pair_split : (a b r : List ℕ) (all : List ℕ) → (a ++ b) ++ r ≡ all → a ++ (b ++ r) ≡ all
-pair_split a b r all e = sym (append_assoc a b r) ∙ e
-
 two_splits : (a b r c d s : List ℕ) → (a ++ b) ++ r ≡ (c ++ d) ++ s → a ++ (b ++ r) ≡ c ++ (d ++ s)
 two_splits a b r c d s e = sym (append_assoc a b r) ∙ e ∙ append_assoc c d s
 

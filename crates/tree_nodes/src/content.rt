@@ -1,6 +1,6 @@
 //! The bytes of files: cut, filled, written and read.
 
-ghost use Rattle.std.specs.Prelude.{ℕ, slice_index, ◌≡◌, ◌+◌, ◌-◌, ◌^◌, ◌<◌, ◌≤◌, ◌++◌, IfOk, length, take, drop, replicate, max, nat_le};
+ghost use Rattle.std.specs.Prelude.{ℕ, slice_index, ◌≡◌, ◌+◌, ◌-◌, ◌^◌, ◌<◌, ◌≤◌, IfOk, length, take, drop, max, nat_le};
 ghost use Rattle.nfs3_types.specs.Limits.{file_limit};
 ghost use Rattle.tree_nodes.specs.Files.{resized, written};
 

@@ -1,7 +1,6 @@
 //! Trees as bytes, in the items of XDR (RFC 4506).
 
-ghost use Rattle.std.specs.Prelude.{◌≡◌, ◌+◌, ◌<◌, ◌^◌, ◌++◌, List, length, OnOk, All};
-ghost use Rattle.std.specs.Ordering.{nat_cmp};
+ghost use Rattle.std.specs.Prelude.{◌≡◌, ◌+◌, ◌<◌, ◌^◌, ◌++◌, length, OnOk, All};
 ghost use Rattle.std.specs.List.{flat_map};
 ghost use Rattle.tree_nodes.specs.Printed.{word_text, long_text, opaque_text, verifier_text, content_text, path_text, entry_text, IsShort, IsShallow, VerifierFits, ContentFits, EntryFits, IsPrintable, tree_text};
 ghost use Rattle.tree_nodes.specs.Nodes.{tree_of};

@@ -1,7 +1,6 @@
 -- one name more in a list of names
 use Rattle.std.proofs.Common.{◌≡◌, ℕ, Bool, true, false, cond, List, [], ◌∷◌, ◌++◌, refl, sym, ap, ◌∙◌}
 use Rattle.std.specs.Prelude.{not, ◌&&◌, ◌||◌}
-use Rattle.std.specs.List.{list_any}
 use Rattle.std.specs.Ordering.{nat_cmp}
 use Rattle.std.specs.Cmp.Lexicographic.{slice_cmp, texts_ties}
 use Rattle.std.specs.BTreeSet.{BTreeSet, contains}
@@ -48,6 +47,3 @@ new_more seen (n ∷ names) name =
 -- no name stands twice with one name more, where none does without it and it isn't there
 pub distinct_more : (names : List (List ℕ)) (name : List ℕ) → are_distinct (names ++ name ∷ []) ≡ (are_distinct names && not (is_among names name))
 distinct_more names name = new_more [] names name
-
-pub has_none : (set : BTreeSet (List ℕ)) → set.keys ≡ [] → HasNames set []
-has_none set empty q = ap (λ ks. list_any (is_at (slice_cmp nat_cmp q)) ks) empty

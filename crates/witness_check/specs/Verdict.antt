@@ -34,15 +34,15 @@ abbrev pub IsIllegal : History → Certificate → Fault → Type 0
 IsIllegal history plan fault =
     (era : EraPlan) × (plan.eras ≡ era ∷ []) × IsStuck (bindings_of history.root plan.binds) history.calls era.places fault
 
--- the first fault of a plan of a history of one era: of its shape; else of its order; else of its run
+-- the first fault of a plan: of its shape; else of its order; else, where the history has one era, of its run
 abbrev pub IsPlanFault : History → Certificate → Fault → Type 0
 IsPlanFault history plan fault =
     (shape_fault history.eras history.calls plan.eras ≡ Some fault)
     ⊎ (HasShape history.eras history.calls plan.eras × IsEarlyFault history.calls plan.eras fault)
     ⊎ (HasShape history.eras history.calls plan.eras × EachEraRespectsOrder history.calls plan.eras × IsIllegal history plan fault)
 
--- a plan whose history has several eras: where it has the history's shape and order, it is refused as if it had another
--- number of eras, since its run isn't judged yet
+-- a plan of a history that hasn't just one era: where it has the history's shape and order, it is refused as if it had
+-- another number of eras, since its run isn't judged yet
 abbrev pub IsNotJudged : History → Certificate → Fault → Type 0
 IsNotJudged history plan fault =
     (history.eras ≢ 1) × HasShape history.eras history.calls plan.eras × EachEraRespectsOrder history.calls plan.eras × (fault ≡ WrongEras)

@@ -1,6 +1,6 @@
 //! The run of a plan from the opening tree.
 
-ghost use Rattle.std.specs.Prelude.{◌≡◌, ℕ, Err, None, IfOk, OnOk, IsSome, map, option_map};
+ghost use Rattle.std.specs.Prelude.{◌≡◌, Err, None, IfOk, OnOk, IsSome, map, option_map};
 ghost use Rattle.std.specs.List.{filter_map};
 ghost use Rattle.order_check.specs.FirstFault.{IsCheck};
 ghost use Rattle.replay_law.specs.Run.{state_after};

@@ -68,7 +68,7 @@ pub fn check(
     certificate: &Certificate,
 ) -> Result<Verdict, AllocError>
     ensures yes { result ≡ Ok Verdict.Yes → IsWitness history.now certificate.now }
-    // A witness is never answered by a no.
+    // A witness of a history of one era is never answered by a no.
     ensures only { (fault : Fault) → history.now.eras ≡ 1 → IsWitness history.now certificate.now
         → result ≢ Ok (Verdict.No fault) }
     // A no names the first fault.

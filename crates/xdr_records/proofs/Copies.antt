@@ -196,10 +196,6 @@ appended_both (Err e) out mid new a b xs f t m n i j h whole m_is n_is i_is j_is
 pub record_long : (f c : List ℕ) → IsRecord f c → 4 ≤ length f
 record_long f c r = header_long r.contents r.last f r.spelled
 
--- before the first of the others
-pub follows_none : (first bytes : List ℕ) → Follows first bytes 0 (first ∷ [])
-follows_none first bytes = record { others = []; all = refl; within = omega arith; whole = refl }
-
 -- one record more
 pub follows_more : (first bytes : List ℕ) (used end size : ℕ) (records : List (List ℕ)) (c : List ℕ) → Follows first bytes used records → EndsAt end size (drop used bytes) → IsRecord (take end (drop used bytes)) c
     → Follows first bytes (used + end) (records ++ c ∷ [])
@@ -213,14 +209,6 @@ follows_more first bytes used end size records c f e r =
           (records_join f.others (c ∷ []) (take used bytes) (take end (drop used bytes)) f.whole
           (record { front = take end (drop used bytes); back = []; parts = sym (append-nil (take end (drop used bytes))); first = r; others = refl }));
     }
-
--- a whole record takes some of the bytes
-pub ends_long : (used end size : ℕ) (bytes : List ℕ) → EndsAt end size (drop used bytes) → (4 ≤ end) × (end ≤ length bytes - used)
-ends_long used end size bytes e =
-    let left = length-drop used bytes in
-    let long = record_long (take end (drop used bytes)) e.content e.whole in
-    let all = length-take-le end (drop used bytes) e.within in
-    (omega arith, omega (arith, e.within))
 
 -- behind all of a front
 pub drop_all_front : (n : ℕ) (a b : List ℕ) → length a ≤ n → drop n (a ++ b) ≡ drop (n - length a) b

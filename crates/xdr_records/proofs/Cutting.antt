@@ -48,21 +48,6 @@ begun_as {Next = Next} {size = size} b next =
       next = subst (λ (x : List ℕ). Next size x) (back_is b) next;
     }
 
--- more bytes come
-pub passed_more : {Next : ℕ → List ℕ → Type 0} {at size : ℕ} {bytes : List ℕ} (piece : List ℕ) → Begun Next at size bytes → Passed at size (bytes ++ piece)
-passed_more piece b =
-    record {
-      contents = b.contents;
-      front = b.front;
-      back = b.back ++ piece;
-      parts = ap (λ (x : List ℕ). x ++ piece) b.parts ∙ append_assoc b.front b.back piece;
-      fragments = b.fragments;
-      at_is = b.at_is;
-      size_is = b.size_is;
-      within = b.within;
-      next = tt;
-    }
-
 -- the beginning of a record
 pub passed_none : (bytes : List ℕ) → Passed 0 0 bytes
 passed_none bytes =
@@ -71,10 +56,6 @@ passed_none bytes =
 -- nothing of a record
 pub unfinished_none : Begun IsPart 0 0 []
 unfinished_none = begun_as (passed_none []) (inl (omega arith))
-
--- a header and some of its bytes, or all of them
-pub header_front : (l : Bool) (n : ℕ) (back : List ℕ) → 4 ≤ length back → IsHeader l n (take 4 back) → back ≡ take 4 back ++ drop 4 back
-header_front l n back long h = sym (take-append-drop 4 back)
 
 module _ {at size : ℕ} {bytes : List ℕ} (b : Passed at size bytes) where
   -- no whole header

@@ -1,15 +1,15 @@
 -- Reading without offsets is reading, and so keeps its laws.
-use Rattle.std.proofs.Common.{◌≡◌, ℕ, List, Result, Ok, Err, refl, sym, ap, ◌∙◌}
+use Rattle.std.proofs.Common.{◌≡◌, ℕ, Result, Ok, Err, refl, sym, ap, ◌∙◌}
 use Rattle.xdr_records.specs.declared.fault.XdrFault.{XdrFault}
-use Rattle.xdr_records.specs.Unread.{Unread, At, whole}
+use Rattle.xdr_records.specs.Unread.{Unread, At}
 use Rattle.xdr_records.specs.Grammar.{Grammar}
 use Rattle.xdr_records.specs.Grammar.Grammar.{one_word, one_long, one_flag, one_fixed, one_opaque, named, nothing, refused, many, both}
-use Rattle.xdr_records.specs.Items.{word_at, long_at, flag_at, fixed_at, opaque_at, end_at}
+use Rattle.xdr_records.specs.Items.{word_at, long_at, flag_at, fixed_at, opaque_at}
 use Rattle.xdr_records.specs.Spelling.{Spells}
-use Rattle.xdr_records.specs.Reading.{bound, item_here, name_here, kinds, reading, ended, all_of}
-use Rattle.xdr_records.specs.Faults.{Stands, Fails, AllFails}
-use Rattle.xdr_records.specs.Kinds.{item_kind, name_before, kind_reading, kind_ended, kind_all_of}
-use Rattle.xdr_records.proofs.Laws.{found, again, fault, fails, all_found, all_again, all_fault, all_fails}
+use Rattle.xdr_records.specs.Reading.{bound, item_here, name_here, kinds, reading}
+use Rattle.xdr_records.specs.Faults.{Stands, Fails}
+use Rattle.xdr_records.specs.Kinds.{item_kind, name_before, kind_reading}
+use Rattle.xdr_records.proofs.Laws.{found, again, fault, fails}
 
 kinds-item_here : {A K : Type 0} (kind_of : XdrFault → K) (here : ℕ) (r : Result A XdrFault) → item_kind kind_of r ≡ kinds (item_here kind_of here r)
 kinds-item_here kind_of here (Ok x) = refl
@@ -39,11 +39,6 @@ kind_reading-is kind_of (both g f) unread =
     kinds-bound (reading kind_of g unread) (λ x. reading kind_of (f x.0) x.1) (kind_reading kind_of g unread) (λ x. kind_reading kind_of (f x.0) x.1)
     (kind_reading-is kind_of g unread) (λ x. kind_reading-is kind_of (f x.0) x.1)
 
-pub kind_all_of-is : {K A : Type 0} (kind_of : XdrFault → K) (g : Grammar K A) (bytes : List ℕ) → kind_all_of kind_of g bytes ≡ kinds (all_of kind_of g bytes)
-kind_all_of-is {K = K} {A = A} kind_of g bytes =
-    kinds-bound (reading kind_of g (whole bytes)) (ended kind_of) (kind_reading kind_of g (whole bytes)) (kind_ended kind_of)
-    (kind_reading-is kind_of g (whole bytes)) (λ x. kinds-bound (item_here kind_of x.1.at (end_at x.1)) (λ _. Ok x.0) (item_kind kind_of (end_at x.1)) (λ _. Ok x.0) (kinds-item_here kind_of x.1.at (end_at x.1)) (λ _. refl))
-
 kinds_ok : {A K : Type 0} (r : Result A (At K)) (x : A) → kinds r ≡ Ok x → r ≡ Ok x
 kinds_ok (Ok y) x e = cc
 kinds_ok (Err wrong) x e = absurd cc
@@ -69,20 +64,6 @@ kind_fault kind_of g unread kind e =
 -- what is wrong with the first item at fault is told
 pub kind_fails : {K A : Type 0} (kind_of : XdrFault → K) (g : Grammar K A) (unread : Unread) (f : At K) → Fails kind_of g unread f → kind_reading kind_of g unread ≡ Err f.kind
 kind_fails kind_of g unread f h = kind_reading-is kind_of g unread ∙ ap kinds (fails kind_of g unread f h)
-
-pub kind_all_found : {K A : Type 0} (kind_of : XdrFault → K) (g : Grammar K A) (bytes : List ℕ) (x : A) → kind_all_of kind_of g bytes ≡ Ok x → Spells g bytes x
-kind_all_found kind_of g bytes x e = all_found kind_of g bytes x (kinds_ok (all_of kind_of g bytes) x (sym (kind_all_of-is kind_of g bytes) ∙ e))
-
-pub kind_all_again : {K A : Type 0} (kind_of : XdrFault → K) (g : Grammar K A) (bytes : List ℕ) (x : A) → Spells g bytes x → kind_all_of kind_of g bytes ≡ Ok x
-kind_all_again kind_of g bytes x spelled = kind_all_of-is kind_of g bytes ∙ ap kinds (all_again kind_of g bytes x spelled)
-
-pub kind_all_fault : {K A : Type 0} (kind_of : XdrFault → K) (g : Grammar K A) (bytes : List ℕ) (kind : K) → kind_all_of kind_of g bytes ≡ Err kind → (f : At K) × AllFails kind_of g bytes f × (f.kind ≡ kind)
-kind_all_fault kind_of g bytes kind e =
-    let h = kinds_err (all_of kind_of g bytes) kind (sym (kind_all_of-is kind_of g bytes) ∙ e) in
-    (h.0, all_fault kind_of g bytes h.0 h.1, h.2)
-
-pub kind_all_fails : {K A : Type 0} (kind_of : XdrFault → K) (g : Grammar K A) (bytes : List ℕ) (f : At K) → AllFails kind_of g bytes f → kind_all_of kind_of g bytes ≡ Err f.kind
-kind_all_fails kind_of g bytes f h = kind_all_of-is kind_of g bytes ∙ ap kinds (all_fails kind_of g bytes f h)
 
 -- ---- steps
 

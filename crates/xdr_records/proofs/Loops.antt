@@ -1,12 +1,10 @@
 -- A loop that reads a list: the items so far, and what is still to be read.
-use Rattle.std.proofs.Common.{◌≡◌, ℕ, suc, ◌+◌, ◌-◌, ◌<◌, ◌≤◌, Bool, true, false, List, [], ◌∷◌, ◌++◌, Option, Some, None, Result, Ok, Err, refl, sym, ap, ◌∙◌, append_assoc, arith}
+use Rattle.std.proofs.Common.{◌≡◌, ℕ, suc, ◌+◌, ◌-◌, ◌<◌, Bool, true, false, List, [], ◌∷◌, ◌++◌, Option, Some, None, Result, Ok, Err, refl, sym, ap, ◌∙◌, append_assoc, arith}
 use Rattle.std.proofs.lemmas.List.{append-nil}
 use Rattle.xdr_records.specs.declared.fault.XdrFault.{XdrFault}
-use Rattle.xdr_records.specs.declared.fault.XdrFault.TheVariants.{Short}
 use Rattle.xdr_records.specs.Unread.{Unread, At}
 use Rattle.xdr_records.specs.Items.{flag_at}
 use Rattle.xdr_records.specs.Reading.{item_here, with_first, items_at, Told}
-use Rattle.xdr_records.proofs.Fronts.{fault_at}
 
 -- the items read so far, and those to come
 abbrev pub with_front : {A F : Type 0} → List A → Result (List A × Unread) F → Result (List A × Unread) F
@@ -20,12 +18,6 @@ with_front-nil (Err fault) = refl
 pub with_front-first : {A F : Type 0} (front : List A) (x : A) (r : Result (List A × Unread) F) → with_front front (with_first x r) ≡ with_front (front ++ x ∷ []) r
 with_front-first {F = F} front x (Ok others) = rw (append_assoc front (x ∷ []) others.0) refl
 with_front-first front x (Err fault) = refl
-
--- before the first round
-pub no_round : {A K : Type 0} (kind_of : XdrFault → K) (item : Unread → Result (A × Unread) (At K)) (front : List A) (count n : ℕ) (old : Unread) → front ≡ [] → count ≡ n → with_front front (items_at kind_of item (count - 0) old) ≡ items_at kind_of item n old
-no_round kind_of item front count n old none same =
-    let k : count - 0 ≡ n = omega arith in
-    rw (none, k) (with_front-nil (items_at kind_of item n old))
 
 -- want of memory aside, what is told of one step is told of all
 told_of : {Y Z F : Type 0} (o : Option F) (step : Result Y F) (total : Result Z F) → ((fault : F) → step ≡ Err fault → total ≡ Err fault) → Told o step → Told o total
@@ -64,11 +56,3 @@ module _ {A K : Type 0} (kind_of : XdrFault → K) (item : Unread → Result (A 
       told_of o (item between) total (λ (fault : At K) (read : item between ≡ Err fault).
       let step : items_at kind_of item (count - i) old ≡ Err fault = rw (n, at_flag, set, read) refl in
       sym so_far ∙ ap (with_front front) step) told
-
--- more rounds than bytes were left
-pub no_room : {A K : Type 0} (kind_of : XdrFault → K) (item : Unread → Result (A × Unread) (At K)) (front : List A) (total : Result (List A × Unread) (At K)) (count i : ℕ) (old : Unread) → count ≤ i
-    → with_front front (items_at kind_of item (count - i) old) ≡ total → total ≡ Err (fault_at old.at (kind_of Short))
-no_room kind_of item front total count i old above so_far =
-    let n : count - i ≡ 0 = omega arith in
-    let step : items_at kind_of item (count - i) old ≡ Err (fault_at old.at (kind_of Short)) = rw n refl in
-    sym so_far ∙ ap (with_front front) step

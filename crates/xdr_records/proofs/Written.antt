@@ -16,15 +16,6 @@ pub length-word_text : (n : ℕ) → length (word_text n) ≡ 4
 unfolding word_text
 length-word_text n = length-bytes_high_first 4 n
 
-pub length-long_text : (n : ℕ) → length (long_text n) ≡ 8
-unfolding long_text
-length-long_text n = length-bytes_high_first 8 n
-
-pub length-flag_text : (flag : Bool) → length (flag_text flag) ≡ 4
-unfolding flag_text
-length-flag_text false = length-word_text 0
-length-flag_text true = length-word_text 1
-
 pub length-fixed_text : (bytes : List ℕ) → length (fixed_text bytes) ≡ padded (length bytes)
 unfolding fixed_text
 length-fixed_text bytes =

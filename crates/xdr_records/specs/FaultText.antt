@@ -1,4 +1,4 @@
--- The words that are printed of a fault.
+-- The words that are printed of a fault (words of this project's own).
 use Rattle.std.specs.Prelude.{ℕ, List, codes}
 use Rattle.xdr_records.specs.declared.fault.XdrFault.{XdrFault}
 use Rattle.xdr_records.specs.declared.fault.XdrFault.TheVariants as xdr_faults

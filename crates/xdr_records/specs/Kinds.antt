@@ -1,10 +1,10 @@
 -- Reading without where a fault stands, for messages whose faults have no offset.
-use Rattle.std.specs.Prelude.{◌≡◌, ℕ, List, length, Result, Ok, Err}
+use Rattle.std.specs.Prelude.{◌≡◌, length, Result, Ok, Err}
 use Rattle.xdr_records.specs.declared.fault.XdrFault.{XdrFault}
-use Rattle.xdr_records.specs.Unread.{Unread, whole}
+use Rattle.xdr_records.specs.Unread.{Unread}
 use Rattle.xdr_records.specs.Grammar.{Grammar}
 use Rattle.xdr_records.specs.Grammar.Grammar.{one_word, one_long, one_flag, one_fixed, one_opaque, named, nothing, refused, many, both}
-use Rattle.xdr_records.specs.Items.{word_at, long_at, flag_at, fixed_at, opaque_at, end_at}
+use Rattle.xdr_records.specs.Items.{word_at, long_at, flag_at, fixed_at, opaque_at}
 use Rattle.xdr_records.specs.Reading.{bound, kinds, items_at, reading}
 
 abbrev pub item_kind : {A K : Type 0} → (XdrFault → K) → Result A XdrFault → Result A K
@@ -27,14 +27,6 @@ kind_reading kind_of (nothing x) unread = Ok (x, unread)
 kind_reading kind_of (refused kind) unread = Err kind
 kind_reading kind_of (many g) unread = kinds (items_at kind_of (reading kind_of g) (length unread.rest) unread)
 kind_reading kind_of (both g f) unread = bound (kind_reading kind_of g unread) (λ x. kind_reading kind_of (f x.0) x.1)
-
--- the value that was read, where nothing stands behind it
-abbrev pub kind_ended : {A K : Type 0} → (XdrFault → K) → A × Unread → Result A K
-kind_ended kind_of x = bound (item_kind kind_of (end_at x.1)) (λ _. Ok x.0)
-
--- what a grammar reads of all of the bytes
-abbrev pub kind_all_of : {K A : Type 0} → (XdrFault → K) → Grammar K A → List ℕ → Result A K
-kind_all_of kind_of g bytes = bound (kind_reading kind_of g (whole bytes)) (kind_ended kind_of)
 
 -- a value is what is read from the front, and the reader stands behind it; an error is what is wrong there
 abbrev pub Tells : {F X Y : Type 0} → (X → Y) → Unread → Result X F → Result (Y × Unread) F → Type 0

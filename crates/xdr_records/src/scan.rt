@@ -1,6 +1,6 @@
 //! How the record that is begun goes on.
 
-ghost use Rattle.std.specs.Prelude.{◌≡◌, IfOk, length, take};
+ghost use Rattle.std.specs.Prelude.{IfOk, take};
 ghost use Rattle.xdr_records.specs.Record.{IsRecord};
 ghost use Rattle.xdr_records.specs.Scan.{Passed, EndsAt, Tells};
 
