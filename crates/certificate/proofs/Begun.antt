@@ -15,7 +15,7 @@ use Rattle.certificate.proofs.Order.{in_order, follows_last}
 -- the lines of a certificate behind those that its text begins with
 pub lines_left : (done : List Line) (rest : List ℕ) (certificate : Certificate) → AreLines (lines.Witness ∷ done) → CertificateText (text_of (lines.Witness ∷ done) ++ rest) certificate → (tail : List Line) × (lines_of certificate ≡ done ++ tail) × (rest ≡ text_of tail) × AreLines tail
 lines_left done rest certificate h text =
-    let left = goes_on (lines.Witness ∷ done) (lines.Witness ∷ lines_of certificate) rest h (AreLines-lines_of certificate text.kept_to) (text.spelled ∙ sym (text-lines_of certificate)) in
+    let left = goes_on (lines.Witness ∷ done) (lines.Witness ∷ lines_of certificate) rest h (AreLines-lines_of certificate text.kept_to text.numbers) (text.spelled ∙ sym (text-lines_of certificate)) in
     (left.0, cc (left.1), left.2, left.3)
 
 -- the next line of a certificate may stand behind those ahead of it

@@ -50,8 +50,8 @@ CertificateText-finished binds eras places kept numbers = record {
     rising = kept.rising;
     handles = kept.handles;
     eras = AreEras-push eras (last_era places) numbers.ended refl;
-    numbers = All-push eras (last_era places) numbers.numbers (numbers.in_last, tt);
   };
+  numbers = All-push eras (last_era places) numbers.numbers (numbers.in_last, tt);
 }
 
 -- the same of a certificate whose parts are these

@@ -82,11 +82,11 @@ AreLines-eras (era ∷ eras) h =
     (all_append (λ l. IsLine (words_of l) l) (place_list era.places) (cut_list era.cut) (AreLines-places era.places h.0.0) (AreLines-cut era.cut h.0.1))
     (AreLines-eras eras h.1)
 
-pub AreLines-lines_of : (certificate : Certificate) → IsCertificate certificate → AreLines (lines.Witness ∷ lines_of certificate)
-AreLines-lines_of certificate h = (
+pub AreLines-lines_of : (certificate : Certificate) → IsCertificate certificate → AllByRecursion HasNumbersInEra certificate.eras → AreLines (lines.Witness ∷ lines_of certificate)
+AreLines-lines_of certificate h numbers = (
   refl,
   all_append (λ l. IsLine (words_of l) l) (bind_list certificate.binds) (flat_map era_list certificate.eras ++ lines.End ∷ []) (AreLines-binds certificate.binds h.handles)
-      (all_append (λ l. IsLine (words_of l) l) (flat_map era_list certificate.eras) (lines.End ∷ []) (AreLines-eras certificate.eras h.numbers) (refl, tt)),
+      (all_append (λ l. IsLine (words_of l) l) (flat_map era_list certificate.eras) (lines.End ∷ []) (AreLines-eras certificate.eras numbers) (refl, tt)),
 )
 
 pub AreLines-behind_first : (binds : List Bind) (eras : List EraPlan) (places : List Place) → AreBinds binds → ArePlaces eras places → AreLines (lines.Witness ∷ behind_first binds eras places)

@@ -16,7 +16,7 @@ use Rattle.certificate.proofs.Listed.{text_of, lines_of, text-lines_of, AreLines
 lines_same : (c d : Certificate) (text : List ℕ) → CertificateText text c → CertificateText text d → lines_of c ≡ lines_of d
 lines_same c d text tc td =
     let e = append-nil (text_of (lines.Witness ∷ lines_of c)) ∙ text-lines_of c ∙ sym tc.spelled ∙ td.spelled ∙ sym (text-lines_of d) in
-    let left = goes_on (lines.Witness ∷ lines_of c) (lines.Witness ∷ lines_of d) [] (AreLines-lines_of c tc.kept_to) (AreLines-lines_of d td.kept_to) e in
+    let left = goes_on (lines.Witness ∷ lines_of c) (lines.Witness ∷ lines_of d) [] (AreLines-lines_of c tc.kept_to tc.numbers) (AreLines-lines_of d td.kept_to td.numbers) e in
     go left.0 left.1 left.2
   where
     go : (tail : List Line) → lines.Witness ∷ lines_of d ≡ (lines.Witness ∷ lines_of c) ++ tail → [] ≡ text_of tail → lines_of c ≡ lines_of d

@@ -73,9 +73,9 @@ pub record IsCertificate (certificate : Certificate) : Type 0 where
   pub rising : AreRising certificate.binds
   pub handles : AllByRecursion HasHandle certificate.binds
   pub eras : AreEras certificate.eras
-  pub numbers : AllByRecursion HasNumbersInEra certificate.eras
 
--- the text spells the certificate
+-- the text spells the certificate, and its numbers are of their sizes
 pub record CertificateText (text : List ℕ) (certificate : Certificate) : Type 0 where
   pub spelled : text ≡ spelling certificate
   pub kept_to : IsCertificate certificate
+  pub numbers : AllByRecursion HasNumbersInEra certificate.eras

@@ -1,8 +1,9 @@
 -- The parts that make a certificate: the first bind, and the first era, that may not stand where it stands (by the rules
 -- of this project's own format).
-use Rattle.std.specs.Prelude.{ℕ, suc, Bool, cond, List, [], ◌∷◌, Option, Some, None, is_some, option_map}
+use Rattle.std.specs.Prelude.{ℕ, suc, ◌<◌, ◌≤◌, ◌^◌, length, Bool, cond, List, [], ◌∷◌, Option, Some, None, is_some, option_map}
 use Rattle.std.specs.Ordering.{nat_cmp, is_lt}
 use Rattle.std.specs.Cmp.Lexicographic.{slice_cmp}
+use Rattle.hex.specs.Hex.{IsBytes}
 use Rattle.certificate.specs.declared.plan.Bind.{Bind}
 use Rattle.certificate.specs.declared.plan.EraPlan.{EraPlan}
 
@@ -28,3 +29,7 @@ first_wrong_cut (era ∷ next ∷ eras) =
 abbrev pub first_bad_era : List EraPlan → Option ℕ
 first_bad_era [] = Some 1
 first_bad_era (era ∷ eras) = first_wrong_cut (era ∷ eras)
+
+-- what a bind's type says of it: its handle is at most 64 bytes, and its object has a number of 64 bits
+abbrev pub InRange : Bind → Type 0
+InRange bind = (length bind.handle ≤ 64) × IsBytes bind.handle × (bind.object < 2 ^ 64)

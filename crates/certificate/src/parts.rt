@@ -1,15 +1,17 @@
 //! A certificate of its parts.
 
-ghost use Rattle.std.specs.Prelude.{◌≡◌, ℕ, [], Some, None, Ok, Err};
+ghost use Rattle.std.specs.Prelude.{◌≡◌, ℕ, [], Some, None, Ok, Err, IfNone, IfOk};
+ghost use Rattle.std.specs.List.{AllByRecursion};
 ghost use Rattle.certificate.specs.declared.parts.CertificateFault.TheVariants.{BadBind, BadEra};
-ghost use Rattle.certificate.specs.Parts.{first_bad_bind, first_wrong_cut, first_bad_era};
+ghost use Rattle.certificate.specs.CertificateText.{AreRising, HasHandle, IsCertificate};
+ghost use Rattle.certificate.specs.Parts.{InRange, first_bad_bind, first_wrong_cut, first_bad_era};
 
 use crate::plan::{Bind, BindList, Certificate, EraPlan, EraPlanList};
-use std::error::Error;
 use std::fmt;
+use thiserror::Error;
 
 /// Why binds and eras make no certificate.
-#[derive(Clone, Copy, Debug, PartialEq, Eq)]
+#[derive(Clone, Copy, Debug, PartialEq, Eq, Error)]
 pub enum CertificateFault {
     /// The first bind, from 1, whose handle is empty or not above the one before.
     BadBind(u64),
@@ -31,16 +33,24 @@ impl fmt::Display for CertificateFault {
     }
 }
 
-impl Error for CertificateFault {}
+fn handle_of(bind: &Bind) -> &[u8]
+    ensures value { result.now ≡ bind.now.handle }
+    ensures range { InRange bind.now }
+{
+    let handle = bind.handle.as_slice();
+    let _object = bind.object;
+    handle
+}
 
 fn bad_bind(binds: &[Bind]) -> Option<u64>
-    ensures { result ≡ first_bad_bind [] binds.now }
+    ensures first { result ≡ first_bad_bind [] binds.now }
+    ensures kept { IfNone result (AreRising binds.now × AllByRecursion HasHandle binds.now) }
 {
     let mut ahead: &[u8] = &[];
     let mut number: u64 = 0;
     for bind in binds {
         number += 1;
-        let handle = bind.handle.as_slice();
+        let handle = handle_of(bind);
         if !(ahead < handle) {
             return Some(number);
         }
@@ -77,6 +87,8 @@ impl Certificate {
         ensures bad_bind { (i : ℕ) → first_bad_bind [] binds.items ≡ Some i → result ≡ Err (BadBind i) }
         ensures bad_era { (e : ℕ) → first_bad_bind [] binds.items ≡ None → first_bad_era eras.items ≡ Some e → result ≡ Err (BadEra e) }
         ensures ok { first_bad_bind [] binds.items ≡ None → first_bad_era eras.items ≡ None → result ≡ Ok (record { binds = binds.items; eras = eras.items }) }
+        // So what is written of it is read back.
+        ensures kept { IfOk result IsCertificate }
     {
         if let Some(number) = bad_bind(binds.as_slice()) {
             return Err(CertificateFault::BadBind(number));

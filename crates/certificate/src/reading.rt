@@ -12,11 +12,11 @@ ghost use Rattle.certificate.specs.Draft.{TakesLine, AreBinds, ArePlaces, spelle
 use crate::line::{Line, behind, read_line, split_at_byte};
 use crate::plan::{Bind, BindList, Certificate, EraPlan, EraPlanList, Place, PlaceList};
 use std::alloc::{AllocError, Global};
-use std::error::Error;
 use std::{fmt, mem};
+use thiserror::Error;
 
 /// Why a text is no certificate.
-#[derive(Clone, Copy, Debug, PartialEq, Eq)]
+#[derive(Clone, Copy, Debug, PartialEq, Eq, Error)]
 pub enum TextFault {
     /// The first line, from 1, with which the text so far begins no certificate: or it is missing, or has no
     /// line feed.
@@ -37,8 +37,6 @@ impl fmt::Display for TextFault {
         }
     }
 }
-
-impl Error for TextFault {}
 
 impl From<AllocError> for TextFault {
     ghost use Rattle.std.specs.Prelude.{◌≡◌};

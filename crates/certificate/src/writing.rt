@@ -1,8 +1,8 @@
 //! A certificate as text.
 
-ghost use Rattle.std.specs.Prelude.{◌≡◌, ◌++◌, decimal, codes, IfOk, OnOk};
-ghost use Rattle.std.specs.List.{flat_map};
-ghost use Rattle.certificate.specs.CertificateText.{line, bind_words, place_words, bind_lines, place_lines, cut_lines, era_lines, spelling};
+ghost use Rattle.std.specs.Prelude.{◌≡◌, ◌++◌, ◌<◌, ◌^◌, decimal, codes, IfOk, IfSome, OnOk};
+ghost use Rattle.std.specs.List.{flat_map, AllByRecursion};
+ghost use Rattle.certificate.specs.CertificateText.{line, bind_words, place_words, bind_lines, place_lines, cut_lines, era_lines, spelling, HasNumbers, HasNumbersInEra, IsCertificate, CertificateText};
 
 use crate::plan::{Bind, Certificate, EraPlan, Place};
 use itoa::Buffer;
@@ -42,7 +42,8 @@ fn put_counted(out: &mut Vec<u8>, number: u64, count: u32) -> Result<(), AllocEr
 }
 
 fn put_place(out: &mut Vec<u8>, place: Place) -> Result<(), AllocError>
-    ensures { OnOk result (out.new.items ≡ out.old.items ++ line (place_words place)) }
+    ensures text { OnOk result (out.new.items ≡ out.old.items ++ line (place_words place)) }
+    ensures numbers { HasNumbers place }
 {
     match place {
         Place::Answered(number) => put_answered(out, number),
@@ -63,7 +64,8 @@ fn put_bind(out: &mut Vec<u8>, bind: &Bind) -> Result<(), AllocError>
 }
 
 fn put_cut(out: &mut Vec<u8>, cut: Option<u64>) -> Result<(), AllocError>
-    ensures { OnOk result (out.new.items ≡ out.old.items ++ cut_lines cut) }
+    ensures text { OnOk result (out.new.items ≡ out.old.items ++ cut_lines cut) }
+    ensures number { IfSome cut (λ kept. kept < 2 ^ 64) }
 {
     let Some(kept) = cut else {
         return Ok(());
@@ -83,7 +85,8 @@ fn put_binds(out: &mut Vec<u8>, binds: &[Bind]) -> Result<(), AllocError>
 }
 
 fn put_places(out: &mut Vec<u8>, places: &[Place]) -> Result<(), AllocError>
-    ensures { OnOk result (out.new.items ≡ out.old.items ++ place_lines places.now) }
+    ensures text { OnOk result (out.new.items ≡ out.old.items ++ place_lines places.now) }
+    ensures numbers { OnOk result (AllByRecursion HasNumbers places.now) }
 {
     for place in places {
         put_place(out, *place)?;
@@ -92,14 +95,16 @@ fn put_places(out: &mut Vec<u8>, places: &[Place]) -> Result<(), AllocError>
 }
 
 fn put_era(out: &mut Vec<u8>, era: &EraPlan) -> Result<(), AllocError>
-    ensures { OnOk result (out.new.items ≡ out.old.items ++ era_lines era.now) }
+    ensures text { OnOk result (out.new.items ≡ out.old.items ++ era_lines era.now) }
+    ensures numbers { OnOk result (HasNumbersInEra era.now) }
 {
     put_places(out, era.places.as_slice())?;
     put_cut(out, era.cut)
 }
 
 fn put_eras(out: &mut Vec<u8>, eras: &[EraPlan]) -> Result<(), AllocError>
-    ensures { OnOk result (out.new.items ≡ out.old.items ++ flat_map era_lines eras.now) }
+    ensures text { OnOk result (out.new.items ≡ out.old.items ++ flat_map era_lines eras.now) }
+    ensures numbers { OnOk result (AllByRecursion HasNumbersInEra eras.now) }
 {
     for era in eras {
         put_era(out, era)?;
@@ -109,7 +114,9 @@ fn put_eras(out: &mut Vec<u8>, eras: &[EraPlan]) -> Result<(), AllocError>
 
 /// The text that spells the certificate, whether or not it keeps to what a certificate keeps to.
 pub fn write_certificate(alloc: Global, certificate: &Certificate) -> Result<Vec<u8>, AllocError>
-    ensures { IfOk result (λ text. text.items ≡ spelling certificate.now) }
+    ensures spelled { IfOk result (λ text. text.items ≡ spelling certificate.now) }
+    // One that keeps to it is read back.
+    ensures text { IsCertificate certificate.now → IfOk result (λ text. CertificateText text.items certificate.now) }
 {
     let mut out = Vec::new(alloc);
     out.extend_from_slice(b"witness 1\n")?;

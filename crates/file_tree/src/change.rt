@@ -3,9 +3,7 @@
 ghost use Rattle.std.specs.Prelude.{◌≡◌};
 ghost use Rattle.file_tree.specs.Undo.{undo_of};
 
-use tree_nodes::bytes::Path;
-use tree_nodes::node::Node;
-use tree_nodes::nodes::Nodes;
+use tree_nodes::{Node, Nodes, Path};
 
 /// What becomes of a tree.
 #[derive(Debug, Drop)]

@@ -8,15 +8,10 @@ ghost use Rattle.tree_nodes.specs.Files.{file_node};
 
 use crate::change::Change;
 use nfs3_types::{CreateArguments, CreateMode, FILE_LIMIT, FileHandle, Verifier};
-use replay_law::replay::StepFault;
+use replay_law::StepFault;
 use std::alloc::{AllocError, Global};
-use tree_handles::binds::Binds;
-use tree_handles::entry::is_plain;
-use tree_handles::live::{directory_of, gives_object};
-use tree_nodes::bytes::{Bytes, Path};
-use tree_nodes::content::resized;
-use tree_nodes::node::{Content, File, Node};
-use tree_nodes::nodes::{Nodes, count, entry_of, node_at};
+use tree_handles::{Binds, directory_of, gives_object, is_plain};
+use tree_nodes::{Bytes, Content, File, Node, Nodes, Path, count, entry_of, node_at, resized};
 
 /// The most nodes of a tree.
 pub const NODE_LIMIT: u64 = 4_294_967_295;
@@ -85,7 +80,7 @@ fn create_absent(
         && size <= FILE_LIMIT
         && gives_object(binds, handle, number)
     {
-        let node = new_file(alloc, number, mode, size).map_err(|_| StepFault::NoMemory)?;
+        let node = new_file(alloc, number, mode, size)?;
         Ok(Change::Put(path, node))
     } else {
         Err(StepFault::NotAllowed)
@@ -108,9 +103,7 @@ pub(crate) fn set_size(
     if size > FILE_LIMIT {
         return Err(StepFault::NotAllowed);
     }
-    let bytes = resized(alloc, file.bytes.as_slice(), size as usize).map_err(
-        |_| StepFault::NoMemory,
-    )?;
+    let bytes = resized(alloc, file.bytes.as_slice(), size as usize)?;
     let content = Content::File(File {
         bytes: Bytes::from_vec(bytes),
         verifier: file.verifier,
@@ -182,9 +175,7 @@ pub(crate) fn create_change(
     if !is_plain(name) {
         return Err(StepFault::NotAllowed);
     }
-    let path = directory
-        .child(alloc, name)
-        .map_err(|_| StepFault::NoMemory)?;
+    let path = directory.child(alloc, name)?;
     match node_at(nodes, &path) {
         None => create_absent(alloc, binds, nodes, number, &call.mode, handle, path),
         Some(node) => create_present(alloc, binds, &call.mode, handle, path, node),

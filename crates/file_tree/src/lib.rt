@@ -1,7 +1,7 @@
 //! The file tree that the calls of NFS version 3 act on, and the tree after a call with its outcome.
 #![tactic(auto)]
 
-pub mod change;
+mod change;
 mod create;
 #[cfg(test)]
 mod file_tests;
@@ -18,5 +18,9 @@ mod sample;
 mod success;
 #[cfg(test)]
 mod tests;
-pub mod tree;
+mod tree;
 mod write;
+
+pub use change::Undo;
+pub use tree::FileTree;
+pub use tree_handles::Binds;

@@ -7,15 +7,12 @@ ghost use Rattle.file_tree.specs.Success.{set_attributes, make_entry, make_direc
 use crate::change::Change;
 use crate::create::{NODE_LIMIT, set_size};
 use nfs3_types::{DirectoryName, FileHandle, MkDirArguments, SetAttrArguments, SymLinkArguments};
-use replay_law::replay::StepFault;
+use replay_law::StepFault;
 use std::alloc::Global;
-use tree_handles::binds::Binds;
-use tree_handles::entry::{is_plain, named};
-use tree_handles::kind::is_directory;
-use tree_handles::live::{directory_of, file_of, gives_object, live_entry};
-use tree_nodes::bytes::Bytes;
-use tree_nodes::node::{Content, Node};
-use tree_nodes::nodes::{Nodes, count, entry_of, is_bare, node_at};
+use tree_handles::{
+    Binds, directory_of, file_of, gives_object, is_directory, is_plain, live_entry, named,
+};
+use tree_nodes::{Bytes, Content, Node, Nodes, count, entry_of, is_bare, node_at};
 
 /// What a SETATTR makes of the tree.
 pub(crate) fn set_attributes(
@@ -30,7 +27,7 @@ pub(crate) fn set_attributes(
         let Some(entry) = file_of(binds, nodes, &call.object) else {
             return Err(StepFault::NotAllowed);
         };
-        let path = entry.path.copy(alloc).map_err(|_| StepFault::NoMemory)?;
+        let path = entry.path.copy(alloc)?;
         set_size(alloc, path, entry.object, entry.file, call.attributes.size)
     } else if live_entry(binds, nodes, &call.object).is_some() {
         Ok(Change::Keep)
@@ -55,9 +52,7 @@ fn make_entry(
         return Err(StepFault::NotAllowed);
     };
     let name = place.name.as_slice();
-    let path = directory
-        .child(alloc, name)
-        .map_err(|_| StepFault::NoMemory)?;
+    let path = directory.child(alloc, name)?;
     if is_plain(name)
         && node_at(nodes, &path).is_none()
         && entry_of(nodes, number).is_none()
@@ -107,7 +102,7 @@ pub(crate) fn make_link(
 ) -> Result<Change, StepFault>
     ensures { Answers result (make_link binds.now (tree_of nodes.now) number call.now handle.now) }
 {
-    let target = Bytes::from_slice(alloc, call.target.as_slice()).map_err(|_| StepFault::NoMemory)?;
+    let target = Bytes::from_slice(alloc, call.target.as_slice())?;
     make_entry(
         alloc,
         binds,
@@ -128,7 +123,7 @@ pub(crate) fn remove_entry(
 ) -> Result<Change, StepFault>
     ensures { Answers result (remove_entry binds.now (tree_of nodes.now) place.now) }
 {
-    match named(alloc, binds, nodes, place).map_err(|_| StepFault::NoMemory)? {
+    match named(alloc, binds, nodes, place)? {
         Some(spot) => {
             if !is_directory(&spot.node.content) && is_bare(nodes, &spot.path) {
                 Ok(Change::Remove(spot.path))
@@ -149,7 +144,7 @@ pub(crate) fn remove_directory(
 ) -> Result<Change, StepFault>
     ensures { Answers result (remove_directory binds.now (tree_of nodes.now) place.now) }
 {
-    match named(alloc, binds, nodes, place).map_err(|_| StepFault::NoMemory)? {
+    match named(alloc, binds, nodes, place)? {
         Some(spot) => {
             if is_directory(&spot.node.content) && is_bare(nodes, &spot.path) {
                 Ok(Change::Remove(spot.path))

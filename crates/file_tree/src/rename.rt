@@ -8,15 +8,10 @@ ghost use Rattle.file_tree.specs.Success.{may_replace, rename_at, rename};
 
 use crate::change::Change;
 use nfs3_types::RenameArguments;
-use replay_law::replay::StepFault;
+use replay_law::StepFault;
 use std::alloc::Global;
-use tree_handles::binds::Binds;
-use tree_handles::entry::{is_plain, named};
-use tree_handles::kind::is_directory;
-use tree_handles::live::directory_of;
-use tree_nodes::bytes::Path;
-use tree_nodes::node::{Content, Node};
-use tree_nodes::nodes::{Nodes, is_bare, node_at};
+use tree_handles::{Binds, directory_of, is_directory, is_plain, named};
+use tree_nodes::{Content, Node, Nodes, Path, is_bare, node_at};
 
 /// Whether such an object may take the place of a node, if any: both are directories, or neither is.
 fn may_replace(content: &Content, target: Option<&Node>) -> bool
@@ -52,7 +47,7 @@ pub(crate) fn rename(
 ) -> Result<Change, StepFault>
     ensures { Answers result (rename binds.now (tree_of nodes.now) call.now) }
 {
-    let Some(spot) = named(alloc, binds, nodes, &call.from).map_err(|_| StepFault::NoMemory)? else {
+    let Some(spot) = named(alloc, binds, nodes, &call.from)? else {
         return Err(StepFault::NotAllowed);
     };
     let Some(directory) = directory_of(binds, nodes, &call.to.directory) else {
@@ -62,8 +57,6 @@ pub(crate) fn rename(
     if !is_plain(name) {
         return Err(StepFault::NotAllowed);
     }
-    let to = directory
-        .child(alloc, name)
-        .map_err(|_| StepFault::NoMemory)?;
+    let to = directory.child(alloc, name)?;
     rename_at(nodes, spot.path, &spot.node.content, to)
 }

@@ -10,10 +10,10 @@ use nfs3_types::{
     DirectoryName, Held, MkDirArguments, Name, NfsCall, Outcome, RenameArguments, SetAttributes,
     SetTime,
 };
-use replay_law::replay::{Replayable, StepFault};
+use replay_law::{Replayable, StepFault};
 use std::alloc::{AllocError, Global};
 use std::test::Fail;
-use tree_handles::binds::Binds;
+use tree_handles::Binds;
 
 /// A name of one byte in the directory of this handle.
 fn place(alloc: Global, byte: u8, name: u8) -> Result<DirectoryName, AllocError> {
@@ -24,16 +24,10 @@ fn place(alloc: Global, byte: u8, name: u8) -> Result<DirectoryName, AllocError>
 }
 
 /// One step of a call that is taken.
-fn step(
-    alloc: Global,
-    tree: &mut FileTree,
-    binds: &Binds,
-    number: u64,
-    call: NfsCall,
-) -> Result<Undo, StepFault>
+fn step(tree: &mut FileTree, binds: &Binds, number: u64, call: NfsCall) -> Result<Undo, StepFault>
     ensures { IfOk result (λ undo. TakesBack undo tree.new tree.old) }
 {
-    tree.step(alloc, binds, number, &call, &Outcome::Taken(None))
+    tree.step(binds, number, &call, &Outcome::Taken(None))
 }
 
 /// MKDIR of a name in the directory of a handle.
@@ -68,17 +62,17 @@ fn rename(alloc: Global) -> Result<NfsCall, AllocError> {
 /// The root's handle 00, and aa for object 1.
 fn binds(alloc: Global) -> Result<Binds, AllocError> {
     let mut binds = Binds::of_root(alloc, &[0])?;
-    binds.push(alloc, &[0xaa], 1)?;
+    binds.push(&[0xaa], 1)?;
     Ok(binds)
 }
 
 /// The directories `a` and `a/b`, objects 1 and 2.
 fn nested(alloc: Global, binds: &Binds) -> Result<FileTree, StepFault> {
-    let mut tree = FileTree::opening(alloc, binds).map_err(|_| StepFault::NoMemory)?;
-    let call = make(alloc, 0, b'a').map_err(|_| StepFault::NoMemory)?;
-    step(alloc, &mut tree, binds, 1, call)?;
-    let call = make(alloc, 0xaa, b'b').map_err(|_| StepFault::NoMemory)?;
-    step(alloc, &mut tree, binds, 2, call)?;
+    let mut tree = FileTree::opening(alloc, binds)?;
+    let call = make(alloc, 0, b'a')?;
+    step(&mut tree, binds, 1, call)?;
+    let call = make(alloc, 0xaa, b'b')?;
+    step(&mut tree, binds, 2, call)?;
     Ok(tree)
 }
 
@@ -95,15 +89,15 @@ fn what_lies_below_goes_along(rt: HostRuntime) -> Result<(), Fail> {
     let binds = binds(alloc)?;
     let mut tree = nested(alloc, &binds)?;
     let mut before = Vec::new(alloc);
-    tree.print_state(alloc, &mut before)?;
+    tree.print_state(&mut before)?;
     let call = rename(alloc)?;
-    let undo = step(alloc, &mut tree, &binds, 3, call)?;
+    let undo = step(&mut tree, &binds, 3, call)?;
     let mut out = Vec::new(alloc);
-    tree.print_state(alloc, &mut out)?;
+    tree.print_state(&mut out)?;
     assert_eq!(rt; out.as_slice(), MOVED.as_slice());
-    let tree = tree.undo(alloc, undo)?;
+    let tree = tree.undo(undo)?;
     out.clear();
-    tree.print_state(alloc, &mut out)?;
+    tree.print_state(&mut out)?;
     assert_eq!(rt; out.as_slice(), before.as_slice());
     Ok(())
 }

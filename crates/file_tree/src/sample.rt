@@ -8,12 +8,10 @@ use nfs3_types::{
     DirectoryName, FileHandle, Name, NfsCall, Optional, Outcome, SetAttributes, SetTime, Verifier,
     WccData,
 };
-use replay_law::replay::StepFault;
+use replay_law::StepFault;
 use std::alloc::{AllocError, Global};
-use tree_handles::binds::Binds;
-use tree_nodes::bytes::{Bytes, Path};
-use tree_nodes::node::{Content, File, Node};
-use tree_nodes::nodes::{Nodes, moved, put, remove, root_alone};
+use tree_handles::Binds;
+use tree_nodes::{Bytes, Content, File, Node, Nodes, Path, moved, put, remove, root_alone};
 
 /// The tree in a line: each path, and behind it the object's number, a file's bytes behind `=`, its verifier behind
 /// `!`, and a link's text behind `>`.
@@ -46,7 +44,7 @@ pub(crate) fn attributes(size: Option<u64>) -> SetAttributes {
 fn binds(alloc: Global) -> Result<Binds, AllocError> {
     let mut binds = Binds::of_root(alloc, &[0])?;
     for object in 1..8u8 {
-        binds.push(alloc, &[object], object as u64)?;
+        binds.push(&[object], object as u64)?;
     }
     Ok(binds)
 }
@@ -143,8 +141,8 @@ fn changed(alloc: Global, change: Change) -> Result<Vec<u8>, AllocError> {
 
 /// What a call makes of the tree.
 fn change(alloc: Global, call: &NfsCall, outcome: &Outcome) -> Result<Change, StepFault> {
-    let binds = binds(alloc).map_err(|_| StepFault::NoMemory)?;
-    let nodes = nodes(alloc).map_err(|_| StepFault::NoMemory)?;
+    let binds = binds(alloc)?;
+    let nodes = nodes(alloc)?;
     change_of(alloc, &binds, &nodes, 7, call, outcome)
 }
 

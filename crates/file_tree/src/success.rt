@@ -14,14 +14,12 @@ use nfs3_types::{
     Answer, CreateArguments, DirectoryName, MkDirArguments, NfsCall, NfsReply, Outcome,
     RenameArguments, SetAttrArguments, SymLinkArguments, WriteArguments,
 };
-use replay_law::replay::StepFault;
+use replay_law::StepFault;
 use std::alloc::Global;
-use tree_failures::failure::is_permitted;
-use tree_handles::binds::Binds;
-use tree_nodes::nodes::Nodes;
-use tree_reads::listing::{listed, listed_plus};
-use tree_reads::look::{committed, got_attributes, got_text, looked_up};
-use tree_reads::read::got_bytes;
+use tree_failures::is_permitted;
+use tree_handles::Binds;
+use tree_nodes::Nodes;
+use tree_reads::{committed, got_attributes, got_bytes, got_text, listed, listed_plus, looked_up};
 
 /// The tree stays, where this is right.
 fn keep_if(right: bool) -> Result<Change, StepFault>
@@ -203,17 +201,11 @@ fn change_done(
 {
     match call {
         NfsCall::GetAttr(object) => keep_if(got_attributes(binds, nodes, object, reply)),
-        NfsCall::Lookup(place) => {
-            keep_if(looked_up(alloc, binds, nodes, place, reply).map_err(|_| StepFault::NoMemory)?)
-        }
+        NfsCall::Lookup(place) => keep_if(looked_up(alloc, binds, nodes, place, reply)?),
         NfsCall::ReadLink(link) => keep_if(got_text(binds, nodes, link, reply)),
         NfsCall::Read(call) => keep_if(got_bytes(binds, nodes, call, reply)),
-        NfsCall::ReadDir(call) => {
-            keep_if(listed(alloc, binds, nodes, call, reply).map_err(|_| StepFault::NoMemory)?)
-        }
-        NfsCall::ReadDirPlus(call) => {
-            keep_if(listed_plus(alloc, binds, nodes, call, reply).map_err(|_| StepFault::NoMemory)?)
-        }
+        NfsCall::ReadDir(call) => keep_if(listed(alloc, binds, nodes, call, reply)?),
+        NfsCall::ReadDirPlus(call) => keep_if(listed_plus(alloc, binds, nodes, call, reply)?),
         NfsCall::Commit(call) => keep_if(committed(binds, nodes, &call.file, reply)),
         NfsCall::Write(call) => change_written(alloc, binds, nodes, call, reply),
         NfsCall::Create(call) => change_created(alloc, binds, nodes, number, call, reply),
@@ -243,7 +235,7 @@ fn change_received(
     if !call.is_answered_by(reply) {
         return Err(StepFault::NotAllowed);
     }
-    keep_if(is_permitted(alloc, binds, nodes, call, failure).map_err(|_| StepFault::NoMemory)?)
+    keep_if(is_permitted(alloc, binds, nodes, call, failure)?)
 }
 
 /// The call is taken as done.

@@ -8,11 +8,10 @@ use nfs3_types::{
     Name, NfsCall, NfsReply, Optional, Outcome, ReadArguments, ReadSuccess, SetAttributes, SetTime,
     StableHow, Verifier, WccData, WriteArguments, WriteSuccess,
 };
-use replay_law::replay::{Replayable, StepFault};
-use replay_law::run::{RunFault, Step, run_steps};
+use replay_law::{EraRun, Replayable, RunFault, Step, StepFault, run_eras};
 use std::alloc::{AllocError, Global};
 use std::test::Fail;
-use tree_handles::binds::Binds;
+use tree_handles::Binds;
 
 /// Attributes neither before nor after.
 fn no_changes() -> WccData {
@@ -105,35 +104,43 @@ fn got(alloc: Global, bytes: &[u8], eof: bool) -> Result<Outcome, AllocError> {
 /// The root's handle 00, and aa for object 1.
 fn binds(alloc: Global) -> Result<Binds, AllocError> {
     let mut binds = Binds::of_root(alloc, &[0])?;
-    binds.push(alloc, &[0xaa], 1)?;
+    binds.push(&[0xaa], 1)?;
     Ok(binds)
 }
 
-/// CREATE of `a`, a WRITE of `abc`, and a READ that gives these bytes.
-fn placed(alloc: Global, bytes: &[u8], eof: bool) -> Result<Vec<(NfsCall, Outcome)>, AllocError> {
+/// CREATE of `a`, a WRITE of `abc`, and a READ that gives these bytes, numbered from 1.
+fn placed(
+    alloc: Global,
+    bytes: &[u8],
+    eof: bool,
+) -> Result<Vec<Step<NfsCall, Outcome>>, AllocError> {
     let mut placed = Vec::new(alloc);
-    placed.push((create(alloc)?, created(alloc, 0xaa)?))?;
-    placed.push((write(alloc)?, wrote(3, StableHow::FileSync)))?;
-    placed.push((read(alloc)?, got(alloc, bytes, eof)?))?;
+    placed.push(numbered(1, create(alloc)?, created(alloc, 0xaa)?))?;
+    placed.push(numbered(2, write(alloc)?, wrote(3, StableHow::FileSync)))?;
+    placed.push(numbered(3, read(alloc)?, got(alloc, bytes, eof)?))?;
     Ok(placed)
 }
 
-/// The run of these, numbered from 1.
-fn run(alloc: Global, placed: &[(NfsCall, Outcome)]) -> Result<Result<(), RunFault>, AllocError> {
-    let mut steps = Vec::new(alloc);
-    for (number, (call, outcome)) in (1..).zip(placed) {
-        steps.push(Step {
-            number,
-            call,
-            outcome,
-        })?;
+/// A step of a run.
+fn numbered(number: u64, call: NfsCall, outcome: Outcome) -> Step<NfsCall, Outcome> {
+    Step {
+        number,
+        call,
+        outcome,
     }
-    Ok(run_steps::<FileTree>(alloc, &binds(alloc)?, steps.as_slice()))
+}
+
+/// The run of these in one era.
+fn run(
+    alloc: Global,
+    placed: Vec<Step<NfsCall, Outcome>>,
+) -> Result<Result<(), RunFault>, AllocError> {
+    let eras = [EraRun::new(placed, 0)];
+    Ok(run_eras::<FileTree>(alloc, &binds(alloc)?, &eras))
 }
 
 /// One step.
 fn step(
-    alloc: Global,
     tree: &mut FileTree,
     binds: &Binds,
     number: u64,
@@ -142,22 +149,22 @@ fn step(
 ) -> Result<Undo, StepFault>
     ensures { IfOk result (λ undo. TakesBack undo tree.new tree.old) }
 {
-    tree.step(alloc, binds, number, &call, &outcome)
+    tree.step(binds, number, &call, &outcome)
 }
 
 #[test]
 fn a_written_file_is_read(rt: HostRuntime) -> Result<(), Fail> {
     let alloc = rt.alloc();
-    assert_eq!(rt; run(alloc, &placed(alloc, b"abc", true)?)?, Ok(()));
+    assert_eq!(rt; run(alloc, placed(alloc, b"abc", true)?)?, Ok(()));
     assert_eq!(rt;
-        run(alloc, &placed(alloc, b"abc", false)?)?,
+        run(alloc, placed(alloc, b"abc", false)?)?,
         Err(RunFault::Illegal(3))
     );
     assert_eq!(rt;
-        run(alloc, &placed(alloc, b"ab", true)?)?,
+        run(alloc, placed(alloc, b"ab", true)?)?,
         Err(RunFault::Illegal(3))
     );
-    assert_eq!(rt; run(alloc, &placed(alloc, b"ab", false)?)?, Ok(()));
+    assert_eq!(rt; run(alloc, placed(alloc, b"ab", false)?)?, Ok(()));
     Ok(())
 }
 
@@ -166,22 +173,15 @@ fn one_file_is_printed_and_taken_back(rt: HostRuntime) -> Result<(), Fail> {
     let alloc = rt.alloc();
     let binds = binds(alloc)?;
     let mut tree = FileTree::opening(alloc, &binds)?;
-    let _made = step(
-        alloc,
-        &mut tree,
-        &binds,
-        1,
-        create(alloc)?,
-        created(alloc, 0xaa)?,
-    )?;
+    let _made = step(&mut tree, &binds, 1, create(alloc)?, created(alloc, 0xaa)?)?;
     let done = wrote(3, StableHow::FileSync);
-    let undo = step(alloc, &mut tree, &binds, 2, write(alloc)?, done)?;
+    let undo = step(&mut tree, &binds, 2, write(alloc)?, done)?;
     let mut out = Vec::new(alloc);
-    tree.print_state(alloc, &mut out)?;
+    tree.print_state(&mut out)?;
     assert_eq!(rt; out.as_slice(), ONE_FILE.as_slice());
-    let before = tree.undo(alloc, undo)?;
+    let before = tree.undo(undo)?;
     out.clear();
-    before.print_state(alloc, &mut out)?;
+    before.print_state(&mut out)?;
     assert_eq!(rt; out.len(), 52);
     Ok(())
 }

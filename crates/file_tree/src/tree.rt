@@ -13,19 +13,17 @@ ghost use Rattle.tree_nodes.specs.Unprinted.{same_text};
 use crate::change::{Change, Undo, undo_of};
 use crate::success::change_of;
 use nfs3_types::{NfsCall, Outcome};
-use replay_law::replay::{Replayable, StepFault};
+use replay_law::{Replayable, StepFault};
 use std::alloc::{AllocError, Global};
 use std::marker::Model;
 use std::mem;
-use tree_handles::binds::Binds;
-use tree_nodes::bytes::Path;
-use tree_nodes::node::Node;
-use tree_nodes::nodes::{Nodes, moved, put, remove, root_alone, take};
-use tree_nodes::print::put_tree;
+use tree_handles::Binds;
+use tree_nodes::{Node, Nodes, Path, moved, put, put_tree, remove, root_alone, take};
 
 /// A file tree. Contracts see it as a finite map from paths to nodes.
 #[derive(Debug, Drop)]
 pub struct FileTree {
+    alloc: Global,
     nodes: Nodes,
 }
 
@@ -50,13 +48,13 @@ impl Model for FileTree {
 
 impl FileTree {
     /// Puts a node at a path.
-    fn put(&mut self, alloc: Global, path: Path, node: Node) -> Result<Undo, AllocError>
+    fn put(&mut self, path: Path, node: Node) -> Result<Undo, AllocError>
         requires { IsSound (map.insert self.old path node) }
         ensures ok { OnOk result (self.new ≡ map.insert self.old path node) }
         ensures undo { IfOk result (λ undo. TakesBack undo self.new self.old) }
         ensures err { OnErr result (self.new ≡ self.old) }
     {
-        let place = path.copy(alloc)?;
+        let place = path.copy(self.alloc)?;
         let before = put(&mut self.nodes, path, node)?;
         Ok(undo_of(place, before))
     }
@@ -72,13 +70,13 @@ impl FileTree {
     }
 
     /// Moves what stands from one path on to another.
-    fn rename(&mut self, alloc: Global, from: Path, to: Path) -> Result<Undo, AllocError>
+    fn rename(&mut self, from: Path, to: Path) -> Result<Undo, AllocError>
         requires { IsSound (moved self.old from to) }
         ensures ok { OnOk result (self.new ≡ moved self.old from to) }
         ensures undo { IfOk result (λ undo. TakesBack undo self.new self.old) }
         ensures err { OnErr result (self.new ≡ self.old) }
     {
-        let after = moved(alloc, &self.nodes, &from, &to)?;
+        let after = moved(self.alloc, &self.nodes, &from, &to)?;
         let before = mem::replace(&mut self.nodes, after);
         Ok(Undo::Whole(before))
     }
@@ -107,30 +105,27 @@ impl Replayable for FileTree {
 
     fn opening(alloc: Global, _setting: &Binds) -> Result<Self, AllocError> {
         Ok(FileTree {
+            alloc,
             nodes: root_alone(alloc)?,
         })
     }
 
     fn step(
         &mut self,
-        alloc: Global,
         setting: &Binds,
         number: u64,
         call: &NfsCall,
         outcome: &Outcome,
     ) -> Result<Undo, StepFault> {
-        match change_of(alloc, setting, &self.nodes, number, call, outcome)? {
+        match change_of(self.alloc, setting, &self.nodes, number, call, outcome)? {
             Change::Keep => Ok(Undo::Nothing),
-            Change::Put(path, node) => self.put(alloc, path, node).map_err(|_| StepFault::NoMemory),
+            Change::Put(path, node) => Ok(self.put(path, node)?),
             Change::Remove(path) => Ok(self.remove(path)),
-            Change::Move(from, to) => {
-                self.rename(alloc, from, to)
-                    .map_err(|_| StepFault::NoMemory)
-            }
+            Change::Move(from, to) => Ok(self.rename(from, to)?),
         }
     }
 
-    fn undo(mut self, _alloc: Global, undo: Undo) -> Result<Self, AllocError> {
+    fn undo(mut self, undo: Undo) -> Result<Self, AllocError> {
         match undo {
             Undo::Nothing => {}
             Undo::Restore(path, node) => {
@@ -142,8 +137,8 @@ impl Replayable for FileTree {
         Ok(self)
     }
 
-    fn print_state(&self, alloc: Global, out: &mut Vec<u8>) -> Result<(), AllocError> {
-        let mut text = Vec::new(alloc);
+    fn print_state(&self, out: &mut Vec<u8>) -> Result<(), AllocError> {
+        let mut text = Vec::new(self.alloc);
         put_tree(&mut text, &self.nodes)?;
         out.extend_from_slice(text.as_slice())
     }

@@ -7,14 +7,10 @@ ghost use Rattle.file_tree.specs.Success.{level_rank, reaches, write_at, write_c
 
 use crate::change::Change;
 use nfs3_types::{StableHow, WriteArguments};
-use replay_law::replay::StepFault;
+use replay_law::StepFault;
 use std::alloc::Global;
-use tree_handles::binds::Binds;
-use tree_handles::live::{FileEntry, file_of};
-use tree_nodes::bytes::Bytes;
-use tree_nodes::content::{front, is_within_limit, written};
-use tree_nodes::node::{Content, File, Node};
-use tree_nodes::nodes::Nodes;
+use tree_handles::{Binds, FileEntry, file_of};
+use tree_nodes::{Bytes, Content, File, Node, Nodes, front, is_within_limit, written};
 
 /// How much a level promises.
 fn rank(level: StableHow) -> u8
@@ -54,8 +50,8 @@ fn write_at(
     if !is_within_limit(bytes.len(), offset, added.len()) {
         return Err(StepFault::NotAllowed);
     }
-    let bytes = written(alloc, bytes, offset as usize, added).map_err(|_| StepFault::NoMemory)?;
-    let path = entry.path.copy(alloc).map_err(|_| StepFault::NoMemory)?;
+    let bytes = written(alloc, bytes, offset as usize, added)?;
+    let path = entry.path.copy(alloc)?;
     let content = Content::File(File {
         bytes: Bytes::from_vec(bytes),
         verifier: entry.file.verifier,

@@ -43,7 +43,7 @@ fn main(rt: HostRuntime) -> Result<()> {
     match kind.as_str() {
         "history" => {
             let history = history(&rt, args.next())?;
-            let (events, calls) = (history.events().len(), history.calls.as_slice().len());
+            let (events, calls) = (history.events().len(), history.calls());
             println!(rt; "{events} events, {calls} calls")?;
         }
         "certificate" => {

@@ -1,6 +1,6 @@
 //! One file of each fault, and one that is read and written.
 
-use history_file::{Event, HistoryFault, Which, WriteFault, read_file, write_history};
+use history_file::{Event, FileFault, WriteFault, read_file, write_history};
 use std::alloc::{AllocError, Global};
 use std::test::Fail;
 
@@ -22,7 +22,7 @@ fn patched(alloc: Global, at: usize, byte: u8) -> Result<Vec<u8>, AllocError> {
     Ok(bytes)
 }
 
-fn fault_of(alloc: Global, bytes: &[u8]) -> Option<HistoryFault> {
+fn fault_of(alloc: Global, bytes: &[u8]) -> Option<FileFault> {
     match read_file(alloc, bytes) {
         Ok(_) => None,
         Err(fault) => Some(fault),
@@ -51,16 +51,16 @@ fn a_file_is_read_and_written(rt: HostRuntime) -> Result<(), Fail> {
 #[test]
 fn each_bad_file_has_its_fault(rt: HostRuntime) -> Result<(), Fail> {
     let rows = [
-        (0, 0x4d, HistoryFault::BadMagic),
-        (11, 65, HistoryFault::TooLarge),
+        (0, 0x4d, FileFault::BadMagic),
+        (11, 65, FileFault::TooLarge),
         // 16,711,684 events, and 983,044.
-        (17, 0xff, HistoryFault::TooLarge),
-        (17, 0x0f, HistoryFault::Truncated),
-        (19, 5, HistoryFault::Truncated),
-        (19, 3, HistoryFault::Trailing),
-        (23, 9, HistoryFault::BadEvent(1)),
-        (28, 0xff, HistoryFault::TooLarge),
-        (55, 7, HistoryFault::BadEvent(3)),
+        (17, 0xff, FileFault::TooLarge),
+        (17, 0x0f, FileFault::Truncated),
+        (19, 5, FileFault::Truncated),
+        (19, 3, FileFault::Trailing),
+        (23, 9, FileFault::BadEvent(1)),
+        (28, 0xff, FileFault::TooLarge),
+        (55, 7, FileFault::BadEvent(3)),
     ];
     for (at, byte, fault) in rows {
         let bytes = patched(rt.alloc(), at, byte)?;
@@ -76,24 +76,12 @@ fn each_bad_file_has_its_fault(rt: HostRuntime) -> Result<(), Fail> {
 #[test]
 fn a_fault_prints_its_name_and_values(rt: HostRuntime) -> Result<(), Fail> {
     let rows = [
-        (HistoryFault::BadMagic, "BadMagic"),
-        (HistoryFault::TooLarge, "TooLarge"),
-        (HistoryFault::Truncated, "Truncated"),
-        (HistoryFault::BadEvent(1), "BadEvent 1"),
-        (HistoryFault::Trailing, "Trailing"),
-        (HistoryFault::LaneClosed(2), "LaneClosed 2"),
-        (HistoryFault::BadRpc(3), "BadRpc 3"),
-        (HistoryFault::XidInUse(4), "XidInUse 4"),
-        (HistoryFault::NoSuchCall(5), "NoSuchCall 5"),
-        (HistoryFault::Sealed(6), "Sealed 6"),
-        (HistoryFault::BadArgs(7), "BadArgs 7"),
-        (HistoryFault::BadResult(8), "BadResult 8"),
-        (
-            HistoryFault::Outside(9, Which::CountDiffers),
-            "Outside 9 CountDiffers",
-        ),
-        (HistoryFault::Outside(9, Which::TooFar), "Outside 9 TooFar"),
-        (HistoryFault::NotYet(10), "NotYet 10"),
+        (FileFault::BadMagic, "BadMagic"),
+        (FileFault::TooLarge, "TooLarge"),
+        (FileFault::Truncated, "Truncated"),
+        (FileFault::BadEvent(1), "BadEvent 1"),
+        (FileFault::Trailing, "Trailing"),
+        (FileFault::NoMemory, "out of memory"),
     ];
     for (fault, text) in rows {
         assert_eq!(rt; fault.to_string(rt.alloc())?.as_str(), text);

@@ -7,7 +7,7 @@ use Rattle.xdr_records.specs.Grammar.Grammar.{one_word, one_opaque, named, nothi
 use Rattle.xdr_records.specs.Spelling.{Spells}
 use Rattle.xdr_records.specs.Texts.{word_text, opaque_text}
 use Rattle.xdr_records.proofs.Written.{length-word_text, length-opaque_text, word_spelled, opaque_spelled, both_spelled, nothing_behind}
-use Rattle.history_file.specs.declared.fault.HistoryFault.{HistoryFault}
+use Rattle.history_file.specs.declared.fault.FileFault.{FileFault}
 use Rattle.history_file.specs.declared.event.Event as owned
 use Rattle.history_file.specs.declared.file.EventKind.TheVariants as kinds
 use Rattle.history_file.specs.Event.{Event}
@@ -34,7 +34,7 @@ event_spelled i (reply lane m) fits =
     (nothing_behind message (λ b. reply lane b) m (opaque_text m) (opaque_spelled 2097152 m (within m fits.1) fits.1)))
 event_spelled i (close lane) fits =
     both_spelled (named (event_kind i)) event_of kinds.Close (close lane) (word_text 2) (word_text lane) (2, word_spelled 2 (lit< tt), refl)
-    (nothing_behind {K = HistoryFault} one_word (λ l. close l) lane (word_text lane) (word_spelled lane fits))
+    (nothing_behind {K = FileFault} one_word (λ l. close l) lane (word_text lane) (word_spelled lane fits))
 event_spelled i crash fits = (kinds.Crash, record { front = word_text 3; back = []; parts = sym (append-nil (word_text 3)); first = (3, word_spelled 3 (lit< tt), refl); others = (refl, refl) })
 
 events_spelled : (i : ℕ) (es : List Event) → AllByRecursion EventFits es → Spells (events (length es) i) (events_text es) es

@@ -6,8 +6,8 @@ use Rattle.xdr_records.specs.Grammar.{Grammar, ◌>>=◌}
 use Rattle.xdr_records.specs.Grammar.Grammar.{one_word, one_opaque, named, nothing}
 use Rattle.xdr_records.specs.Spelling.{Spells}
 use Rattle.xdr_records.specs.Record.{record_limit}
-use Rattle.history_file.specs.declared.fault.HistoryFault.{HistoryFault}
-use Rattle.history_file.specs.declared.fault.HistoryFault.TheVariants as faults
+use Rattle.history_file.specs.declared.fault.FileFault.{FileFault}
+use Rattle.history_file.specs.declared.fault.FileFault.TheVariants as faults
 use Rattle.history_file.specs.declared.file.EventKind.{EventKind}
 use Rattle.history_file.specs.declared.file.EventKind.TheVariants as kinds
 use Rattle.history_file.specs.Limits.{file_limit, event_limit, root_limit}
@@ -15,14 +15,14 @@ use Rattle.history_file.specs.Event.{Event, Recording}
 use Rattle.history_file.specs.Event.Event.{call, reply, close, crash}
 
 -- what is wrong where an item can't be read
-abbrev pub kind_of : XdrFault → HistoryFault
+abbrev pub kind_of : XdrFault → FileFault
 kind_of xdr.Short = faults.Truncated
 kind_of xdr.BadFlag = faults.Truncated
 kind_of xdr.TooLong = faults.TooLarge
 kind_of xdr.Trailing = faults.Trailing
 
 -- the kind word of event i
-abbrev pub event_kind : ℕ → ℕ → Result EventKind HistoryFault
+abbrev pub event_kind : ℕ → ℕ → Result EventKind FileFault
 event_kind i zero = Ok kinds.Call
 event_kind i (suc zero) = Ok kinds.Reply
 event_kind i (suc (suc zero)) = Ok kinds.Close
@@ -30,10 +30,10 @@ event_kind i (suc (suc (suc zero))) = Ok kinds.Crash
 event_kind i (suc (suc (suc (suc n)))) = Err (faults.BadEvent i)
 
 -- a record of RPC, within its limit
-unfoldable pub message : Grammar HistoryFault (List ℕ)
+unfoldable pub message : Grammar FileFault (List ℕ)
 message = one_opaque record_limit
 
-abbrev pub event_of : EventKind → Grammar HistoryFault Event
+abbrev pub event_of : EventKind → Grammar FileFault Event
 event_of kinds.Call = do
   lane ← one_word
   bytes ← message
@@ -48,11 +48,11 @@ event_of kinds.Close = do
 event_of kinds.Crash = nothing crash
 
 -- event i
-unfoldable pub event : ℕ → Grammar HistoryFault Event
+unfoldable pub event : ℕ → Grammar FileFault Event
 event i = named (event_kind i) >>= event_of
 
 -- so many events, numbered from i on
-unfoldable pub events : ℕ → ℕ → Grammar HistoryFault (List Event)
+unfoldable pub events : ℕ → ℕ → Grammar FileFault (List Event)
 events zero i = nothing []
 events (suc n) i = do
   first ← event i
@@ -60,11 +60,11 @@ events (suc n) i = do
   nothing (first ∷ others)
 
 -- within the limit
-abbrev pub event_count : ℕ → Result ℕ HistoryFault
+abbrev pub event_count : ℕ → Result ℕ FileFault
 event_count n = if nat_le n event_limit then Ok n else Err faults.TooLarge
 
 -- what stands behind the magic
-unfoldable pub recording : Grammar HistoryFault Recording
+unfoldable pub recording : Grammar FileFault Recording
 recording = do
   root ← one_opaque root_limit
   count ← named event_count

@@ -2,7 +2,8 @@
 use Rattle.std.specs.Prelude.{List, map}
 use Rattle.history_file.specs.declared.event.Event as owned
 use Rattle.history_file.specs.declared.event.Event.TheVariants as owns
-use Rattle.history_file.specs.Event.{Event}
+use Rattle.history_file.specs.declared.file.SeenRecording.{SeenRecording}
+use Rattle.history_file.specs.Event.{Event, Recording}
 use Rattle.history_file.specs.Event.Event.{call, reply, close, crash}
 
 abbrev pub happened : owned.Event → Event
@@ -13,3 +14,7 @@ happened owns.Crash = crash
 
 abbrev pub all_happened : List owned.Event → List Event
 all_happened events = map happened events
+
+-- what stands in a file, without where it lies in memory
+abbrev pub recording_value : SeenRecording → Recording
+recording_value seen = record { root = seen.root.now; events = all_happened seen.events.items }

@@ -49,34 +49,3 @@ pub enum Event {
     /// The server went down, and came up again.
     Crash,
 }
-
-/// Events in the order in which they happened, numbered from 1. A contract sees the list.
-#[derive(Debug, Drop)]
-pub struct Events {
-    sequence: Vec<Event>,
-}
-
-impl Model for Events {
-    ghost use Rattle.std.specs.Prelude.{List};
-    ghost use Rattle.history_file.specs.declared.event.Event.{Event};
-
-    ghost Value = { List Event };
-
-    ghost view = { λ e. e.sequence.items };
-}
-
-impl Events {
-    /// A list of these.
-    pub fn new(sequence: Vec<Event>) -> Events
-        ensures { result ≡ sequence.items }
-    {
-        Events { sequence }
-    }
-
-    /// Its items.
-    pub fn as_slice(&self) -> &[Event]
-        ensures { result.now ≡ self.now }
-    {
-        self.sequence.as_slice()
-    }
-}

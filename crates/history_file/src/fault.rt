@@ -1,43 +1,12 @@
-//! Why bytes are no history.
+//! Why bytes are no history file.
 
 use std::alloc::{AllocError, AllocFailed};
-use std::error::Error;
 use std::fmt;
+use thiserror::Error;
 
-/// What a history holds that lies outside the model.
-#[derive(Clone, Copy, Debug, PartialEq, Eq)]
-pub enum Which {
-    /// A LINK that may have succeeded.
-    Link,
-    /// A MKNOD that may have succeeded.
-    Node,
-    /// A WRITE whose count isn't the length of its data.
-    CountDiffers,
-    /// A file that would pass 16,777,216 bytes.
-    TooFar,
-}
-
-impl fmt::Display for Which {
-    ghost use Rattle.std.specs.Prelude.{Some};
-    ghost use Rattle.history_file.specs.FaultText.{which_words};
-
-    ghost output = { λ which. Some (which_words which) };
-
-    fn fmt<W: fmt::Write>(&self, f: &mut fmt::Formatter<W>) -> fmt::Result {
-        match self {
-            Which::Link => f.write_str("Link"),
-            Which::Node => f.write_str("Node"),
-            Which::CountDiffers => f.write_str("CountDiffers"),
-            Which::TooFar => f.write_str("TooFar"),
-        }
-    }
-}
-
-impl Error for Which {}
-
-/// Why bytes are no history: the first fault, where events and calls are numbered from 1.
-#[derive(Clone, Copy, Debug, PartialEq, Eq)]
-pub enum HistoryFault {
+/// Why bytes are no history file: the first fault, where events are numbered from 1.
+#[derive(Clone, Copy, Debug, PartialEq, Eq, Error)]
+pub enum FileFault {
     /// The file doesn't begin as one.
     BadMagic,
     /// A limit is passed, by the file, its number of events, a record or the root handle.
@@ -48,74 +17,45 @@ pub enum HistoryFault {
     BadEvent(u64),
     /// Bytes stand behind the last event.
     Trailing,
-    /// An event on a lane that is closed.
-    LaneClosed(u64),
-    /// The message of an event isn't an RPC call, or reply, as the event says.
-    BadRpc(u64),
-    /// A call whose transaction number has an unanswered call on its lane.
-    XidInUse(u64),
-    /// A reply to no unanswered call of its lane.
-    NoSuchCall(u64),
-    /// A call with the credential flavor of RPCSEC_GSS, whose arguments can't be read.
-    Sealed(u64),
-    /// The arguments of a call aren't those of its procedure.
-    BadArgs(u64),
-    /// The result of a call isn't one of its procedure.
-    BadResult(u64),
-    /// A call that lies outside the model.
-    Outside(u64, Which),
-    /// An event of a kind that isn't judged yet.
-    NotYet(u64),
     NoMemory,
 }
 
-impl fmt::Display for HistoryFault {
+impl fmt::Display for FileFault {
     ghost use Rattle.std.specs.Prelude.{Some};
-    ghost use Rattle.history_file.specs.FaultText.{history_fault_words};
+    ghost use Rattle.history_file.specs.FaultText.{file_fault_words};
 
-    ghost output = { λ fault. Some (history_fault_words fault) };
+    ghost output = { λ fault. Some (file_fault_words fault) };
 
     fn fmt<W: fmt::Write>(&self, f: &mut fmt::Formatter<W>) -> fmt::Result {
         match self {
-            HistoryFault::BadMagic => f.write_str("BadMagic"),
-            HistoryFault::TooLarge => f.write_str("TooLarge"),
-            HistoryFault::Truncated => f.write_str("Truncated"),
-            HistoryFault::Trailing => f.write_str("Trailing"),
-            HistoryFault::BadEvent(number) => write!(f, "BadEvent {number}"),
-            HistoryFault::LaneClosed(number) => write!(f, "LaneClosed {number}"),
-            HistoryFault::BadRpc(number) => write!(f, "BadRpc {number}"),
-            HistoryFault::XidInUse(number) => write!(f, "XidInUse {number}"),
-            HistoryFault::NoSuchCall(number) => write!(f, "NoSuchCall {number}"),
-            HistoryFault::Sealed(number) => write!(f, "Sealed {number}"),
-            HistoryFault::BadArgs(number) => write!(f, "BadArgs {number}"),
-            HistoryFault::BadResult(number) => write!(f, "BadResult {number}"),
-            HistoryFault::NotYet(number) => write!(f, "NotYet {number}"),
-            HistoryFault::Outside(number, which) => write!(f, "Outside {number} {which}"),
-            HistoryFault::NoMemory => f.write_str("out of memory"),
+            FileFault::BadMagic => f.write_str("BadMagic"),
+            FileFault::TooLarge => f.write_str("TooLarge"),
+            FileFault::Truncated => f.write_str("Truncated"),
+            FileFault::BadEvent(number) => write!(f, "BadEvent {number}"),
+            FileFault::Trailing => f.write_str("Trailing"),
+            FileFault::NoMemory => f.write_str("out of memory"),
         }
     }
 }
 
-impl Error for HistoryFault {}
-
-impl From<AllocError> for HistoryFault {
+impl From<AllocError> for FileFault {
     ghost use Rattle.std.specs.Prelude.{◌≡◌};
-    ghost use Rattle.history_file.specs.declared.fault.HistoryFault.TheVariants.{NoMemory};
+    ghost use Rattle.history_file.specs.declared.fault.FileFault.TheVariants.{NoMemory};
 
     ghost from_gives = { λ _ e. e ≡ NoMemory };
 
-    fn from(_error: AllocError) -> HistoryFault {
-        HistoryFault::NoMemory
+    fn from(_error: AllocError) -> FileFault {
+        FileFault::NoMemory
     }
 }
 
-impl<T: Drop> From<AllocFailed<T>> for HistoryFault {
+impl<T: Drop> From<AllocFailed<T>> for FileFault {
     ghost use Rattle.std.specs.Prelude.{◌≡◌};
-    ghost use Rattle.history_file.specs.declared.fault.HistoryFault.TheVariants.{NoMemory};
+    ghost use Rattle.history_file.specs.declared.fault.FileFault.TheVariants.{NoMemory};
 
     ghost from_gives = { λ _ e. e ≡ NoMemory };
 
-    fn from(_error: AllocFailed<T>) -> HistoryFault {
-        HistoryFault::NoMemory
+    fn from(_error: AllocFailed<T>) -> FileFault {
+        FileFault::NoMemory
     }
 }

@@ -6,11 +6,14 @@ ghost use Rattle.xdr_records.specs.Grammar.Grammar.{one_word, one_opaque, named}
 ghost use Rattle.xdr_records.specs.Reading.{Answers, AnswersAll, all_of, item_here};
 ghost use Rattle.xdr_records.specs.Items.{end_at};
 ghost use Rattle.history_file.specs.HistoryFile.{kind_of, event_kind, event_count, message, event, events, recording, magic, HistoryFile};
-ghost use Rattle.history_file.specs.FileReading.{told, reading_of, recording_value, file_of, IsAnswer};
-ghost use Rattle.history_file.specs.Owning.{happened, all_happened};
+ghost use Rattle.history_file.specs.declared.fault.FileFault.{FileFault};
+ghost use Rattle.history_file.specs.Event.{Recording};
+ghost use Rattle.history_file.specs.FileFaults.{IsFileFault, IsFineOrNoMemory, IsErrorOf, IsThatOrNoMemory};
+ghost use Rattle.history_file.specs.FileReading.{told, reading_of, file_of, IsAnswer};
+ghost use Rattle.history_file.specs.Owning.{happened, all_happened, recording_value};
 
 use crate::event::{Event, Message};
-use crate::fault::HistoryFault;
+use crate::fault::FileFault;
 use crate::limits::{EVENT_LIMIT, FILE_LIMIT, ROOT_LIMIT};
 use std::alloc::{AllocError, AllocFailed, Global};
 use xdr_records::{RECORD_LIMIT, Reader, XdrFault};
@@ -34,61 +37,61 @@ pub struct SeenRecording<'a> {
     pub events: Vec<Event>,
 }
 
-/// Why a history file can't be read, and the item at fault.
+/// Why an item can't be read, and where it stands.
 #[derive(Clone, Copy, Debug, PartialEq, Eq)]
-pub enum FileFault {
-    Fault { at: usize, fault: HistoryFault },
+pub enum ItemFault {
+    Fault { at: usize, fault: FileFault },
     NoMemory,
 }
 
-impl From<AllocError> for FileFault {
+impl From<AllocError> for ItemFault {
     ghost use Rattle.std.specs.Prelude.{◌≡◌};
-    ghost use Rattle.history_file.specs.declared.file.FileFault.TheVariants.{NoMemory};
+    ghost use Rattle.history_file.specs.declared.file.ItemFault.TheVariants.{NoMemory};
 
     ghost from_gives = { λ _ e. e ≡ NoMemory };
 
-    fn from(_error: AllocError) -> FileFault {
-        FileFault::NoMemory
+    fn from(_error: AllocError) -> ItemFault {
+        ItemFault::NoMemory
     }
 }
 
-impl<T: Drop> From<AllocFailed<T>> for FileFault {
+impl<T: Drop> From<AllocFailed<T>> for ItemFault {
     ghost use Rattle.std.specs.Prelude.{◌≡◌};
-    ghost use Rattle.history_file.specs.declared.file.FileFault.TheVariants.{NoMemory};
+    ghost use Rattle.history_file.specs.declared.file.ItemFault.TheVariants.{NoMemory};
 
     ghost from_gives = { λ _ e. e ≡ NoMemory };
 
-    fn from(_error: AllocFailed<T>) -> FileFault {
-        FileFault::NoMemory
+    fn from(_error: AllocFailed<T>) -> ItemFault {
+        ItemFault::NoMemory
     }
 }
 
-fn fault_at(at: usize, fault: XdrFault) -> FileFault
-    ensures { result ≡ FileFault.Fault at (kind_of fault) }
+fn fault_at(at: usize, fault: XdrFault) -> ItemFault
+    ensures { result ≡ ItemFault.Fault at (kind_of fault) }
 {
     let fault = match fault {
-        XdrFault::Short | XdrFault::BadFlag => HistoryFault::Truncated,
-        XdrFault::TooLong => HistoryFault::TooLarge,
-        XdrFault::Trailing => HistoryFault::Trailing,
+        XdrFault::Short | XdrFault::BadFlag => FileFault::Truncated,
+        XdrFault::TooLong => FileFault::TooLarge,
+        XdrFault::Trailing => FileFault::Trailing,
     };
-    FileFault::Fault { at, fault }
+    ItemFault::Fault { at, fault }
 }
 
-fn word(reader: &mut Reader<'_>) -> Result<u32, FileFault>
+fn word(reader: &mut Reader<'_>) -> Result<u32, ItemFault>
     ensures { Answers told (λ n. n) reader.new result (reading_of one_word reader.old) }
 {
     let at = reader.offset();
     reader.u32().map_err(|fault| fault_at(at, fault))
 }
 
-fn opaque<'a>(reader: &mut Reader<'a>, limit: u32) -> Result<&'a [u8], FileFault>
+fn opaque<'a>(reader: &mut Reader<'a>, limit: u32) -> Result<&'a [u8], ItemFault>
     ensures { Answers told (λ bytes. bytes.now) reader.new result (reading_of (one_opaque limit) reader.old) }
 {
     let at = reader.offset();
     reader.opaque(limit).map_err(|fault| fault_at(at, fault))
 }
 
-fn kind(reader: &mut Reader<'_>, number: u64) -> Result<EventKind, FileFault>
+fn kind(reader: &mut Reader<'_>, number: u64) -> Result<EventKind, ItemFault>
     ensures { Answers told (λ k. k) reader.new result (reading_of (named (event_kind number)) reader.old) }
 {
     let at = reader.offset();
@@ -97,29 +100,29 @@ fn kind(reader: &mut Reader<'_>, number: u64) -> Result<EventKind, FileFault>
         1 => Ok(EventKind::Reply),
         2 => Ok(EventKind::Close),
         3 => Ok(EventKind::Crash),
-        _ => Err(FileFault::Fault {
+        _ => Err(ItemFault::Fault {
             at,
-            fault: HistoryFault::BadEvent(number),
+            fault: FileFault::BadEvent(number),
         }),
     }
 }
 
-fn count(reader: &mut Reader<'_>) -> Result<u32, FileFault>
+fn count(reader: &mut Reader<'_>) -> Result<u32, ItemFault>
     ensures { Answers told (λ n. n) reader.new result (reading_of (named event_count) reader.old) }
 {
     let at = reader.offset();
     let count = word(reader)?;
     if count > EVENT_LIMIT {
-        return Err(FileFault::Fault {
+        return Err(ItemFault::Fault {
             at,
-            fault: HistoryFault::TooLarge,
+            fault: FileFault::TooLarge,
         });
     }
     Ok(count)
 }
 
 #[tactic(auto, unfolding(crate::specs::HistoryFile::message))]
-fn message(alloc: Global, reader: &mut Reader<'_>) -> Result<Message, FileFault>
+fn message(alloc: Global, reader: &mut Reader<'_>) -> Result<Message, ItemFault>
     ensures { Answers told (λ m. m) reader.new result (reading_of message reader.old) }
 {
     let bytes = opaque(reader, RECORD_LIMIT as u32)?;
@@ -127,7 +130,7 @@ fn message(alloc: Global, reader: &mut Reader<'_>) -> Result<Message, FileFault>
 }
 
 #[tactic(auto, unfolding(crate::specs::HistoryFile::event))]
-fn one_event(alloc: Global, reader: &mut Reader<'_>, number: u64) -> Result<Event, FileFault>
+fn one_event(alloc: Global, reader: &mut Reader<'_>, number: u64) -> Result<Event, ItemFault>
     ensures { Answers told happened reader.new result (reading_of (event number) reader.old) }
 {
     match kind(reader, number)? {
@@ -151,7 +154,7 @@ fn one_event(alloc: Global, reader: &mut Reader<'_>, number: u64) -> Result<Even
 
 /// So many events, numbered from 1. The count is only what the file says: room is made for no more events than
 /// would cost as much as the bytes that are left.
-fn many_events(alloc: Global, reader: &mut Reader<'_>, count: u32) -> Result<Vec<Event>, FileFault>
+fn many_events(alloc: Global, reader: &mut Reader<'_>, count: u32) -> Result<Vec<Event>, ItemFault>
     ensures { Answers told (λ v. all_happened v.items) reader.new result (reading_of (events count 1) reader.old) }
 {
     let room = (reader.left() / EVENT_SIZE).min(count as usize);
@@ -167,7 +170,7 @@ fn many_events(alloc: Global, reader: &mut Reader<'_>, count: u32) -> Result<Vec
 fn root_and_events<'a>(
     alloc: Global,
     reader: &mut Reader<'a>,
-) -> Result<SeenRecording<'a>, FileFault>
+) -> Result<SeenRecording<'a>, ItemFault>
     ensures { Answers told recording_value reader.new result (reading_of recording reader.old) }
 {
     let root = opaque(reader, ROOT_LIMIT)?;
@@ -176,14 +179,14 @@ fn root_and_events<'a>(
     Ok(SeenRecording { root, events })
 }
 
-fn ended(reader: &Reader<'_>) -> Result<(), FileFault>
+fn ended(reader: &Reader<'_>) -> Result<(), ItemFault>
     ensures { AnswersAll told (λ n. n) result (item_here kind_of reader.now.at (end_at reader.now)) }
 {
     let at = reader.offset();
     reader.done().map_err(|fault| fault_at(at, fault))
 }
 
-fn body<'a>(alloc: Global, bytes: &'a [u8]) -> Result<SeenRecording<'a>, FileFault>
+fn body<'a>(alloc: Global, bytes: &'a [u8]) -> Result<SeenRecording<'a>, ItemFault>
     ensures { AnswersAll told recording_value result (all_of kind_of recording bytes.now) }
 {
     let mut reader = Reader::new(bytes);
@@ -198,20 +201,31 @@ fn has_magic(bytes: &[u8]) -> bool
     bytes.starts_with(b"NFSHIST1".as_slice())
 }
 
-/// The recording that a file holds.
-pub fn read_file<'a>(alloc: Global, bytes: &'a [u8]) -> Result<SeenRecording<'a>, HistoryFault>
-    ensures exact { IsAnswer recording_value result (file_of bytes.now) }
-    ensures found { IfOk result (λ r. HistoryFile bytes.now (recording_value r)) }
+/// The recording that a file holds, step by step.
+fn recording_of<'a>(alloc: Global, bytes: &'a [u8]) -> Result<SeenRecording<'a>, FileFault>
+    ensures { IsAnswer recording_value result (file_of bytes.now) }
 {
     if !has_magic(bytes) {
-        return Err(HistoryFault::BadMagic);
+        return Err(FileFault::BadMagic);
     }
     if bytes.len() > FILE_LIMIT {
-        return Err(HistoryFault::TooLarge);
+        return Err(FileFault::TooLarge);
     }
     match body(alloc, &bytes[8..]) {
         Ok(seen) => Ok(seen),
-        Err(FileFault::Fault { fault, .. }) => Err(fault),
-        Err(FileFault::NoMemory) => Err(HistoryFault::NoMemory),
+        Err(ItemFault::Fault { fault, .. }) => Err(fault),
+        Err(ItemFault::NoMemory) => Err(FileFault::NoMemory),
     }
+}
+
+/// The recording that a file holds.
+pub fn read_file<'a>(alloc: Global, bytes: &'a [u8]) -> Result<SeenRecording<'a>, FileFault>
+    ensures found { IfOk result (λ seen. HistoryFile bytes.now (recording_value seen)) }
+    // The file of a recording is read, memory aside.
+    ensures only { (seen : Recording) → HistoryFile bytes.now seen → IsFineOrNoMemory result }
+    ensures fault { IsErrorOf (IsFileFault bytes.now) result }
+    // The first fault is named, memory aside.
+    ensures named { (fault : FileFault) → IsFileFault bytes.now fault → IsThatOrNoMemory fault result }
+{
+    recording_of(alloc, bytes)
 }

@@ -7,7 +7,7 @@ mod file;
 mod limits;
 mod writing;
 
-pub use event::{Event, Events, Message};
-pub use fault::{HistoryFault, Which};
+pub use event::{Event, Message};
+pub use fault::FileFault;
 pub use file::{SeenRecording, read_file};
 pub use writing::{WriteFault, write_history};

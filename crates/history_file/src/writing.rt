@@ -11,12 +11,12 @@ ghost use Rattle.history_file.specs.declared.writing.WriteFault.{WriteFault};
 use crate::event::{Event, Message};
 use crate::limits::{EVENT_LIMIT, FILE_LIMIT, ROOT_LIMIT};
 use std::alloc::{AllocError, AllocFailed, Global};
-use std::error::Error;
 use std::fmt;
+use thiserror::Error;
 use xdr_records::{RECORD_LIMIT, put_opaque, put_u32};
 
 /// Why a history can't be written.
-#[derive(Clone, Copy, Debug, PartialEq, Eq)]
+#[derive(Clone, Copy, Debug, PartialEq, Eq, Error)]
 pub enum WriteFault {
     /// A limit is passed, by the file, its number of events, a message or the root handle.
     TooLarge,
@@ -36,8 +36,6 @@ impl fmt::Display for WriteFault {
         }
     }
 }
-
-impl Error for WriteFault {}
 
 impl From<AllocError> for WriteFault {
     ghost use Rattle.std.specs.Prelude.{◌≡◌};

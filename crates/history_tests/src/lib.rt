@@ -2,6 +2,10 @@
 #![tactic(auto)]
 
 #[cfg(test)]
+mod eras;
+#[cfg(test)]
 mod order;
 #[cfg(test)]
 mod reading;
+#[cfg(test)]
+mod samples;

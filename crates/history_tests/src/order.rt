@@ -1,74 +1,11 @@
 //! Plans against small histories: of two faults that compete the one that is named, and the pair of an early place.
 
+use crate::samples::{Step, history};
 use certificate::{BindList, Certificate, EraPlan, EraPlanList, Place, PlaceList};
-use nfs_history::{Events, History, Meaning, RecordedCall, RecordedCalls};
-use nfs3_types::{
-    Answer, Data, Failure, FileHandle, NfsCall, NfsReply, Optional, Outcome, ReadArguments,
-    StableHow, WriteArguments,
-};
-use order_check::{CheckFault, Fault, check_order, check_shape};
+use nfs_history::HistoryFault;
+use order_check::{ShapeFault, check_order, check_shape};
 use std::alloc::{AllocError, Global};
 use std::test::Fail;
-
-/// An answered READ, of a lane of its own.
-fn answered_read(
-    alloc: Global,
-    era: u64,
-    begin: u32,
-    end: u32,
-) -> Result<RecordedCall, AllocError> {
-    let file = FileHandle::from_slice(alloc, &[0xaa])?;
-    let arguments = ReadArguments {
-        file,
-        offset: 0,
-        count: 1,
-    };
-    let reply = NfsReply::Read(Answer::Failed(Failure::Stale, Optional::none()));
-    Ok(RecordedCall {
-        lane: begin,
-        xid: begin,
-        meaning: Meaning::Judged(NfsCall::Read(arguments)),
-        begin: u64::from(begin),
-        end: Some(u64::from(end)),
-        era,
-        outcome: Some(Outcome::Received(reply)),
-    })
-}
-
-/// A WRITE of two bytes that got no reply.
-fn unanswered_write(alloc: Global, era: u64, begin: u32) -> Result<RecordedCall, AllocError> {
-    let arguments = WriteArguments {
-        file: FileHandle::from_slice(alloc, &[0xaa])?,
-        offset: 0,
-        count: 2,
-        level: StableHow::Unstable,
-        bytes: Data::from_slice(alloc, b"ab")?,
-    };
-    Ok(RecordedCall {
-        lane: begin,
-        xid: begin,
-        meaning: Meaning::Judged(NfsCall::Write(arguments)),
-        begin: u64::from(begin),
-        end: None,
-        era,
-        outcome: None,
-    })
-}
-
-/// READs with their begins and ends, and behind them a WRITE without a reply in the last of two eras.
-fn history(alloc: Global, reads: &[(u32, u32)], write: u32) -> Result<History, AllocError> {
-    let mut calls = Vec::new(alloc);
-    for (begin, end) in reads {
-        calls.push(answered_read(alloc, 1, *begin, *end)?)?;
-    }
-    calls.push(unanswered_write(alloc, 2, write)?)?;
-    Ok(History {
-        root: FileHandle::from_slice(alloc, &[0xaa])?,
-        eras: 2,
-        calls: RecordedCalls::new(calls),
-        events: Events::new(Vec::new(alloc)),
-    })
-}
 
 /// The places of an era, each with the call's reply.
 fn era_of(alloc: Global, numbers: &[u64], cut: Option<u64>) -> Result<EraPlan, AllocError> {
@@ -95,7 +32,17 @@ fn plan_of(alloc: Global, first: EraPlan, second: EraPlan) -> Result<Certificate
 #[test]
 fn names_the_first_fault_of_the_shape(rt: HostRuntime) -> Result<(), Fail> {
     let alloc = rt.alloc();
-    let history = history(alloc, &[(1, 4), (2, 3)], 6)?;
+    let history = history(
+        alloc,
+        &[
+            Step::Read(1),
+            Step::Read(2),
+            Step::Answer(2),
+            Step::Answer(1),
+            Step::Crash,
+            Step::Write(3),
+        ],
+    )?;
     let rows: [(&[u64], u64, &[u64], &str); 7] = [
         (&[3, 1], 0, &[9], "Unknown 9"),
         (&[1, 1, 3], 0, &[], "WrongEra 3"),
@@ -122,7 +69,7 @@ fn names_the_first_fault_of_the_shape(rt: HostRuntime) -> Result<(), Fail> {
 #[test]
 fn another_number_of_eras_comes_first(rt: HostRuntime) -> Result<(), Fail> {
     let alloc = rt.alloc();
-    let history = history(alloc, &[], 1)?;
+    let history = history(alloc, &[Step::Crash, Step::Write(1)])?;
     let mut eras = Vec::new(alloc);
     eras.push(era_of(alloc, &[9], None)?)?;
     let plan = Certificate {
@@ -131,14 +78,14 @@ fn another_number_of_eras_comes_first(rt: HostRuntime) -> Result<(), Fail> {
     };
     assert_eq!(rt;
         check_shape(alloc, &history, &plan),
-        Err(CheckFault::No(Fault::WrongEras))
+        Err(ShapeFault::WrongEras)
     );
     Ok(())
 }
 
 /// Whether a WRITE of two bytes without a reply may be taken with this count.
-fn takes(alloc: Global, count: Option<u32>) -> Result<bool, AllocError> {
-    let history = history(alloc, &[], 1)?;
+fn takes(alloc: Global, count: Option<u32>) -> Result<bool, HistoryFault> {
+    let history = history(alloc, &[Step::Crash, Step::Write(1)])?;
     let mut places = Vec::new(alloc);
     places.push(Place::Taken(1, count))?;
     let second = EraPlan {
@@ -165,7 +112,21 @@ fn takes_a_write_with_at_most_its_bytes(rt: HostRuntime) -> Result<(), Fail> {
 #[test]
 fn names_the_early_pair(rt: HostRuntime) -> Result<(), Fail> {
     let alloc = rt.alloc();
-    let history = history(alloc, &[(1, 10), (2, 3), (4, 5), (6, 7)], 8)?;
+    let history = history(
+        alloc,
+        &[
+            Step::Read(1),
+            Step::Read(2),
+            Step::Answer(2),
+            Step::Read(3),
+            Step::Answer(3),
+            Step::Read(4),
+            Step::Answer(4),
+            Step::Write(5),
+            Step::Close(6),
+            Step::Answer(1),
+        ],
+    )?;
     let rows: [(&[u64], &[u64], &str); 7] = [
         (&[2, 1, 3, 4], &[5], ""),
         (&[4], &[5, 2], "Early 5 2"),

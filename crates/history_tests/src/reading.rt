@@ -51,11 +51,11 @@ fn fault_of(answer: Result<History, HistoryFault>) -> Option<HistoryFault> {
 #[test]
 fn a_history_is_read(rt: HostRuntime) -> Result<(), Fail> {
     let history = read_history(rt.alloc(), EXAMPLE)?;
-    assert_eq!(rt; history.root.as_slice(), [0].as_slice());
-    assert_eq!(rt; history.eras, 1);
+    assert_eq!(rt; history.root().as_slice(), [0].as_slice());
+    assert_eq!(rt; history.eras(), 1);
     let spans = [(1, 2), (3, 4), (5, 6)];
-    assert_eq!(rt; history.calls.as_slice().len(), spans.len());
-    for (call, (begin, end)) in history.calls.as_slice().iter().zip(spans) {
+    assert_eq!(rt; history.recorded_calls().len(), spans.len());
+    for (call, (begin, end)) in history.recorded_calls().iter().zip(spans) {
         assert_eq!(rt; call.begin, begin);
         assert_eq!(rt; call.end, Some(end));
         assert!(rt; call.outcome.is_some());
@@ -266,7 +266,7 @@ fn not_supported(alloc: Global) -> Result<Vec<u8>, AllocError> {
 /// Whether the last call is without effect, with its reply's number.
 fn unjudged_until(answer: Result<History, HistoryFault>) -> Option<u64> {
     match answer {
-        Ok(history) => match history.calls.as_slice() {
+        Ok(history) => match history.recorded_calls() {
             [call] if matches!(call.meaning, Meaning::Unjudged) && call.outcome.is_none() => {
                 Some(call.end.unwrap_or(0))
             }
@@ -349,8 +349,8 @@ fn faults_of_events_come_before_those_of_calls(rt: HostRuntime) -> Result<(), Fa
         ([NO_ARGUMENTS, CLOSE], HistoryFault::BadArgs(1)),
         ([NO_ARGUMENTS, sealed.as_slice()], HistoryFault::XidInUse(2)),
         ([NO_ARGUMENTS, EMPTY_CALL], HistoryFault::BadRpc(2)),
-        ([sealed.as_slice(), CRASH], HistoryFault::NotYet(2)),
-        ([EMPTY_CALL, CRASH], HistoryFault::NotYet(2)),
+        ([sealed.as_slice(), CRASH], HistoryFault::Sealed(1)),
+        ([EMPTY_CALL, CRASH], HistoryFault::BadRpc(1)),
         (
             [call.as_slice(), sealed.as_slice()],
             HistoryFault::Sealed(2),
@@ -401,27 +401,36 @@ fn a_history_shows_its_events_and_calls(rt: HostRuntime) -> Result<(), Fail> {
     for (event, place) in history.events().iter().zip([32..116, 128..180, 192..264]) {
         assert_eq!(rt; message_of(event), &EXAMPLE[place]);
     }
-    assert!(rt; history.call(0).is_none());
-    assert!(rt; history.call(4).is_none());
-    assert_eq!(rt; history.begin(3), Some(5));
-    assert_eq!(rt; history.end(3), Some(6));
-    assert_eq!(rt; history.end(4), None);
-    assert_eq!(rt; history.era(2), Some(1));
-    assert!(rt; history.outcome(1).is_some());
-    assert!(rt; history.outcome(4).is_none());
+    assert!(rt; history.find_call(0).is_none());
+    assert!(rt; history.find_call(4).is_none());
+    assert_eq!(rt; history.calls(), 3);
+    if history.calls() == 3 {
+        assert_eq!(rt; history.call(3).lane, 2);
+        assert_eq!(rt; history.begin(3), 5);
+        assert_eq!(rt; history.end(3), Some(6));
+        assert_eq!(rt; history.era(2), 1);
+        assert!(rt; history.outcome(1).is_some());
+    }
     Ok(())
+}
+
+/// When the last call began, and when it ended.
+fn ends(history: &History) -> (u64, Option<u64>) {
+    match history.recorded_calls() {
+        [.., last] => (last.begin, last.end),
+        [] => (0, None),
+    }
 }
 
 #[test]
 fn a_history_is_built_of_events(rt: HostRuntime) -> Result<(), Fail> {
     let history = built_with(rt.alloc(), Event::Close { lane: 1 })?;
     assert_eq!(rt; history.events().len(), 3);
-    assert_eq!(rt; history.end(1), Some(2));
-    assert_eq!(rt; history.root.as_slice(), [0].as_slice());
+    assert_eq!(rt; ends(&history), (1, Some(2)));
+    assert_eq!(rt; history.root().as_slice(), [0].as_slice());
     let again = call_event(rt.alloc(), &EXAMPLE[192..264])?;
     let history = built_with(rt.alloc(), again)?;
-    assert_eq!(rt; history.begin(2), Some(3));
-    assert_eq!(rt; history.end(2), None);
+    assert_eq!(rt; ends(&history), (3, None));
     Ok(())
 }
 
@@ -437,9 +446,33 @@ fn the_first_fault_of_events_is_named(rt: HostRuntime) -> Result<(), Fail> {
         fault_of(built_with(rt.alloc(), other)),
         Some(HistoryFault::NoSuchCall(3))
     );
-    assert_eq!(rt;
-        fault_of(built_with(rt.alloc(), Event::Crash)),
-        Some(HistoryFault::NotYet(3))
-    );
+    Ok(())
+}
+
+#[test]
+fn a_fault_prints_its_name_and_values(rt: HostRuntime) -> Result<(), Fail> {
+    let rows = [
+        (HistoryFault::BadMagic, "BadMagic"),
+        (HistoryFault::TooLarge, "TooLarge"),
+        (HistoryFault::Truncated, "Truncated"),
+        (HistoryFault::BadEvent(1), "BadEvent 1"),
+        (HistoryFault::Trailing, "Trailing"),
+        (HistoryFault::LaneClosed(2), "LaneClosed 2"),
+        (HistoryFault::BadRpc(3), "BadRpc 3"),
+        (HistoryFault::XidInUse(4), "XidInUse 4"),
+        (HistoryFault::NoSuchCall(5), "NoSuchCall 5"),
+        (HistoryFault::Sealed(6), "Sealed 6"),
+        (HistoryFault::BadArgs(7), "BadArgs 7"),
+        (HistoryFault::BadResult(8), "BadResult 8"),
+        (
+            HistoryFault::Outside(9, Which::CountDiffers),
+            "Outside 9 CountDiffers",
+        ),
+        (HistoryFault::Outside(9, Which::TooFar), "Outside 9 TooFar"),
+        (HistoryFault::NoMemory, "out of memory"),
+    ];
+    for (fault, text) in rows {
+        assert_eq!(rt; fault.to_string(rt.alloc())?.as_str(), text);
+    }
     Ok(())
 }

@@ -13,3 +13,4 @@ mod value;
 
 pub use fault::{Kind, MessageFault};
 pub use messages::{put_args, put_result, read_args, read_result};
+pub use nfs3_types::{NfsCall, NfsReply, Outcome};

@@ -9,14 +9,15 @@ use Rattle.nfs3_types.specs.declared.calls.NfsCall.{NfsCall}
 use Rattle.nfs3_types.specs.declared.replies.Outcome.{Outcome}
 use Rattle.nfs3_msgs.specs.Messages.{arguments, results, arguments_of, result_of}
 use Rattle.nfs3_msgs.specs.Told as told
-use Rattle.history_file.specs.declared.fault.HistoryFault.{HistoryFault}
-use Rattle.history_file.specs.declared.fault.HistoryFault.TheVariants as faults
+use Rattle.nfs_history.specs.declared.fault.CallFault.{CallFault}
+use Rattle.nfs_history.specs.declared.fault.CallFault.TheVariants as faults
 use Rattle.nfs_history.specs.declared.history.Meaning.{Meaning}
 use Rattle.nfs_history.specs.declared.history.Meaning.TheVariants as meanings
 use Rattle.nfs_history.specs.declared.history.RecordedCall.{RecordedCall}
 use Rattle.nfs_history.specs.Calls.{ReplyEvent, CallEvent}
 use Rattle.nfs_history.specs.Effects.{Says, results_of, has_no_effect}
-use Rattle.nfs_history.specs.History.{outside, CameOut, IsJudged, IsKnownAs, AreRecorded}
+use Rattle.nfs_history.specs.History.{CameOut, IsJudged, IsKnownAs, AreRecorded}
+use Rattle.nfs_history.specs.Outside.{outside}
 use Rattle.nfs_history.specs.CallFaults.{IsCallFault, IsFine, FirstCallFault}
 use Rattle.nfs_history.specs.Judging.{outside_fault, result_fault, effect_fault, fault_of}
 use Rattle.nfs_history.proofs.CallFaultTable.{found_of}
@@ -29,7 +30,7 @@ one_answer (Some event) a b x y = x.2 ∙ ap (λ (body : Body). Some body) (one_
 
 -- ---- what is known of a call is no fault
 
-none_anyway : (b : Bool) (o : Option HistoryFault) → o ≡ None → cond b None o ≡ None
+none_anyway : (b : Bool) (o : Option CallFault) → o ≡ None → cond b None o ≡ None
 none_anyway true o none = refl
 none_anyway false o none = none
 
@@ -49,7 +50,7 @@ known_kept : (n : ℕ) (head : CallValue) (body : Option Body) (meaning : Meanin
 known_kept n head body (meanings.Judged call) outcome known = none_anyway (has_no_effect head body) (effect_fault n head (results_of body)) (judged_kept n head body call outcome known)
 known_kept n head body meanings.Unjudged outcome known = rw known.0 refl
 
-call_fault_or_fine : (n : ℕ) (event : CallEvent) (fault : HistoryFault) → IsCallFault n event fault → IsFine event → ⊥
+call_fault_or_fine : (n : ℕ) (event : CallEvent) (fault : CallFault) → IsCallFault n event fault → IsFine event → ⊥
 call_fault_or_fine n event fault (head, body, is_call, says, effect, of) fine =
     let is = found_of n head body fault effect of in
     let means = fine.2 in
@@ -59,10 +60,10 @@ call_fault_or_fine n event fault (head, body, is_call, says, effect, of) fine =
     let both : None ≡ Some fault = sym none ∙ is in
     absurd cc
 
-some_is : (f g : HistoryFault) → Some f ≡ Some g → f ≡ g
+some_is : (f g : CallFault) → Some f ≡ Some g → f ≡ g
 some_is f g e = cc
 
-one_call_fault : (n : ℕ) (event : CallEvent) (f g : HistoryFault) → IsCallFault n event f → IsCallFault n event g → f ≡ g
+one_call_fault : (n : ℕ) (event : CallEvent) (f g : CallFault) → IsCallFault n event f → IsCallFault n event g → f ≡ g
 one_call_fault n event f g (head, body, is_call, says, effect, of) (head', body', is_call', says', effect', of') =
     let is = found_of n head body f effect of in
     let is' = found_of n head' body' g effect' of' in
@@ -71,12 +72,12 @@ one_call_fault n event f g (head, body, is_call, says, effect, of) (head', body'
     let moved : fault_of n head body ≡ Some g = subst (λ (h : CallValue). fault_of n h body ≡ Some g) heads_are (subst (λ (b : Option Body). fault_of n head' b ≡ Some g) bodies_are is') in
     some_is f g (sym is ∙ moved)
 
-pub first_call_fault_or_fine : (n : ℕ) (events : List CallEvent) (fault : HistoryFault) → FirstCallFault n events fault → AllByRecursion IsFine events → ⊥
+pub first_call_fault_or_fine : (n : ℕ) (events : List CallEvent) (fault : CallFault) → FirstCallFault n events fault → AllByRecursion IsFine events → ⊥
 first_call_fault_or_fine n [] fault h fine = h
 first_call_fault_or_fine n (event ∷ events) fault (inl h) fine = call_fault_or_fine n event fault h fine.0
 first_call_fault_or_fine n (event ∷ events) fault (inr h) fine = first_call_fault_or_fine (n + 1) events fault h.1 fine.1
 
-pub one_first_call_fault : (n : ℕ) (events : List CallEvent) (f g : HistoryFault) → FirstCallFault n events f → FirstCallFault n events g → f ≡ g
+pub one_first_call_fault : (n : ℕ) (events : List CallEvent) (f g : CallFault) → FirstCallFault n events f → FirstCallFault n events g → f ≡ g
 one_first_call_fault n [] f g x y = absurd x
 one_first_call_fault n (event ∷ events) f g (inl x) (inl y) = one_call_fault n event f g x y
 one_first_call_fault n (event ∷ events) f g (inl x) (inr y) = absurd (call_fault_or_fine n event f x y.0)

@@ -11,18 +11,19 @@ use Rattle.rpc_reader.specs.Values.{CallValue, Body}
 use Rattle.nfs3_msgs.specs.declared.fault.Kind.{Kind}
 use Rattle.nfs3_msgs.specs.Messages.{arguments, results, arguments_of, result_of, IsArguments}
 use Rattle.nfs3_msgs.specs.Told as told
-use Rattle.history_file.specs.declared.fault.Which.{Which}
-use Rattle.history_file.specs.declared.fault.HistoryFault.{HistoryFault}
-use Rattle.history_file.specs.declared.fault.HistoryFault.TheVariants as faults
+use Rattle.nfs_history.specs.declared.fault.Which.{Which}
+use Rattle.nfs_history.specs.declared.fault.CallFault.{CallFault}
+use Rattle.nfs_history.specs.declared.fault.CallFault.TheVariants as faults
 use Rattle.nfs_history.specs.Calls.{CallEvent}
 use Rattle.nfs_history.specs.Effects.{was_refused, is_of_nfs, has_failed_status, results_of, is_judged, is_left_out, has_no_effect}
-use Rattle.nfs_history.specs.History.{CameOut, outside}
+use Rattle.nfs_history.specs.History.{CameOut}
+use Rattle.nfs_history.specs.Outside.{outside}
 use Rattle.nfs_history.specs.CallFaults.{which_left_out, AreNoArguments, IsBadResult, LiesOutside, IsEffectFault, IsCallFault}
 use Rattle.nfs_history.specs.Judging.{left_out, outside_fault, answered_fault, result_fault, argued_fault, judged_fault, effect_fault, fault_of, IsFound}
 
 -- ---- Bools
 
-some_is : (f g : HistoryFault) → Some f ≡ Some g → f ≡ g
+some_is : (f g : CallFault) → Some f ≡ Some g → f ≡ g
 some_is f g e = cc
 
 differ : (b : Bool) → b ≡ true → b ≡ false → ⊥
@@ -33,7 +34,7 @@ second_is : (a b : Bool) → (a || b) ≡ false → b ≡ false
 second_is false b e = e
 second_is true b e = absurd (cc)
 
-not_six : (flavor : ℕ) → (flavor == 6) ≡ false → flavor ≢ 6
+pub not_six : (flavor : ℕ) → (flavor == 6) ≡ false → flavor ≢ 6
 not_six flavor is six = let wrong : (6 == 6) ≡ false = subst (λ (n : ℕ). (n == 6) ≡ false) six is in absurd (cc)
 
 -- a call that may have an effect, whose procedure isn't judged, is a MKNOD or a LINK
@@ -66,10 +67,10 @@ not_judged procedure left = go (is_judged procedure) refl where
 -- ---- what is found is in the table
 
 -- the fault is of the table
-abbrev InTable : ℕ → CallValue → Option (List ℕ) → HistoryFault → Type 0
+abbrev InTable : ℕ → CallValue → Option (List ℕ) → CallFault → Type 0
 InTable n head shown fault = IsEffectFault n head shown fault
 
-table_left_out : (n : ℕ) (head : CallValue) (shown : Option (List ℕ)) (fault : HistoryFault) → head.flavor ≢ 6 → is_left_out head.procedure ≡ true
+table_left_out : (n : ℕ) (head : CallValue) (shown : Option (List ℕ)) (fault : CallFault) → head.flavor ≢ 6 → is_left_out head.procedure ≡ true
     → Some (left_out n (which_left_out head.procedure) shown) ≡ Some fault → InTable n head shown fault
 table_left_out n head None fault six left is = subst (InTable n head None) (some_is _ fault is) (refl, six, inl (left, (λ h. h), refl))
 table_left_out n head (Some bytes) fault six left is = go (nat_lt (length bytes) 4) refl is where
@@ -81,14 +82,14 @@ table_left_out n head (Some bytes) fault six left is = go (nat_lt (length bytes)
         is_true true h = refl
         is_true false h = absurd h
 
-table_outside : (n : ℕ) (head : CallValue) (shown : Option (List ℕ)) (call : NfsCall) (outcome : Option Outcome) (fault : HistoryFault) → head.flavor ≢ 6 → is_judged head.procedure ≡ true
+table_outside : (n : ℕ) (head : CallValue) (shown : Option (List ℕ)) (call : NfsCall) (outcome : Option Outcome) (fault : CallFault) → head.flavor ≢ 6 → is_judged head.procedure ≡ true
     → IsArguments head.procedure head.args call → CameOut head.procedure shown outcome → outside_fault n call outcome ≡ Some fault → InTable n head shown fault
 table_outside n head shown call outcome fault six judged asked came is = go (outside call outcome) refl is where
   go : (o : Option Which) → outside call outcome ≡ o → option_map (λ which. faults.Outside n which) o ≡ Some fault → InTable n head shown fault
   go None none is = absurd (cc)
   go (Some which) some is = subst (InTable n head shown) (some_is _ fault is) (refl, six, inr (judged, call, outcome, asked, came, some))
 
-table_result : (n : ℕ) (head : CallValue) (shown : Option (List ℕ)) (call : NfsCall) (fault : HistoryFault) → head.flavor ≢ 6 → is_judged head.procedure ≡ true
+table_result : (n : ℕ) (head : CallValue) (shown : Option (List ℕ)) (call : NfsCall) (fault : CallFault) → head.flavor ≢ 6 → is_judged head.procedure ≡ true
     → IsArguments head.procedure head.args call → result_fault n head.procedure call shown ≡ Some fault → InTable n head shown fault
 table_result n head None call fault six judged asked is = table_outside n head None call None fault six judged asked refl is
 table_result n head (Some bytes) call fault six judged asked is = go (result_of head.procedure bytes) refl is where
@@ -99,7 +100,7 @@ table_result n head (Some bytes) call fault six judged asked is = go (result_of 
   go (Err at) read is = subst (InTable n head (Some bytes)) (some_is _ fault is)
       (refl, six, inr (judged, (call, asked), (bytes, refl, (λ some. let fine = all_again told.kind_of (results head.procedure) bytes some.0 some.1 in let wrong : Ok some.0 ≡ Err at = sym fine ∙ read in absurd (cc)))))
 
-table_judged : (n : ℕ) (head : CallValue) (shown : Option (List ℕ)) (fault : HistoryFault) → head.flavor ≢ 6 → is_judged head.procedure ≡ true
+table_judged : (n : ℕ) (head : CallValue) (shown : Option (List ℕ)) (fault : CallFault) → head.flavor ≢ 6 → is_judged head.procedure ≡ true
     → judged_fault n head.procedure head.args shown ≡ Some fault → InTable n head shown fault
 table_judged n head shown fault six judged is = go (arguments_of head.procedure head.args) refl is where
   go : (read : Result NfsCall (At Kind)) → arguments_of head.procedure head.args ≡ read → argued_fault n head.procedure shown read ≡ Some fault → InTable n head shown fault
@@ -107,7 +108,7 @@ table_judged n head shown fault six judged is = go (arguments_of head.procedure 
   go (Err at) read is = subst (InTable n head shown) (some_is _ fault is)
       (refl, six, judged, (λ some. let fine = all_again told.kind_of (arguments head.procedure) head.args some.0 some.1 in let wrong : Ok some.0 ≡ Err at = sym fine ∙ read in absurd (cc)))
 
-table_effect : (n : ℕ) (head : CallValue) (body : Option Body) (fault : HistoryFault) → has_no_effect head body ≡ false
+table_effect : (n : ℕ) (head : CallValue) (body : Option Body) (fault : CallFault) → has_no_effect head body ≡ false
     → effect_fault n head (results_of body) ≡ Some fault → InTable n head (results_of body) fault
 table_effect n head body fault effect is = go (head.flavor == 6) refl is where
   judged_or_not : (j : Bool) → is_judged head.procedure ≡ j → (head.flavor == 6) ≡ false
@@ -121,7 +122,7 @@ table_effect n head body fault effect is = go (head.flavor == 6) refl is where
   go true six is = subst (InTable n head (results_of body)) (some_is _ fault is) (refl, eqb-true head.flavor 6 six)
   go false six is = judged_or_not (is_judged head.procedure) refl six is
 
-pub call_fault_found : (n : ℕ) (event : CallEvent) (fault : HistoryFault) → IsFound n event fault → IsCallFault n event fault
+pub call_fault_found : (n : ℕ) (event : CallEvent) (fault : CallFault) → IsFound n event fault → IsCallFault n event fault
 call_fault_found n event fault (head, body, is_call, says, is) = go (has_no_effect head body) refl is where
   go : (b : Bool) → has_no_effect head body ≡ b → cond b None (effect_fault n head (results_of body)) ≡ Some fault → IsCallFault n event fault
   go true none is = absurd (cc)
@@ -164,22 +165,11 @@ found_bad_arguments n head shown none six judged = rw (ne_eqb head.flavor 6 six,
   go (Ok call) found = absurd (none (call, all_found told.kind_of (arguments head.procedure) head.args call found))
   go (Err at) found = refl
 
-found_effect : (n : ℕ) (head : CallValue) (shown : Option (List ℕ)) (fault : HistoryFault) → IsEffectFault n head shown fault → effect_fault n head shown ≡ Some fault
+found_effect : (n : ℕ) (head : CallValue) (shown : Option (List ℕ)) (fault : CallFault) → IsEffectFault n head shown fault → effect_fault n head shown ≡ Some fault
 found_effect n head shown (faults.Sealed at) (is, six) = rw six (ap (λ (k : ℕ). Some (faults.Sealed k)) (sym is))
 found_effect n head shown (faults.BadArgs at) (is, six, judged, none) = found_bad_arguments n head shown none six judged ∙ ap (λ (k : ℕ). Some (faults.BadArgs k)) (sym is)
 found_effect n head shown (faults.BadResult at) (is, six, bad) = found_bad_result n head shown bad six ∙ ap (λ (k : ℕ). Some (faults.BadResult k)) (sym is)
 found_effect n head shown (faults.Outside at which) (is, six, lies) = found_outside n head shown which lies six ∙ ap (λ (k : ℕ). Some (faults.Outside k which)) (sym is)
-found_effect n head shown faults.BadMagic h = absurd h
-found_effect n head shown faults.TooLarge h = absurd h
-found_effect n head shown faults.Truncated h = absurd h
-found_effect n head shown faults.Trailing h = absurd h
-found_effect n head shown (faults.BadEvent at) h = absurd h
-found_effect n head shown (faults.LaneClosed at) h = absurd h
-found_effect n head shown (faults.BadRpc at) h = absurd h
-found_effect n head shown (faults.XidInUse at) h = absurd h
-found_effect n head shown (faults.NoSuchCall at) h = absurd h
-found_effect n head shown (faults.NotYet at) h = absurd h
-found_effect n head shown faults.NoMemory h = absurd h
 
-pub found_of : (n : ℕ) (head : CallValue) (body : Option Body) (fault : HistoryFault) → has_no_effect head body ≡ false → IsEffectFault n head (results_of body) fault → fault_of n head body ≡ Some fault
+pub found_of : (n : ℕ) (head : CallValue) (body : Option Body) (fault : CallFault) → has_no_effect head body ≡ false → IsEffectFault n head (results_of body) fault → fault_of n head body ≡ Some fault
 found_of n head body fault effect is = rw effect (found_effect n head (results_of body) fault is)

@@ -1,18 +1,17 @@
 -- Calls are judged one after the other.
-use Rattle.std.proofs.Common.{◌≡◌, ◌⊎◌, inl, inr, ℕ, suc, zero, ◌+◌, ◌<◌, ◌≤◌, List, [], ◌∷◌, ◌++◌, length, take, drop, get_or, map, subst, sym, ap, ◌∙◌, arith, drop-cons, add-one}
-use Rattle.std.specs.List.{AllByRecursion}
+use Rattle.std.proofs.Common.{◌≡◌, inl, inr, ℕ, suc, zero, ◌+◌, ◌<◌, ◌≤◌, List, [], ◌∷◌, ◌++◌, length, take, drop, get_or, map, Err, subst, sym, ap, ◌∙◌, arith, drop-cons, add-one}
 use Rattle.std.proofs.lemmas.List.{take_more, map_push, take_all}
-use Rattle.history_file.specs.declared.fault.HistoryFault.{HistoryFault}
-use Rattle.history_file.specs.declared.fault.HistoryFault.TheVariants as faults
+use Rattle.nfs_history.specs.declared.fault.CallFault.{CallFault}
+use Rattle.nfs_history.specs.declared.judging.Stop.{Stop}
+use Rattle.nfs_history.specs.declared.judging.Stop.TheVariants as stops
 use Rattle.nfs_history.specs.declared.matching.SeenCall.{SeenCall}
 use Rattle.nfs_history.specs.declared.history.RecordedCall.{RecordedCall}
 use Rattle.nfs_history.specs.Calls.{CallEvent}
 use Rattle.nfs_history.specs.Matching.{seen_call}
 use Rattle.nfs_history.specs.History.{IsRecorded, AreRecorded}
-use Rattle.nfs_history.specs.CallFaults.{IsFine, FirstCallFault, IsReadable, AreReadable}
-use Rattle.nfs_history.specs.Judging.{IsFound}
+use Rattle.nfs_history.specs.CallFaults.{FirstCallFault}
+use Rattle.nfs_history.specs.Judging.{IsFound, IsReadable, AreReadable, IsStopFor}
 use Rattle.nfs_history.proofs.CallFaultTable.{call_fault_found}
-use Rattle.nfs_history.proofs.CallFaultLaws.{first_call_fault_or_fine, one_first_call_fault}
 
 AreRecorded-push : (events : List CallEvent) (calls : List RecordedCall) (event : CallEvent) (call : RecordedCall) → AreRecorded events calls → IsRecorded event call → AreRecorded (events ++ event ∷ []) (calls ++ call ∷ [])
 AreRecorded-push [] [] event call all one = (one, tt)
@@ -23,7 +22,7 @@ AreRecorded-push (e ∷ events) (c ∷ calls) event call all one = (all.0, AreRe
 -- what the calls below i were is known
 pub record AreJudgedTo (seen : List SeenCall) (i : ℕ) (calls : List RecordedCall) : Type 0 where
   pub recorded : AreRecorded (map seen_call (take i seen)) calls
-  pub faults_are : (fault : HistoryFault) → FirstCallFault (i + 1) (map seen_call (drop i seen)) fault → FirstCallFault 1 (map seen_call seen) fault
+  pub faults_are : (fault : CallFault) → FirstCallFault (i + 1) (map seen_call (drop i seen)) fault → FirstCallFault 1 (map seen_call seen) fault
 
 one_dropped : (seen : List SeenCall) (i : ℕ) (d : SeenCall) → i < length seen → map seen_call (drop i seen) ≡ seen_call (get_or seen i d) ∷ map seen_call (drop (i + 1) seen)
 one_dropped seen i d lt = ap (map seen_call) (drop-cons seen i d lt) ∙ ap (λ n. seen_call (get_or seen i d) ∷ map seen_call (drop n seen)) (sym (add-one i))
@@ -37,10 +36,11 @@ judged_more seen i d this old new call lt is pushed recorded so_far =
       faults_are = λ fault rest. so_far.faults_are fault (rw (one_dropped seen i d lt) (inr ((call.meaning, call.outcome, one.means), rest)));
     }
 
-pub stops_here : (seen : List SeenCall) (i : ℕ) (d this : SeenCall) (calls : List RecordedCall) (fault : HistoryFault) → i < length seen → this ≡ get_or seen i d
-    → (fault ≡ faults.NoMemory) ⊎ IsFound (i + 1) (seen_call this) fault → AreJudgedTo seen i calls → (fault ≡ faults.NoMemory) ⊎ FirstCallFault 1 (map seen_call seen) fault
-stops_here seen i d this calls fault lt is (inl none) so_far = inl none
-stops_here seen i d this calls fault lt is (inr h) so_far = inr (so_far.faults_are fault (rw (one_dropped seen i d lt) (inl (call_fault_found (i + 1) (seen_call (get_or seen i d)) fault (subst (λ c. IsFound (i + 1) (seen_call c) fault) is h)))))
+pub stops_here : (seen : List SeenCall) (i : ℕ) (d this : SeenCall) (calls : List RecordedCall) (stop : Stop) → i < length seen → this ≡ get_or seen i d
+    → IsStopFor {X = Unit {0}} (IsFound (i + 1) (seen_call this)) (Err stop) → AreJudgedTo seen i calls → IsStopFor {X = Unit {0}} (FirstCallFault 1 (map seen_call seen)) (Err stop)
+stops_here seen i d this calls stops.NoMemory lt is h so_far = tt
+stops_here seen i d this calls (stops.Fault fault) lt is h so_far =
+    so_far.faults_are fault (rw (one_dropped seen i d lt) (inl (call_fault_found (i + 1) (seen_call (get_or seen i d)) fault (subst (λ c. IsFound (i + 1) (seen_call c) fault) is h))))
 
 pub all_judged : (seen : List SeenCall) (i : ℕ) (calls : List RecordedCall) → length seen ≤ i → AreJudgedTo seen i calls → AreRecorded (map seen_call seen) calls
 all_judged seen i calls le so_far = rw (take_all i seen le) at so_far.recorded
@@ -52,12 +52,3 @@ readable_at (c ∷ seen) (suc i) d lt all = readable_at seen i d (omega arith) a
 
 pub readable_here : (seen : List SeenCall) (i : ℕ) (d this : SeenCall) → i < length seen → this ≡ get_or seen i d → AreReadable (map seen_call seen) → IsReadable (seen_call this)
 readable_here seen i d this lt is all = subst (λ c. IsReadable (seen_call c)) (sym is) (readable_at seen i d lt all)
-
--- where a fault is the first, there is no other
-pub only_memory : (events : List CallEvent) (fault : HistoryFault) → (fault ≡ faults.NoMemory) ⊎ FirstCallFault 1 events fault → AllByRecursion IsFine events → fault ≡ faults.NoMemory
-only_memory events fault (inl none) fine = none
-only_memory events fault (inr h) fine = absurd (first_call_fault_or_fine 1 events fault h fine)
-
-pub that_or_memory : (events : List CallEvent) (fault first : HistoryFault) → (fault ≡ faults.NoMemory) ⊎ FirstCallFault 1 events fault → FirstCallFault 1 events first → (fault ≡ faults.NoMemory) ⊎ (fault ≡ first)
-that_or_memory events fault first (inl none) h = inl none
-that_or_memory events fault first (inr x) h = inr (one_first_call_fault 1 events fault first x h)

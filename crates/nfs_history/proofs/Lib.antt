@@ -1,5 +1,6 @@
 pub mod MatchingSteps
 pub mod Unanswered
+pub mod Lanes
 pub mod CheckingSteps
 pub mod EventFaultLaws
 pub mod CallFaultTable
@@ -7,3 +8,5 @@ pub mod CallFaultLaws
 pub mod JudgingSteps
 pub mod FirstFaultLaws
 pub mod HistoryLaws
+pub mod OneHistory
+pub mod EitherWay

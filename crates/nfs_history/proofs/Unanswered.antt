@@ -5,7 +5,7 @@ use Rattle.std.proofs.lemmas.Bool.{eqb-true}
 use Rattle.history_file.specs.Event.{Event}
 use Rattle.history_file.specs.Event.Event.{call, reply, close, crash}
 use Rattle.nfs_history.specs.Calls.{ReplyEvent, CallEvent, first_reply, calls_from, xid_of}
-use Rattle.nfs_history.specs.Standing.{is_unanswered, is_closed_behind}
+use Rattle.nfs_history.specs.Standing.{is_unanswered}
 
 -- a call answers nothing
 first_reply-call : (lane xid i : ℕ) (events : List Event) (l : ℕ) (m : List ℕ) → first_reply lane xid i (events ++ call l m ∷ []) ≡ first_reply lane xid i events
@@ -20,11 +20,11 @@ none_chosen : (b : Bool) (r : ReplyEvent) (o : Option ReplyEvent) → is_none (c
 none_chosen true r o = refl
 none_chosen false r o = refl
 
-and_true : (b : Bool) → b && true ≡ b
+pub and_true : (b : Bool) → b && true ≡ b
 and_true true = refl
 and_true false = refl
 
-or_false : (b : Bool) → b || false ≡ b
+pub or_false : (b : Bool) → b || false ≡ b
 or_false true = refl
 or_false false = refl
 
@@ -45,7 +45,7 @@ no_reply-reply lane xid i (reply on n ∷ events) l m =
     ∙ sym (and_assoc (not b) (is_none (first_reply lane xid (i + 1) events)) (not ((l == lane) && (xid_of m == xid))))
     ∙ ap (λ x. x && not ((l == lane) && (xid_of m == xid))) (sym (none_chosen b (record { number = i; message = n }) (first_reply lane xid (i + 1) events)))
 
-or_assoc : (a b c : Bool) → (a || b) || c ≡ a || (b || c)
+pub or_assoc : (a b c : Bool) → (a || b) || c ≡ a || (b || c)
 or_assoc true b c = refl
 or_assoc false b c = refl
 
@@ -91,47 +91,36 @@ any-reply lane xid i era (call on n ∷ events) l m =
     ∙ ap (λ x. x || (rest && hit)) (same_or_other on (xid_of n) lane xid l (xid_of m) unmet)
     ∙ or_and (same && unmet) rest hit
 
--- a close answers nothing, and is no call
-first_reply-close : (lane xid i : ℕ) (events : List Event) (l : ℕ) → first_reply lane xid i (events ++ close l ∷ []) ≡ first_reply lane xid i events
-first_reply-close lane xid i [] l = refl
-first_reply-close lane xid i (call on n ∷ events) l = first_reply-close lane xid (i + 1) events l
-first_reply-close lane xid i (close on ∷ events) l = first_reply-close lane xid (i + 1) events l
-first_reply-close lane xid i (crash ∷ events) l = first_reply-close lane xid (i + 1) events l
-first_reply-close lane xid i (reply on n ∷ events) l =
-    ap (λ o. cond ((on == lane) && (xid_of n == xid)) (Some (record { number = i; message = n })) o) (first_reply-close lane xid (i + 1) events l)
+-- a close and a crash answer nothing, and are no calls
+abbrev pub IsQuiet : Event → Type 0
+IsQuiet (call lane message) = ⊥
+IsQuiet (reply lane message) = ⊥
+IsQuiet (close lane) = Unit {0}
+IsQuiet crash = Unit {0}
 
-pub calls_from-close : (i era : ℕ) (events : List Event) (l : ℕ) → calls_from i era (events ++ close l ∷ []) ≡ calls_from i era events
-calls_from-close i era [] l = refl
-calls_from-close i era (reply on n ∷ events) l = calls_from-close (i + 1) era events l
-calls_from-close i era (close on ∷ events) l = calls_from-close (i + 1) era events l
-calls_from-close i era (crash ∷ events) l = calls_from-close (i + 1) (era + 1) events l
-calls_from-close i era (call on n ∷ events) l =
+first_reply-quiet : (lane xid i : ℕ) (events : List Event) (e : Event) → IsQuiet e → first_reply lane xid i (events ++ e ∷ []) ≡ first_reply lane xid i events
+first_reply-quiet lane xid i [] (call l m) quiet = absurd quiet
+first_reply-quiet lane xid i [] (reply l m) quiet = absurd quiet
+first_reply-quiet lane xid i [] (close l) quiet = refl
+first_reply-quiet lane xid i [] crash quiet = refl
+first_reply-quiet lane xid i (call on n ∷ events) e quiet = first_reply-quiet lane xid (i + 1) events e quiet
+first_reply-quiet lane xid i (close on ∷ events) e quiet = first_reply-quiet lane xid (i + 1) events e quiet
+first_reply-quiet lane xid i (crash ∷ events) e quiet = first_reply-quiet lane xid (i + 1) events e quiet
+first_reply-quiet lane xid i (reply on n ∷ events) e quiet =
+    ap (λ o. cond ((on == lane) && (xid_of n == xid)) (Some (record { number = i; message = n })) o) (first_reply-quiet lane xid (i + 1) events e quiet)
+
+pub calls_from-quiet : (i era : ℕ) (events : List Event) (e : Event) → IsQuiet e → calls_from i era (events ++ e ∷ []) ≡ calls_from i era events
+calls_from-quiet i era [] (call l m) quiet = absurd quiet
+calls_from-quiet i era [] (reply l m) quiet = absurd quiet
+calls_from-quiet i era [] (close l) quiet = refl
+calls_from-quiet i era [] crash quiet = refl
+calls_from-quiet i era (reply on n ∷ events) e quiet = calls_from-quiet (i + 1) era events e quiet
+calls_from-quiet i era (close on ∷ events) e quiet = calls_from-quiet (i + 1) era events e quiet
+calls_from-quiet i era (crash ∷ events) e quiet = calls_from-quiet (i + 1) (era + 1) events e quiet
+calls_from-quiet i era (call on n ∷ events) e quiet =
     let here : Option ReplyEvent → CallEvent = λ a. record { lane = on; message = n; begin = i; era = era; answer = a } in
-    ap (λ a. here a ∷ calls_from (i + 1) era (events ++ close l ∷ [])) (first_reply-close on (xid_of n) (i + 1) events l)
-    ∙ ap (λ cs. here (first_reply on (xid_of n) (i + 1) events) ∷ cs) (calls_from-close (i + 1) era events l)
-
--- a call and a reply close no lane
-pub closed-call : (lane : ℕ) (used : Bool) (events : List Event) (l : ℕ) (m : List ℕ) → is_closed_behind lane used (events ++ call l m ∷ []) ≡ is_closed_behind lane used events
-closed-call lane used [] l m = refl
-closed-call lane used (call on n ∷ events) l m = closed-call lane (used || (on == lane)) events l m
-closed-call lane used (reply on n ∷ events) l m = closed-call lane (used || (on == lane)) events l m
-closed-call lane used (close on ∷ events) l m = ap (λ b. (on == lane) || b) (closed-call lane used events l m)
-closed-call lane used (crash ∷ events) l m = ap (λ b. used || b) (closed-call lane used events l m)
-
-pub closed-reply : (lane : ℕ) (used : Bool) (events : List Event) (l : ℕ) (m : List ℕ) → is_closed_behind lane used (events ++ reply l m ∷ []) ≡ is_closed_behind lane used events
-closed-reply lane used [] l m = refl
-closed-reply lane used (call on n ∷ events) l m = closed-reply lane (used || (on == lane)) events l m
-closed-reply lane used (reply on n ∷ events) l m = closed-reply lane (used || (on == lane)) events l m
-closed-reply lane used (close on ∷ events) l m = ap (λ b. (on == lane) || b) (closed-reply lane used events l m)
-closed-reply lane used (crash ∷ events) l m = ap (λ b. used || b) (closed-reply lane used events l m)
-
--- a close closes its lane alone
-pub closed-close : (lane : ℕ) (used : Bool) (events : List Event) (l : ℕ) → is_closed_behind lane used (events ++ close l ∷ []) ≡ is_closed_behind lane used events || (l == lane)
-closed-close lane used [] l = or_false (l == lane)
-closed-close lane used (call on n ∷ events) l = closed-close lane (used || (on == lane)) events l
-closed-close lane used (reply on n ∷ events) l = closed-close lane (used || (on == lane)) events l
-closed-close lane used (close on ∷ events) l = ap (λ b. (on == lane) || b) (closed-close lane used events l) ∙ sym (or_assoc (on == lane) (is_closed_behind lane used events) (l == lane))
-closed-close lane used (crash ∷ events) l = ap (λ b. used || b) (closed-close lane used events l) ∙ sym (or_assoc used (is_closed_behind lane used events) (l == lane))
+    ap (λ a. here a ∷ calls_from (i + 1) era (events ++ e ∷ [])) (first_reply-quiet on (xid_of n) (i + 1) events e quiet)
+    ∙ ap (λ cs. here (first_reply on (xid_of n) (i + 1) events) ∷ cs) (calls_from-quiet (i + 1) era events e quiet)
 
 pub cond_or : (b c : Bool) → cond b true c ≡ c || b
 cond_or true true = refl

@@ -1,21 +1,21 @@
 -- The first call at fault, and why (RFC 5531, section 9, and RFC 1813, section 3.3; what lies outside the model, and the
 -- order of faults, are this project's own).
 use Rattle.std.specs.Prelude.{◌≡◌, ◌≢◌, ◌⊎◌, ◌==◌, ◌<◌, ℕ, ◌+◌, true, false, if◌then◌else◌, List, [], ◌∷◌, length, Option, Some, None}
-use Rattle.std.specs.List.{AllByRecursion}
 use Rattle.nfs3_types.specs.declared.calls.NfsCall.{NfsCall}
 use Rattle.nfs3_types.specs.declared.replies.NfsReply.{NfsReply}
 use Rattle.nfs3_types.specs.declared.replies.Outcome.{Outcome}
 use Rattle.rpc_reader.specs.Values.{CallValue, Body}
 use Rattle.rpc_reader.specs.Messages.{IsCall}
 use Rattle.nfs3_msgs.specs.Messages.{IsArguments, IsResult}
-use Rattle.history_file.specs.declared.fault.Which.{Which}
-use Rattle.history_file.specs.declared.fault.Which.TheVariants as which
-use Rattle.history_file.specs.declared.fault.HistoryFault.{HistoryFault}
-use Rattle.history_file.specs.declared.fault.HistoryFault.TheVariants as faults
+use Rattle.nfs_history.specs.declared.fault.Which.{Which}
+use Rattle.nfs_history.specs.declared.fault.Which.TheVariants as which
+use Rattle.nfs_history.specs.declared.fault.CallFault.{CallFault}
+use Rattle.nfs_history.specs.declared.fault.CallFault.TheVariants as faults
 use Rattle.nfs_history.specs.declared.history.Meaning.{Meaning}
 use Rattle.nfs_history.specs.Calls.{CallEvent}
 use Rattle.nfs_history.specs.Effects.{Says, results_of, is_judged, is_left_out, has_no_effect}
-use Rattle.nfs_history.specs.History.{CameOut, outside, Means}
+use Rattle.nfs_history.specs.History.{CameOut, Means}
+use Rattle.nfs_history.specs.Outside.{outside}
 
 -- MKNOD or LINK
 abbrev pub which_left_out : ℕ → Which
@@ -51,16 +51,15 @@ LiesOutside head results which =
 
 -- what is wrong with a call that may have an effect, and has this number, head and result; RPCSEC_GSS (flavor 6, RFC 2203) hides
 -- its arguments
-abbrev pub IsEffectFault : ℕ → CallValue → Option (List ℕ) → HistoryFault → Type 0
+abbrev pub IsEffectFault : ℕ → CallValue → Option (List ℕ) → CallFault → Type 0
 IsEffectFault n head results (faults.Sealed at) = (at ≡ n) × (head.flavor ≡ 6)
 IsEffectFault n head results (faults.BadArgs at) =
     (at ≡ n) × (head.flavor ≢ 6) × (is_judged head.procedure ≡ true) × AreNoArguments head.procedure head.args
 IsEffectFault n head results (faults.BadResult at) = (at ≡ n) × (head.flavor ≢ 6) × IsBadResult head results
 IsEffectFault n head results (faults.Outside at which) = (at ≡ n) × (head.flavor ≢ 6) × LiesOutside head results which
-IsEffectFault n head results fault = ⊥
 
 -- call n is at fault
-abbrev pub IsCallFault : ℕ → CallEvent → HistoryFault → Type 0
+abbrev pub IsCallFault : ℕ → CallEvent → CallFault → Type 0
 IsCallFault n event fault =
     (head : CallValue) × (body : Option Body) × IsCall event.message head × Says event.answer body
     × (has_no_effect head body ≡ false) × IsEffectFault n head (results_of body) fault
@@ -70,13 +69,6 @@ abbrev pub IsFine : CallEvent → Type 0
 IsFine event = (meaning : Meaning) × (outcome : Option Outcome) × Means event meaning outcome
 
 -- among calls that are numbered from n on, the first that is at fault has this fault
-abbrev pub FirstCallFault : ℕ → List CallEvent → HistoryFault → Type 0
+abbrev pub FirstCallFault : ℕ → List CallEvent → CallFault → Type 0
 FirstCallFault n [] fault = ⊥
 FirstCallFault n (event ∷ events) fault = IsCallFault n event fault ⊎ (IsFine event × FirstCallFault (n + 1) events fault)
-
--- the message of a call, and of the reply to it, can be read
-abbrev pub IsReadable : CallEvent → Type 0
-IsReadable event = ((head : CallValue) × IsCall event.message head) × ((body : Option Body) × Says event.answer body)
-
-abbrev pub AreReadable : List CallEvent → Type 0
-AreReadable events = AllByRecursion IsReadable events

@@ -1,55 +1,24 @@
 -- A history: what each of its calls was, when it began and ended, and how it came out (Herlihy and Wing 1990,
--- section 2; the calls are those of RFC 1813, section 3.3).
-use Rattle.std.specs.Prelude.{◌≡◌, ◌≢◌, ◌==◌, ◌&&◌, not, nat_lt, ℕ, ◌+◌, Bool, true, false, if◌then◌else◌, List, [], ◌∷◌, length, Option, Some, None, is_some, option_map, unwrap_or}
+-- section 2; the calls are those of RFC 1813, section 3.3); and which bytes are a history's file.
+use Rattle.std.specs.Prelude.{◌≡◌, ◌≢◌, ℕ, true, false, List, [], ◌∷◌, Option, Some, None, option_map}
 use Rattle.nfs3_types.specs.declared.calls.NfsCall.{NfsCall}
-use Rattle.nfs3_types.specs.declared.calls.NfsCall.TheVariants as calls
-use Rattle.nfs3_types.specs.declared.calls.CreateMode.{CreateMode}
-use Rattle.nfs3_types.specs.declared.calls.CreateMode.TheVariants as modes
 use Rattle.nfs3_types.specs.declared.replies.NfsReply.{NfsReply}
-use Rattle.nfs3_types.specs.Procedures.{failure_in}
-use Rattle.nfs3_types.specs.Limits.{file_limit}
 use Rattle.nfs3_types.specs.declared.replies.Outcome.{Outcome}
 use Rattle.nfs3_types.specs.declared.replies.Outcome.TheVariants as outcomes
 use Rattle.rpc_reader.specs.Values.{CallValue, Body}
 use Rattle.rpc_reader.specs.Messages.{IsCall}
 use Rattle.nfs3_msgs.specs.Messages.{IsArguments, IsResult}
-use Rattle.history_file.specs.declared.fault.Which.{Which}
-use Rattle.history_file.specs.declared.fault.Which.TheVariants as which
 use Rattle.nfs_history.specs.declared.history.Meaning.{Meaning}
 use Rattle.nfs_history.specs.declared.history.Meaning.TheVariants as meanings
 use Rattle.nfs_history.specs.declared.history.RecordedCall.{RecordedCall}
-use Rattle.nfs_history.specs.declared.history.History.{History}
+use Rattle.nfs_history.specs.HistoryValue.{HistoryValue}
 use Rattle.history_file.specs.Event.{Recording}
+use Rattle.history_file.specs.HistoryFile.{HistoryFile}
 use Rattle.nfs_history.specs.Calls.{CallEvent, calls_of, eras_from, xid_of}
 use Rattle.nfs_history.specs.Standing.{EachMayFollow}
 use Rattle.history_file.specs.Owning.{all_happened}
+use Rattle.nfs_history.specs.Outside.{outside}
 use Rattle.nfs_history.specs.Effects.{Says, was_refused, results_of, is_judged, has_no_effect}
-
--- a call that was answered by a failure
-abbrev pub failed : Option Outcome → Bool
-failed (Some (outcomes.Received reply)) = is_some (failure_in reply)
-failed (Some (outcomes.Taken count)) = false
-failed None = false
-
--- the size that a CREATE asks for
-abbrev pub asked_size : CreateMode → ℕ
-asked_size (modes.Unchecked attributes) = unwrap_or attributes.size 0
-asked_size (modes.Guarded attributes) = unwrap_or attributes.size 0
-asked_size (modes.Exclusive verifier) = 0
-
--- a size over the limit, but for a call that was answered by a failure
-abbrev pub too_far : ℕ → Option Outcome → Option Which
-too_far size outcome = if nat_lt file_limit size && not (failed outcome) then Some which.TooFar else None
-
--- what of a call lies outside the model: the count of a WRITE that isn't its data's length, and a file over the
--- limit
-abbrev pub outside : NfsCall → Option Outcome → Option Which
-outside (calls.SetAttr a) outcome = too_far (unwrap_or a.attributes.size 0) outcome
-outside (calls.Write a) outcome =
-    if not (a.count == length a.bytes) then Some which.CountDiffers
-    else (if (nat_lt 0 a.count && nat_lt file_limit (a.offset + a.count)) && not (failed outcome) then Some which.TooFar else None)
-outside (calls.Create a) outcome = too_far (asked_size a.mode) outcome
-outside call outcome = None
 
 -- how a call of a procedure came out: with the result that the reply to it holds
 abbrev pub CameOut : ℕ → Option (List ℕ) → Option Outcome → Type 0
@@ -99,9 +68,17 @@ AreRecorded (event ∷ events) [] = ⊥
 AreRecorded (event ∷ events) (call ∷ calls) = IsRecorded event call × AreRecorded events calls
 
 -- the history of a recording
-pub record IsHistory (seen : Recording) (history : History) : Type 0 where
+pub record IsHistory (seen : Recording) (history : HistoryValue) : Type 0 where
   pub follow : EachMayFollow [] seen.events
   pub root : history.root ≡ seen.root
   pub eras : history.eras ≡ eras_from 1 seen.events
   pub events : all_happened history.events ≡ seen.events
   pub calls : AreRecorded (calls_of seen.events) history.calls
+
+-- what was recorded, of which a history is made
+abbrev pub recording_of : HistoryValue → Recording
+recording_of history = record { root = history.root; events = all_happened history.events }
+
+-- the bytes are the file of the history
+abbrev pub IsHistoryFile : List ℕ → HistoryValue → Type 0
+IsHistoryFile bytes history = (seen : Recording) × HistoryFile bytes seen × IsHistory seen history

@@ -8,9 +8,8 @@ use Rattle.nfs_history.specs.Calls.{ReplyEvent, CallEvent}
 abbrev pub seen_reply : SeenReply → ReplyEvent
 seen_reply r = record { number = r.number; message = r.message.now }
 
--- where nothing crashed, all is in the first era
 abbrev pub seen_call : SeenCall → CallEvent
-seen_call c = record { lane = c.lane; message = c.message.now; begin = c.begin; era = 1; answer = option_map seen_reply c.answer }
+seen_call c = record { lane = c.lane; message = c.message.now; begin = c.begin; era = c.era; answer = option_map seen_reply c.answer }
 
 -- the test of two keys, each a lane and a transaction number
 abbrev pub same_key : ℕ × ℕ → ℕ × ℕ → Bool

@@ -1,73 +1,94 @@
 //! Whether the events of a recording may follow one another.
 
-ghost use Rattle.std.specs.Prelude.{[], OnOk};
+ghost use Rattle.std.specs.Prelude.{◌+◌, ◌<◌, ◌^◌, ◌≡◌, OnOk, IfOk};
 ghost use Rattle.history_file.specs.Event.Event.{call, reply};
 ghost use Rattle.history_file.specs.Owning.{happened, all_happened};
-ghost use Rattle.nfs_history.specs.Standing.{EachMayFollow, InOneEra};
-ghost use Rattle.nfs_history.specs.EventFaults.{FirstEventFault, IsFineOrNoMemory, IsErrorOf, IsThatOrNoMemory};
-ghost use Rattle.nfs_history.specs.Checking.{IsFaultBehind, KnowsOneMore};
-ghost use Rattle.history_file.specs.declared.fault.HistoryFault.{HistoryFault};
+ghost use Rattle.nfs_history.specs.Checking.{is_known_closed, IsFaultBehind, KnowsOneMore, IsFirstFault};
 
+use crate::fault::EventFault;
 use crate::matching::transaction;
-use history_file::{Event, HistoryFault, Message};
-use indexmap::IndexSet;
+use history_file::{Event, Message};
+use indexmap::{IndexMap, IndexSet};
 use rpc_reader::{read_call, read_reply};
 use std::alloc::{AllocError, Global};
+
+/// How a lane was last used.
+#[derive(Clone, Copy, Debug, PartialEq, Eq)]
+pub enum LaneUse {
+    /// By a call or a reply, in this era.
+    InEra(u64),
+    /// By its close.
+    Closed,
+}
 
 /// What of the events so far decides whether another may follow.
 #[derive(Drop)]
 pub struct OpenCalls {
-    /// The calls that are unanswered, each by its lane and transaction number.
+    /// The calls that are unanswered, each by its lane and transaction number. Those of an era that has ended stay:
+    /// their lanes are closed.
     pub unanswered: IndexSet<(u32, u32)>,
-    /// The lanes that were closed.
-    pub closed: IndexSet<u32>,
+    /// The lanes with an event.
+    pub lanes: IndexMap<u32, LaneUse>,
+    /// The era, from 1 on.
+    pub era: u64,
 }
 
 impl OpenCalls {
+    /// Whether a lane is closed: by its close, or since it was last used in an era that has ended.
+    fn is_closed(&self, lane: u32) -> bool
+        ensures { result ≡ is_known_closed self.now lane }
+    {
+        match self.lanes.get(&lane).copied() {
+            None => false,
+            Some(LaneUse::Closed) => true,
+            Some(LaneUse::InEra(era)) => era != self.era,
+        }
+    }
+
     /// Why a call may not come next, as event `number`.
-    fn fault_of_call(&self, number: u64, lane: u32, message: &Message) -> Option<HistoryFault>
+    fn fault_of_call(&self, number: u64, lane: u32, message: &Message) -> Option<EventFault>
         ensures { IsFaultBehind self.now number (call lane message.now) result }
     {
         let message = message.as_slice();
-        if self.closed.contains(&lane) {
-            return Some(HistoryFault::LaneClosed(number));
+        if self.is_closed(lane) {
+            return Some(EventFault::LaneClosed(number));
         }
         if read_call(message).is_err() {
-            return Some(HistoryFault::BadRpc(number));
+            return Some(EventFault::BadRpc(number));
         }
         if self.unanswered.contains(&(lane, transaction(message))) {
-            return Some(HistoryFault::XidInUse(number));
+            return Some(EventFault::XidInUse(number));
         }
         None
     }
 
     /// Why a reply may not come next, as event `number`.
-    fn fault_of_reply(&self, number: u64, lane: u32, message: &Message) -> Option<HistoryFault>
+    fn fault_of_reply(&self, number: u64, lane: u32, message: &Message) -> Option<EventFault>
         ensures { IsFaultBehind self.now number (reply lane message.now) result }
     {
         let message = message.as_slice();
-        if self.closed.contains(&lane) {
-            return Some(HistoryFault::LaneClosed(number));
+        if self.is_closed(lane) {
+            return Some(EventFault::LaneClosed(number));
         }
         if read_reply(message).is_err() {
-            return Some(HistoryFault::BadRpc(number));
+            return Some(EventFault::BadRpc(number));
         }
         if !self.unanswered.contains(&(lane, transaction(message))) {
-            return Some(HistoryFault::NoSuchCall(number));
+            return Some(EventFault::NoSuchCall(number));
         }
         None
     }
 
     /// Why event `number` may not come next.
-    fn fault_of(&self, number: u64, event: &Event) -> Option<HistoryFault>
+    fn fault_of(&self, number: u64, event: &Event) -> Option<EventFault>
         ensures { IsFaultBehind self.now number (happened event.now) result }
     {
         match event {
             Event::Call { lane, message } => self.fault_of_call(number, *lane, message),
             Event::Reply { lane, message } => self.fault_of_reply(number, *lane, message),
             Event::Close { lane } => {
-                if self.closed.contains(lane) {
-                    return Some(HistoryFault::LaneClosed(number));
+                if self.is_closed(*lane) {
+                    return Some(EventFault::LaneClosed(number));
                 }
                 None
             }
@@ -75,48 +96,45 @@ impl OpenCalls {
         }
     }
 
-    /// Takes in the next event, but for a crash.
+    /// Takes in the next event.
     fn follow(&mut self, event: &Event) -> Result<(), AllocError>
+        requires { self.old.era + 1 < 2 ^ 64 }
         ensures { OnOk result (KnowsOneMore self.old self.new (happened event.now)) }
     {
         match event {
             Event::Call { lane, message } => {
+                self.lanes.insert(*lane, LaneUse::InEra(self.era))?;
                 self.unanswered
                     .insert((*lane, transaction(message.as_slice())))?;
             }
             Event::Reply { lane, message } => {
+                self.lanes.insert(*lane, LaneUse::InEra(self.era))?;
                 self.unanswered
                     .swap_remove(&(*lane, transaction(message.as_slice())));
             }
             Event::Close { lane } => {
-                self.closed.insert(*lane)?;
+                self.lanes.insert(*lane, LaneUse::Closed)?;
             }
-            Event::Crash => {}
+            Event::Crash => self.era += 1,
         }
         Ok(())
     }
 }
 
-/// Refuses the first event that may not follow those before it.
-pub fn check_events(alloc: Global, events: &[Event]) -> Result<(), HistoryFault>
-    requires { InOneEra (all_happened events.now) }
-    ensures follow { OnOk result (EachMayFollow [] (all_happened events.now)) }
-    // Where each may follow, nothing is refused, memory aside.
-    ensures only { EachMayFollow [] (all_happened events.now) → IsFineOrNoMemory result }
-    ensures fault { IsErrorOf (FirstEventFault [] (all_happened events.now)) result }
-    // The first event at fault is named, memory aside.
-    ensures named { (fault : HistoryFault) → FirstEventFault [] (all_happened events.now) fault
-        → IsThatOrNoMemory fault result }
+/// The fault of the first event that may not follow those before it, where there is one.
+pub fn first_event_fault(alloc: Global, events: &[Event]) -> Result<Option<EventFault>, AllocError>
+    ensures { IfOk result (IsFirstFault (all_happened events.now)) }
 {
     let mut calls = OpenCalls {
         unanswered: IndexSet::new(alloc),
-        closed: IndexSet::new(alloc),
+        lanes: IndexMap::new(alloc),
+        era: 1,
     };
     for (index, event) in events.iter().enumerate() {
         if let Some(fault) = calls.fault_of(index as u64 + 1, event) {
-            return Err(fault);
+            return Ok(Some(fault));
         }
         calls.follow(event)?;
     }
-    Ok(())
+    Ok(None)
 }

@@ -1,11 +1,21 @@
 //! What a history means: its calls, with what each one was, when it began and ended, and how it came out.
 
-ghost use Rattle.std.specs.Prelude.{◌≡◌, option_map, option_and_then};
+ghost use Rattle.std.specs.Prelude.{◌≡◌, ◌≤◌, length, IfOk, Some, option_map, option_and_then};
 ghost use Rattle.std.specs.Option.{option_copied};
-ghost use Rattle.nfs_history.specs.Precedence.{call_at, end_of};
+ghost use Rattle.history_file.specs.Owning.{all_happened};
+ghost use Rattle.nfs_history.specs.declared.fault.HistoryFault.{HistoryFault};
+ghost use Rattle.nfs_history.specs.declared.history.History.{History};
+ghost use Rattle.nfs_history.specs.Precedence.{call_at, begin_of, end_of};
+ghost use Rattle.nfs_history.specs.History.{recording_of, IsHistory};
+ghost use Rattle.nfs_history.specs.FirstFault.{FirstFaultOf};
+ghost use Rattle.nfs_history.specs.Answers.{IsFineOrNoMemory, IsErrorOf, IsThatOrNoMemory};
 
-use history_file::{Event, Events};
+use crate::fault::HistoryFault;
+use crate::knowing::known_calls;
+use crate::matching::count_eras;
+use history_file::Event;
 use nfs3_types::{FileHandle, NfsCall, Outcome};
+use std::alloc::Global;
 use std::marker::Model;
 
 /// What a call was.
@@ -33,47 +43,27 @@ pub struct RecordedCall {
     pub outcome: Option<Outcome>,
 }
 
-/// Calls in the order in which they began: call n is the n-th. A contract sees the list.
-#[derive(Debug, Drop)]
-pub struct RecordedCalls {
-    items: Vec<RecordedCall>,
-}
-
-impl Model for RecordedCalls {
-    ghost use Rattle.std.specs.Prelude.{List};
-    ghost use Rattle.nfs_history.specs.declared.history.RecordedCall.{RecordedCall};
-
-    ghost Value = { List RecordedCall };
-
-    ghost view = { λ c. c.items.items };
-}
-
-impl RecordedCalls {
-    /// A list of these.
-    pub fn new(items: Vec<RecordedCall>) -> RecordedCalls
-        ensures { result ≡ items.items }
-    {
-        RecordedCalls { items }
-    }
-
-    /// Its items.
-    pub fn as_slice(&self) -> &[RecordedCall]
-        ensures { result.now ≡ self.now }
-    {
-        self.items.as_slice()
-    }
-}
-
 /// A history without a fault.
 #[derive(Debug, Drop)]
 pub struct History {
-    /// The handle of the root directory.
-    pub root: FileHandle,
-    /// How many eras it has: one more than the server went down.
-    pub eras: u64,
-    pub calls: RecordedCalls,
-    /// What happened, in order.
-    pub events: Events,
+    root: FileHandle,
+    eras: u64,
+    calls: Vec<RecordedCall>,
+    events: Vec<Event>,
+}
+
+impl Model for History {
+    ghost use Rattle.nfs_history.specs.HistoryValue.{HistoryValue};
+
+    ghost Value = { HistoryValue };
+
+    ghost use Rattle.nfs_history.specs.History.{recording_of, IsHistory};
+    ghost use Rattle.nfs_history.specs.Inside.{value_of};
+
+    ghost view = { value_of };
+
+    // It is the history of its events.
+    ghost invariant = { λ h. IsHistory (recording_of (value_of h)) (value_of h) };
 }
 
 /// Call n of a history's calls, from 1 on.
@@ -87,49 +77,117 @@ pub fn find_call(calls: &[RecordedCall], number: u64) -> Option<&RecordedCall>
 }
 
 impl History {
-    /// What happened, in order.
+    /// The history of these events. The first fault is named: those of the events, then those of the calls.
+    pub fn build(
+        alloc: Global,
+        root: FileHandle,
+        events: Vec<Event>,
+    ) -> Result<History, HistoryFault>
+        ensures found { IfOk result (IsHistory (record { root = root; events = all_happened events.items })) }
+        // What is a history is built, memory aside.
+        ensures only { (history : History) → IsHistory (record { root = root; events = all_happened events.items }) history
+            → IsFineOrNoMemory result }
+        ensures fault { IsErrorOf (FirstFaultOf (all_happened events.items)) result }
+        // The first fault is named, memory aside.
+        ensures named { (fault : HistoryFault) → FirstFaultOf (all_happened events.items) fault
+            → IsThatOrNoMemory fault result }
+    {
+        let eras = count_eras(events.as_slice());
+        let calls = known_calls(alloc, events.as_slice(), eras)?;
+        Ok(History {
+            root,
+            eras,
+            calls,
+            events,
+        })
+    }
+
+    /// The handle of the root directory.
+    pub fn root(&self) -> &FileHandle
+        ensures { result.now ≡ self.now.root }
+    {
+        &self.root
+    }
+
+    /// What happened, in order, numbered from 1.
     pub fn events(&self) -> &[Event]
-        ensures { result.now ≡ self.now.events }
+        ensures shown { result.now ≡ self.now.events }
+        // The history is that of its events.
+        ensures whole { IsHistory (recording_of self.now) self.now }
     {
         self.events.as_slice()
     }
 
-    /// Call `number`, from 1 on.
-    pub fn call(&self, number: u64) -> Option<&RecordedCall>
+    /// How many eras it has: one more than the server went down.
+    pub fn eras(&self) -> u64
+        ensures { result ≡ self.now.eras }
+    {
+        self.eras
+    }
+
+    /// How many calls it has.
+    pub fn calls(&self) -> u64
+        ensures { result ≡ length self.now.calls }
+    {
+        self.calls.len() as u64
+    }
+
+    /// Its calls in the order in which they began: call n is the n-th.
+    pub fn recorded_calls(&self) -> &[RecordedCall]
+        ensures { result.now ≡ self.now.calls }
+    {
+        self.calls.as_slice()
+    }
+
+    /// Call `number`, from 1 on, where there is one.
+    pub fn find_call(&self, number: u64) -> Option<&RecordedCall>
         ensures { option_copied result ≡ call_at self.now.calls number }
     {
         find_call(self.calls.as_slice(), number)
     }
 
-    /// The number of the event with which a call began.
-    pub fn begin(&self, number: u64) -> Option<u64>
-        ensures { result ≡ option_map (λ call. call.begin) (call_at self.now.calls number) }
+    /// Call `number`, from 1 on.
+    pub fn call(&self, number: u64) -> &RecordedCall
+        requires from_one { 1 ≤ number }
+        requires known { number ≤ length self.now.calls }
+        ensures { call_at self.now.calls number ≡ Some result.now }
     {
-        let call = self.call(number)?;
-        Some(call.begin)
+        &self.calls[number as usize - 1]
+    }
+
+    /// The number of the event with which a call began.
+    pub fn begin(&self, number: u64) -> u64
+        requires from_one { 1 ≤ number }
+        requires known { number ≤ length self.now.calls }
+        ensures { result ≡ begin_of self.now.calls number }
+    {
+        self.call(number).begin
     }
 
     /// The number of the event of a call's reply, where one came.
     pub fn end(&self, number: u64) -> Option<u64>
+        requires from_one { 1 ≤ number }
+        requires known { number ≤ length self.now.calls }
         ensures { result ≡ end_of self.now.calls number }
     {
-        let call = self.call(number)?;
-        call.end
+        self.call(number).end
     }
 
     /// The era of a call, from 1 on.
-    pub fn era(&self, number: u64) -> Option<u64>
-        ensures { result ≡ option_map (λ call. call.era) (call_at self.now.calls number) }
+    pub fn era(&self, number: u64) -> u64
+        requires from_one { 1 ≤ number }
+        requires known { number ≤ length self.now.calls }
+        ensures { option_map (λ call. call.era) (call_at self.now.calls number) ≡ Some result }
     {
-        let call = self.call(number)?;
-        Some(call.era)
+        self.call(number).era
     }
 
     /// How an answered judged call came out.
     pub fn outcome(&self, number: u64) -> Option<&Outcome>
+        requires from_one { 1 ≤ number }
+        requires known { number ≤ length self.now.calls }
         ensures { option_copied result ≡ option_and_then (λ call. call.outcome) (call_at self.now.calls number) }
     {
-        let call = self.call(number)?;
-        call.outcome.as_ref()
+        self.call(number).outcome.as_ref()
     }
 }

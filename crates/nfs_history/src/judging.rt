@@ -1,26 +1,24 @@
 //! What each call of a history was, and how it came out.
 
-ghost use Rattle.std.specs.Prelude.{◌≡◌, map, true, false, IfOk, IfErr, IsOkAnd, Option, Some, None, option_map};
-ghost use Rattle.std.specs.List.{AllByRecursion};
+ghost use Rattle.std.specs.Prelude.{◌≡◌, map, true, false, IfOk, IfErr, Option, Some, None, option_map};
 ghost use Rattle.rpc_reader.specs.Values.{Body};
 ghost use Rattle.rpc_reader.specs.Views.{call_value, body_value};
 ghost use Rattle.nfs3_msgs.specs.Messages.{IsArguments};
 ghost use Rattle.nfs_history.specs.Matching.{seen_call, seen_reply, bytes_of};
 ghost use Rattle.nfs_history.specs.Effects.{Says, was_refused, results_of, has_failed_status, is_judged, has_no_effect};
-ghost use Rattle.nfs_history.specs.History.{asked_size, failed, too_far, outside, CameOut, IsKnownAs, IsRecorded, AreRecorded};
-ghost use Rattle.nfs_history.specs.CallFaults.{which_left_out, IsFine, FirstCallFault, IsReadable, AreReadable};
-ghost use Rattle.nfs_history.specs.Judging.{left_out, outside_fault, result_fault, judged_fault, fault_of, IsFound};
-ghost use Rattle.nfs_history.specs.EventFaults.{IsFineOrNoMemory, IsErrorOf, IsThatOrNoMemory};
-ghost use Rattle.history_file.specs.declared.fault.HistoryFault.{HistoryFault};
+ghost use Rattle.nfs_history.specs.History.{CameOut, IsKnownAs, IsRecorded, AreRecorded};
+ghost use Rattle.nfs_history.specs.Outside.{asked_size, failed, too_far, outside};
+ghost use Rattle.nfs_history.specs.CallFaults.{which_left_out, FirstCallFault};
+ghost use Rattle.nfs_history.specs.Judging.{left_out, outside_fault, result_fault, judged_fault, fault_of, IsFound, IsReadable, AreReadable, IsStopFor};
 
+use crate::fault::{CallFault, HistoryFault, Which};
 use crate::history::{Meaning, RecordedCall};
 use crate::matching::{SeenCall, SeenReply, transaction};
 use byteorder::{BigEndian, ByteOrder};
-use history_file::{HistoryFault, Which};
 use nfs3_msgs::{MessageFault, read_args, read_result};
 use nfs3_types::{CreateMode, FILE_LIMIT, NfsCall, Outcome};
 use rpc_reader::{CallHead, ReplyBody, read_call, read_reply};
-use std::alloc::Global;
+use std::alloc::{AllocError, AllocFailed, Global};
 
 /// The program number of NFS (RFC 1813, section 2.2).
 const NFS_PROGRAM: u32 = 100_003;
@@ -32,6 +30,60 @@ const SEALED_FLAVOR: u32 = 6;
 const MKNOD: u32 = 11;
 
 const LINK: u32 = 15;
+
+/// Why it isn't found what a call was.
+#[derive(Clone, Copy, Debug, PartialEq, Eq)]
+pub enum Stop {
+    Fault(CallFault),
+    NoMemory,
+}
+
+impl From<CallFault> for Stop {
+    ghost use Rattle.std.specs.Prelude.{◌≡◌};
+    ghost use Rattle.nfs_history.specs.declared.judging.Stop.TheVariants.{Fault};
+
+    ghost from_gives = { λ fault e. e ≡ Fault fault };
+
+    fn from(fault: CallFault) -> Stop {
+        Stop::Fault(fault)
+    }
+}
+
+impl From<AllocError> for Stop {
+    ghost use Rattle.std.specs.Prelude.{◌≡◌};
+    ghost use Rattle.nfs_history.specs.declared.judging.Stop.TheVariants.{NoMemory};
+
+    ghost from_gives = { λ _ e. e ≡ NoMemory };
+
+    fn from(_error: AllocError) -> Stop {
+        Stop::NoMemory
+    }
+}
+
+impl<T: Drop> From<AllocFailed<T>> for Stop {
+    ghost use Rattle.std.specs.Prelude.{◌≡◌};
+    ghost use Rattle.nfs_history.specs.declared.judging.Stop.TheVariants.{NoMemory};
+
+    ghost from_gives = { λ _ e. e ≡ NoMemory };
+
+    fn from(_error: AllocFailed<T>) -> Stop {
+        Stop::NoMemory
+    }
+}
+
+impl From<Stop> for HistoryFault {
+    ghost use Rattle.std.specs.Prelude.{◌≡◌};
+    ghost use Rattle.nfs_history.specs.Judging.{of_stop};
+
+    ghost from_gives = { λ stop e. e ≡ of_stop stop };
+
+    fn from(stop: Stop) -> HistoryFault {
+        match stop {
+            Stop::Fault(fault) => HistoryFault::from(fault),
+            Stop::NoMemory => HistoryFault::NoMemory,
+        }
+    }
+}
 
 fn is_failure(outcome: &Option<Outcome>) -> bool
     ensures { result ≡ failed outcome.now }
@@ -154,12 +206,12 @@ fn which_left_out(procedure: u32) -> Which
 }
 
 /// What is wrong with a LINK or MKNOD that may have had an effect.
-fn left_out(number: u64, which: Which, results: Option<&[u8]>) -> HistoryFault
+fn left_out(number: u64, which: Which, results: Option<&[u8]>) -> CallFault
     ensures { result ≡ left_out number which (bytes_of results.entry) }
 {
     match results {
-        Some(results) if results.len() < 4 => HistoryFault::BadResult(number),
-        _ => HistoryFault::Outside(number, which),
+        Some(results) if results.len() < 4 => CallFault::BadResult(number),
+        _ => CallFault::Outside(number, which),
     }
 }
 
@@ -168,13 +220,13 @@ fn kept_inside(
     number: u64,
     call: NfsCall,
     outcome: Option<Outcome>,
-) -> Result<(NfsCall, Option<Outcome>), HistoryFault>
+) -> Result<(NfsCall, Option<Outcome>), CallFault>
     ensures found { IfOk result (λ k. (k.0 ≡ call) × (k.1 ≡ outcome) × (outside call outcome ≡ None)) }
     ensures fault { IfErr result (λ f. outside_fault number call outcome ≡ Some f) }
 {
     match outside_model(&call, &outcome) {
         None => Ok((call, outcome)),
-        Some(which) => Err(HistoryFault::Outside(number, which)),
+        Some(which) => Err(CallFault::Outside(number, which)),
     }
 }
 
@@ -185,19 +237,22 @@ fn with_outcome(
     procedure: u32,
     call: NfsCall,
     results: Option<&[u8]>,
-) -> Result<(NfsCall, Option<Outcome>), HistoryFault>
+) -> Result<(NfsCall, Option<Outcome>), Stop>
     ensures found { IfOk result (λ k. (k.0 ≡ call) × CameOut procedure (bytes_of results.entry) k.1
         × (outside k.0 k.1 ≡ None)) }
-    ensures fault { IsErrorOf (λ f. result_fault number procedure call (bytes_of results.entry) ≡ Some f) result }
+    ensures fault { IsStopFor (λ f. result_fault number procedure call (bytes_of results.entry) ≡ Some f) result }
 {
-    let Some(results) = results else {
-        return kept_inside(number, call, None);
+    let outcome = match results {
+        None => None,
+        Some(results) => match read_result(alloc, procedure, results) {
+            Ok(answer) => Some(Outcome::Received(answer)),
+            Err(MessageFault::NoMemory) => return Err(Stop::NoMemory),
+            Err(MessageFault::BadMessage { .. }) => {
+                return Err(Stop::Fault(CallFault::BadResult(number)));
+            }
+        },
     };
-    match read_result(alloc, procedure, results) {
-        Ok(answer) => kept_inside(number, call, Some(Outcome::Received(answer))),
-        Err(MessageFault::NoMemory) => Err(HistoryFault::NoMemory),
-        Err(MessageFault::BadMessage { .. }) => Err(HistoryFault::BadResult(number)),
-    }
+    Ok(kept_inside(number, call, outcome)?)
 }
 
 /// What a call of a judged procedure asked, and how it came out.
@@ -206,16 +261,16 @@ fn judged(
     number: u64,
     head: &CallHead<'_>,
     results: Option<&[u8]>,
-) -> Result<(NfsCall, Option<Outcome>), HistoryFault>
+) -> Result<(NfsCall, Option<Outcome>), Stop>
     ensures found { IfOk result (λ k. IsArguments head.now.procedure head.now.args.now k.0
         × CameOut head.now.procedure (bytes_of results.entry) k.1 × (outside k.0 k.1 ≡ None)) }
-    ensures fault { IsErrorOf (λ f. judged_fault number head.now.procedure head.now.args.now
+    ensures fault { IsStopFor (λ f. judged_fault number head.now.procedure head.now.args.now
         (bytes_of results.entry) ≡ Some f) result }
 {
     match read_args(alloc, head.procedure, head.args) {
         Ok(call) => with_outcome(alloc, number, head.procedure, call, results),
-        Err(MessageFault::NoMemory) => Err(HistoryFault::NoMemory),
-        Err(MessageFault::BadMessage { .. }) => Err(HistoryFault::BadArgs(number)),
+        Err(MessageFault::NoMemory) => Err(Stop::NoMemory),
+        Err(MessageFault::BadMessage { .. }) => Err(Stop::Fault(CallFault::BadArgs(number))),
     }
 }
 
@@ -225,55 +280,52 @@ fn known_of(
     number: u64,
     head: &CallHead<'_>,
     body: &Option<ReplyBody<'_>>,
-) -> Result<(Meaning, Option<Outcome>), HistoryFault>
+) -> Result<(Meaning, Option<Outcome>), Stop>
     ensures found { IfOk result (λ k. IsKnownAs (call_value head.now) (option_map body_value body.now) k.0 k.1) }
-    ensures fault { IsErrorOf (λ f. fault_of number (call_value head.now) (option_map body_value body.now)
+    ensures fault { IsStopFor (λ f. fault_of number (call_value head.now) (option_map body_value body.now)
         ≡ Some f) result }
 {
     if has_no_effect(head, body) {
         return Ok((Meaning::Unjudged, None));
     }
     if head.flavor == SEALED_FLAVOR {
-        return Err(HistoryFault::Sealed(number));
+        return Err(Stop::Fault(CallFault::Sealed(number)));
     }
     let results = results_of(body);
     if is_judged(head.procedure) {
         let (call, outcome) = judged(alloc, number, head, results)?;
         Ok((Meaning::Judged(call), outcome))
     } else {
-        Err(left_out(number, which_left_out(head.procedure), results))
+        let which = which_left_out(head.procedure);
+        Err(Stop::Fault(left_out(number, which, results)))
     }
 }
 
 /// The body of the reply to a call, where one came.
-fn body_of<'a>(answer: &Option<SeenReply<'a>>) -> Result<Option<ReplyBody<'a>>, HistoryFault>
+fn body_of<'a>(answer: &Option<SeenReply<'a>>) -> Option<ReplyBody<'a>>
     requires { (body : Option Body) × Says (option_map seen_reply answer.now) body }
-    ensures { IsOkAnd result (λ body. Says (option_map seen_reply answer.now) (option_map body_value body)) }
+    ensures { Says (option_map seen_reply answer.now) (option_map body_value result) }
 {
     let Some(reply) = answer else {
-        return Ok(None);
+        return None;
     };
     match read_reply(reply.message.as_slice()) {
-        Ok(head) => Ok(Some(head.body)),
-        Err(_) => Err(HistoryFault::BadRpc(reply.number)),
+        Ok(head) => Some(head.body),
+        Err(_) => unreachable!(),
     }
 }
 
 /// What is known of call `number`.
-fn judged_call(
-    alloc: Global,
-    number: u64,
-    seen: &SeenCall<'_>,
-) -> Result<RecordedCall, HistoryFault>
+fn judged_call(alloc: Global, number: u64, seen: &SeenCall<'_>) -> Result<RecordedCall, Stop>
     requires { IsReadable (seen_call seen.now) }
     ensures found { IfOk result (IsRecorded (seen_call seen.now)) }
-    ensures fault { IsErrorOf (IsFound number (seen_call seen.now)) result }
+    ensures fault { IsStopFor (IsFound number (seen_call seen.now)) result }
 {
     let message = seen.message.as_slice();
     let Ok(head) = read_call(message) else {
-        return Err(HistoryFault::BadRpc(seen.begin));
+        unreachable!();
     };
-    let body = body_of(&seen.answer)?;
+    let body = body_of(&seen.answer);
     let (meaning, outcome) = known_of(alloc, number, &head, &body)?;
     Ok(RecordedCall {
         lane: seen.lane,
@@ -281,21 +333,16 @@ fn judged_call(
         meaning,
         begin: seen.begin,
         end: seen.answer.map(|reply| reply.number),
-        era: 1,
+        era: seen.era,
         outcome,
     })
 }
 
 /// What is known of each call.
-pub fn judged_calls(alloc: Global, seen: &[SeenCall<'_>]) -> Result<Vec<RecordedCall>, HistoryFault>
+pub fn judged_calls(alloc: Global, seen: &[SeenCall<'_>]) -> Result<Vec<RecordedCall>, Stop>
     requires { AreReadable (map seen_call seen.now) }
     ensures found { IfOk result (λ v. AreRecorded (map seen_call seen.now) v.items) }
-    // Where it is known of each call what it was, nothing is refused, memory aside.
-    ensures only { AllByRecursion IsFine (map seen_call seen.now) → IsFineOrNoMemory result }
-    ensures fault { IsErrorOf (FirstCallFault 1 (map seen_call seen.now)) result }
-    // The first call at fault is named, memory aside.
-    ensures named { (fault : HistoryFault) → FirstCallFault 1 (map seen_call seen.now) fault
-        → IsThatOrNoMemory fault result }
+    ensures fault { IsStopFor (FirstCallFault 1 (map seen_call seen.now)) result }
 {
     let mut calls = Vec::with_capacity(alloc, seen.len())?;
     for (index, call) in seen.iter().enumerate() {

@@ -2,12 +2,18 @@
 #![tactic(auto)]
 
 mod checking;
+mod fault;
 mod history;
 mod judging;
+mod knowing;
+mod laws;
 mod matching;
-mod not_yet;
 mod reading;
 
-pub use history::{History, Meaning, RecordedCall, RecordedCalls, find_call};
-pub use history_file::{Event, Events, HistoryFault, Message, Which, WriteFault, write_history};
+pub use fault::{CallFault, EventFault, HistoryFault, Which};
+pub use history::{History, Meaning, RecordedCall, find_call};
+pub use history_file::{Event, FileFault, Message, WriteFault, write_history};
+pub use laws::{
+    a_file_has_one_history, bytes_are_a_history_or_at_fault, bytes_have_one_first_fault,
+};
 pub use reading::read_history;

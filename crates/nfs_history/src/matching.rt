@@ -1,10 +1,10 @@
 //! Calls and the replies that answer them.
 
 ghost use Rattle.std.specs.Prelude.{◌≡◌, IfOk, map};
-ghost use Rattle.nfs_history.specs.Calls.{xid_of, calls_of};
+ghost use Rattle.nfs_history.specs.Calls.{xid_of, calls_of, eras_from};
 ghost use Rattle.nfs_history.specs.Matching.{seen_call};
-ghost use Rattle.history_file.specs.Owning.{all_happened};
-ghost use Rattle.nfs_history.specs.Standing.{InOneEra};
+ghost use Rattle.nfs_history.specs.Checking.{is_crash};
+ghost use Rattle.history_file.specs.Owning.{happened, all_happened};
 
 use byteorder::{BigEndian, ByteOrder};
 use history_file::{Event, Message};
@@ -18,12 +18,13 @@ pub struct SeenReply<'a> {
     pub message: &'a Message,
 }
 
-/// A call, with the number of its event and the reply that answers it.
+/// A call, with the number of its event, its era and the reply that answers it.
 #[derive(Clone, Copy, Debug)]
 pub struct SeenCall<'a> {
     pub lane: u32,
     pub message: &'a Message,
     pub begin: u64,
+    pub era: u64,
     pub answer: Option<SeenReply<'a>>,
 }
 
@@ -39,17 +40,39 @@ pub fn transaction(message: &[u8]) -> u32
     }
 }
 
-/// The calls among the events, in order, each with the first reply behind it on its lane that has its
-/// transaction number. It goes from the last event to the first, so that a call finds its reply met.
+fn is_crash(event: &Event) -> bool
+    ensures { result ≡ is_crash (happened event.now) }
+{
+    matches!(event, Event::Crash)
+}
+
+/// How many eras the events are of: one more than the server went down.
+pub fn count_eras(events: &[Event]) -> u64
+    ensures { result ≡ eras_from 1 (all_happened events.now) }
+{
+    let mut eras = 1;
+    for event in events {
+        if is_crash(event) {
+            eras += 1;
+        }
+    }
+    eras
+}
+
+/// The calls among the events of so many eras, in order, each with the first reply behind it on its lane that has its
+/// transaction number. It goes from the last event to the first, so that a call finds its reply met; the era goes
+/// down by one at each crash.
 pub fn matched_calls<'a>(
     alloc: Global,
     events: &'a [Event],
+    eras: u64,
 ) -> Result<Vec<SeenCall<'a>>, AllocError>
-    requires { InOneEra (all_happened events.now) }
+    requires { eras ≡ eras_from 1 (all_happened events.now) }
     ensures { IfOk result (λ v. map seen_call v.items ≡ calls_of (all_happened events.now)) }
 {
     let mut replies: IndexMap<(u32, u32), SeenReply<'a>> = IndexMap::new(alloc);
     let mut calls = Vec::new(alloc);
+    let mut era = eras;
     for index in (0..events.len()).rev() {
         let number = index as u64 + 1;
         match &events[index] {
@@ -60,6 +83,7 @@ pub fn matched_calls<'a>(
                     lane: *lane,
                     message,
                     begin: number,
+                    era,
                     answer,
                 })?;
             }
@@ -68,7 +92,7 @@ pub fn matched_calls<'a>(
                 replies.insert((*lane, xid), SeenReply { number, message })?;
             }
             Event::Close { .. } => {}
-            Event::Crash => {}
+            Event::Crash => era -= 1,
         }
     }
     calls.reverse();

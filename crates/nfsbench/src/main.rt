@@ -1,10 +1,9 @@
-//! Judges the bundle on standard input: prints the verdict on it, and ends with its exit status.
+//! The program: judges the bundle on standard input, or the files that its words name.
 #![tactic(auto)]
 
-use nfsbench_engine::run_bundle;
-use std::io;
+use nfsbench_engine::run_process;
 use std::process::ExitCode;
 
 fn main(rt: HostRuntime) -> ExitCode {
-    ExitCode::from(run_bundle(rt.alloc(), &mut rt.reader(), &mut io::writer(&rt)))
+    run_process(&rt)
 }

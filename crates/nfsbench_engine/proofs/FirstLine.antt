@@ -1,81 +1,92 @@
 -- The first line of a bundle, and what stands behind it.
-use Rattle.std.proofs.Common.{◌≡◌, ℕ, ◌==◌, true, false, if◌then◌else◌, List, [], ◌∷◌, ◌++◌, Option, Some, None, IfSome, IfOk, Result, Ok, Err, refl, sym, ap, ◌∙◌, subst, arith, append_assoc}
+use Rattle.std.proofs.Common.{◌≡◌, ◌≢◌, ℕ, ◌+◌, ◌==◌, Bool, true, false, List, [], ◌∷◌, ◌++◌, length, take, drop, get_or, Some, None, Result, Ok, refl, sym, ap, ◌∙◌, arith, add-one, take-append-drop, drop-cons, length-append}
+use Rattle.std.specs.Prelude.{position}
+use Rattle.std.specs.List.{AllPass, position_or_len}
+use Rattle.std.proofs.lemmas.Bool.{eqb-true}
 use Rattle.std.proofs.lemmas.Bool.Decides.{nat_tests}
 use Rattle.std.proofs.lemmas.List.Elements.{All-head, All-tail}
-use Rattle.std.specs.Io.BufRead.{take_through, drop_through}
-use Rattle.std.specs.Io.KnownBytes.{prepend_known}
-use Rattle.std.specs.List.{AllPass}
-use Rattle.std.specs.Option.{IsSomeAnd}
-use Rattle.hex.specs.Hex.{encode_lower}
-use Rattle.nfsbench_engine.specs.Bundle.{IsBundle, IsHistoryLine, IsSomeBundle, is_lower_digit}
+use Rattle.std.proofs.lemmas.List.Quantifiers.{position-Some}
+use Rattle.std.proofs.Math.Seq.{drop-append-add, take-append_seam}
+use Rattle.hex.specs.Hex.{IsBytes, encode_lower, decode_of}
+use Rattle.hex.specs.declared.error.FromHexError.{FromHexError}
+use Rattle.hex.proofs.HexLemmas.{decode_of-encode_lower}
+use Rattle.nfsbench_engine.specs.Bundle.{IsBundle, IsSomeBundle, is_lower_digit}
 use Rattle.nfsbench_engine.proofs.LowerHex.{AllPass-encode_lower}
 
--- what stands behind the first such byte stands behind what ends in it
-take_through-drop_through : (b : ℕ) (xs : List ℕ) → take_through b xs ++ drop_through b xs ≡ xs
-take_through-drop_through b [] = refl
-take_through-drop_through b (x ∷ xs) =
-    elim (x == b) as (λ t. (if t then x ∷ [] else x ∷ take_through b xs) ++ (if t then xs else drop_through b xs) ≡ x ∷ xs) [
-      | true ↦ refl
-      | false ↦ ap (λ ys. x ∷ ys) (take_through-drop_through b xs)
-    ]
+abbrev is_line_feed : ℕ → Bool
+is_line_feed byte = byte == 10
 
 -- a digit is no line feed
-digit-ne-line_feed : (c : ℕ) → is_lower_digit c ≡ true → (c == 10) ≡ false
+digit-ne-line_feed : (c : ℕ) → is_lower_digit c ≡ true → is_line_feed c ≡ false
 digit-ne-line_feed c h = grind (arith, nat_tests)
 
--- the first line feed behind digits ends the first line
-take_through-digits : (digits rest : List ℕ) → AllPass is_lower_digit digits → take_through 10 (digits ++ 10 ∷ rest) ≡ digits ++ 10 ∷ []
-take_through-digits [] rest h = refl
-take_through-digits (d ∷ digits) rest h =
+-- the first line feed behind digits stands right behind them
+position_or_len-digits : (digits rest : List ℕ) → AllPass is_lower_digit digits → position_or_len is_line_feed (digits ++ 10 ∷ rest) ≡ length digits
+position_or_len-digits [] rest h = refl
+position_or_len-digits (d ∷ digits) rest h =
     let other = digit-ne-line_feed d (All-head (λ c. is_lower_digit c ≡ true) d digits h) in
-    let ih = take_through-digits digits rest (All-tail (λ c. is_lower_digit c ≡ true) d digits h) in
-    rw other (ap (λ ys. d ∷ ys) ih)
+    let ih = position_or_len-digits digits rest (All-tail (λ c. is_lower_digit c ≡ true) d digits h) in
+    rw other (rw ih (omega arith))
+
+position-digits : (digits rest : List ℕ) → AllPass is_lower_digit digits → position is_line_feed (digits ++ 10 ∷ rest) ≡ Some (length digits)
+position-digits digits rest h =
+    let first = position_or_len-digits digits rest h in
+    let len = length-append digits (10 ∷ rest) in
+    rw first (rw len (grind (arith, nat_tests)))
+
+-- the first line of a bundle ends behind its digits
+position-bundle : (bytes history certificate : List ℕ) → IsBundle bytes history certificate → position is_line_feed bytes ≡ Some (length (encode_lower history))
+position-bundle bytes history certificate h =
+    ap (position is_line_feed) h.spelled ∙ position-digits (encode_lower history) certificate (AllPass-encode_lower history h.in_range)
+
+-- without a line feed there is no bundle
+pub no_bundle-without : (bytes : List ℕ) → position is_line_feed bytes ≡ None → IsSomeBundle bytes → ⊥
+no_bundle-without bytes none b = cc (sym none ∙ position-bundle bytes b.0 b.1 b.2)
+
+-- what stands ahead of the first line feed, the line feed, and what stands behind it
+parts : (bytes : List ℕ) (end : ℕ) → position is_line_feed bytes ≡ Some end → bytes ≡ take end bytes ++ 10 ∷ drop (end + 1) bytes
+parts bytes end found =
+    let at = position-Some is_line_feed bytes end 0 found in
+    let within = at.0 in
+    let feed : get_or bytes end 0 ≡ 10 = eqb-true (get_or bytes end 0) 10 at.1 in
+    sym (take-append-drop end bytes) ∙ ap (λ l. take end bytes ++ l) (drop-cons bytes end 0 within ∙ (rw (feed, add-one) refl))
 
 -- a first line that spells a history makes a bundle with what stands behind it
-IsBundle-from_line : (bytes line history : List ℕ) → line ≡ take_through 10 bytes → IsHistoryLine line history → IsBundle bytes history (drop_through 10 bytes)
-IsBundle-from_line bytes line history e h = record {
-  in_range = h.in_range;
-  spelled = sym (take_through-drop_through 10 bytes) ∙ ap (λ front. front ++ drop_through 10 bytes) (sym e ∙ h.spelled) ∙ append_assoc (encode_lower history) (10 ∷ []) (drop_through 10 bytes);
+pub IsBundle-from_line : (bytes history : List ℕ) (end : ℕ) → position is_line_feed bytes ≡ Some end → IsBytes history → take end bytes ≡ encode_lower history
+    → IsBundle bytes history (drop (end + 1) bytes)
+IsBundle-from_line bytes history end found range line = record {
+  in_range = range;
+  spelled = parts bytes end found ∙ ap (λ front. front ++ 10 ∷ drop (end + 1) bytes) line;
 }
 
--- a bundle's first line spells its history
-IsHistoryLine-from_bundle : (bytes line history certificate : List ℕ) → line ≡ take_through 10 bytes → IsBundle bytes history certificate → IsHistoryLine line history
-IsHistoryLine-from_bundle bytes line history certificate e h = record {
-  in_range = h.in_range;
-  spelled = e ∙ ap (take_through 10) h.spelled ∙ take_through-digits (encode_lower history) certificate (AllPass-encode_lower history h.in_range);
-}
+same_length : (a b : ℕ) → Some a ≡ Some b → a ≡ b
+same_length a b e = cc e
 
--- where the bytes are known, a history that their first line spells makes a bundle with the bytes that are left
-pub IsBundle-from_known : {A E : Type 0} (r : Result A E) (items : A → List ℕ) (old new : Option (List ℕ)) (start line slice : List ℕ) → start ≡ [] → slice ≡ line
-    → IfSome old (λ xs. line ≡ start ++ take_through 10 xs) → IfSome old (λ xs. new ≡ Some (drop_through 10 xs)) → IfOk r (λ v. IsHistoryLine slice (items v))
-    → IfOk r (λ v. IfSome old (λ bytes. IsSomeAnd new (IsBundle bytes (items v))))
-IsBundle-from_known (Err e) items old new start line slice empty same front left h = tt
-IsBundle-from_known (Ok v) items None new start line slice empty same front left h = tt
-IsBundle-from_known (Ok v) items (Some xs) new start line slice empty same front left h =
-    rw left (IsBundle-from_line xs slice (items v) (same ∙ front ∙ ap (λ ys. ys ++ take_through 10 xs) empty) h)
+-- the digits of a bundle stand ahead of the first line feed
+line-bundle : (bytes history certificate : List ℕ) (end : ℕ) → position is_line_feed bytes ≡ Some end → IsBundle bytes history certificate → take end bytes ≡ encode_lower history
+line-bundle bytes history certificate end found h =
+    let at : end ≡ length (encode_lower history) = same_length end (length (encode_lower history)) (sym found ∙ position-bundle bytes history certificate h) in
+    rw (at, h.spelled) (take-append_seam (encode_lower history) (10 ∷ certificate))
 
--- where the bytes are known, a first line that spells no history begins no bundle
-pub no_bundle-from_known : (old : Option (List ℕ)) (start line slice : List ℕ) → start ≡ [] → slice ≡ line
-    → IfSome old (λ xs. line ≡ start ++ take_through 10 xs) → ((history : List ℕ) → IsHistoryLine slice history → ⊥)
-    → IfSome old (λ bytes. IsSomeBundle bytes → ⊥)
-no_bundle-from_known None start line slice empty same front h = tt
-no_bundle-from_known (Some xs) start line slice empty same front h =
-    λ b. h b.0 (IsHistoryLine-from_bundle xs slice b.0 b.1 (same ∙ front ∙ ap (λ ys. ys ++ take_through 10 xs) empty) b.2)
+-- a first line that spells no history begins no bundle
+pub no_bundle-other : (bytes : List ℕ) (end : ℕ) → position is_line_feed bytes ≡ Some end
+    → ((history : List ℕ) → IsBytes history → take end bytes ≢ encode_lower history) → IsSomeBundle bytes → ⊥
+no_bundle-other bytes end found other b = other b.0 b.2.in_range (line-bundle bytes b.0 b.1 end found b.2)
 
--- where the bytes are known, what is left behind the first line is the certificate
-pub IsBundle-from_rest : (old new : Option (List ℕ)) (history start certificate : List ℕ) → start ≡ []
-    → IfSome new (λ xs. certificate ≡ start ++ xs) → IfSome old (λ bytes. IsSomeAnd new (IsBundle bytes history))
-    → IfSome old (λ bytes. IsBundle bytes history certificate)
-IsBundle-from_rest None new history start certificate empty all h = tt
-IsBundle-from_rest (Some bytes) None history start certificate empty all h = absurd h
-IsBundle-from_rest (Some bytes) (Some xs) history start certificate empty all h =
-    subst (IsBundle bytes history) (sym (all ∙ ap (λ ys. ys ++ xs) empty)) h
+same_bytes : (xs ys : List ℕ) (r : Result (List ℕ) FromHexError) → r ≡ Ok xs → r ≡ Ok ys → xs ≡ ys
+same_bytes xs ys r e f = cc (e, f)
 
--- what holds of the bytes of a fresh buffer with room holds of its reader's
-pub IfSome-from_fresh : {A E : Type 0} (r : Result A E) (P : A → List ℕ → Type 0) (capacity : ℕ) (ahead : List ℕ) (inner known : Option (List ℕ))
-    → capacity ≡ 65536 → ahead ≡ [] → inner ≡ known
-    → IfOk r (λ v. IfSome (if capacity == 0 then None else prepend_known ahead inner) (P v))
-    → IfOk r (λ v. IfSome known (P v))
-IfSome-from_fresh (Err e) P capacity ahead inner known room fresh same h = tt
-IfSome-from_fresh (Ok v) P capacity ahead inner None room fresh same h = tt
-IfSome-from_fresh (Ok v) P capacity ahead inner (Some xs) room fresh same h = rw (room, fresh, same) at h
+-- bytes are one bundle at most
+pub one_bundle : (bytes history certificate history' certificate' : List ℕ) → IsBundle bytes history certificate → IsBundle bytes history' certificate'
+    → (history ≡ history') × (certificate ≡ certificate')
+one_bundle bytes history certificate history' certificate' h h' =
+    let found = position-bundle bytes history certificate h in
+    let line : encode_lower history ≡ encode_lower history' =
+    sym (line-bundle bytes history certificate (length (encode_lower history)) found h)
+    ∙ line-bundle bytes history' certificate' (length (encode_lower history)) found h' in
+    let same : history ≡ history' =
+    same_bytes history history' (decode_of (encode_lower history)) (decode_of-encode_lower history h.in_range)
+    (ap decode_of line ∙ decode_of-encode_lower history' h'.in_range) in
+    let behind : drop (length (encode_lower history) + 1) (encode_lower history ++ 10 ∷ certificate) ≡ drop (length (encode_lower history') + 1) (encode_lower history' ++ 10 ∷ certificate') =
+    ap (λ d. drop (length d + 1) (encode_lower history ++ 10 ∷ certificate)) line ∙ ap (drop (length (encode_lower history') + 1)) (sym h.spelled ∙ h'.spelled) in
+    (same, sym (drop-append-add (encode_lower history) (10 ∷ certificate) 1) ∙ behind ∙ drop-append-add (encode_lower history') (10 ∷ certificate') 1)

@@ -1,4 +1,5 @@
 pub mod FirstLine
 pub mod Fronts
 pub mod LowerHex
+pub mod Pieces
 pub mod Told

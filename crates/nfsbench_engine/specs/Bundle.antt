@@ -1,7 +1,7 @@
 -- What a bundle is: a history and a certificate in one stream of bytes.
-use Rattle.std.specs.Prelude.{◌≡◌, ℕ, Bool, ◌&&◌, ◌||◌, nat_le, List, [], ◌∷◌, ◌++◌}
+use Rattle.std.specs.Prelude.{◌≡◌, ℕ, Bool, ◌&&◌, ◌||◌, nat_le, List, ◌∷◌, ◌++◌}
 use Rattle.hex.specs.Hex.{IsBytes, encode_lower}
-use Rattle.order_check.specs.declared.fault.Fault.{Fault}
+use Rattle.witness_check.specs.declared.fault.Fault.{Fault}
 use Rattle.witness_check.specs.Witness.{AreAccepted}
 use Rattle.witness_check.specs.Verdict.{AreRefuted}
 
@@ -9,10 +9,6 @@ use Rattle.witness_check.specs.Verdict.{AreRefuted}
 pub record IsBundle (bytes history certificate : List ℕ) : Type 0 where
   pub in_range : IsBytes history
   pub spelled : bytes ≡ encode_lower history ++ 10 ∷ certificate
-
--- the first line of a bundle
-abbrev pub IsHistoryLine : List ℕ → List ℕ → Type 0
-IsHistoryLine line history = IsBundle line history []
 
 -- some history and some certificate
 abbrev pub IsSomeBundle : List ℕ → Type 0

@@ -1,43 +1,19 @@
-//! A bundle, read from a stream: a history in lower case hex, a line feed, and a certificate's text.
+//! A bundle: a history in lower case hex, a line feed, and a certificate's text.
 
-ghost use Rattle.std.specs.Prelude.{◌≡◌, ◌≢◌, ℕ, List, [], ◌∷◌, ◌++◌, IfOk, IfSome, IsSomeAnd, MatchOption, IsTrue, ◌↔◌};
+ghost use Rattle.std.specs.Prelude.{◌≡◌, ◌≢◌, ℕ, List, ◌<◌, ◌==◌, IfOk, IfSome, IsTrue, ◌↔◌, position, length};
 ghost use Rattle.std.specs.List.{AllPass};
 ghost use Rattle.hex.specs.Hex.{IsBytes, encode_lower};
-ghost use Rattle.nfsbench_engine.specs.Bundle.{IsBundle, IsHistoryLine, IsSomeBundle, is_lower_digit};
+ghost use Rattle.nfsbench_engine.specs.Bundle.{IsBundle, IsSomeBundle, is_lower_digit};
 
-use crate::counted::Counted;
 use hex::FromHexError;
 use std::alloc::Global;
-use std::io::{self, BufRead, BufReader, ErrorKind, Read};
 
-/// How much is asked of the reader at once.
-const READ_SIZE: usize = 65_536;
-
-/// Why no bundle was read.
+/// Why there is no bundle.
 #[derive(Clone, Copy, Debug, PartialEq, Eq)]
 pub(crate) enum BundleFault {
-    /// A read failed, or there were too many.
-    Unreadable,
-    /// The input is no bundle.
+    /// The bytes are no bundle.
     Malformed,
     NoMemory,
-}
-
-impl From<io::Error> for BundleFault {
-    ghost use Rattle.std.specs.IoError.{error_kind};
-    ghost use Rattle.std.specs.declared.io.ErrorKind.TheVariants.{OutOfMemory};
-    ghost use Rattle.nfsbench_engine.specs.declared.bundle.BundleFault.TheVariants.{NoMemory, Unreadable};
-
-    ghost from_gives = { λ error fault. (error_kind error ≡ OutOfMemory → fault ≡ NoMemory)
-        × (error_kind error ≢ OutOfMemory → fault ≡ Unreadable) };
-
-    fn from(error: io::Error) -> BundleFault {
-        if error.kind() == ErrorKind::OutOfMemory {
-            BundleFault::NoMemory
-        } else {
-            BundleFault::Unreadable
-        }
-    }
 }
 
 impl From<FromHexError> for BundleFault {
@@ -57,9 +33,9 @@ impl From<FromHexError> for BundleFault {
 
 /// The bytes of a history, and the text of a certificate.
 #[derive(Debug, Drop)]
-pub(crate) struct Bundle {
+pub(crate) struct Bundle<'a> {
     pub(crate) history: Vec<u8>,
-    pub(crate) certificate: Vec<u8>,
+    pub(crate) certificate: &'a [u8],
 }
 
 fn is_lower_digit(byte: u8) -> bool
@@ -72,18 +48,6 @@ fn are_lower_digits(text: &[u8]) -> bool
     ensures { IsTrue result ↔ AllPass is_lower_digit text.now }
 {
     text.iter().all(|byte| is_lower_digit(*byte))
-}
-
-/// The line without the line feed that it ends in.
-fn without_line_feed(line: &[u8]) -> Option<&[u8]>
-    ensures { MatchOption result
-        ((text : List ℕ) → line.now ≢ text ++ 10 ∷ [])
-        (λ text. line.now ≡ text.now ++ 10 ∷ []) }
-{
-    match line.split_last() {
-        Some((b'\n', text)) => Some(text),
-        _ => None,
-    }
 }
 
 /// The bytes that the digits spell.
@@ -99,53 +63,25 @@ fn decode_digits(alloc: Global, digits: &[u8]) -> Result<Vec<u8>, BundleFault>
     Ok(hex::decode(alloc, digits)?)
 }
 
-/// The history that a whole line spells.
-fn decode_line(alloc: Global, line: &[u8]) -> Result<Vec<u8>, BundleFault>
-    ensures ok { IfOk result (λ history. IsHistoryLine line.now history.items) }
-    ensures malformed { result ≡ Err BundleFault.Malformed
-        → (history : List ℕ) → ¬ (IsHistoryLine line.now history) }
+/// Where the first line ends.
+fn first_line_feed(bytes: &[u8]) -> Option<usize>
+    ensures first { result ≡ position (λ byte. byte == 10) bytes.now }
+    ensures within { IfSome result (λ end. end < length bytes.now) }
 {
-    match without_line_feed(line) {
-        Some(digits) => decode_digits(alloc, digits),
-        None => Err(BundleFault::Malformed),
-    }
+    bytes.iter().position(|byte| *byte == b'\n')
 }
 
-/// The history of the first line, which is freed once it is decoded.
-fn read_history<B: BufRead>(alloc: Global, input: &mut B) -> Result<Vec<u8>, BundleFault>
-    ensures ok { IfOk result (λ history. IfSome (B.remaining input.old) (λ bytes.
-        IsSomeAnd (B.remaining input.new) (IsBundle bytes history.items))) }
-    ensures malformed { result ≡ Err BundleFault.Malformed
-        → IfSome (B.remaining input.old) (λ bytes. ¬ (IsSomeBundle bytes)) }
+/// The bundle that the bytes are.
+pub(crate) fn read_bundle<'a>(alloc: Global, bytes: &'a [u8]) -> Result<Bundle<'a>, BundleFault>
+    ensures ok { IfOk result (λ bundle. IsBundle bytes.now bundle.history.items bundle.certificate.now) }
+    ensures malformed { result ≡ Err BundleFault.Malformed → ¬ (IsSomeBundle bytes.now) }
 {
-    let mut line = Vec::new(alloc);
-    input.read_until(b'\n', &mut line)?;
-    decode_line(alloc, line.as_slice())
-}
-
-/// The bundle that the whole input is.
-fn read_parts<B: BufRead>(alloc: Global, input: &mut B) -> Result<Bundle, BundleFault>
-    ensures ok { IfOk result (λ bundle. IfSome (B.remaining input.old) (λ bytes.
-        IsBundle bytes bundle.history.items bundle.certificate.items)) }
-    ensures malformed { result ≡ Err BundleFault.Malformed
-        → IfSome (B.remaining input.old) (λ bytes. ¬ (IsSomeBundle bytes)) }
-{
-    let history = read_history(alloc, input)?;
-    let mut certificate = Vec::new(alloc);
-    input.read_to_end(&mut certificate)?;
+    let Some(end) = first_line_feed(bytes) else {
+        return Err(BundleFault::Malformed);
+    };
+    let history = decode_digits(alloc, &bytes[..end])?;
     Ok(Bundle {
         history,
-        certificate,
+        certificate: &bytes[end + 1..],
     })
-}
-
-/// Reads a bundle to the reader's end.
-pub(crate) fn read_bundle<R: Read>(alloc: Global, reader: &mut R) -> Result<Bundle, BundleFault>
-    ensures ok { IfOk result (λ bundle. IfSome (R.remaining reader.old) (λ bytes.
-        IsBundle bytes bundle.history.items bundle.certificate.items)) }
-    ensures malformed { result ≡ Err BundleFault.Malformed
-        → IfSome (R.remaining reader.old) (λ bytes. ¬ (IsSomeBundle bytes)) }
-{
-    let mut input = BufReader::with_capacity(alloc, READ_SIZE, Counted::new(reader))?;
-    read_parts(alloc, &mut input)
 }

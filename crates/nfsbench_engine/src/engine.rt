@@ -1,15 +1,17 @@
-//! The whole way of a bundle, from the reader to the writer.
+//! The whole way of a bundle, from the input to the output.
 
-ghost use Rattle.std.specs.Prelude.{◌≡◌, ◌⊎◌, ◌<◌, ◌++◌, ◌∷◌, [], ℕ, List, codes, IfOk, IfSome, OnOk, string_bytes};
+ghost use Rattle.std.specs.Prelude.{◌≡◌, ◌⊎◌, ◌<◌, ◌≤◌, ◌++◌, ◌∷◌, [], ℕ, List, codes, IfOk, IfSome, OnErr};
 ghost use Rattle.std.specs.Io.KnownBytes.{Appends};
-ghost use Rattle.nfsbench_engine.specs.Bundle.{IsAcceptedBundle, IsRefutedBundle, IsSomeBundle};
-ghost use Rattle.nfsbench_engine.specs.Report.{GoesWith, IsBadBundle, MayTell, AppendsFront, no_line};
-ghost use Rattle.order_check.specs.declared.fault.Fault.{Fault};
+ghost use Rattle.nfsbench_engine.specs.Bundle.{IsAcceptedBundle, IsRefutedBundle};
+ghost use Rattle.nfsbench_engine.specs.Report.{IsSaid, MaySay, MayTell, Tells, memory_line, no_line};
+ghost use Rattle.nfsbench_engine.specs.Streams.{AppendsFront, GivesAll, HasRoom};
+ghost use Rattle.witness_check.specs.declared.fault.Fault.{Fault};
 
-use crate::bundle::{BundleFault, read_bundle};
-use crate::report::Report;
+use crate::input::Input;
+use crate::output::Output;
+use crate::reading::{InputFault, read_all};
+use crate::report::{Report, judge};
 use std::alloc::{AllocError, Global};
-use std::io::{self, ErrorKind, Read, Write};
 
 /// The exit status where the line can't be written.
 const WRITE_FAILED: u8 = 2;
@@ -18,88 +20,97 @@ const WRITE_FAILED: u8 = 2;
 const OUT_OF_MEMORY: u8 = 3;
 
 /// Reads a bundle and judges it.
-fn judge_input<R: Read>(alloc: Global, reader: &mut R) -> Result<Report, AllocError>
-    ensures yes { IfOk result (λ report. report.status ≡ 0
-        → IfSome (R.remaining reader.old) IsAcceptedBundle) }
-    ensures no { IfOk result (λ report. report.status ≡ 1
-        → (fault : Fault) × IfSome (R.remaining reader.old) (IsRefutedBundle fault)
-        × (string_bytes report.line ≡ no_line fault)) }
-    ensures bad_bundle { IfOk result (λ report. IfSome (R.remaining reader.old) (λ bytes.
-        ¬ (IsSomeBundle bytes) → IsBadBundle report.status (string_bytes report.line))) }
-    ensures told { IfOk result (λ report. IfSome (R.remaining reader.old) (λ bytes.
-        MayTell bytes (string_bytes report.line))) }
-    ensures line { IfOk result (λ report. GoesWith report.status (string_bytes report.line)) }
-    ensures known { IfOk result (λ report. report.status < 3) }
+fn judge_input<I: Input>(alloc: Global, input: &mut I) -> Result<Report, AllocError>
+    ensures said { IfOk result (λ report. MaySay (I.remaining input.old) report.status report.line) }
+    ensures exact { (bytes line : List ℕ) (status : ℕ) → IsSaid bytes status line
+        → GivesAll (I.remaining input.old) (I.reads_left input.old) bytes
+        → IfOk result (λ report. (report.status ≡ status) × (report.line ≡ line)) }
 {
-    match read_bundle(alloc, reader) {
-        Ok(bundle) => {
-            Report::of_files(
-                alloc,
-                bundle.history.as_slice(),
-                bundle.certificate.as_slice(),
-            )
-        }
-        Err(BundleFault::NoMemory) => Err(AllocError),
-        Err(BundleFault::Unreadable | BundleFault::Malformed) => {
-            Report::refused(alloc, &"bad bundle")
-        }
+    match read_all(alloc, input) {
+        Ok(bytes) => judge(alloc, bytes.as_slice()),
+        Err(InputFault::Unreadable) => Report::refused(alloc, "bad bundle"),
+        Err(InputFault::NoMemory) => Err(AllocError),
     }
-}
-
-/// Writes a line, or a front of it where a write fails.
-fn write_line<W: Write>(writer: &mut W, line: &[u8]) -> io::Result<()>
-    ensures whole { OnOk result (Appends (W.contents writer.old) (W.contents writer.new) line.now) }
-    ensures front { AppendsFront (W.contents writer.old) (W.contents writer.new) line.now }
-{
-    let mut written = 0;
-    for _ in 0..u64::MAX {
-        if written == line.len() {
-            return writer.flush();
-        }
-        match writer.write(&line[written..]) {
-            Ok(0) => return Err(io::Error::from(ErrorKind::WriteZero)),
-            Ok(count) => written += count,
-            Err(error) if error.kind() == ErrorKind::Interrupted => {}
-            Err(error) => return Err(error),
-        }
-    }
-    Err(io::Error::from(ErrorKind::Other))
 }
 
 /// Writes a line, and gives its exit status where it is written.
-fn tell<W: Write>(writer: &mut W, line: &[u8], status: u8) -> u8
-    ensures whole { (result ≡ 2) ⊎ ((result ≡ status)
-        × Appends (W.contents writer.old) (W.contents writer.new) line.now) }
-    ensures front { AppendsFront (W.contents writer.old) (W.contents writer.new) line.now }
+pub(crate) fn tell<O: Output>(output: &mut O, line: &[u8], status: u8) -> u8
+    ensures whole { (result ≡ 2)
+        ⊎ Tells result (O.contents output.old) (O.contents output.new) status line.now }
+    ensures front { AppendsFront (O.contents output.old) (O.contents output.new) line.now }
+    ensures sound { HasRoom (O.room output.old) line.now
+        → Tells result (O.contents output.old) (O.contents output.new) status line.now }
 {
-    match write_line(writer, line) {
+    match output.write_text(line) {
         Ok(()) => status,
         Err(_) => WRITE_FAILED,
+    }
+}
+
+/// Writes what is said.
+fn tell_report<O: Output>(output: &mut O, report: &Report) -> u8
+    ensures whole { (result ≡ 2)
+        ⊎ Tells result (O.contents output.old) (O.contents output.new) report.now.status report.now.line }
+    ensures front { AppendsFront (O.contents output.old) (O.contents output.new) report.now.line }
+    ensures sound { HasRoom (O.room output.old) report.now.line
+        → Tells result (O.contents output.old) (O.contents output.new) report.now.status report.now.line }
+{
+    tell(output, report.line().as_bytes(), report.status())
+}
+
+/// Says that memory ran out.
+pub(crate) fn tell_want_of_memory<O: Output>(output: &mut O) -> u8
+    ensures whole { (result ≡ 2)
+        ⊎ Tells result (O.contents output.old) (O.contents output.new) 3 memory_line }
+    ensures front { AppendsFront (O.contents output.old) (O.contents output.new) memory_line }
+    ensures sound { HasRoom (O.room output.old) memory_line
+        → Tells result (O.contents output.old) (O.contents output.new) 3 memory_line }
+{
+    tell(output, b"out of memory\n", OUT_OF_MEMORY)
+}
+
+/// Writes what is said, or says that memory ran out.
+pub(crate) fn tell_answer<O: Output>(output: &mut O, answer: Result<Report, AllocError>) -> u8
+    ensures memory { OnErr answer ((result ≡ 2)
+        ⊎ Tells result (O.contents output.old) (O.contents output.new) 3 memory_line) }
+    ensures report { IfOk answer (λ report. (result ≡ 2)
+        ⊎ Tells result (O.contents output.old) (O.contents output.new) report.status report.line) }
+{
+    match answer {
+        Ok(report) => tell_report(output, &report),
+        Err(AllocError) => tell_want_of_memory(output),
     }
 }
 
 /// Reads a bundle, a history in lower case hex on the first line and a certificate's text behind it, writes
 /// the verdict on it in one line, and gives the exit status: 0 for a yes, 1 for a no, 2 for a refusal or a
 /// failed write, 3 for want of memory.
-pub fn run_bundle<R: Read, W: Write>(alloc: Global, reader: &mut R, writer: &mut W) -> u8
-    ensures yes { result ≡ 0 → IfSome (R.remaining reader.old) IsAcceptedBundle }
+pub fn run_bundle<I: Input, O: Output>(alloc: Global, input: &mut I, output: &mut O) -> u8
+    ensures yes { result ≡ 0 → IfSome (I.remaining input.old) IsAcceptedBundle }
     // At 1 the line names the first fault of the plan.
-    ensures no { result ≡ 1 → (fault : Fault) × IfSome (R.remaining reader.old) (IsRefutedBundle fault)
-        × Appends (W.contents writer.old) (W.contents writer.new) (no_line fault) }
+    ensures no { result ≡ 1 → (fault : Fault) × IfSome (I.remaining input.old) (IsRefutedBundle fault)
+        × Appends (O.contents output.old) (O.contents output.new) (no_line fault) }
 
     // What is written: at any status a front of a line that may be told, which ends early only where a write failed.
-    ensures told { (line : List ℕ) × IfSome (R.remaining reader.old) (λ bytes. MayTell bytes line)
-        × AppendsFront (W.contents writer.old) (W.contents writer.new) line }
+    ensures told { (line : List ℕ) × MayTell (I.remaining input.old) line
+        × AppendsFront (O.contents output.old) (O.contents output.new) line }
     ensures yes_line { result ≡ 0
-        → Appends (W.contents writer.old) (W.contents writer.new) (codes "yes" ++ 10 ∷ []) }
+        → Appends (O.contents output.old) (O.contents output.new) (codes "yes" ++ 10 ∷ []) }
     ensures no_line { result ≡ 1 → (fault : List ℕ)
-        × Appends (W.contents writer.old) (W.contents writer.new) (codes "no: " ++ fault ++ 10 ∷ []) }
-    ensures memory_line { result ≡ 3 → Appends (W.contents writer.old) (W.contents writer.new)
-        (codes "out of memory" ++ 10 ∷ []) }
+        × Appends (O.contents output.old) (O.contents output.new) (codes "no: " ++ fault ++ 10 ∷ []) }
+    ensures memory_line { result ≡ 3
+        → Appends (O.contents output.old) (O.contents output.new) memory_line }
     ensures known { result < 4 }
+
+    // Where neither reading nor writing fails, exactly what is said of the bytes, or that memory ran out.
+    ensures exact { (bytes line : List ℕ) (status : ℕ) → IsSaid bytes status line
+        → GivesAll (I.remaining input.old) (I.reads_left input.old) bytes
+        → HasRoom (O.room output.old) line → HasRoom (O.room output.old) memory_line
+        → Tells result (O.contents output.old) (O.contents output.new) status line
+        ⊎ Tells result (O.contents output.old) (O.contents output.new) 3 memory_line }
 {
-    match judge_input(alloc, reader) {
-        Ok(report) => tell(writer, report.line.as_bytes(), report.status),
-        Err(AllocError) => tell(writer, b"out of memory\n", OUT_OF_MEMORY),
+    match judge_input(alloc, input) {
+        Ok(said) => tell_report(output, &said),
+        Err(AllocError) => tell_want_of_memory(output),
     }
 }

@@ -1,11 +1,19 @@
-//! The engine behind the program `nfsbench`: it judges one bundle, a history and a certificate in one stream.
+//! The engine behind the program `nfsbench`: it judges a history and a certificate, from files or in one stream.
 #![tactic(auto)]
 
 mod bundle;
-mod counted;
 mod engine;
+mod files;
+mod input;
+mod output;
+mod process;
+mod reading;
 mod report;
-#[cfg(test)]
-mod tests;
+mod words;
 
 pub use engine::run_bundle;
+pub use input::{Input, READ_SIZE, Stream};
+pub use output::{Output, Sink};
+pub use process::run_process;
+pub use report::{Report, judge, judge_files, judge_read};
+pub use words::run_words;

@@ -1,14 +1,14 @@
 -- A running last begin finds the first early place, and none where the places respect the order.
 use Rattle.std.proofs.Common.{◌≡◌, ℕ, ◌+◌, ◌<◌, ◌≤◌, List, [], ◌∷◌, ◌++◌, length, take, drop, get_or, Option, Some, None, refl, sym, ap, subst, ◌∙◌, arith, append_assoc}
 use Rattle.std.specs.List.{AllByRecursion}
-use Rattle.std.proofs.lemmas.List.{take_more, take-append-drop, at_drop_more}
+use Rattle.std.proofs.lemmas.List.{take_more, take-append-drop, take_all, at_drop_more}
 use Rattle.nfs_history.specs.declared.history.RecordedCall.{RecordedCall}
 use Rattle.nfs_history.specs.Precedence.{begin_of, Precedes}
 use Rattle.certificate.specs.declared.plan.Place.{Place}
 use Rattle.certificate.specs.declared.plan.EraPlan.{EraPlan}
 use Rattle.certificate.specs.Plan.{call_of}
-use Rattle.order_check.specs.declared.fault.Fault.{Fault}
-use Rattle.order_check.specs.declared.fault.Fault.TheVariants as faults
+use Rattle.order_check.specs.declared.fault.OrderFault.{OrderFault}
+use Rattle.order_check.specs.declared.fault.OrderFault.TheVariants.{Early}
 use Rattle.order_check.specs.Order.{RespectsOrder, EachEraRespectsOrder, BeganLast, BeganLastIfAny, IsEarlyAmong, IsFirstEarly, IsEarlyFaultAmong, IsEarlyFault}
 
 -- what the loop over an era's places keeps
@@ -25,7 +25,7 @@ module _ {X : Type 0} (P : X → Type 0) where
   all_joined [] ys first second = second
   all_joined (x ∷ xs) ys first second = (first.0, all_joined xs ys first.1 second)
 
-  all_behind : (xs ys : List X) → AllByRecursion P (xs ++ ys) → AllByRecursion P ys
+  pub all_behind : (xs ys : List X) → AllByRecursion P (xs ++ ys) → AllByRecursion P ys
   all_behind [] ys all = all
   all_behind (x ∷ xs) ys all = all_behind xs ys all.1
 
@@ -35,7 +35,7 @@ all_weaker P Q so (x ∷ xs) all = (so x all.0, all_weaker P Q so xs all.1)
 
 module _ (calls : List RecordedCall) where
   -- every place began by the time of the one that began last
-  all_by : (places : List Place) (number : ℕ) → BeganLast calls places number → AllByRecursion (λ p. begin_of calls (call_of p) ≤ begin_of calls number) places
+  pub all_by : (places : List Place) (number : ℕ) → BeganLast calls places number → AllByRecursion (λ p. begin_of calls (call_of p) ≤ begin_of calls number) places
   all_by places number last =
       let By : Place → Type 0 = λ p. begin_of calls (call_of p) ≤ begin_of calls number in
       let ahead : AllByRecursion By last.ahead = all_weaker (λ p. begin_of calls (call_of p) < begin_of calls number) By (λ p h. omega arith) last.ahead last.after_those_ahead in
@@ -151,9 +151,9 @@ module _ (calls : List RecordedCall) where
   }
 
   -- what the era at which the loop over eras stops answers
-  pub early_fault_here : (plan : List EraPlan) (index : ℕ) (era : EraPlan) (fault : Fault) → index < length plan → era ≡ get_or plan index era
+  pub early_fault_here : (plan : List EraPlan) (index : ℕ) (era : EraPlan) (fault : OrderFault) → index < length plan → era ≡ get_or plan index era
       → EachEraRespectsOrder calls (take index plan) → IsEarlyFaultAmong calls era.places fault → IsEarlyFault calls plan fault
-  early_fault_here plan index era (faults.Early i j) inside is each early = record {
+  early_fault_here plan index era (Early i j) inside is each early = record {
     eras_ahead = take index plan;
     era = era;
     eras_behind = drop (index + 1) plan;
@@ -161,14 +161,12 @@ module _ (calls : List RecordedCall) where
     first = each;
     among = early;
   }
-  early_fault_here plan index era _ inside is each early = absurd early
 
-  pub no_early_fault : (plan : List EraPlan) (fault : Fault) → IsEarlyFault calls plan fault → EachEraRespectsOrder calls plan → ⊥
-  no_early_fault plan (faults.Early i j) early each = not_first_early plan i j early each
-  no_early_fault plan _ early each = early
+  pub no_early_fault : (plan : List EraPlan) (fault : OrderFault) → IsEarlyFault calls plan fault → EachEraRespectsOrder calls plan → ⊥
+  no_early_fault plan (Early i j) early each = not_first_early plan i j early each
 
 -- the same, of the lists that the loop reads
-pub fault_at : (calls : List RecordedCall) (plan : List EraPlan) (calls_read : List RecordedCall) (plan_read : List EraPlan) (places_read : List Place) (index : ℕ) (era : EraPlan) (fault : Fault)
+pub fault_at : (calls : List RecordedCall) (plan : List EraPlan) (calls_read : List RecordedCall) (plan_read : List EraPlan) (places_read : List Place) (index : ℕ) (era : EraPlan) (fault : OrderFault)
     → calls_read ≡ calls → plan_read ≡ plan → places_read ≡ era.places → index < length plan_read → era ≡ get_or plan_read index era
     → EachEraRespectsOrder calls_read (take index plan_read) → IsEarlyFaultAmong calls_read places_read fault → IsEarlyFault calls plan fault
 fault_at calls plan calls_read plan_read places_read index era fault same_calls same_plan same_places inside is each early =
@@ -176,3 +174,11 @@ fault_at calls plan calls_read plan_read places_read index era fault same_calls 
     let found = early_fault_here calls_read plan_read index era fault inside is each among in
     let by_calls = subst (λ cs. IsEarlyFault cs plan_read fault) same_calls found in
     subst (λ p. IsEarlyFault calls p fault) same_plan by_calls
+
+-- the eras that were gone over are all
+pub all_eras : (calls : List RecordedCall) (plan : List EraPlan) (calls_read : List RecordedCall) (plan_read : List EraPlan) (index : ℕ) → calls_read ≡ calls → plan_read ≡ plan
+    → length plan_read ≤ index → EachEraRespectsOrder calls_read (take index plan_read) → EachEraRespectsOrder calls plan
+all_eras calls plan calls_read plan_read index same_calls same_plan past each =
+    let whole = subst (EachEraRespectsOrder calls_read) (take_all index plan_read past) each in
+    let by_calls = subst (λ cs. EachEraRespectsOrder cs plan_read) same_calls whole in
+    subst (EachEraRespectsOrder calls) same_plan by_calls

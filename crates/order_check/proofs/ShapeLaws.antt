@@ -9,9 +9,8 @@ use Rattle.nfs_history.specs.declared.history.RecordedCall.{RecordedCall}
 use Rattle.nfs_history.specs.Precedence.{call_at}
 use Rattle.certificate.specs.declared.plan.EraPlan.{EraPlan}
 use Rattle.order_check.specs.declared.places.OrderedPlace.{OrderedPlace}
-use Rattle.order_check.specs.declared.fault.Fault.{Fault}
-use Rattle.order_check.specs.declared.fault.Fault.TheVariants as faults
-use Rattle.order_check.specs.declared.fault.CheckFault.{CheckFault}
+use Rattle.order_check.specs.declared.fault.ShapeFault.{ShapeFault}
+use Rattle.order_check.specs.declared.fault.ShapeFault.TheVariants as faults
 use Rattle.order_check.specs.Places.{order_from, number_of, passes, is_known, is_of_era, is_placeable, is_judged, is_answered}
 use Rattle.order_check.specs.Shape.{is_named, NameDifferentCalls, HasShape}
 use Rattle.order_check.specs.FirstFault.{at_place, failing, repeat_behind, missing_from, bad_cut_from, or_else, shape_fault_of_order, shape_fault, IsCheck}
@@ -156,18 +155,18 @@ no_cut e (era ∷ plan) cuts =
     let most = length era.places in
     skipped (nat_lt most (unwrap_or era.cut 0)) (faults.BadCut e) (bad_cut_from (e + 1) plan) (le-ltb most (unwrap_or era.cut 0) (within_kept era.cut most cuts.0)) (no_cut (e + 1) plan cuts.1)
 
-neither : (found other : Option Fault) → or_else found other ≡ None → (found ≡ None) × (other ≡ None)
+neither : (found other : Option ShapeFault) → or_else found other ≡ None → (found ≡ None) × (other ≡ None)
 neither None other none = (refl, none)
 neither (Some fault) other none = absurd (none-some fault (sym none))
 
-or_none : (found other : Option Fault) → found ≡ None → other ≡ None → or_else found other ≡ None
+or_none : (found other : Option ShapeFault) → found ≡ None → other ≡ None → or_else found other ≡ None
 or_none found other first second = rw first second
 
-nowhere : (fault : ℕ → Fault) (place : Option OrderedPlace) → at_place fault place ≡ None → place ≡ None
+nowhere : (fault : ℕ → ShapeFault) (place : Option OrderedPlace) → at_place fault place ≡ None → place ≡ None
 nowhere fault None none = refl
 nowhere fault (Some p) none = absurd (none-some (fault (number_of p)) (sym none))
 
-at_none : (fault : ℕ → Fault) (place : Option OrderedPlace) → place ≡ None → at_place fault place ≡ None
+at_none : (fault : ℕ → ShapeFault) (place : Option OrderedPlace) → place ≡ None → at_place fault place ≡ None
 at_none fault place none = rw none refl
 
 -- by the number of a call
@@ -209,7 +208,7 @@ no_fault_of_order eras calls plan shape =
     (or_none (missing_from 1 calls order) (bad_cut_from 1 plan) (no_missing 1 calls order complete) (no_cut 1 plan shape.cuts)))))
 
 -- a choice between the order's faults and another fault
-chosen : (b : Bool) (found : Option Fault) (fault : Fault) → cond b found (Some fault) ≡ None → (b ≡ true) × (found ≡ None)
+chosen : (b : Bool) (found : Option ShapeFault) (fault : ShapeFault) → cond b found (Some fault) ≡ None → (b ≡ true) × (found ≡ None)
 chosen true found fault none = (refl, none)
 chosen false found fault none = absurd (none-some fault (sym none))
 
@@ -223,7 +222,7 @@ none_from_shape eras calls plan shape =
     cond-true (length plan == eras) (shape_fault_of_order calls plan (order_from 1 plan)) (Some faults.WrongEras) (eq-eqb (length plan) eras shape.as_many_eras) ∙ no_fault_of_order eras calls plan shape
 
 -- what the places' check answered is what the whole plan's check answers
-pub whole_check : (eras : ℕ) (calls : List RecordedCall) (plan : List EraPlan) (result : Result (Unit {0}) CheckFault)
+pub whole_check : (eras : ℕ) (calls : List RecordedCall) (plan : List EraPlan) (result : Result (Unit {0}) ShapeFault)
     (calls_read : List RecordedCall) (plan_read : List EraPlan) (order order_read : List OrderedPlace)
     → calls_read ≡ calls → plan_read ≡ plan → order_read ≡ order → order ≡ order_from 1 plan_read → length plan_read ≡ eras
     → IsCheck result (shape_fault_of_order calls_read plan_read order_read) → IsCheck result (shape_fault eras calls plan)
@@ -233,11 +232,11 @@ whole_check eras calls plan result calls_read plan_read order order_read same_ca
     cond-true (length plan == eras) (shape_fault_of_order calls plan (order_from 1 plan)) (Some faults.WrongEras) (eq-eqb (length plan) eras (ap length (sym same_plan) ∙ as_many)) in
     subst (λ found. IsCheck result found) (e ∙ sym whole) checked
 
-pub shape_on_ok : (eras : ℕ) (calls : List RecordedCall) (plan : List EraPlan) (result : Result (Unit {0}) CheckFault)
+pub shape_on_ok : (eras : ℕ) (calls : List RecordedCall) (plan : List EraPlan) (result : Result (Unit {0}) ShapeFault)
     → IsCheck result (shape_fault eras calls plan) → OnOk result (HasShape eras calls plan)
 shape_on_ok eras calls plan (Ok done) none = shape_from_none eras calls plan none
 shape_on_ok eras calls plan (Err fault) found = tt
 
-pub shape_only : (eras : ℕ) (calls : List RecordedCall) (plan : List EraPlan) (result : Result (Unit {0}) CheckFault)
+pub shape_only : (eras : ℕ) (calls : List RecordedCall) (plan : List EraPlan) (result : Result (Unit {0}) ShapeFault)
     → IsCheck result (shape_fault eras calls plan) → HasShape eras calls plan → IsCheck result None
 shape_only eras calls plan result found shape = subst (λ fault. IsCheck result fault) (none_from_shape eras calls plan shape) found

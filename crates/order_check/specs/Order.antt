@@ -7,8 +7,8 @@ use Rattle.nfs_history.specs.Precedence.{begin_of, Precedes}
 use Rattle.certificate.specs.declared.plan.Place.{Place}
 use Rattle.certificate.specs.declared.plan.EraPlan.{EraPlan}
 use Rattle.certificate.specs.Plan.{call_of}
-use Rattle.order_check.specs.declared.fault.Fault.{Fault}
-use Rattle.order_check.specs.declared.fault.Fault.TheVariants as faults
+use Rattle.order_check.specs.declared.fault.OrderFault.{OrderFault}
+use Rattle.order_check.specs.declared.fault.OrderFault.TheVariants.{Early}
 
 -- for no two places, one ahead of the other, does the later one's call precede the call of the one ahead
 abbrev pub RespectsOrder : List RecordedCall → List Place → Type 0
@@ -57,10 +57,8 @@ pub record IsFirstEarly (calls : List RecordedCall) (plan : List EraPlan) (i j :
   pub among : IsEarlyAmong calls era.places i j
 
 -- the fault of an order is its first early place, and names the pair
-abbrev pub IsEarlyFaultAmong : List RecordedCall → List Place → Fault → Type 0
-IsEarlyFaultAmong calls places (faults.Early i j) = IsEarlyAmong calls places i j
-IsEarlyFaultAmong calls places fault = ⊥
+abbrev pub IsEarlyFaultAmong : List RecordedCall → List Place → OrderFault → Type 0
+IsEarlyFaultAmong calls places (Early i j) = IsEarlyAmong calls places i j
 
-abbrev pub IsEarlyFault : List RecordedCall → List EraPlan → Fault → Type 0
-IsEarlyFault calls plan (faults.Early i j) = IsFirstEarly calls plan i j
-IsEarlyFault calls plan fault = ⊥
+abbrev pub IsEarlyFault : List RecordedCall → List EraPlan → OrderFault → Type 0
+IsEarlyFault calls plan (Early i j) = IsFirstEarly calls plan i j

@@ -7,6 +7,6 @@ mod order;
 mod places;
 mod shape;
 
-pub use fault::{CheckFault, Fault};
+pub use fault::{OrderFault, ShapeFault};
 pub use order::check_order;
 pub use shape::check_shape;

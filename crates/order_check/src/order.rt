@@ -1,12 +1,13 @@
 //! Whether a plan respects the order in which calls ended and began.
 
-ghost use Rattle.std.specs.Prelude.{◌≡◌, ◌↔◌, ◌++◌, ◌∷◌, [], List, Some, IsTrue, IsOk, OnOk, IfErr};
+ghost use Rattle.std.specs.Prelude.{◌≡◌, ◌↔◌, ◌++◌, ◌∷◌, [], List, Some, Err, IsTrue, IsOk, OnOk, IfErr};
 ghost use Rattle.nfs_history.specs.Precedence.{begin_of, end_of, Precedes};
 ghost use Rattle.certificate.specs.declared.plan.Place.{Place};
 ghost use Rattle.certificate.specs.Plan.{call_of};
+ghost use Rattle.order_check.specs.declared.fault.OrderFault.{OrderFault};
 ghost use Rattle.order_check.specs.Order.{RespectsOrder, EachEraRespectsOrder, BeganLast, BeganLastIfAny, IsEarlyFaultAmong, IsEarlyFault};
 
-use crate::fault::Fault;
+use crate::fault::OrderFault;
 use crate::places::number_at;
 use certificate::{Certificate, Place};
 use nfs_history::{History, RecordedCall, find_call};
@@ -53,7 +54,7 @@ fn began_last(calls: &[RecordedCall], latest: Option<u64>, number: u64) -> u64
 }
 
 /// Whether the places of one era respect the order.
-fn check_era(calls: &[RecordedCall], places: &[Place]) -> Result<(), Fault>
+fn check_era(calls: &[RecordedCall], places: &[Place]) -> Result<(), OrderFault>
     ensures ok { OnOk result (RespectsOrder calls.now places.now) }
     ensures early { IfErr result (λ fault. IsEarlyFaultAmong calls.now places.now fault) }
 {
@@ -63,7 +64,7 @@ fn check_era(calls: &[RecordedCall], places: &[Place]) -> Result<(), Fault>
         if let Some(other) = latest
             && precedes(calls, number, other)
         {
-            return Err(Fault::Early(other, number));
+            return Err(OrderFault::Early(other, number));
         }
         latest = Some(began_last(calls, latest, number));
     }
@@ -71,13 +72,14 @@ fn check_era(calls: &[RecordedCall], places: &[Place]) -> Result<(), Fault>
 }
 
 /// Whether the plan respects the order in which the history's calls ended and began.
-pub fn check_order(history: &History, certificate: &Certificate) -> Result<(), Fault>
+pub fn check_order(history: &History, certificate: &Certificate) -> Result<(), OrderFault>
     ensures ok { OnOk result (EachEraRespectsOrder history.now.calls certificate.now.eras) }
     ensures only { EachEraRespectsOrder history.now.calls certificate.now.eras → IsOk result }
     // The first early place, and of the calls ahead of it in its era the one that began last.
     ensures early { IfErr result (λ fault. IsEarlyFault history.now.calls certificate.now.eras fault) }
+    ensures named { (fault : OrderFault) → IsEarlyFault history.now.calls certificate.now.eras fault → result ≡ Err fault }
 {
-    let calls = history.calls.as_slice();
+    let calls = history.recorded_calls();
     let eras = certificate.eras.as_slice();
     for era in eras {
         check_era(calls, era.places.as_slice())?;

@@ -6,7 +6,7 @@ ghost use Rattle.order_check.specs.Places.{number_of, is_known, is_of_era, is_pl
 ghost use Rattle.order_check.specs.Shape.{HasShape};
 ghost use Rattle.order_check.specs.FirstFault.{failing, missing_from, bad_cut_from, repeat_behind, shape_fault, shape_fault_of_order, Marks, IsCheck};
 
-use crate::fault::{CheckFault, Fault};
+use crate::fault::ShapeFault;
 use crate::places::{OrderedPlace, names_call, serial_order, stands_in_era, stands_right};
 use certificate::{Certificate, EraPlan};
 use nfs_history::{History, Meaning, RecordedCall};
@@ -34,26 +34,26 @@ fn not_to_place<'a>(calls: &[RecordedCall], order: &'a [OrderedPlace]) -> Option
 }
 
 /// The first answered judged call that isn't named, where `named` tells of each call whether it is.
-fn missing(calls: &[RecordedCall], order: &[OrderedPlace], named: &[bool]) -> Option<Fault>
+fn missing(calls: &[RecordedCall], order: &[OrderedPlace], named: &[bool]) -> Option<ShapeFault>
     requires { Marks order.now named.now (length calls.now) }
     ensures { result ≡ missing_from 1 calls.now order.now }
 {
     for (index, call) in calls.iter().enumerate() {
         let judged = matches!(call.meaning, Meaning::Judged(_));
         if judged && call.outcome.is_some() && !named[index] {
-            return Some(Fault::Missing(index as u64 + 1));
+            return Some(ShapeFault::Missing(index as u64 + 1));
         }
     }
     None
 }
 
 /// The first era that keeps more places than it has.
-fn bad_cut(eras: &[EraPlan]) -> Option<Fault>
+fn bad_cut(eras: &[EraPlan]) -> Option<ShapeFault>
     ensures { result ≡ bad_cut_from 1 eras.now }
 {
     for (index, era) in eras.iter().enumerate() {
         if (era.places.as_slice().len() as u64) < era.cut.unwrap_or(0) {
-            return Some(Fault::BadCut(index as u64 + 1));
+            return Some(ShapeFault::BadCut(index as u64 + 1));
         }
     }
     None
@@ -95,27 +95,27 @@ fn check_places(
     calls: &[RecordedCall],
     eras: &[EraPlan],
     order: &[OrderedPlace],
-) -> Result<(), CheckFault>
+) -> Result<(), ShapeFault>
     ensures { IsCheck result (shape_fault_of_order calls.now eras.now order.now) }
 {
     if let Some(place) = unknown(calls, order) {
-        return Err(CheckFault::No(Fault::Unknown(place.number())));
+        return Err(ShapeFault::Unknown(place.number()));
     }
     if let Some(place) = wrong_era(calls, order) {
-        return Err(CheckFault::No(Fault::WrongEra(place.number())));
+        return Err(ShapeFault::WrongEra(place.number()));
     }
     let marking = mark_calls(alloc, calls.len(), order)?;
     if let Some(place) = marking.repeat {
-        return Err(CheckFault::No(Fault::Twice(place.number())));
+        return Err(ShapeFault::Twice(place.number()));
     }
     if let Some(place) = not_to_place(calls, order) {
-        return Err(CheckFault::No(Fault::NotToPlace(place.number())));
+        return Err(ShapeFault::NotToPlace(place.number()));
     }
     if let Some(fault) = missing(calls, order, marking.named.as_slice()) {
-        return Err(CheckFault::No(fault));
+        return Err(fault);
     }
     match bad_cut(eras) {
-        Some(fault) => Err(CheckFault::No(fault)),
+        Some(fault) => Err(fault),
         None => Ok(()),
     }
 }
@@ -125,7 +125,7 @@ pub fn check_shape(
     alloc: Global,
     history: &History,
     certificate: &Certificate,
-) -> Result<(), CheckFault>
+) -> Result<(), ShapeFault>
     // The first fault.
     ensures exact { IsCheck result (shape_fault history.now.eras history.now.calls certificate.now.eras) }
     ensures ok { OnOk result (HasShape history.now.eras history.now.calls certificate.now.eras) }
@@ -133,9 +133,9 @@ pub fn check_shape(
     ensures only { HasShape history.now.eras history.now.calls certificate.now.eras → IsCheck result None }
 {
     let eras = certificate.eras.as_slice();
-    if eras.len() as u64 != history.eras {
-        return Err(CheckFault::No(Fault::WrongEras));
+    if eras.len() as u64 != history.eras() {
+        return Err(ShapeFault::WrongEras);
     }
     let order = serial_order(alloc, eras)?;
-    check_places(alloc, history.calls.as_slice(), eras, order.as_slice())
+    check_places(alloc, history.recorded_calls(), eras, order.as_slice())
 }

@@ -1,8 +1,8 @@
 -- runs of steps, one after another
-use Rattle.std.proofs.Common.{◌≡◌, ℕ, ◌+◌, ◌<◌, ◌≤◌, get_or, List, [], ◌∷◌, ◌++◌, map, take, drop, length, Option, Some, None, refl, sym, ap, ◌∙◌, subst}
-use Rattle.std.specs.Prelude.{IsSome, option_and_then}
-use Rattle.std.proofs.lemmas.List.{take_more, drop_more, map-append, take-append-drop, take_all}
-use Rattle.replay_law.specs.Run.{Taken, Era, state_after, IsFirstIllegal, EveryEraRuns}
+use Rattle.std.proofs.Common.{◌≡◌, ℕ, ◌+◌, ◌<◌, get_or, List, [], ◌∷◌, ◌++◌, map, take, drop, length, Option, Some, None, refl, sym, ap, ◌∙◌}
+use Rattle.std.specs.Prelude.{option_and_then}
+use Rattle.std.proofs.lemmas.List.{take_more, drop_more, map-append, take-append-drop}
+use Rattle.replay_law.specs.Run.{Taken, state_after, IsFirstIllegal}
 
 module _ {State Call Outcome : Type 0} (next : State → ℕ → Call → Outcome → Option State) where
   -- steps after steps
@@ -27,19 +27,6 @@ module _ {State Call Outcome : Type 0} (next : State → ℕ → Call → Outcom
   one_stuck s t xs x before step =
       state_after-append s xs (x ∷ []) ∙ ap (option_and_then (λ v. state_after next v (x ∷ []))) before ∙ ap (option_and_then (λ v. state_after next v [])) step
 
-  -- the first step without a next state, where the steps ahead of it lead to a state
-  pub first_illegal : (s t : State) (all ahead behind : List (Taken Call Outcome)) (x : Taken Call Outcome) → all ≡ ahead ++ x ∷ behind
-      → state_after next s ahead ≡ Some t → next t x.number x.call x.outcome ≡ None → IsFirstIllegal next s all x.number
-  first_illegal s t all ahead behind x parts before step = record {
-    ahead = ahead;
-    stuck = x;
-    behind = behind;
-    parts = parts;
-    runs = subst IsSome (sym before) refl;
-    stops = one_stuck s t ahead x before step;
-    named = refl;
-  }
-
   -- steps that run to their end have no first illegal one
   pub runs_or_not : (s : State) (steps : List (Taken Call Outcome)) (n : ℕ) → IsFirstIllegal next s steps n → state_after next s steps ≡ None
   runs_or_not s steps n f =
@@ -48,19 +35,6 @@ module _ {State Call Outcome : Type 0} (next : State → ℕ → Call → Outcom
         again : (xs : List (Taken Call Outcome)) (x : Taken Call Outcome) (ys : List (Taken Call Outcome)) → (xs ++ x ∷ []) ++ ys ≡ xs ++ x ∷ ys
         again [] x ys = refl
         again (y ∷ xs) x ys = ap (λ zs. y ∷ zs) (again xs x ys)
-
-  -- the steps that were all taken lead to a state
-  pub all_ran : {A : Type 0} (f : A → Taken Call Outcome) (s t : State) (xs : List A) (i : ℕ) → length xs ≤ i → state_after next s (map f (take i xs)) ≡ Some t
-      → IsSome (state_after next s (map f xs))
-  all_ran f s t xs i past before = subst IsSome (sym (ap (λ ys. state_after next s (map f ys)) (sym (take_all i xs past)) ∙ before)) refl
-
-  -- one era alone runs where its steps do
-  pub one_era : (s : State) (era : Era Call Outcome) → IsSome (state_after next s era.steps) → EveryEraRuns next s (era ∷ [])
-  one_era s era runs [] behind e is = subst (λ (x : Era Call Outcome). IsSome (state_after next s x.steps)) (first_of is) runs where
-    first_of : {x y : Era Call Outcome} {xs ys : List (Era Call Outcome)} → x ∷ xs ≡ y ∷ ys → x ≡ y
-    first_of h = cc
-  one_era s era runs (x ∷ []) behind e is = absurd (cc)
-  one_era s era runs (x ∷ y ∷ ahead) behind e is = absurd (cc)
 
 -- the steps as far as one more
 pub map_more : {A B : Type 0} (f : A → B) (xs : List A) (i : ℕ) (x : A) → i < length xs → x ≡ get_or xs i x → map f (take (i + 1) xs) ≡ map f (take i xs) ++ f x ∷ []

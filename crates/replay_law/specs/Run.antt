@@ -37,3 +37,16 @@ kept_steps eras = flat_map (λ era. take era.kept era.steps) eras
 abbrev pub EveryEraRuns : {State Call Outcome : Type 0} → (State → ℕ → Call → Outcome → Option State) → State → List (Era Call Outcome) → Type 0
 EveryEraRuns {State} {Call} {Outcome} next start eras =
     (ahead behind : List (Era Call Outcome)) (era : Era Call Outcome) → eras ≡ ahead ++ era ∷ behind → IsSome (state_after next start (kept_steps ahead ++ era.steps))
+
+-- the first step of these eras that has no next state has this number: the eras ahead of its era run, and in its era, from
+-- the state after what they kept, it is the first one
+pub record IsFirstIllegalInEras {State Call Outcome : Type 0} (next : State → ℕ → Call → Outcome → Option State) (start : State) (eras : List (Era Call Outcome)) (number : ℕ)
+    : Type 0 where
+  pub ahead : List (Era Call Outcome)
+  pub era : Era Call Outcome
+  pub behind : List (Era Call Outcome)
+  pub parts : eras ≡ ahead ++ era ∷ behind
+  pub run : EveryEraRuns next start ahead
+  pub base : State
+  pub reached : state_after next start (kept_steps ahead) ≡ Some base
+  pub first : IsFirstIllegal next base era.steps number

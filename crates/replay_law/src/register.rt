@@ -52,7 +52,6 @@ impl Replayable for Register {
 
     fn step(
         &mut self,
-        _alloc: Global,
         _setting: &(),
         _number: u64,
         call: &Call,
@@ -69,11 +68,11 @@ impl Replayable for Register {
         }
     }
 
-    fn undo(self, _alloc: Global, undo: u64) -> Result<Self, AllocError> {
+    fn undo(self, undo: u64) -> Result<Self, AllocError> {
         Ok(Register { value: undo })
     }
 
-    fn print_state(&self, _alloc: Global, out: &mut Vec<u8>) -> Result<(), AllocError> {
+    fn print_state(&self, out: &mut Vec<u8>) -> Result<(), AllocError> {
         out.extend_from_slice(&self.value.to_be_bytes())
     }
 }

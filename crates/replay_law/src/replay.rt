@@ -1,12 +1,12 @@
 //! The law that every replayed state keeps.
 ghost use Rattle.std.specs.Prelude.{◌≡◌, ℕ, Option, Some, None, List, ◌++◌, OnOk, OnErr, IfOk};
 
-use std::alloc::{AllocError, Global};
-use std::error::Error;
+use std::alloc::{AllocError, AllocFailed, Global};
 use std::fmt;
+use thiserror::Error;
 
 /// Why a step was refused. The state is then as it was.
-#[derive(Clone, Copy, Debug, PartialEq, Eq, Drop)]
+#[derive(Clone, Copy, Debug, PartialEq, Eq, Drop, Error)]
 pub enum StepFault {
     /// The state has no next state after this call with this outcome.
     NotAllowed,
@@ -28,7 +28,27 @@ impl fmt::Display for StepFault {
     }
 }
 
-impl Error for StepFault {}
+impl From<AllocError> for StepFault {
+    ghost use Rattle.std.specs.Prelude.{◌≡◌};
+    ghost use Rattle.replay_law.specs.declared.replay.StepFault.TheVariants.{NoMemory};
+
+    ghost from_gives = { λ _ fault. fault ≡ NoMemory };
+
+    fn from(_error: AllocError) -> StepFault {
+        StepFault::NoMemory
+    }
+}
+
+impl<T: Drop> From<AllocFailed<T>> for StepFault {
+    ghost use Rattle.std.specs.Prelude.{◌≡◌};
+    ghost use Rattle.replay_law.specs.declared.replay.StepFault.TheVariants.{NoMemory};
+
+    ghost from_gives = { λ _ fault. fault ≡ NoMemory };
+
+    fn from(_error: AllocFailed<T>) -> StepFault {
+        StepFault::NoMemory
+    }
+}
 
 /// A state that a numbered call with its outcome takes to at most one next state.
 pub trait Replayable: Drop {
@@ -56,14 +76,13 @@ pub trait Replayable: Drop {
     // The bytes that tell a state apart.
     ghost printed: { Self → List ℕ };
 
-    /// The state before any step.
+    /// The state before any step. What grows later keeps the allocator.
     fn opening(alloc: Global, setting: &Self::Setting) -> Result<Self, AllocError>
         ensures { IfOk result (λ state. state ≡ start setting.now) };
 
     /// Takes the step of call `number` with its outcome.
     fn step(
         &mut self,
-        alloc: Global,
         setting: &Self::Setting,
         number: u64,
         call: &Self::Call,
@@ -76,12 +95,12 @@ pub trait Replayable: Drop {
         ensures err { OnErr result (self.new ≡ self.old) };
 
     /// Takes the last step back. The state is spent where there is no memory.
-    fn undo(self, alloc: Global, undo: Self::Undo) -> Result<Self, AllocError>
+    fn undo(self, undo: Self::Undo) -> Result<Self, AllocError>
         requires { (before : Self) × undoes undo self before }
         ensures { IfOk result (λ state. (before : Self) → undoes undo self before → state ≡ before) };
 
     /// Appends the state's bytes.
-    fn print_state(&self, alloc: Global, out: &mut Vec<u8>) -> Result<(), AllocError>
+    fn print_state(&self, out: &mut Vec<u8>) -> Result<(), AllocError>
         ensures ok { OnOk result (out.new.items ≡ out.old.items ++ printed self.now) }
         ensures err { OnErr result (out.new.items ≡ out.old.items) }
         ensures state { OnOk result (is_state self.now) };

@@ -1,23 +1,68 @@
-//! Runs of steps from the state before any.
-ghost use Rattle.std.specs.Prelude.{◌≡◌, ℕ, [], ◌∷◌, map, Some, IsSome, OnOk};
-ghost use Rattle.replay_law.specs.Run.{state_after, IsFirstIllegal, EveryEraRuns};
+//! What is run, and why a run is refused.
+ghost use Rattle.std.specs.Prelude.{◌≡◌, ◌≤◌, length, map, vec_len};
 ghost use Rattle.replay_law.specs.Steps.{taken_of};
 
-use crate::replay::{Replayable, StepFault};
-use std::alloc::{AllocError, Global};
-use std::error::Error;
+use std::alloc::{AllocError, AllocFailed};
 use std::fmt;
+use std::marker::Model;
+use thiserror::Error;
 
-/// A numbered call with its outcome, both lent.
-#[derive(Drop)]
-pub struct Step<'a, C, O> {
+/// A numbered call with its outcome.
+#[derive(Clone, Copy, Debug, Drop)]
+pub struct Step<C, O> {
     pub number: u64,
-    pub call: &'a C,
-    pub outcome: &'a O,
+    pub call: C,
+    pub outcome: O,
+}
+
+/// The steps between two crashes, and how many of them are kept at the second. Of the last era it counts for nothing how
+/// many. A contract sees it as an `Era`.
+#[derive(Debug, Drop)]
+pub struct EraRun<C, O> {
+    steps: Vec<Step<C, O>>,
+    kept: usize,
+}
+
+impl<C, O> Model for EraRun<C, O> {
+    ghost use Rattle.std.specs.Prelude.{map, length, ◌≤◌};
+    ghost use Rattle.replay_law.specs.Run.{Era};
+
+    ghost Value = { Era C O };
+
+    ghost use Rattle.replay_law.specs.Steps.{taken_of};
+
+    ghost view = { λ e. record { steps = map taken_of e.steps.items; kept = e.kept } };
+
+    ghost invariant = { λ e. e.kept ≤ length e.steps.items };
+}
+
+impl<C, O> EraRun<C, O> {
+    /// These steps, of which the first `kept` are kept.
+    pub fn new(steps: Vec<Step<C, O>>, kept: usize) -> Self
+        requires { kept ≤ vec_len steps }
+        ensures { result ≡ record { steps = map taken_of steps.items; kept = kept } }
+    {
+        EraRun { steps, kept }
+    }
+
+    /// The steps.
+    pub fn steps(&self) -> &[Step<C, O>]
+        ensures value { map taken_of result.now ≡ self.now.steps }
+        ensures kept { self.now.kept ≤ length result.now }
+    {
+        self.steps.as_slice()
+    }
+
+    /// How many steps are kept.
+    pub fn kept(&self) -> usize
+        ensures { result ≡ self.now.kept }
+    {
+        self.kept
+    }
 }
 
 /// Why a run was refused.
-#[derive(Clone, Copy, Debug, PartialEq, Eq, Drop)]
+#[derive(Clone, Copy, Debug, PartialEq, Eq, Drop, Error)]
 pub enum RunFault {
     /// The first step without a next state has this number.
     Illegal(u64),
@@ -39,27 +84,24 @@ impl fmt::Display for RunFault {
     }
 }
 
-impl Error for RunFault {}
+impl From<AllocError> for RunFault {
+    ghost use Rattle.std.specs.Prelude.{◌≡◌};
+    ghost use Rattle.replay_law.specs.declared.run.RunFault.TheVariants.{NoMemory};
 
-/// Whether each of these steps has a next state, from the state before any.
-pub fn run_steps<R: Replayable>(
-    alloc: Global,
-    setting: &R::Setting,
-    steps: &[Step<'_, R::Call, R::Outcome>],
-) -> Result<(), RunFault>
-    ensures ok { OnOk result (IsSome (state_after (R.next setting.now) (R.start setting.now) (map taken_of steps.now))) }
-    ensures eras { OnOk result (EveryEraRuns (R.next setting.now) (R.start setting.now)
-        (record { steps = map taken_of steps.now; kept = 0 } ∷ [])) }
-    ensures illegal { (number : ℕ) → result ≡ Err (RunFault.Illegal number)
-        → IsFirstIllegal (R.next setting.now) (R.start setting.now) (map taken_of steps.now) number }
-{
-    let mut state = R::opening(alloc, setting).map_err(|_| RunFault::NoMemory)?;
-    for step in steps {
-        match state.step(alloc, setting, step.number, step.call, step.outcome) {
-            Ok(_) => {}
-            Err(StepFault::NotAllowed) => return Err(RunFault::Illegal(step.number)),
-            Err(StepFault::NoMemory) => return Err(RunFault::NoMemory),
-        }
+    ghost from_gives = { λ _ fault. fault ≡ NoMemory };
+
+    fn from(_error: AllocError) -> RunFault {
+        RunFault::NoMemory
     }
-    Ok(())
+}
+
+impl<T: Drop> From<AllocFailed<T>> for RunFault {
+    ghost use Rattle.std.specs.Prelude.{◌≡◌};
+    ghost use Rattle.replay_law.specs.declared.run.RunFault.TheVariants.{NoMemory};
+
+    ghost from_gives = { λ _ fault. fault ≡ NoMemory };
+
+    fn from(_error: AllocFailed<T>) -> RunFault {
+        RunFault::NoMemory
+    }
 }

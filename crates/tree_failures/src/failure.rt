@@ -20,8 +20,8 @@ use crate::rename_causes::{
 };
 use nfs3_types::{Failure, NfsCall};
 use std::alloc::{AllocError, Global};
-use tree_handles::binds::Binds;
-use tree_nodes::nodes::Nodes;
+use tree_handles::Binds;
+use tree_nodes::Nodes;
 
 /// Why a call may fail.
 #[derive(Clone, Copy, Debug, PartialEq, Eq)]

@@ -7,11 +7,8 @@ ghost use Rattle.tree_failures.specs.Causes.{content_of, isnt_live, handle_isnt_
 
 use crate::asked::{file_wanted, first_handle, second_handle, wants_directory};
 use nfs3_types::{FileHandle, NfsCall};
-use tree_handles::binds::Binds;
-use tree_handles::kind::{is_directory, is_link};
-use tree_handles::live::live_entry;
-use tree_nodes::node::Content;
-use tree_nodes::nodes::Nodes;
+use tree_handles::{Binds, is_directory, is_link, live_entry};
+use tree_nodes::{Content, Nodes};
 
 /// What a live handle names.
 fn content_of<'a>(binds: &Binds, nodes: &'a Nodes, handle: &FileHandle) -> Option<&'a Content>

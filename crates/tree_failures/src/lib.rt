@@ -2,7 +2,7 @@
 #![tactic(auto)]
 
 mod asked;
-pub mod failure;
+mod failure;
 mod handle_causes;
 #[cfg(test)]
 mod handle_tests;
@@ -16,3 +16,5 @@ mod rename_causes;
 mod rename_tests;
 #[cfg(test)]
 mod sample;
+
+pub use failure::{Cause, is_permitted};

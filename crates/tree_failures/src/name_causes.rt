@@ -7,12 +7,8 @@ ghost use Rattle.tree_failures.specs.Causes.{is_absent, name_is_absent, stops, n
 use crate::asked::{entry_wanted, first_place, second_place};
 use nfs3_types::{CreateMode, DirectoryName, NfsCall};
 use std::alloc::{AllocError, Global};
-use tree_handles::binds::Binds;
-use tree_handles::entry::{Spot, is_plain, named};
-use tree_handles::kind::{is_directory, is_file};
-use tree_handles::live::directory_of;
-use tree_nodes::node::Content;
-use tree_nodes::nodes::{Nodes, is_bare};
+use tree_handles::{Binds, Spot, directory_of, is_directory, is_file, is_plain, named};
+use tree_nodes::{Content, Nodes, is_bare};
 
 /// Whether a live directory has no such entry.
 fn is_absent(

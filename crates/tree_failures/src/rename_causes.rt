@@ -9,12 +9,8 @@ use crate::asked::second_place;
 use crate::name_causes::is_filled_directory;
 use nfs3_types::NfsCall;
 use std::alloc::{AllocError, Global};
-use tree_handles::binds::Binds;
-use tree_handles::entry::{Spot, named};
-use tree_handles::kind::is_directory;
-use tree_handles::live::directory_of;
-use tree_nodes::bytes::Path;
-use tree_nodes::nodes::Nodes;
+use tree_handles::{Binds, Spot, directory_of, is_directory, named};
+use tree_nodes::{Nodes, Path};
 
 /// The source of a RENAME.
 fn source_of<'a>(

@@ -1,9 +1,10 @@
 //! What the handles of a history name.
 
-ghost use Rattle.std.specs.Prelude.{◌≡◌, [], ◌∷◌, ◌++◌, map, IfOk, OnOk, OnErr};
-ghost use Rattle.tree_handles.specs.Binding.{object_of};
+ghost use Rattle.std.specs.Prelude.{◌≡◌, ℕ, List, [], ◌∷◌, ◌++◌, map, IfOk, OnOk, OnErr};
+ghost use Rattle.tree_handles.specs.Binding.{object_of, GivesFirst};
 
 use std::alloc::{AllocError, Global};
+use std::collections::BTreeMap;
 use std::marker::Model;
 
 /// A handle with the object that it names.
@@ -16,17 +17,41 @@ struct Pair {
 /// The root's handle, and the objects of other handles.
 #[derive(Debug, Drop)]
 pub struct Binds {
+    alloc: Global,
     root: Vec<u8>,
     pairs: Vec<Pair>,
+    /// The object of each handle's first pair.
+    objects: BTreeMap<Vec<u8>, u64>,
 }
 
 impl Model for Binds {
     ghost use Rattle.std.specs.Prelude.{map};
-    ghost use Rattle.tree_handles.specs.Binding.{Bindings};
+    ghost use Rattle.tree_handles.specs.Binding.{Bindings, GivesFirst};
 
     ghost Value = { Bindings };
 
     ghost view = { λ b. record { root = b.root.items; pairs = map (λ p. (p.handle.items, p.object)) b.pairs.items } };
+
+    ghost invariant = { λ b. GivesFirst b.objects.entries (λ key. key.items) (map (λ p. (p.handle.items, p.object)) b.pairs.items) };
+}
+
+/// Gives a handle its object, unless it has one.
+fn note(
+    alloc: Global,
+    objects: &mut BTreeMap<Vec<u8>, u64>,
+    handle: &[u8],
+    object: u64,
+) -> Result<(), AllocError>
+    ensures ok { OnOk result ((pairs : List (List ℕ × ℕ)) → GivesFirst objects.old.entries (λ key. key.items) pairs
+        → GivesFirst objects.new.entries (λ key. key.items) (pairs ++ (handle.now, object) ∷ [])) }
+    ensures err { OnErr result (objects.new.entries ≡ objects.old.entries) }
+{
+    if objects.contains_key(handle) {
+        return Ok(());
+    }
+    let key = Vec::from_slice(alloc, handle)?;
+    objects.insert(key, object)?;
+    Ok(())
 }
 
 impl Binds {
@@ -37,7 +62,7 @@ impl Binds {
     {
         let mut binds = Binds::of_root(alloc, root)?;
         for (handle, object) in pairs {
-            binds.push(alloc, handle.as_slice(), *object)?;
+            binds.push(handle.as_slice(), *object)?;
         }
         Ok(binds)
     }
@@ -47,18 +72,26 @@ impl Binds {
         ensures { IfOk result (λ b. b ≡ record { root = root.now; pairs = [] }) }
     {
         Ok(Binds {
+            alloc,
             root: Vec::from_slice(alloc, root)?,
             pairs: Vec::new(alloc),
+            objects: BTreeMap::new(alloc),
         })
     }
 
     /// Adds a pair behind the others.
-    pub fn push(&mut self, alloc: Global, handle: &[u8], object: u64) -> Result<(), AllocError>
+    pub fn push(&mut self, handle: &[u8], object: u64) -> Result<(), AllocError>
         ensures ok { OnOk result (self.new ≡ record self.old { pairs = self.old.pairs ++ (handle.now, object) ∷ [] }) }
         ensures err { OnErr result (self.new ≡ self.old) }
     {
-        let handle = Vec::from_slice(alloc, handle)?;
-        self.pairs.push(Pair { handle, object })?;
+        let copy = Vec::from_slice(self.alloc, handle)?;
+        self.pairs.reserve(1)?;
+        note(self.alloc, &mut self.objects, handle, object)?;
+        let pair = Pair {
+            handle: copy,
+            object,
+        };
+        self.pairs.push(pair).unwrap();
         Ok(())
     }
 
@@ -69,11 +102,6 @@ impl Binds {
         if handle == self.root.as_slice() {
             return Some(0);
         }
-        for pair in &self.pairs {
-            if handle == pair.handle.as_slice() {
-                return Some(pair.object);
-            }
-        }
-        None
+        self.objects.get(handle).copied()
     }
 }

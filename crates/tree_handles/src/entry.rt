@@ -9,9 +9,7 @@ use crate::binds::Binds;
 use crate::live::directory_of;
 use nfs3_types::DirectoryName;
 use std::alloc::{AllocError, Global};
-use tree_nodes::bytes::Path;
-use tree_nodes::node::Node;
-use tree_nodes::nodes::{Nodes, node_at};
+use tree_nodes::{Node, Nodes, Path, node_at};
 
 /// Whether a name is `.`, the directory itself.
 pub fn is_dot(name: &[u8]) -> bool

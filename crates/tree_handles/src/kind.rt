@@ -3,7 +3,7 @@
 ghost use Rattle.std.specs.Prelude.{◌≡◌};
 ghost use Rattle.tree_handles.specs.Kind.{is_directory, is_file, is_link};
 
-use tree_nodes::node::Content;
+use tree_nodes::Content;
 
 /// Whether an object is a directory.
 pub fn is_directory(content: &Content) -> bool

@@ -1,7 +1,12 @@
 //! What handles name in a file tree, and what names lead to in its directories.
 #![tactic(auto)]
 
-pub mod binds;
-pub mod entry;
-pub mod kind;
-pub mod live;
+mod binds;
+mod entry;
+mod kind;
+mod live;
+
+pub use binds::Binds;
+pub use entry::{Spot, entry_at, is_dot, is_plain, is_two_dots, named};
+pub use kind::{is_directory, is_file, is_link};
+pub use live::{FileEntry, directory_of, file_of, gives_object, is_bound, live_entry};

@@ -8,9 +8,7 @@ ghost use Rattle.tree_handles.specs.Binding.{is_bound, gives_object};
 
 use crate::binds::Binds;
 use nfs3_types::FileHandle;
-use tree_nodes::bytes::Path;
-use tree_nodes::node::{Content, File, Node};
-use tree_nodes::nodes::{Nodes, entry_of};
+use tree_nodes::{Content, File, Node, Nodes, Path, entry_of};
 
 /// A file with its place and its object.
 #[derive(Drop)]

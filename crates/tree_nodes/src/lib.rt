@@ -1,8 +1,16 @@
 //! The nodes of a file tree by their paths: look-ups and changes, the bytes of files, and the printed tree.
 #![tactic(auto)]
 
-pub mod bytes;
-pub mod content;
-pub mod node;
-pub mod nodes;
-pub mod print;
+mod bytes;
+mod content;
+mod node;
+mod nodes;
+mod print;
+
+pub use bytes::{Bytes, Path};
+pub use content::{behind, front, is_within_limit, reaches_end, resized, written};
+pub use node::{Content, File, Node};
+pub use nodes::{
+    Nodes, count, entry_of, is_bare, moved, node_at, none, put, remove, root_alone, take,
+};
+pub use print::put_tree;

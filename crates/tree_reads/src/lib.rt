@@ -1,7 +1,11 @@
 //! Where the calls that leave a file tree may succeed with their results.
 #![tactic(auto)]
 
-pub mod listing;
-pub mod look;
+mod listing;
+mod look;
 mod names;
-pub mod read;
+mod read;
+
+pub use listing::{listed, listed_plus};
+pub use look::{committed, got_attributes, got_text, looked_up};
+pub use read::got_bytes;

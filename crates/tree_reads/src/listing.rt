@@ -10,11 +10,8 @@ use nfs3_types::{
     Answer, DirectoryEntry, DirectoryEntryPlus, NfsReply, ReadDirArguments, ReadDirPlusArguments,
 };
 use std::alloc::{AllocError, Global};
-use tree_handles::binds::Binds;
-use tree_handles::entry::{entry_at, is_dot, is_two_dots};
-use tree_handles::live::{directory_of, gives_object};
-use tree_nodes::bytes::{Bytes, Path};
-use tree_nodes::nodes::Nodes;
+use tree_handles::{Binds, directory_of, entry_at, gives_object, is_dot, is_two_dots};
+use tree_nodes::{Bytes, Nodes, Path};
 
 /// Whether a directory has the name.
 fn may_be_listed(

@@ -7,12 +7,10 @@ ghost use Rattle.tree_reads.specs.Look.{type_number, shows, got_attributes, obje
 
 use nfs3_types::{Answer, DirectoryName, FileAttributes, FileHandle, FileType, NfsReply};
 use std::alloc::{AllocError, Global};
-use tree_handles::binds::Binds;
-use tree_handles::entry::{entry_at, is_dot, is_two_dots};
-use tree_handles::live::{directory_of, file_of, is_bound, live_entry};
-use tree_nodes::bytes::Path;
-use tree_nodes::node::{Content, Node};
-use tree_nodes::nodes::{Nodes, node_at};
+use tree_handles::{
+    Binds, directory_of, entry_at, file_of, is_bound, is_dot, is_two_dots, live_entry,
+};
+use tree_nodes::{Content, Node, Nodes, Path, node_at};
 
 /// The number of a type in `ftype3` (RFC 1813, section 2.6).
 fn type_number(file_type: FileType) -> u32

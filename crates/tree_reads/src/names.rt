@@ -6,7 +6,7 @@ ghost use Rattle.tree_reads.specs.Listing.{is_among, are_distinct};
 use std::alloc::{AllocError, Global};
 use std::collections::BTreeSet;
 use std::marker::Model;
-use tree_nodes::bytes::Bytes;
+use tree_nodes::Bytes;
 
 /// Names in their order. A contract sees the list of them.
 #[derive(Drop)]

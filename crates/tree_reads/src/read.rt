@@ -5,10 +5,8 @@ ghost use Rattle.tree_nodes.specs.Nodes.{tree_of};
 ghost use Rattle.tree_reads.specs.Look.{read_is_right, got_bytes};
 
 use nfs3_types::{Answer, NfsReply, ReadArguments, ReadSuccess};
-use tree_handles::binds::Binds;
-use tree_handles::live::file_of;
-use tree_nodes::content::{behind, front, reaches_end};
-use tree_nodes::nodes::Nodes;
+use tree_handles::{Binds, file_of};
+use tree_nodes::{Nodes, behind, front, reaches_end};
 
 /// Whether the answer is what a read of these bytes gives.
 fn is_right(bytes: &[u8], call: &ReadArguments, success: &ReadSuccess) -> bool

@@ -3,23 +3,21 @@
 use nfs3_types::{DirectoryName, FileHandle, Name};
 use std::alloc::{AllocError, Global};
 use std::test::Fail;
-use tree_handles::binds::Binds;
-use tree_handles::entry::{entry_at, is_plain, named};
-use tree_handles::kind::{is_directory, is_file, is_link};
-use tree_handles::live::{directory_of, file_of, gives_object, is_bound, live_entry};
-use tree_nodes::bytes::{Bytes, Path};
-use tree_nodes::node::{Content, File, Node};
-use tree_nodes::nodes::{Nodes, put, root_alone};
+use tree_handles::{
+    Binds, directory_of, entry_at, file_of, gives_object, is_bound, is_directory, is_file, is_link,
+    is_plain, live_entry, named,
+};
+use tree_nodes::{Bytes, Content, File, Node, Nodes, Path, put, root_alone};
 
 /// The root's handle 00; aa and bb for object 1, cc for object 2, dd for object 9, which stands nowhere.
 fn binds(alloc: Global) -> Result<Binds, AllocError> {
     let mut binds = Binds::of_root(alloc, &[0])?;
-    binds.push(alloc, &[0xaa], 1)?;
-    binds.push(alloc, &[0xbb], 1)?;
-    binds.push(alloc, &[0xaa], 3)?;
-    binds.push(alloc, &[0], 2)?;
-    binds.push(alloc, &[0xcc], 2)?;
-    binds.push(alloc, &[0xdd], 9)?;
+    binds.push(&[0xaa], 1)?;
+    binds.push(&[0xbb], 1)?;
+    binds.push(&[0xaa], 3)?;
+    binds.push(&[0], 2)?;
+    binds.push(&[0xcc], 2)?;
+    binds.push(&[0xdd], 9)?;
     Ok(binds)
 }
 

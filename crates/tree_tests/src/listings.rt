@@ -7,7 +7,7 @@ use nfs3_types::{
 };
 use std::alloc::{AllocError, Global};
 use std::test::Fail;
-use tree_reads::listing::{listed, listed_plus};
+use tree_reads::{listed, listed_plus};
 
 const VERIFIER: Verifier = Verifier { value: 0 };
 

@@ -7,7 +7,7 @@ use nfs3_types::{
 };
 use std::alloc::{AllocError, Global};
 use std::test::Fail;
-use tree_reads::look::{committed, got_attributes, got_text, looked_up};
+use tree_reads::{committed, got_attributes, got_text, looked_up};
 
 const TIME: Time = Time {
     seconds: 0,

@@ -4,7 +4,7 @@ use crate::sample::{binds, handle, nodes};
 use nfs3_types::{Answer, Data, NfsReply, Optional, ReadArguments, ReadSuccess};
 use std::alloc::{AllocError, Global};
 use std::test::Fail;
-use tree_reads::read::got_bytes;
+use tree_reads::got_bytes;
 
 /// Whether a READ of the file may give a count and these bytes.
 fn counts(

@@ -3,16 +3,14 @@
 
 use nfs3_types::{DirectoryName, FileHandle, Name};
 use std::alloc::{AllocError, Global};
-use tree_handles::binds::Binds;
-use tree_nodes::bytes::{Bytes, Path};
-use tree_nodes::node::{Content, File, Node};
-use tree_nodes::nodes::{Nodes, put, root_alone};
+use tree_handles::Binds;
+use tree_nodes::{Bytes, Content, File, Node, Nodes, Path, put, root_alone};
 
 /// The handles of objects 0 to 4.
 pub(crate) fn binds(alloc: Global) -> Result<Binds, AllocError> {
     let mut binds = Binds::of_root(alloc, &[0])?;
     for object in 1..5u8 {
-        binds.push(alloc, &[object], object as u64)?;
+        binds.push(&[object], object as u64)?;
     }
     Ok(binds)
 }

@@ -1,1 +1,4 @@
-pub mod OneHistory
+pub mod Steps
+pub mod OneCut
+pub mod OneVerdict
+pub mod Tells

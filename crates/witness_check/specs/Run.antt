@@ -1,6 +1,6 @@
 -- The run of a plan (a legal sequential history, Herlihy and Wing 1990, section 2.1; what a crash leaves,
 -- Izraelevitz, Mendes and Scott 2016): from the opening tree, each era from what the eras ahead of it kept.
-use Rattle.std.specs.Prelude.{ℕ, List, map, Option, Some, None, option_and_then}
+use Rattle.std.specs.Prelude.{ℕ, List, length, take, map, Option, Some, None, option_and_then}
 use Rattle.std.specs.List.{filter_map}
 use Rattle.nfs3_types.specs.declared.calls.NfsCall.{NfsCall}
 use Rattle.nfs3_types.specs.declared.replies.Outcome.{Outcome}
@@ -10,7 +10,6 @@ use Rattle.nfs_history.specs.declared.history.Meaning.TheVariants as meanings
 use Rattle.nfs_history.specs.declared.history.RecordedCall.{RecordedCall}
 use Rattle.nfs_history.specs.declared.history.History.{History}
 use Rattle.nfs_history.specs.Precedence.{call_at}
-use Rattle.certificate.specs.declared.plan.Bind.{Bind}
 use Rattle.certificate.specs.declared.plan.Place.{Place}
 use Rattle.certificate.specs.declared.plan.Place.TheVariants.{Answered, Taken}
 use Rattle.certificate.specs.declared.plan.EraPlan.{EraPlan}
@@ -18,13 +17,9 @@ use Rattle.certificate.specs.declared.plan.Certificate.{Certificate}
 use Rattle.certificate.specs.Plan.{cut_of}
 use Rattle.replay_law.specs.Run.{Era, EveryEraRuns}
 use Rattle.replay_law.specs.Run as run
-use Rattle.tree_nodes.specs.Tree.{opening}
-use Rattle.tree_handles.specs.Binding.{Bindings}
+use Rattle.tree_nodes.specs.Tree.{Tree, opening}
+use Rattle.cut_check.specs.Places.{bindings_of}
 use Rattle.file_tree.specs.Success.{next_tree}
-
--- what each handle names: the root's object 0, another the object of its bind
-abbrev pub bindings_of : List ℕ → List Bind → Bindings
-bindings_of root binds = record { root = root; pairs = map (λ bind. (bind.handle, bind.object)) binds }
 
 -- a judged call with an outcome, as a step of the run
 abbrev pub step_with : ℕ → Meaning → Outcome → Option (run.Taken NfsCall Outcome)
@@ -40,14 +35,21 @@ abbrev pub step_at : List RecordedCall → Place → Option (run.Taken NfsCall O
 step_at calls (Answered n) = option_and_then (step_of_call (Answered n)) (call_at calls n)
 step_at calls (Taken n count) = option_and_then (step_of_call (Taken n count)) (call_at calls n)
 
+-- the steps of these places
+abbrev pub steps_of : List RecordedCall → List Place → List (run.Taken NfsCall Outcome)
+steps_of calls places = filter_map (step_at calls) places
+
+-- an era of a plan: the steps of its places, of which those of the places ahead of the cut are kept
 abbrev pub era_of : List RecordedCall → EraPlan → Era NfsCall Outcome
-era_of calls era = record { steps = filter_map (step_at calls) era.places; kept = cut_of era }
+era_of calls era = record { steps = steps_of calls era.places; kept = length (steps_of calls (take (cut_of era) era.places)) }
 
--- every era of the plan runs
+abbrev pub eras_of : History → Certificate → List (Era NfsCall Outcome)
+eras_of history plan = map (era_of history.calls) plan.eras
+
+-- what a call does to the tree, where it can have come out so
+abbrev pub next_of : History → Certificate → Tree → ℕ → NfsCall → Outcome → Option Tree
+next_of history plan = next_tree (bindings_of history.root plan.binds)
+
+-- every era of the plan runs, from the tree that the places kept ahead of it lead to
 abbrev pub Runs : History → Certificate → Type 0
-Runs history plan = EveryEraRuns (next_tree (bindings_of history.root plan.binds)) opening (map (era_of history.calls) plan.eras)
-
--- how a call came out that is taken
-abbrev pub taken_outcome : Place → Outcome
-taken_outcome (Answered n) = outcomes.Taken None
-taken_outcome (Taken n count) = outcomes.Taken count
+Runs history plan = EveryEraRuns (next_of history plan) opening (eras_of history plan)

@@ -1,9 +1,13 @@
-//! Whether a certificate is a witness of a history: its shape, its order, and its run from the opening tree.
+//! Whether a certificate is a witness of a history: its shape, its order, its run from the opening tree over crashes, what its cuts
+//! keep, and what write verifiers show.
 #![tactic(auto)]
 
+mod fault;
 mod laws;
 mod run;
 mod verdict;
 
-pub use laws::a_file_has_one_history;
+pub use fault::Fault;
+pub use laws::{a_plan_has_one_verdict, two_files_have_one_verdict};
+pub use replay_law::{EraRun, RunFault, run_eras};
 pub use verdict::{FileVerdict, Verdict, check, check_files};

@@ -1,23 +1,25 @@
 //! The verdict on a history and a certificate.
 
-ghost use Rattle.std.specs.Prelude.{◌≡◌, ◌≢◌, ◌⊎◌, OnOk, IfOk, Ok, Err, None};
-ghost use Rattle.order_check.specs.declared.fault.Fault.{Fault};
-ghost use Rattle.order_check.specs.FirstFault.{IsCheck};
-ghost use Rattle.witness_check.specs.Witness.{IsWitness, AreAccepted};
-ghost use Rattle.witness_check.specs.Verdict.{IsPlanFault, IsNotJudged, AreRefuted, IsBadHistory, IsBadText};
-ghost use Rattle.history_file.specs.declared.fault.HistoryFault.{HistoryFault};
-ghost use Rattle.certificate.specs.declared.reading.TextFault.{TextFault};
+ghost use Rattle.std.specs.Prelude.{◌≡◌, IfOk, IfErr, OnOk};
+ghost use Rattle.nfs_history.specs.declared.fault.HistoryFault.{HistoryFault};
+ghost use Rattle.witness_check.specs.Witness.{IsWitness};
+ghost use Rattle.witness_check.specs.Verdict.{IsVerdict, IsFileVerdict};
+ghost use Rattle.witness_check.specs.Told.{TellsFault};
+ghost use Rattle.witness_check.specs.declared.verdict.Verdict.{Verdict};
+ghost use Rattle.witness_check.specs.declared.verdict.FileVerdict.{FileVerdict};
 
-use crate::run::run_era;
+use crate::fault::{CheckFault, Fault};
+use crate::run::run_plan;
 use certificate::{Certificate, TextFault, read_certificate};
+use cut_check::{check_cuts, check_verifiers};
 use nfs_history::{History, HistoryFault, read_history};
-use order_check::{CheckFault, Fault, check_order, check_shape};
+use order_check::{check_order, check_shape};
 use std::alloc::{AllocError, Global};
 
 /// What is found of a history and a certificate.
 #[derive(Clone, Copy, Debug, PartialEq, Eq)]
 pub enum Verdict {
-    /// The certificate is a witness: its serial order is a legal one.
+    /// The certificate is a witness: its serial order is a legal one, and its cuts lose nothing that must stay.
     Yes,
     /// It isn't, for this fault.
     No(Fault),
@@ -36,44 +38,33 @@ pub enum FileVerdict {
     BadText(TextFault),
 }
 
-/// The shape, then the order, then the run.
+/// The shape, then the order, the run, the cuts and the write verifiers.
 fn check_parts(
     alloc: Global,
     history: &History,
     certificate: &Certificate,
 ) -> Result<(), CheckFault>
     ensures ok { OnOk result (IsWitness history.now certificate.now) }
-    ensures only { history.now.eras ≡ 1 → IsWitness history.now certificate.now → IsCheck result None }
-    ensures fault { (fault : Fault) → result ≡ Err (CheckFault.No fault)
-        → IsPlanFault history.now certificate.now fault ⊎ IsNotJudged history.now certificate.now fault }
+    ensures fault { IfErr result (TellsFault history.now certificate.now) }
 {
     check_shape(alloc, history, certificate)?;
-    check_order(history, certificate).map_err(CheckFault::No)?;
-    let [era] = certificate.eras.as_slice() else {
-        return Err(CheckFault::No(Fault::WrongEras));
-    };
-    run_era(
-        alloc,
-        history,
-        certificate.binds.as_slice(),
-        era.places.as_slice(),
-    )
+    check_order(history, certificate)?;
+    run_plan(alloc, history, certificate)?;
+    check_cuts(alloc, history, certificate)?;
+    check_verifiers(alloc, history, certificate)?;
+    Ok(())
 }
 
-/// Whether the certificate is a witness of the history. A history of several eras isn't judged yet: a plan of its
-/// shape and order is refused with `WrongEras`.
+/// Whether the certificate is a witness of the history, or else its first fault.
 pub fn check(
     alloc: Global,
     history: &History,
     certificate: &Certificate,
 ) -> Result<Verdict, AllocError>
-    ensures yes { result ≡ Ok Verdict.Yes → IsWitness history.now certificate.now }
-    // A witness of a history of one era is never answered by a no.
-    ensures only { (fault : Fault) → history.now.eras ≡ 1 → IsWitness history.now certificate.now
-        → result ≢ Ok (Verdict.No fault) }
-    // A no names the first fault.
-    ensures no { (fault : Fault) → result ≡ Ok (Verdict.No fault)
-        → IsPlanFault history.now certificate.now fault ⊎ IsNotJudged history.now certificate.now fault }
+    // The answer is the verdict on the two.
+    ensures verdict { IfOk result (IsVerdict history.now certificate.now) }
+    // The verdict on the two is the answer, memory aside.
+    ensures only { (verdict : Verdict) → IsVerdict history.now certificate.now verdict → IfOk result (λ given. given ≡ verdict) }
 {
     match check_parts(alloc, history, certificate) {
         Ok(()) => Ok(Verdict::Yes),
@@ -82,20 +73,9 @@ pub fn check(
     }
 }
 
-/// The verdict on two texts; the history is read first.
-pub fn check_files(
-    alloc: Global,
-    history: &[u8],
-    certificate: &[u8],
-) -> Result<FileVerdict, AllocError>
-    ensures yes { result ≡ Ok FileVerdict.Yes → AreAccepted history.now certificate.now }
-    // What is accepted gets a yes, memory aside.
-    ensures only { AreAccepted history.now certificate.now → IfOk result (λ verdict. verdict ≡ FileVerdict.Yes) }
-    // A no and a refusal name the first fault.
-    ensures no { (fault : Fault) → result ≡ Ok (FileVerdict.No fault) → AreRefuted history.now certificate.now fault }
-    ensures bad_history { (fault : HistoryFault) → result ≡ Ok (FileVerdict.BadHistory fault) → IsBadHistory history.now fault }
-    ensures bad_text { (fault : TextFault) → result ≡ Ok (FileVerdict.BadText fault)
-        → IsBadText history.now certificate.now fault }
+/// The verdict on two texts; that no other is right is said at `check_files`.
+fn verdict_on(alloc: Global, history: &[u8], certificate: &[u8]) -> Result<FileVerdict, AllocError>
+    ensures { IfOk result (IsFileVerdict history.now certificate.now) }
 {
     let history = match read_history(alloc, history) {
         Ok(history) => history,
@@ -111,4 +91,19 @@ pub fn check_files(
         Verdict::Yes => Ok(FileVerdict::Yes),
         Verdict::No(fault) => Ok(FileVerdict::No(fault)),
     }
+}
+
+/// The verdict on two texts; the history is read first.
+pub fn check_files(
+    alloc: Global,
+    history: &[u8],
+    certificate: &[u8],
+) -> Result<FileVerdict, AllocError>
+    // The answer is the verdict on the two texts.
+    ensures verdict { IfOk result (IsFileVerdict history.now certificate.now) }
+    // The verdict on the two texts is the answer, memory aside.
+    ensures only { (verdict : FileVerdict) → IsFileVerdict history.now certificate.now verdict
+        → IfOk result (λ given. given ≡ verdict) }
+{
+    verdict_on(alloc, history, certificate)
 }

@@ -4,10 +4,9 @@ use super::is_verdict;
 use super::samples::{CERTIFICATE, HISTORY};
 use certificate::TextFault;
 use nfs_history::HistoryFault;
-use order_check::Fault;
 use std::alloc::{AllocError, Global};
 use std::test::Fail;
-use witness_check::FileVerdict;
+use witness_check::{Fault, FileVerdict};
 
 /// The verdict where call 1's place is followed by one more of this number.
 fn is_verdict_on_a_place(alloc: Global, history: &[u8], number: &str, want: FileVerdict) -> bool {

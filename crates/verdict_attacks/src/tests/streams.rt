@@ -1,7 +1,7 @@
 //! Readers and writers that fail, or that move little at a time.
 
 use super::samples::{CERTIFICATE, HISTORY};
-use nfsbench_engine::run_bundle;
+use nfsbench_engine::{Sink, Stream, run_bundle};
 use std::alloc::Global;
 use std::io::{self, ErrorKind, Read, Write};
 use std::test::Fail;
@@ -31,7 +31,7 @@ impl Read for Slow<'_> {
 /// Whether a reader of these bytes gets this line and this status.
 fn is_told(alloc: Global, reader: &mut Slow<'_>, line: &[u8], status: u8) -> bool {
     let mut told = Vec::new(alloc);
-    run_bundle(alloc, reader, &mut told) == status && told.as_slice() == line
+    run_bundle(alloc, &mut Stream::new(reader), &mut told) == status && told.as_slice() == line
 }
 
 /// Whether no bundle is found where the reader fails behind so many bytes.
@@ -91,12 +91,15 @@ impl Read for Interrupted<'_> {
 #[test]
 fn an_interrupted_read_is_tried_again(rt: HostRuntime) -> Result<(), Fail> {
     let bundle = format!(in rt.alloc(); "{HISTORY}\n{CERTIFICATE}")?;
-    let mut reader = Interrupted {
+    let reader = Interrupted {
         rest: bundle.as_bytes(),
         gives: true,
     };
     let mut told = Vec::new(rt.alloc());
-    assert_eq!(rt; run_bundle(rt.alloc(), &mut reader, &mut told), 0);
+    assert_eq!(rt;
+        run_bundle(rt.alloc(), &mut Stream::new(reader), &mut told),
+        0
+    );
     assert_eq!(rt; told.as_slice(), YES);
     Ok(())
 }
@@ -145,7 +148,7 @@ fn is_written(
         piece,
         flushes: true,
     };
-    let given = run_bundle(alloc, &mut bundle, &mut writer);
+    let given = run_bundle(alloc, &mut bundle, &mut Sink::new(&mut writer));
     match line.get(..room) {
         Some(front) => given == status && writer.told.as_slice() == front,
         None => false,
@@ -187,6 +190,9 @@ fn a_line_that_is_not_handed_on_has_the_status_of_no_verdict(rt: HostRuntime) ->
         piece: 65_536,
         flushes: false,
     };
-    assert_eq!(rt; run_bundle(rt.alloc(), &mut input, &mut writer), 2);
+    assert_eq!(rt;
+        run_bundle(rt.alloc(), &mut input, &mut Sink::new(&mut writer)),
+        2
+    );
     Ok(())
 }

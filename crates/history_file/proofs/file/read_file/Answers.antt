@@ -1,21 +1,17 @@
-use Rattle.std.proofs.Common.{◌≡◌, ◌-◌, length, take, drop, sym, ap, ◌∙◌, arith}
-use Rattle.std.proofs.lemmas.Slice.{between_to_end}
-use Rattle.xdr_records.specs.Reading.{all_of, kinds}
-use Rattle.history_file.proofs.FileLaws.{told_as_it_is, file_found, file_of-body}
-use Rattle.history_file.specs.HistoryFile.{kind_of, recording}
-use Rattle.history_file.specs.FileReading.{recording_value, file_of}
+use Rattle.history_file.proofs.FileLaws.{answer_found, answer_fault, only_memory_of, named_of}
 use Rattle.history_file.proofs.file.read_file.Goals as goal
 
-pub returns-in-Ok-clause-found : goal.returns-in-Ok-clause-found
-returns-in-Ok-clause-found c =
-    let bytes = c.args.bytes.now in
-    let body : take (length bytes - 8) (drop 8 bytes) ≡ drop 8 bytes = between_to_end bytes 8 (length bytes) (omega arith) in
-    file_found bytes (recording_value c.in-Ok.seen) (sym c.has_magic.ensures ∙ c.if-not-has_magic.false) c.if-bytes-gt-FILE_LIMIT.false (ap (all_of kind_of recording) (sym body) ∙ c.in-Ok.ensures)
+pub returns-clause-found : goal.returns-clause-found
+returns-clause-found c = answer_found c.args.bytes.now c.recording_of.result c.recording_of.ensures
 
-pub returns-in-Err-Fault-clause-exact : goal.returns-in-Err-Fault-clause-exact
-returns-in-Err-Fault-clause-exact c =
+pub returns-clause-fault : goal.returns-clause-fault
+returns-clause-fault c = answer_fault c.args.bytes.now c.recording_of.result c.recording_of.ensures
+
+pub returns-clause-only : goal.returns-clause-only
+returns-clause-only c = λ seen file. only_memory_of c.args.bytes.now c.recording_of.result (answer_fault c.args.bytes.now c.recording_of.result c.recording_of.ensures) seen file
+
+pub returns-clause-named : goal.returns-clause-named
+returns-clause-named c = λ fault first.
     let bytes = c.args.bytes.now in
-    let body : take (length bytes - 8) (drop 8 bytes) ≡ drop 8 bytes = between_to_end bytes 8 (length bytes) (omega arith) in
-    let read = rw c.in-Err-Fault.field-0-is at c.in-Err-Fault.ensures in
-    told_as_it_is recording_value c.in-Err-Fault.fault (file_of bytes)
-    (file_of-body bytes (sym c.has_magic.ensures ∙ c.if-not-has_magic.false) c.if-bytes-gt-FILE_LIMIT.false ∙ ap (λ xs. kinds (all_of kind_of recording xs)) (sym body) ∙ ap kinds read)
+    let result = c.recording_of.result in
+    named_of bytes result (answer_found bytes result c.recording_of.ensures) (answer_fault bytes result c.recording_of.ensures) fault first

@@ -1,8 +1,5 @@
-use Rattle.std.proofs.Common.{map}
 use Rattle.std.proofs.lemmas.Result.{err_from_is_err_and}
-use Rattle.nfs_history.specs.Matching.{seen_call}
-use Rattle.nfs_history.proofs.CallFaultLaws.{first_call_fault_or_fine, all_fine}
-use Rattle.nfs_history.proofs.JudgingSteps.{judged_more, stops_here, all_judged, readable_here, only_memory, that_or_memory}
+use Rattle.nfs_history.proofs.JudgingSteps.{judged_more, stops_here, all_judged, readable_here}
 use Rattle.nfs_history.proofs.judging.judged_calls.Goals as goal
 
 pub judged_call-requires : goal.judged_call-requires
@@ -13,23 +10,9 @@ returns-in_err-call-clause-fault c =
     let p = err_from_is_err_and c.from_residual-in_err-call.result c.from_residual-in_err-call.ensures.1 in
     rw (p.1, p.2) (stops_here c.args.seen.now c.loop-index.index c.index-seen-index.result c.index-seen-index.result c.loop-index.calls.items c.in_err-call.field-0.0 c.loop-index-test.true c.index-seen-index.is c.in_err-call.ensures.fault c.loop-index.invariant)
 
-pub returns-in_err-call-clause-only : goal.returns-in_err-call-clause-only
-returns-in_err-call-clause-only c = λ fine.
-    let p = err_from_is_err_and c.from_residual-in_err-call.result c.from_residual-in_err-call.ensures.1 in
-    let stop = stops_here c.args.seen.now c.loop-index.index c.index-seen-index.result c.index-seen-index.result c.loop-index.calls.items c.in_err-call.field-0.0 c.loop-index-test.true c.index-seen-index.is c.in_err-call.ensures.fault c.loop-index.invariant in
-    rw (p.1, p.2) (only_memory (map seen_call c.args.seen.now) c.in_err-call.field-0.0 stop fine)
-
-pub returns-in_err-call-clause-named : goal.returns-in_err-call-clause-named
-returns-in_err-call-clause-named c = λ fault h.
-    let p = err_from_is_err_and c.from_residual-in_err-call.result c.from_residual-in_err-call.ensures.1 in
-    let stop = stops_here c.args.seen.now c.loop-index.index c.index-seen-index.result c.index-seen-index.result c.loop-index.calls.items c.in_err-call.field-0.0 c.loop-index-test.true c.index-seen-index.is c.in_err-call.ensures.fault c.loop-index.invariant in
-    rw (p.1, p.2) (that_or_memory (map seen_call c.args.seen.now) c.in_err-call.field-0.0 fault stop h)
-
 pub loop-index-preserved : goal.loop-index-preserved
 loop-index-preserved c =
     judged_more c.args.seen.now c.loop-index.index c.index-seen-index.result c.index-seen-index.result c.loop-index.calls.items c.push.new.self.items c.in_ok-call.call c.loop-index-test.true c.index-seen-index.is c.in_ok-push.ensures.items c.in_ok-call.ensures.found c.loop-index.invariant
 
-pub returns-clause-named : goal.returns-clause-named
-returns-clause-named c = λ fault h.
-    let calls = map seen_call c.args.seen.now in
-    first_call_fault_or_fine 1 calls fault h (all_fine calls c.loop-index.calls.items (all_judged c.args.seen.now c.loop-index.index c.loop-index.calls.items c.loop-index-test.false c.loop-index.invariant))
+pub returns-clause-found : goal.returns-clause-found
+returns-clause-found c = all_judged c.args.seen.now c.loop-index.index c.loop-index.calls.items c.loop-index-test.false c.loop-index.invariant

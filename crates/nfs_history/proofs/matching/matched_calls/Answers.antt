@@ -1,50 +1,86 @@
-use Rattle.std.proofs.Common.{◌≡◌, ◌+◌, ◌-◌, [], length, drop, ap, subst, ◌∙◌, arith, refl, map, sym}
+use Rattle.std.proofs.Common.{◌≡◌, ◌+◌, ◌-◌, [], length, drop, take, ap, ◌∙◌, arith, refl, map, sym}
 use Rattle.std.specs.HashMap.{get}
-use Rattle.std.proofs.lemmas.List.{drop_all}
+use Rattle.std.proofs.lemmas.List.{drop_all, take_all}
 use Rattle.history_file.specs.declared.event.Event.TheVariants as owns
-use Rattle.nfs_history.specs.Calls.{xid_of}
+use Rattle.nfs_history.specs.Calls.{xid_of, calls_from, eras_from}
 use Rattle.nfs_history.specs.Matching.{seen_call, same_key}
 use Rattle.history_file.specs.Owning.{all_happened}
-use Rattle.nfs_history.proofs.MatchingSteps.{IsMatched, none_met, met_call, met_reply, met_close, one_before, no_crash, behind_it}
+use Rattle.nfs_history.proofs.MatchingSteps.{none_met, met_call, met_reply, met_close, met_crash, one_before, behind_it, era_before, era_at_crash}
 use Rattle.nfs_history.proofs.matching.matched_calls.Goals as goal
 
 pub loop-index-init : goal.loop-index-init
 loop-index-init c =
     let events = c.args.events.now in
-    let all : drop (length events) events ≡ [] = drop_all (length events) events (omega arith) in
-    rw all (none_met (length c.args.events.now) c.new-replies.result c.new-calls.result.items c.new-replies.ensures.empty c.new-calls.ensures.items)
+    let none : drop (length events) events ≡ [] = drop_all (length events) events (omega arith) in
+    let all : take (length events) events ≡ events = take_all (length events) events (omega arith) in
+    record {
+      matched = rw none (none_met (length events) c.args.eras c.new-replies.result c.new-calls.result.items c.new-replies.ensures.empty c.new-calls.ensures.items);
+      era_is = rw all c.requires;
+    }
+
+pub overflow_sub-era : goal.overflow_sub-era
+overflow_sub-era c =
+    omega (arith, era_at_crash c.args.events.now c.loop-index.index c.index-events-index.result c.loop-index.era (omega arith) (omega arith) (sym c.index-events-index.is ∙ c.in-Crash.is) c.loop-index.invariant.era_is)
 
 pub loop-index-preserved-in-Continue-1 : goal.loop-index-preserved-in-Continue-1
 loop-index-preserved-in-Continue-1 c =
     let i = c.loop-index.index in
     let events = c.args.events.now in
-    let matched = behind_it events i c.loop-index.replies c.loop-index.calls.items (omega arith) c.loop-index.invariant in
-    let is = one_before events i c.index-events-index.result (owns.Call c.in-Call.lane c.in-Call.message) (omega arith) (omega arith) (sym c.index-events-index.is ∙ c.in-Call.is) in
-    rw (is, c.in_ok-push-in-Call.ensures.items) (met_call (i - 1) (all_happened (drop ((i - 1) + 1) events)) c.loop-index.replies c.loop-index.calls.items _ refl
-    (c.copied-answer.ensures ∙ c.get.ensures.value ∙ ap (λ x. get same_key c.loop-index.replies (c.in-Call.lane, x)) (c.transaction-xid.ensures ∙ ap xid_of c.as_slice.ensures)) matched)
+    let era = c.loop-index.era in
+    let matched = behind_it events i era c.loop-index.replies c.loop-index.calls.items (omega arith) c.loop-index.invariant.matched in
+    let same = sym c.index-events-index.is ∙ c.in-Call.is in
+    let this = owns.Call c.in-Call.lane c.in-Call.message in
+    let is = one_before events i c.index-events-index.result this (omega arith) (omega arith) same in
+    record {
+      matched = rw (is, c.in_ok-push-in-Call.ensures.items) (met_call (i - 1) era (all_happened (drop ((i - 1) + 1) events)) c.loop-index.replies c.loop-index.calls.items _ refl refl
+          (c.copied-answer.ensures ∙ c.get.ensures.value ∙ ap (λ x. get same_key c.loop-index.replies (c.in-Call.lane, x)) (c.transaction-xid.ensures ∙ ap xid_of c.as_slice.ensures)) matched);
+      era_is = era_before events i c.index-events-index.result this era (omega arith) (omega arith) same refl c.loop-index.invariant.era_is;
+    }
 
 pub loop-index-preserved-in_ok-insert-in-Reply : goal.loop-index-preserved-in_ok-insert-in-Reply
 loop-index-preserved-in_ok-insert-in-Reply c =
     let i = c.loop-index.index in
     let events = c.args.events.now in
-    let matched = behind_it events i c.loop-index.replies c.loop-index.calls.items (omega arith) c.loop-index.invariant in
-    let is = one_before events i c.index-events-index.result (owns.Reply c.in-Reply.lane c.in-Reply.message) (omega arith) (omega arith) (sym c.index-events-index.is ∙ c.in-Reply.is) in
-    rw is (met_reply (i - 1) (all_happened (drop ((i - 1) + 1) events)) c.loop-index.replies c.insert.new.self c.loop-index.calls.items c.in-Reply.lane _ _ c.in_ok-insert-in-Reply.ensures.updates.0 (c.transaction-xid-in-Reply.ensures ∙ ap xid_of c.as_slice-in-Reply.ensures) refl matched)
+    let era = c.loop-index.era in
+    let matched = behind_it events i era c.loop-index.replies c.loop-index.calls.items (omega arith) c.loop-index.invariant.matched in
+    let same = sym c.index-events-index.is ∙ c.in-Reply.is in
+    let this = owns.Reply c.in-Reply.lane c.in-Reply.message in
+    let is = one_before events i c.index-events-index.result this (omega arith) (omega arith) same in
+    record {
+      matched = rw is (met_reply (i - 1) era (all_happened (drop ((i - 1) + 1) events)) c.loop-index.replies c.insert.new.self c.loop-index.calls.items c.in-Reply.lane _ _ c.in_ok-insert-in-Reply.ensures.updates.0 (c.transaction-xid-in-Reply.ensures ∙ ap xid_of c.as_slice-in-Reply.ensures) refl matched);
+      era_is = era_before events i c.index-events-index.result this era (omega arith) (omega arith) same refl c.loop-index.invariant.era_is;
+    }
 
 pub loop-index-preserved-in-Close : goal.loop-index-preserved-in-Close
 loop-index-preserved-in-Close c =
     let i = c.loop-index.index in
     let events = c.args.events.now in
-    let matched = behind_it events i c.loop-index.replies c.loop-index.calls.items (omega arith) c.loop-index.invariant in
-    let is = one_before events i c.index-events-index.result (owns.Close c.in-Close.lane) (omega arith) (omega arith) (sym c.index-events-index.is ∙ c.in-Close.is) in
-    rw is (met_close (i - 1) c.in-Close.lane (all_happened (drop ((i - 1) + 1) events)) c.loop-index.replies c.loop-index.calls.items matched)
+    let era = c.loop-index.era in
+    let matched = behind_it events i era c.loop-index.replies c.loop-index.calls.items (omega arith) c.loop-index.invariant.matched in
+    let same = sym c.index-events-index.is ∙ c.in-Close.is in
+    let this = owns.Close c.in-Close.lane in
+    let is = one_before events i c.index-events-index.result this (omega arith) (omega arith) same in
+    record {
+      matched = rw is (met_close (i - 1) era c.in-Close.lane (all_happened (drop ((i - 1) + 1) events)) c.loop-index.replies c.loop-index.calls.items matched);
+      era_is = era_before events i c.index-events-index.result this era (omega arith) (omega arith) same refl c.loop-index.invariant.era_is;
+    }
 
 pub loop-index-preserved : goal.loop-index-preserved
 loop-index-preserved c =
-    absurd (no_crash c.args.events.now (c.loop-index.index - 1) c.index-events-index.result (omega arith) c.requires (sym c.index-events-index.is ∙ c.in-Crash.is))
+    let i = c.loop-index.index in
+    let events = c.args.events.now in
+    let era = c.loop-index.era in
+    let matched = behind_it events i era c.loop-index.replies c.loop-index.calls.items (omega arith) c.loop-index.invariant.matched in
+    let same = sym c.index-events-index.is ∙ c.in-Crash.is in
+    let is = one_before events i c.index-events-index.result owns.Crash (omega arith) (omega arith) same in
+    let one_less : era ≡ eras_from 1 (all_happened (take (i - 1) events)) + 1 = era_at_crash events i c.index-events-index.result era (omega arith) (omega arith) same c.loop-index.invariant.era_is in
+    record {
+      matched = rw is (met_crash (i - 1) era (all_happened (drop ((i - 1) + 1) events)) c.loop-index.replies c.loop-index.calls.items (omega (arith, one_less)) matched);
+      era_is = omega (arith, one_less);
+    }
 
 pub returns : goal.returns
 returns c =
     let none : c.loop-index.index ≡ 0 = omega arith in
-    let matched = subst (λ n. IsMatched n (all_happened (drop n c.args.events.now)) c.loop-index.replies c.loop-index.calls.items) none c.loop-index.invariant in
-    ap (map seen_call) c.reverse.ensures.items ∙ matched.calls_are
+    let at_front = rw none at c.loop-index.invariant in
+    ap (map seen_call) c.reverse.ensures.items ∙ at_front.matched.calls_are ∙ ap (λ n. calls_from 1 n (all_happened c.args.events.now)) at_front.era_is

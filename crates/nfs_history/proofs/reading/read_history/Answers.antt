@@ -1,6 +1,7 @@
 use Rattle.std.proofs.Common.{Err}
 use Rattle.std.proofs.lemmas.Result.{err_from_is_err_and}
-use Rattle.history_file.specs.FileReading.{recording_value}
+use Rattle.history_file.specs.Owning.{recording_value}
+use Rattle.nfs_history.specs.JoinedFaults.{of_file}
 use Rattle.nfs_history.proofs.HistoryLaws.{root_small}
 use Rattle.nfs_history.proofs.FirstFaultLaws.{only_memory_of, named_of, found_in, fault_in, file_stop}
 use Rattle.nfs_history.proofs.reading.read_history.Goals as goal
@@ -8,19 +9,19 @@ use Rattle.nfs_history.proofs.reading.read_history.Goals as goal
 pub returns-in_err-recording-clause-fault : goal.returns-in_err-recording-clause-fault
 returns-in_err-recording-clause-fault c =
     let p = err_from_is_err_and c.from_residual.result c.from_residual.ensures.1 in
-    rw (p.1, p.2) (file_stop c.args.bytes.now c.in_err-recording.field-0.0 c.in_err-recording.ensures.exact)
+    rw (p.1, p.2) (file_stop c.args.bytes.now c.in_err-recording.field-0.0 c.in_err-recording.ensures.fault)
 
 pub returns-in_err-recording-clause-only : goal.returns-in_err-recording-clause-only
 returns-in_err-recording-clause-only c = λ history is.
     let p = err_from_is_err_and c.from_residual.result c.from_residual.ensures.1 in
-    let stop = file_stop c.args.bytes.now c.in_err-recording.field-0.0 c.in_err-recording.ensures.exact in
-    rw (p.1, p.2) (only_memory_of c.args.bytes.now (Err c.in_err-recording.field-0.0) stop history is)
+    let stop = file_stop c.args.bytes.now c.in_err-recording.field-0.0 c.in_err-recording.ensures.fault in
+    rw (p.1, p.2) (only_memory_of c.args.bytes.now (Err (of_file c.in_err-recording.field-0.0)) stop history is)
 
 pub returns-in_err-recording-clause-named : goal.returns-in_err-recording-clause-named
 returns-in_err-recording-clause-named c = λ fault first.
     let p = err_from_is_err_and c.from_residual.result c.from_residual.ensures.1 in
-    let stop = file_stop c.args.bytes.now c.in_err-recording.field-0.0 c.in_err-recording.ensures.exact in
-    rw (p.1, p.2) (named_of c.args.bytes.now (Err c.in_err-recording.field-0.0) tt stop fault first)
+    let stop = file_stop c.args.bytes.now c.in_err-recording.field-0.0 c.in_err-recording.ensures.fault in
+    rw (p.1, p.2) (named_of c.args.bytes.now (Err (of_file c.in_err-recording.field-0.0)) tt stop fault first)
 
 pub from_slice-requires : goal.from_slice-requires
 from_slice-requires c = root_small c.args.bytes.now (recording_value c.in_ok-recording.recording) c.in_ok-recording.ensures.found

@@ -1,11 +1,18 @@
-use Rattle.std.proofs.Common.{ap, ◌∙◌}
-use Rattle.nfsbench_engine.specs.Bundle.{IsBundle}
-use Rattle.nfsbench_engine.proofs.FirstLine.{IfSome-from_fresh}
+use Rattle.std.proofs.Common.{◌+◌, length, sym, arith}
+use Rattle.std.proofs.lemmas.Slice.{between_to_end}
+use Rattle.nfsbench_engine.proofs.FirstLine.{IsBundle-from_line, no_bundle-other, no_bundle-without}
 use Rattle.nfsbench_engine.proofs.bundle.read_bundle.Goals as goal
 
+pub returns-in_default-clause-malformed : goal.returns-in_default-clause-malformed
+returns-in_default-clause-malformed c = λ _ some. no_bundle-without c.args.bytes.now (sym c.in_default.ensures.first) some
+
+pub returns-in_err-history-clause-malformed : goal.returns-in_err-history-clause-malformed
+returns-in_err-history-clause-malformed c =
+    λ e some.
+    let told = rw e at c.from_residual.ensures.1 in
+    no_bundle-other c.args.bytes.now c.in-Some.end (sym c.in-Some.ensures.first) (c.decode_digits.ensures.malformed (cc (told, c.in_err-history.was))) some
+
 pub returns-clause-ok : goal.returns-clause-ok
-returns-clause-ok g c =
-    IfSome-from_fresh c.read_parts.result (λ bundle bytes. IsBundle bytes bundle.history.items bundle.certificate.items) _ _ _ (g.R.Read.remaining c.args.reader.now)
-    c.in_ok-input.ensures.capacity c.in_ok-input.ensures.empty
-    (ap (λ x. g.R.Read.remaining x.inner.now) c.in_ok-input.ensures.inner ∙ ap (λ r. g.R.Read.remaining r.now) c.new.ensures.inner)
-    c.read_parts.ensures.ok
+returns-clause-ok c =
+    rw (between_to_end c.args.bytes.now (c.in-Some.end + 1) (length c.args.bytes.now) (omega arith))
+    (IsBundle-from_line c.args.bytes.now c.in_ok-history.history.items c.in-Some.end (sym c.in-Some.ensures.first) c.in_ok-history.ensures.bytes c.in_ok-history.ensures.spelled)

@@ -1,44 +1,68 @@
-use Rattle.std.proofs.Common.{◌≡◌, ℕ, List, Option, Err, None, IsSome, true, false, map, ap, subst, ◌∙◌}
-use Rattle.std.specs.List.{filter_map}
+use Rattle.std.proofs.Common.{◌≡◌, ◌++◌, [], take, Err, sym, subst, ap, ◌∙◌, List}
+use Rattle.std.proofs.lemmas.Result.{err_from_is_err_and}
 use Rattle.nfs3_types.specs.declared.calls.NfsCall.{NfsCall}
 use Rattle.nfs3_types.specs.declared.replies.Outcome.{Outcome}
-use Rattle.replay_law.specs.Run.{Taken, state_after, IsFirstIllegal}
-use Rattle.replay_law.proofs.Runs.{runs_or_not}
-use Rattle.replay_law.specs.Steps.{taken_of}
-use Rattle.tree_nodes.specs.Tree.{Tree, opening}
-use Rattle.tree_handles.specs.Binding.{Bindings}
+use Rattle.certificate.specs.declared.plan.Place.{Place}
+use Rattle.certificate.specs.Plan.{cut_of}
+use Rattle.replay_law.specs.declared.run.RunFault.TheVariants.{Illegal}
+use Rattle.replay_law.specs.Run.{Taken, IsFirstIllegal}
+use Rattle.replay_law.proofs.Crashes.{from_base}
+use Rattle.replay_law.proofs.Within.{first_of_front, first_behind, era_runs}
+use Rattle.tree_nodes.specs.Tree.{opening}
+use Rattle.file_tree.specs.Undo.{TakesBack}
 use Rattle.file_tree.specs.Success.{next_tree}
-use Rattle.witness_check.specs.Run.{bindings_of, step_at}
-use Rattle.witness_check.specs.Verdict.{IsStuck}
-use Rattle.order_check.specs.declared.fault.Fault.TheVariants.{Illegal}
+use Rattle.witness_check.specs.Run.{step_at, steps_of}
+use Rattle.witness_check.specs.Running.{Stands}
+use Rattle.witness_check.proofs.Steps.{both}
 use Rattle.witness_check.proofs.run.run_era.Goals as goal
-use Rattle.witness_check.proofs.run.run_era.Goals.{After-drop-bindings-inside-in-Err-Illegal-2}
 
-moved : (binds binds' : Bindings) (steps steps' : List (Taken NfsCall Outcome)) (number : ℕ) → binds ≡ binds' → steps ≡ steps' → IsFirstIllegal (next_tree binds) opening steps number → IsFirstIllegal (next_tree binds') opening steps' number
-moved binds binds' steps steps' number same_binds same_steps stuck =
-    subst (λ b. IsFirstIllegal (next_tree b) opening steps' number) same_binds (subst (λ s. IsFirstIllegal (next_tree binds) opening s number) same_steps stuck)
+pub returns-in_err-run_kept-clause-illegal : goal.returns-in_err-run_kept-clause-illegal
+returns-in_err-run_kept-clause-illegal c = λ number is kept s base reached.
+    let next = next_tree c.args.binds.now in
+    let calls = c.args.calls.now in
+    let cut = cut_of c.args.era.now in
+    let parts = both (step_at calls) cut c.args.era.now.places c.split_at_cut.result.0.now c.split_at_cut.result.1.now c.split_at_cut.ensures.kept c.split_at_cut.ensures.lost in
+    let fault = err_from_is_err_and c.from_residual.result c.from_residual.ensures.1 in
+    let was : c.run_kept.result ≡ Err c.in_err-run_kept.field-0.0 = c.in_err-run_kept.was in
+    let refused : c.run_kept.result ≡ Err (Illegal number) = cc (fault.1, fault.2, was, is) in
+    let found = c.run_kept.ensures.illegal number refused kept s base reached in
+    subst (λ (steps : List (Taken NfsCall Outcome)). IsFirstIllegal next base steps number) (sym parts)
+    (first_of_front next base (steps_of calls c.split_at_cut.result.0.now) (steps_of calls c.split_at_cut.result.1.now) number found)
 
--- the step that the run stops at
-stuck_at : (c : After-drop-bindings-inside-in-Err-Illegal-2) → IsFirstIllegal (next_tree (bindings_of c.args.history.now.root c.args.binds.now)) opening (filter_map (step_at c.args.history.now.calls) c.args.places.now) c.in-Err-Illegal.number
-stuck_at c =
-    let history = c.args.history.now in
-    let binds : c.in_ok-bindings.bindings ≡ bindings_of history.root c.args.binds.now = c.in_ok-bindings.ensures ∙ ap (λ root. bindings_of root c.args.binds.now) c.as_slice.ensures.value in
-    let steps : map taken_of c.as_slice-3.result.now ≡ filter_map (step_at history.calls) c.args.places.now =
-    ap (map taken_of) c.as_slice-3.ensures.value ∙ c.in_ok-steps.ensures ∙ ap (λ calls. filter_map (step_at calls) c.args.places.now) c.as_slice-calls.ensures in
-    moved c.in_ok-bindings.bindings (bindings_of history.root c.args.binds.now) (map taken_of c.as_slice-3.result.now) (filter_map (step_at history.calls) c.args.places.now) c.in-Err-Illegal.number binds steps
-    (c.in-Err-Illegal.ensures.illegal c.in-Err-Illegal.number (ap (λ f. Err f) c.in-Err-Illegal.field-0-is))
+pub returns-in_err-run_lost-clause-illegal : goal.returns-in_err-run_lost-clause-illegal
+returns-in_err-run_lost-clause-illegal c = λ number is kept s base reached.
+    let next = next_tree c.args.binds.now in
+    let calls = c.args.calls.now in
+    let front = steps_of calls c.split_at_cut.result.0.now in
+    let parts = both (step_at calls) (cut_of c.args.era.now) c.args.era.now.places c.split_at_cut.result.0.now c.split_at_cut.result.1.now c.split_at_cut.ensures.kept c.split_at_cut.ensures.lost in
+    let fault = err_from_is_err_and c.from_residual-in_err-run_lost.result c.from_residual-in_err-run_lost.ensures.1 in
+    let was : c.run_lost.result ≡ Err c.in_err-run_lost.field-0.0 = c.in_err-run_lost.was in
+    let refused : c.run_lost.result ≡ Err (Illegal number) = cc (fault.1, fault.2, was, is) in
+    let stands = c.in_ok-run_kept.ensures.ok kept s in
+    let found = c.run_lost.ensures.illegal number refused (kept ++ front) stands stands.base stands.reached in
+    let middle = sym (from_base next opening base kept front reached) ∙ stands.reached in
+    subst (λ (steps : List (Taken NfsCall Outcome)). IsFirstIllegal next base steps number) (sym parts)
+    (first_behind next base stands.base front (steps_of calls c.split_at_cut.result.1.now) number middle found)
 
-pub returns-in-Err-Illegal-clause-illegal : goal.returns-in-Err-Illegal-clause-illegal
-returns-in-Err-Illegal-clause-illegal c = λ fault h.
-    let same : Illegal c.in-Err-Illegal.number ≡ fault = cc in
-    subst (λ f. IsStuck (bindings_of c.args.history.now.root c.args.binds.now) c.args.history.now.calls c.args.places.now f) same (stuck_at c)
+pub crash-requires : goal.crash-requires
+crash-requires c =
+    let kept = c.requires.0 in
+    let stands = c.in_ok-run_lost.ensures.ok (kept ++ steps_of c.args.calls.now c.split_at_cut.result.0.now) (c.in_ok-run_kept.ensures.ok kept c.requires.1) in
+    (stands.base, stands.back)
 
--- what runs isn't stuck
-not_both : (o : Option Tree) → IsSome o → o ≡ None → ⊥
-not_both o some none = let none_is_some = rw none at some in let h : false ≡ true = none_is_some in cc
+pub returns-clause-runs : goal.returns-clause-runs
+returns-clause-runs c = λ kept s.
+    let calls = c.args.calls.now in
+    let front = steps_of calls c.split_at_cut.result.0.now in
+    let back = steps_of calls c.split_at_cut.result.1.now in
+    let parts = both (step_at calls) (cut_of c.args.era.now) c.args.era.now.places c.split_at_cut.result.0.now c.split_at_cut.result.1.now c.split_at_cut.ensures.kept c.split_at_cut.ensures.lost in
+    era_runs TakesBack (next_tree c.args.binds.now) opening c.run_lost.new.replay kept front back (steps_of calls c.args.era.now.places) parts
+    (c.in_ok-run_lost.ensures.ok (kept ++ front) (c.in_ok-run_kept.ensures.ok kept s))
 
-pub returns-in-Err-Illegal-clause-only : goal.returns-in-Err-Illegal-clause-only
-returns-in-Err-Illegal-clause-only c = λ runs.
-    let next = next_tree (bindings_of c.args.history.now.root c.args.binds.now) in
-    let steps = filter_map (step_at c.args.history.now.calls) c.args.places.now in
-    absurd (not_both (state_after next opening steps) runs (runs_or_not next opening steps c.in-Err-Illegal.number (stuck_at c)))
+pub returns-clause-crashed : goal.returns-clause-crashed
+returns-clause-crashed c = λ kept s.
+    let calls = c.args.calls.now in
+    let front = steps_of calls c.split_at_cut.result.0.now in
+    let stands = c.in_ok-run_lost.ensures.ok (kept ++ front) (c.in_ok-run_kept.ensures.ok kept s) in
+    let after = c.in_ok-after.ensures c.args.binds.now (kept ++ front) (steps_of calls c.split_at_cut.result.1.now) stands in
+    subst (λ (ps : List Place). Stands c.args.binds.now c.in_ok-after.after (kept ++ steps_of calls ps) []) c.split_at_cut.ensures.kept after

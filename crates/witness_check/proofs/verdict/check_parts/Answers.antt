@@ -1,44 +1,15 @@
-use Rattle.std.proofs.Common.{◌≡◌, inl, inr, ◌<◌, ◌≤◌, List, [], ◌∷◌, length, get_or, map, IsSome, rules, sym, ap, ◌∙◌, arith}
-use Rattle.std.specs.List.{filter_map}
-use Rattle.nfs_history.specs.declared.history.History.{History}
-use Rattle.certificate.specs.declared.plan.EraPlan.{EraPlan}
-use Rattle.certificate.specs.declared.plan.Certificate.{Certificate}
-use Rattle.replay_law.specs.Run.{state_after}
-use Rattle.tree_nodes.specs.Tree.{opening}
-use Rattle.file_tree.specs.Success.{next_tree}
-use Rattle.order_check.specs.Order.{EachEraRespectsOrder}
-use Rattle.order_check.specs.Shape.{HasShape}
-use Rattle.witness_check.specs.Run.{Runs, bindings_of, step_at, era_of}
-use Rattle.witness_check.specs.Verdict.{IsStuck}
+use Rattle.std.proofs.lemmas.Result.{err_from_is_err_and}
+use Rattle.witness_check.proofs.Tells.{tells_run, tells_cut}
 use Rattle.witness_check.proofs.verdict.check_parts.Goals as goal
 
--- a list of one
-alone : (eras : List EraPlan) (era : EraPlan) → era ≡ get_or eras 0 era → 1 ≤ length eras → length eras < 2 → eras ≡ era ∷ []
-alone [] era is some few = absurd (omega arith)
-alone (e ∷ []) era is some few = ap (λ x. x ∷ []) (sym is)
-alone (e ∷ f ∷ eras) era is some few = absurd (omega arith)
+pub returns-in_err-run_plan-clause-fault : goal.returns-in_err-run_plan-clause-fault
+returns-in_err-run_plan-clause-fault c =
+    let p = err_from_is_err_and c.from_residual-in_err-run_plan.result c.from_residual-in_err-run_plan.ensures.1 in
+    rw (p.1, p.2) (tells_run c.args.history.now c.args.certificate.now c.run_plan.result c.in_err-run_plan.field-0.0 c.in_err-run_plan.was
+    (c.in_ok-check_shape.ensures.ok, c.in_ok-check_order.ensures.ok) c.run_plan.ensures.illegal)
 
--- the one era of a plan that runs
-one_runs : (history : History) (plan : Certificate) (era : EraPlan) → plan.eras ≡ era ∷ [] → Runs history plan
-    → IsSome (state_after (next_tree (bindings_of history.root plan.binds)) opening (filter_map (step_at history.calls) era.places))
-one_runs history plan era is runs = runs [] [] (era_of history.calls era) (ap (map (era_of history.calls)) is)
-
-pub returns-clause-only : goal.returns-clause-only
-returns-clause-only c = λ one witness.
-    let history = c.args.history.now in
-    let plan = c.args.certificate.now in
-    let era = c.era-item.result in
-    let is = sym c.as_slice.ensures ∙ alone c.as_slice.result.now era c.era-item.is c.in-len1.len_at_least c.in-len1.len_below in
-    let runs = one_runs history plan era is witness.runs in
-    c.run_era.ensures.only (rw (c.as_slice-2.ensures, c.as_slice-3.ensures) runs)
-
-pub returns-clause-fault : goal.returns-clause-fault
-returns-clause-fault c = λ fault refused.
-    let history = c.args.history.now in
-    let plan = c.args.certificate.now in
-    let era = c.era-item.result in
-    let is = sym c.as_slice.ensures ∙ alone c.as_slice.result.now era c.era-item.is c.in-len1.len_at_least c.in-len1.len_below in
-    let shape : HasShape history.eras history.calls plan.eras = search rules in
-    let order : EachEraRespectsOrder history.calls plan.eras = search rules in
-    let stuck : IsStuck (bindings_of history.root plan.binds) history.calls era.places fault = rw (sym c.as_slice-2.ensures, sym c.as_slice-3.ensures) (c.run_era.ensures.illegal fault refused) in
-    inl (inr (inr (shape, order, (era, is, stuck))))
+pub returns-in_err-check_cuts-clause-fault : goal.returns-in_err-check_cuts-clause-fault
+returns-in_err-check_cuts-clause-fault c =
+    let p = err_from_is_err_and c.from_residual-in_err-check_cuts.result c.from_residual-in_err-check_cuts.ensures.1 in
+    rw (p.1, p.2) (tells_cut c.args.history.now c.args.certificate.now c.check_cuts.result c.in_err-check_cuts.field-0.0 c.in_err-check_cuts.was
+    ((c.in_ok-check_shape.ensures.ok, c.in_ok-check_order.ensures.ok), c.in_ok-run_plan.ensures.ok) c.check_cuts.ensures.fault)

@@ -2,21 +2,29 @@ use Rattle.std.proofs.Common.{inl, inr, refl, sym, ◌∙◌}
 use Rattle.rpc_reader.specs.Views.{call_value}
 use Rattle.rpc_reader.specs.Messages.{IsCall}
 use Rattle.nfs_history.proofs.EventFaultLaws.{read_value, none_read}
+use Rattle.nfs_history.proofs.Lanes.{closed_is, open_is}
 use Rattle.nfs_history.proofs.checking.OpenCalls.fault_of_call.Goals as goal
+
+pub returns-then-is_closed : goal.returns-then-is_closed
+returns-then-is_closed c = λ before knows.
+    inl (closed_is c.args.lane before (sym (knows.closed c.args.lane) ∙ sym c.is_closed.ensures ∙ c.if-is_closed.true), refl)
 
 pub returns-then-is_err : goal.returns-then-is_err
 returns-then-is_err c = λ before knows.
     let none = none_read (IsCall c.as_slice-message.result.now) _ c.read_call.result (sym c.is_err.ensures.value ∙ c.if-is_err.true) c.read_call.ensures.only in
-    rw (sym c.as_slice-message.ensures) (inr (inl (sym (knows.closed c.args.lane) ∙ sym c.contains.ensures ∙ c.if-contains.false, none, refl)))
+    let open_lane = open_is c.args.lane before (sym (knows.closed c.args.lane) ∙ sym c.is_closed.ensures ∙ c.if-is_closed.false) in
+    rw (sym c.as_slice-message.ensures) (inr (inl (open_lane, none, refl)))
 
-pub returns-then-contains-2 : goal.returns-then-contains-2
-returns-then-contains-2 c = λ before knows.
+pub returns-then-contains : goal.returns-then-contains
+returns-then-contains c = λ before knows.
     let value = read_value call_value (IsCall c.as_slice-message.result.now) c.read_call.result (sym c.is_err.ensures.value ∙ c.if-is_err.false) c.read_call.ensures.found in
-    let known = sym (knows.unanswered c.args.lane c.transaction.result) ∙ sym c.contains-2.ensures ∙ c.if-contains-2.true in
-    rw (sym c.as_slice-message.ensures) (inr (inr (sym (knows.closed c.args.lane) ∙ sym c.contains.ensures ∙ c.if-contains.false, value, rw c.transaction.ensures at known, refl)))
+    let known = sym (knows.unanswered c.args.lane c.transaction.result) ∙ sym c.contains.ensures ∙ c.if-contains.true in
+    let open_lane = open_is c.args.lane before (sym (knows.closed c.args.lane) ∙ sym c.is_closed.ensures ∙ c.if-is_closed.false) in
+    rw (sym c.as_slice-message.ensures) (inr (inr (open_lane, value, rw c.transaction.ensures at known, refl)))
 
 pub returns : goal.returns
 returns c = λ before knows.
     let value = read_value call_value (IsCall c.as_slice-message.result.now) c.read_call.result (sym c.is_err.ensures.value ∙ c.if-is_err.false) c.read_call.ensures.found in
-    let known = sym (knows.unanswered c.args.lane c.transaction.result) ∙ sym c.contains-2.ensures ∙ c.if-contains-2.false in
-    rw (sym c.as_slice-message.ensures) (sym (knows.closed c.args.lane) ∙ sym c.contains.ensures ∙ c.if-contains.false, value, rw c.transaction.ensures at known)
+    let known = sym (knows.unanswered c.args.lane c.transaction.result) ∙ sym c.contains.ensures ∙ c.if-contains.false in
+    let open_lane = open_is c.args.lane before (sym (knows.closed c.args.lane) ∙ sym c.is_closed.ensures ∙ c.if-is_closed.false) in
+    rw (sym c.as_slice-message.ensures) (open_lane, value, rw c.transaction.ensures at known)

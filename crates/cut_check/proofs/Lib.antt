@@ -1,0 +1,5 @@
+pub mod BoundaryLaws
+pub mod StableLaws
+pub mod KeepsLaws
+pub mod ShownLaws
+pub mod EraLaws

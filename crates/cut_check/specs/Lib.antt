@@ -1,0 +1,13 @@
+pub mod Effect
+pub mod Stable
+pub mod Boundaries
+pub mod LastWrites
+pub mod Stability
+pub mod Places
+pub mod Cut
+pub mod ShortCut
+pub mod Verifier
+pub mod VerifierFault
+pub mod FaultText
+pub mod FaultNamed
+pub mod Shown

@@ -1,0 +1,128 @@
+//! What a placed call means for what a crash may take away.
+
+ghost use Rattle.std.specs.Prelude.{◌≡◌};
+ghost use Rattle.std.specs.Option.{option_copied};
+ghost use Rattle.cut_check.specs.Effect.{write_success, commit_success, succeeded, is_synchronous, of_object, effect_of_write, effect_of};
+
+use nfs3_types::{Answer, CommitSuccess, NfsCall, NfsReply, Outcome, StableHow, WriteSuccess};
+
+/// What a place of an era means for stable storage. Objects are named by their numbers.
+#[derive(Clone, Copy, Debug, PartialEq, Eq)]
+pub enum Effect {
+    /// It need not be there, and puts nothing there.
+    Nothing,
+    /// It is there by the time of its reply.
+    Lasting,
+    /// It writes bytes that need not be there yet.
+    Unstable {
+        object: u64,
+        offset: u64,
+        count: u32,
+    },
+    /// It puts bytes there: those from the offset on, and all of them where the count is 0.
+    Committed {
+        object: u64,
+        offset: u64,
+        count: u32,
+    },
+}
+
+/// What stands behind the status of a WRITE's reply that is a success.
+pub fn write_success(outcome: &Outcome) -> Option<&WriteSuccess>
+    ensures { option_copied result ≡ write_success outcome.now }
+{
+    let Outcome::Received(reply) = outcome else {
+        return None;
+    };
+    let NfsReply::Write(answer) = reply else {
+        return None;
+    };
+    match answer {
+        Answer::Done(success) => Some(success),
+        Answer::Failed(..) => None,
+    }
+}
+
+/// What stands behind the status of a COMMIT's reply that is a success.
+pub fn commit_success(outcome: &Outcome) -> Option<&CommitSuccess>
+    ensures { option_copied result ≡ commit_success outcome.now }
+{
+    let Outcome::Received(reply) = outcome else {
+        return None;
+    };
+    let NfsReply::Commit(answer) = reply else {
+        return None;
+    };
+    match answer {
+        Answer::Done(success) => Some(success),
+        Answer::Failed(..) => None,
+    }
+}
+
+/// Whether a call was answered by a success.
+fn succeeded(call: &NfsCall, outcome: &Outcome) -> bool
+    ensures { result ≡ succeeded call.now outcome.now }
+{
+    match outcome {
+        Outcome::Received(reply) => call.is_answered_by(reply) && reply.failure().is_none(),
+        Outcome::Taken(_) => false,
+    }
+}
+
+/// Whether a call changes the tree or an object, and is no WRITE.
+fn is_synchronous(call: &NfsCall) -> bool
+    ensures { result ≡ is_synchronous call.now }
+{
+    matches!(
+        call,
+        NfsCall::SetAttr(_)
+            | NfsCall::Create(_)
+            | NfsCall::MkDir(_)
+            | NfsCall::SymLink(_)
+            | NfsCall::Remove(_)
+            | NfsCall::RmDir(_)
+            | NfsCall::Rename(_)
+    )
+}
+
+/// What a successful WRITE means.
+fn effect_of_write(object: Option<u64>, offset: u64, success: &WriteSuccess) -> Effect
+    ensures { result ≡ effect_of_write object offset success.now }
+{
+    match (success.level, object) {
+        (StableHow::DataSync | StableHow::FileSync, _) => Effect::Lasting,
+        (StableHow::Unstable, None) => Effect::Nothing,
+        (StableHow::Unstable, Some(object)) => Effect::Unstable {
+            object,
+            offset,
+            count: success.count,
+        },
+    }
+}
+
+/// What a call means that came out so, where its handle names this object.
+pub fn effect_of(object: Option<u64>, call: &NfsCall, outcome: &Outcome) -> Effect
+    ensures { result ≡ effect_of object call.now outcome.now }
+{
+    match call {
+        NfsCall::Write(write) => match write_success(outcome) {
+            Some(success) => effect_of_write(object, write.offset, success),
+            None => Effect::Nothing,
+        },
+        NfsCall::Commit(commit) => match (commit_success(outcome), object) {
+            (Some(_), Some(object)) => Effect::Committed {
+                object,
+                offset: commit.offset,
+                count: commit.count,
+            },
+            _ => Effect::Nothing,
+        },
+        _ => {
+            if is_synchronous(call) && succeeded(call, outcome) {
+                Effect::Lasting
+            } else {
+                Effect::Nothing
+            }
+        }
+    }
+}

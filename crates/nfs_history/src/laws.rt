@@ -1,0 +1,23 @@
+//! What the files of histories are: each law is the contract of a function that does nothing.
+
+ghost use Rattle.std.specs.Prelude.{◌≡◌, ◌⊎◌, ℕ, List};
+ghost use Rattle.nfs_history.specs.declared.fault.HistoryFault.{HistoryFault};
+ghost use Rattle.nfs_history.specs.declared.history.History.{History};
+ghost use Rattle.nfs_history.specs.History.{IsHistoryFile};
+ghost use Rattle.nfs_history.specs.FirstFault.{FirstFault};
+
+/// What is found of a history that is read of a file holds of every history that the file is said to be of.
+pub fn a_file_has_one_history()
+    ensures { (bytes : List ℕ) (h g : History) → IsHistoryFile bytes h → IsHistoryFile bytes g → h ≡ g }
+{}
+
+/// Bytes have one first fault.
+pub fn bytes_have_one_first_fault()
+    ensures { (bytes : List ℕ) (f g : HistoryFault) → FirstFault bytes f → FirstFault bytes g → f ≡ g }
+{}
+
+/// Bytes are the file of a history or have a first fault, and never both.
+pub fn bytes_are_a_history_or_at_fault()
+    ensures some { (bytes : List ℕ) → ((h : History) × IsHistoryFile bytes h) ⊎ ((fault : HistoryFault) × FirstFault bytes fault) }
+    ensures never_both { (bytes : List ℕ) (h : History) (fault : HistoryFault) → IsHistoryFile bytes h → FirstFault bytes fault → ⊥ }
+{}

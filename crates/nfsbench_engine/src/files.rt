@@ -1,0 +1,62 @@
+//! The two files of a check, as they can be read.
+
+ghost use Rattle.std.specs.Prelude.{◌≡◌, ℕ, List, IfOk, Option};
+ghost use Rattle.nfsbench_engine.specs.Report.{IsSaidOfRead};
+
+use crate::input::Stream;
+use crate::reading::{InputFault, read_all};
+use crate::report::{Report, judge_read};
+use std::alloc::AllocError;
+use std::fs::{File, OpenFile};
+use std::io::Read;
+use std::rt::Files;
+
+/// How many bytes of a history file are read: one more than it may have.
+const HISTORY_READ: u64 = 268_435_457;
+
+/// The bytes of a file, or none where it can't be opened or read, is a folder, or grows while it is read.
+///
+/// No clause says which file is opened. Of a regular file no more is read than it had when it was opened, and
+/// one byte, by which one that has grown is known; and of any file no more than `most`.
+fn read_file<R: Files + AllocGlobal>(
+    rt: &R,
+    path: &str,
+    most: u64,
+) -> Result<Option<Vec<u8>>, AllocError> {
+    let Ok(file) = File::open(rt, path) else {
+        return Ok(None);
+    };
+    let Ok(metadata) = file.metadata() else {
+        return Ok(None);
+    };
+    if metadata.is_dir() {
+        return Ok(None);
+    }
+    let length = if metadata.is_file() {
+        metadata.len()
+    } else {
+        u64::MAX
+    };
+    let limit = most.min(length.saturating_add(1));
+    match read_all(rt.alloc(), &mut Stream::new(file.take(limit))) {
+        Ok(bytes) if bytes.len() as u64 > length => Ok(None),
+        Ok(bytes) => Ok(Some(bytes)),
+        Err(InputFault::Unreadable) => Ok(None),
+        Err(InputFault::NoMemory) => Err(AllocError),
+    }
+}
+
+/// What is said of the files at two paths. Both are read, in this order, before anything is judged.
+pub(crate) fn check_paths<R: Files + AllocGlobal>(
+    rt: &R,
+    history: &str,
+    certificate: &str,
+) -> Result<Report, AllocError>
+    // The answer is what is said of what was read.
+    ensures said { IfOk result (λ report. (history_read : Option (List ℕ)) × (certificate_read : Option (List ℕ))
+        × IsSaidOfRead history_read certificate_read report.status report.line) }
+{
+    let history = read_file(rt, history, HISTORY_READ)?;
+    let certificate = read_file(rt, certificate, u64::MAX)?;
+    judge_read(rt.alloc(), history.as_deref(), certificate.as_deref())
+}

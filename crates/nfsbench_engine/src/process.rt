@@ -1,0 +1,28 @@
+//! The process: its words, its standard input and its standard output.
+
+use crate::engine::{tell, tell_want_of_memory};
+use crate::input::Stream;
+use crate::output::Sink;
+use crate::words::run_words;
+use std::env;
+use std::io::{self, ErrorKind};
+use std::process::ExitCode;
+use std::rt::{Env, Files};
+
+fn words_of<R: Env + AllocGlobal>(rt: &R) -> io::Result<Vec<String>> {
+    Ok(env::args(rt)?.collect(rt.alloc())?)
+}
+
+/// Does what the process's words ask for, on standard input and standard output, and gives its exit status.
+pub fn run_process<R: Env + Files + Input + Print + AllocGlobal>(rt: &R) -> ExitCode {
+    let mut output = Sink::new(io::writer(rt));
+    let status = match words_of(rt) {
+        Ok(words) => {
+            let mut input = Stream::new(rt.reader());
+            run_words(rt, words.as_slice(), &mut input, &mut output)
+        }
+        Err(error) if error.kind() == ErrorKind::OutOfMemory => tell_want_of_memory(&mut output),
+        Err(_) => tell(&mut output, b"error: a word is no text in UTF-8\n", 2),
+    };
+    ExitCode::from(status)
+}

@@ -1,0 +1,131 @@
+//! The command line.
+
+ghost use Rattle.std.specs.Prelude.{◌≡◌, ◌⊎◌, ◌<◌, ◌≤◌, ℕ, List, length, IfSome};
+ghost use Rattle.std.specs.Io.KnownBytes.{Appends};
+ghost use Rattle.nfsbench_engine.specs.Bundle.{IsAcceptedBundle, IsRefutedBundle};
+ghost use Rattle.nfsbench_engine.specs.Report.{IsSaid, MayTell, Tells, memory_line, no_line};
+ghost use Rattle.nfsbench_engine.specs.Streams.{AppendsFront, GivesAll, HasRoom};
+ghost use Rattle.witness_check.specs.declared.fault.Fault.{Fault};
+
+use crate::engine::{run_bundle, tell, tell_answer, tell_want_of_memory};
+use crate::files::check_paths;
+use crate::input::Input;
+use crate::output::Output;
+use clap::error::ErrorKind;
+use clap::{Arg, Command};
+use std::alloc::{AllocError, Global};
+use std::convert::AsStr;
+use std::rt::Files;
+
+/// What the words ask for.
+#[derive(Clone, Copy, Debug, PartialEq, Eq)]
+enum Request<'a> {
+    /// The verdict on the bundle on the input.
+    Bundle,
+    /// The verdict on the files at these paths.
+    Check {
+        history: &'a str,
+        certificate: &'a str,
+    },
+}
+
+/// The command line's grammar.
+fn command<'a>(alloc: Global) -> Result<Command<'a>, AllocError> {
+    let history = Arg::new(alloc, "HISTORY")
+        .required(true)
+        .help("What the clients of a server saw");
+    let certificate = Arg::new(alloc, "CERTIFICATE")
+        .required(true)
+        .help("A serial order of their calls");
+    let check = Command::new(alloc, "check")
+        .about("Judges the history and the certificate in two files")
+        .arg(history)?
+        .arg(certificate)?;
+    Command::new(alloc, "nfsbench")
+        .bin_name("nfsbench")?
+        .version("0.1.0")
+        .about(
+            "Judges histories of NFS version 3 servers. Without a command, reads a bundle from standard input.",
+        )
+        .disable_help_subcommand(true)
+        .subcommand(check)
+}
+
+/// What the words ask for, or the parser's text.
+fn read_words<'a, S: AsStr>(alloc: Global, words: &'a [S]) -> Result<Request<'a>, clap::Error> {
+    let matches = command(alloc)?.try_get_matches_from(words)?;
+    match matches.subcommand() {
+        // The parser asks for both.
+        Some((_, check)) => Ok(Request::Check {
+            history: check.get_str("HISTORY").unwrap_or(""),
+            certificate: check.get_str("CERTIFICATE").unwrap_or(""),
+        }),
+        None => Ok(Request::Bundle),
+    }
+}
+
+/// Writes the parser's text, and gives 2 for a mistake, and 0 for what was asked for.
+fn tell_parser<O: Output>(alloc: Global, output: &mut O, error: &clap::Error) -> u8
+    ensures memory_line { result ≡ 3
+        → Appends (O.contents output.old) (O.contents output.new) memory_line }
+    ensures known { result < 4 }
+{
+    if error.kind() == ErrorKind::OutOfMemory {
+        return tell_want_of_memory(output);
+    }
+    match error.to_string(alloc) {
+        Ok(text) => {
+            let status = if error.use_stderr() { 2 } else { 0 };
+            tell(output, text.as_bytes(), status)
+        }
+        Err(AllocError) => tell_want_of_memory(output),
+    }
+}
+
+/// Does what the words of a command line ask for, of which the first is the program's name, and gives the exit
+/// status: 0 for a yes, and for a text that was asked for; 1 for a no; 2 for a refusal, a fault of the command line
+/// or a failed write; 3 for want of memory. All that is written goes to the one output.
+///
+/// Without further words it is `run_bundle`. With `check` and two paths both files are read, in this order, before
+/// anything is judged, and what is said is what `judge_read` gives; which words ask for that, which files are opened
+/// and what the parser's texts are no clause says.
+pub fn run_words<R: Files + AllocGlobal, S: AsStr, I: Input, O: Output>(
+    rt: &R,
+    words: &[S],
+    input: &mut I,
+    output: &mut O,
+) -> u8
+    // Without words, as `run_bundle`.
+    ensures bundle_yes { length words.now ≤ 1 → result ≡ 0
+        → IfSome (I.remaining input.old) IsAcceptedBundle }
+    ensures bundle_no { length words.now ≤ 1 → result ≡ 1
+        → (fault : Fault) × IfSome (I.remaining input.old) (IsRefutedBundle fault)
+        × Appends (O.contents output.old) (O.contents output.new) (no_line fault) }
+    ensures bundle_told { length words.now ≤ 1 → (line : List ℕ) × MayTell (I.remaining input.old) line
+        × AppendsFront (O.contents output.old) (O.contents output.new) line }
+    ensures bundle_exact { length words.now ≤ 1 → (bytes line : List ℕ) (status : ℕ) → IsSaid bytes status line
+        → GivesAll (I.remaining input.old) (I.reads_left input.old) bytes
+        → HasRoom (O.room output.old) line → HasRoom (O.room output.old) memory_line
+        → Tells result (O.contents output.old) (O.contents output.new) status line
+        ⊎ Tells result (O.contents output.old) (O.contents output.new) 3 memory_line }
+
+    // With any words.
+    ensures memory_line { result ≡ 3
+        → Appends (O.contents output.old) (O.contents output.new) memory_line }
+    ensures known { result < 4 }
+{
+    let alloc = rt.alloc();
+    if words.len() < 2 {
+        return run_bundle(alloc, input, output);
+    }
+    match read_words(alloc, words) {
+        Ok(Request::Bundle) => run_bundle(alloc, input, output),
+        Ok(
+            Request::Check {
+                history,
+                certificate,
+            },
+        ) => tell_answer(output, check_paths(rt, history, certificate)),
+        Err(error) => tell_parser(alloc, output, &error),
+    }
+}

@@ -1,0 +1,2 @@
+pub mod Without
+pub mod Kept

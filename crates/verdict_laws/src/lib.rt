@@ -1,0 +1,11 @@
+//! What an accepted plan comes to, in words above the definitions. No code runs: each law is the contract of a function that does
+//! nothing.
+#![tactic(auto)]
+
+mod crashes;
+mod without;
+
+pub use crashes::{
+    lost_writes_show_different_verifiers, stable_places_are_kept, what_was_kept_is_read,
+};
+pub use without::without_a_crash_the_order_is_linear;

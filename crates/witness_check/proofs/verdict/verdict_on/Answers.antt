@@ -1,0 +1,13 @@
+use Rattle.std.proofs.Common.{◌≡◌, ◌≢◌, ◌⊎◌, inl, inr, rules}
+use Rattle.nfs_history.specs.declared.fault.HistoryFault.TheVariants as faults
+use Rattle.witness_check.proofs.verdict.verdict_on.Goals as goal
+
+-- of two, the one that is left
+left : {P Q : Type 0} → P ⊎ Q → (P → ⊥) → Q
+left (inl p) none = absurd (none p)
+left (inr q) none = q
+
+pub returns-in-Err : goal.returns-in-Err
+returns-in-Err c =
+    let another : c.in-Err.fault ≢ faults.NoMemory = search rules in
+    left c.in-Err.ensures.fault another

@@ -1,0 +1,45 @@
+-- What the functions that run a plan say to the prover.
+use Rattle.std.specs.Prelude.{◌≡◌, ℕ, List, [], ◌∷◌, ◌++◌, Option, Some, None}
+use Rattle.nfs3_types.specs.declared.calls.NfsCall.{NfsCall}
+use Rattle.nfs3_types.specs.declared.replies.Outcome.{Outcome}
+use Rattle.nfs3_types.specs.declared.replies.Outcome.TheVariants as outcomes
+use Rattle.nfs_history.specs.declared.history.RecordedCall.{RecordedCall}
+use Rattle.certificate.specs.declared.plan.Place.{Place}
+use Rattle.certificate.specs.declared.plan.Place.TheVariants.{Answered, Taken}
+use Rattle.replay_law.specs.declared.stepping.Replay.{Replay}
+use Rattle.replay_law.specs.Run as run
+use Rattle.replay_law.specs.Run.{state_after, IsFirstIllegal}
+use Rattle.replay_law.specs.Standing as standing
+use Rattle.tree_nodes.specs.Tree.{Tree, opening}
+use Rattle.tree_handles.specs.Binding.{Bindings}
+use Rattle.file_tree.specs.declared.change.Undo.{Undo}
+use Rattle.file_tree.specs.Undo.{TakesBack}
+use Rattle.file_tree.specs.Success.{next_tree}
+use Rattle.witness_check.specs.declared.run.Found.{Found}
+use Rattle.witness_check.specs.Run.{step_at}
+
+-- how a call came out that is taken
+abbrev pub taken_outcome : Place → Outcome
+taken_outcome (Answered n) = outcomes.Taken None
+taken_outcome (Taken n count) = outcomes.Taken count
+
+-- a call that was found at a place, as a step
+abbrev pub found_step : Found → run.Taken NfsCall Outcome
+found_step found = record { number = found.number; call = found.call.now; outcome = found.outcome.now }
+
+-- a run that stands after these steps, those behind the cut last
+abbrev pub Stands : Bindings → Replay Tree Bindings NfsCall Outcome Undo → List (run.Taken NfsCall Outcome) → List (run.Taken NfsCall Outcome) → Type 0
+Stands binds replay kept lost = standing.StandsAfter TakesBack (next_tree binds) opening replay kept lost
+
+-- the tree after these steps from the opening one
+abbrev pub tree_after : Bindings → List (run.Taken NfsCall Outcome) → Option Tree
+tree_after binds steps = state_after (next_tree binds) opening steps
+
+-- the step, if there is one, is of this call and has no next tree behind these steps
+abbrev pub IsStuckAt : Bindings → List (run.Taken NfsCall Outcome) → Option (run.Taken NfsCall Outcome) → ℕ → Type 0
+IsStuckAt binds steps None number = ⊥
+IsStuckAt binds steps (Some step) number = (step.number ≡ number) × (tree_after binds (steps ++ step ∷ []) ≡ None)
+
+-- the steps have a first illegal one behind those that were kept, which is of this call
+abbrev pub IsIllegalBehind : Bindings → List (run.Taken NfsCall Outcome) → List (run.Taken NfsCall Outcome) → ℕ → Type 0
+IsIllegalBehind binds kept steps number = (base : Tree) → tree_after binds kept ≡ Some base → IsFirstIllegal (next_tree binds) base steps number
