@@ -38,7 +38,10 @@ use Rattle.tree_failures.specs.Failure.{is_permitted}
 use Rattle.nfs3_types.specs.declared.status.Failure.{Failure}
 use Rattle.tree_reads.specs.Listing.{listed, listed_plus}
 use Rattle.tree_nodes.specs.Sound.{IsSound}
-use Rattle.file_tree.specs.Success.{made_by, set_size, create_over, create_present, create_at, create_change, write_at, write_change, set_attributes, make_entry, remove_entry, remove_directory, may_replace, rename, change_renamed, change_set, change_directory_made, change_link_made, change_removed, change_directory_removed, change_written, change_created, change_done, change_answered, change_received, change_taken, change_of}
+use Rattle.file_tree.specs.Success.{change_renamed, change_set, change_directory_made, change_link_made, change_removed, change_directory_removed, change_written, change_created, change_done, change_answered, change_received, change_taken, change_of}
+use Rattle.file_tree.specs.Made.{made_by, set_size, create_over, create_present, create_at, create_change, make_entry}
+use Rattle.file_tree.specs.Removed.{remove_entry, remove_directory, may_replace, rename}
+use Rattle.file_tree.specs.Written.{write_at, write_change, set_attributes}
 use Rattle.tree_nodes.proofs.Chains.{chained, passed, same_some, both_pass, negated}
 use Rattle.tree_nodes.proofs.Found.{found_stands}
 use Rattle.tree_nodes.proofs.Soundness.{FitsAt, GrowsAt, sound_put, sound_removed}

@@ -3,7 +3,7 @@
 ghost use Rattle.std.specs.Prelude.{◌≡◌, ◌^◌, ◌<◌, IfOk, replicate};
 ghost use Rattle.tree_nodes.specs.Nodes.{tree_of};
 ghost use Rattle.file_tree.specs.Answers.{Answers};
-ghost use Rattle.file_tree.specs.Success.{first_size, first_verifier, made_by, create_absent, set_size, create_over, create_present, create_change};
+ghost use Rattle.file_tree.specs.Made.{first_size, first_verifier, made_by, create_absent, set_size, create_over, create_present, create_change};
 ghost use Rattle.tree_nodes.specs.Files.{file_node};
 
 use crate::change::Change;

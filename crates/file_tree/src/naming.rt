@@ -2,7 +2,9 @@
 
 ghost use Rattle.tree_nodes.specs.Nodes.{tree_of};
 ghost use Rattle.file_tree.specs.Answers.{Answers};
-ghost use Rattle.file_tree.specs.Success.{set_attributes, make_entry, make_directory, make_link, remove_entry, remove_directory};
+ghost use Rattle.file_tree.specs.Made.{make_entry, make_directory, make_link};
+ghost use Rattle.file_tree.specs.Removed.{remove_entry, remove_directory};
+ghost use Rattle.file_tree.specs.Written.{set_attributes};
 
 use crate::change::Change;
 use crate::create::{NODE_LIMIT, set_size};

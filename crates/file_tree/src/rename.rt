@@ -4,7 +4,7 @@ ghost use Rattle.std.specs.Prelude.{◌≡◌};
 ghost use Rattle.std.specs.Option.{option_copied};
 ghost use Rattle.tree_nodes.specs.Nodes.{tree_of};
 ghost use Rattle.file_tree.specs.Answers.{Answers};
-ghost use Rattle.file_tree.specs.Success.{may_replace, rename_at, rename};
+ghost use Rattle.file_tree.specs.Removed.{may_replace, rename_at, rename};
 
 use crate::change::Change;
 use nfs3_types::RenameArguments;

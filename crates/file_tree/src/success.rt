@@ -3,7 +3,8 @@
 ghost use Rattle.tree_nodes.specs.Nodes.{tree_of};
 ghost use Rattle.file_tree.specs.Answers.{Answers};
 ghost use Rattle.file_tree.specs.declared.change.Change.TheVariants.{Keep};
-ghost use Rattle.file_tree.specs.Success.{only_if, change_written, change_created, change_set, change_directory_made, change_link_made, change_removed, change_directory_removed, change_renamed, change_done, change_received, change_taken, change_of};
+ghost use Rattle.file_tree.specs.Success.{change_written, change_created, change_set, change_directory_made, change_link_made, change_removed, change_directory_removed, change_renamed, change_done, change_received, change_taken, change_of};
+ghost use Rattle.file_tree.specs.Made.{only_if};
 
 use crate::change::Change;
 use crate::create::create_change;

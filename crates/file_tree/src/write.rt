@@ -3,7 +3,7 @@
 ghost use Rattle.std.specs.Prelude.{◌≡◌, ◌<◌, ◌^◌, length};
 ghost use Rattle.tree_nodes.specs.Nodes.{tree_of};
 ghost use Rattle.file_tree.specs.Answers.{Answers};
-ghost use Rattle.file_tree.specs.Success.{level_rank, reaches, write_at, write_change};
+ghost use Rattle.file_tree.specs.Written.{level_rank, reaches, write_at, write_change};
 
 use crate::change::Change;
 use nfs3_types::{StableHow, WriteArguments};

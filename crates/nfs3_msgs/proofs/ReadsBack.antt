@@ -5,7 +5,8 @@ use Rattle.nfs3_types.specs.declared.calls.NfsCall.{NfsCall}
 use Rattle.nfs3_types.specs.declared.replies.NfsReply.{NfsReply}
 use Rattle.nfs3_msgs.specs.Told.{kind_of}
 use Rattle.nfs3_types.specs.Procedures.{procedure_called, procedure_answered}
-use Rattle.nfs3_msgs.specs.Messages.{arguments, results, arguments_of, result_of, arguments_text, result_text, CallFits, ReplyFits}
+use Rattle.nfs3_msgs.specs.Messages.{arguments, results, arguments_of, result_of, arguments_text, result_text}
+use Rattle.nfs3_msgs.specs.Fits.{CallFits, ReplyFits}
 use Rattle.nfs3_msgs.specs.SpelledMessages.{call_spelled, reply_spelled}
 
 pub call_reads_back : (call : NfsCall) → CallFits call → arguments_of (procedure_called call) (arguments_text call) ≡ Ok call

@@ -1,9 +1,13 @@
 pub mod Told
 pub mod Words
 pub mod Bytes
+pub mod Settings
 pub mod Attributes
+pub mod EntryCalls
 pub mod Calls
+pub mod Listings
 pub mod Replies
+pub mod Fits
 pub mod Messages
 pub mod Spelled
 pub mod SpelledCalls

@@ -1,5 +1,5 @@
 -- Which bytes are the arguments or the result of a procedure.
-use Rattle.std.specs.Prelude.{ℕ, ◌==◌, ◌≤◌, List, length, Result, IfSome}
+use Rattle.std.specs.Prelude.{ℕ, ◌==◌, List, Result}
 use Rattle.xdr_records.specs.Unread.{At}
 use Rattle.xdr_records.specs.Grammar.{Grammar, ◌>>=◌, either}
 use Rattle.xdr_records.specs.Grammar.Grammar.{nothing, refused}
@@ -15,9 +15,11 @@ use Rattle.nfs3_msgs.specs.declared.fault.Kind.TheVariants as kinds
 use Rattle.nfs3_msgs.specs.Told.{kind_of}
 use Rattle.xdr_records.specs.Texts.{opaque_text, optional_text}
 use Rattle.nfs3_msgs.specs.Bytes.{handle, void, void_text, optional_of}
-use Rattle.nfs3_msgs.specs.Attributes.{file_attributes, file_attributes_text, FileAttributesFit, wcc_data, wcc_data_text, WccDataFits}
-use Rattle.nfs3_msgs.specs.Calls.{directory_name, directory_name_text, DirectoryNameFits, read_arguments, read_arguments_text, ReadArgumentsFit, write_arguments, write_arguments_text, WriteArgumentsFit, create_arguments, create_arguments_text, CreateArgumentsFit, set_attr_arguments, set_attr_arguments_text, SetAttrArgumentsFit, mk_dir_arguments, mk_dir_arguments_text, MkDirArgumentsFit, sym_link_arguments, sym_link_arguments_text, SymLinkArgumentsFit, rename_arguments, rename_arguments_text, RenameArgumentsFit, read_dir_arguments, read_dir_arguments_text, ReadDirArgumentsFit, read_dir_plus_arguments, read_dir_plus_arguments_text, ReadDirPlusArgumentsFit, commit_arguments, commit_arguments_text, CommitArgumentsFit}
-use Rattle.nfs3_msgs.specs.Replies.{answer, answer_text, AnswerFits, read_success, read_success_text, ReadSuccessFits, write_success, write_success_text, WriteSuccessFits, create_success, create_success_text, CreateSuccessFits, lookup_success, lookup_success_text, LookupSuccessFits, read_link_success, read_link_success_text, ReadLinkSuccessFits, rename_wcc, rename_wcc_text, RenameWccFits, read_dir_success, read_dir_success_text, ReadDirSuccessFits, read_dir_plus_success, read_dir_plus_success_text, ReadDirPlusSuccessFits, commit_success, commit_success_text, CommitSuccessFits}
+use Rattle.nfs3_msgs.specs.Attributes.{file_attributes, file_attributes_text, wcc_data, wcc_data_text}
+use Rattle.nfs3_msgs.specs.Calls.{directory_name, directory_name_text, read_arguments, read_arguments_text, write_arguments, write_arguments_text, set_attr_arguments, set_attr_arguments_text, commit_arguments, commit_arguments_text}
+use Rattle.nfs3_msgs.specs.EntryCalls.{create_arguments, create_arguments_text, mk_dir_arguments, mk_dir_arguments_text, sym_link_arguments, sym_link_arguments_text, rename_arguments, rename_arguments_text, read_dir_arguments, read_dir_arguments_text, read_dir_plus_arguments, read_dir_plus_arguments_text}
+use Rattle.nfs3_msgs.specs.Replies.{answer, answer_text, read_success, read_success_text, write_success, write_success_text, create_success, create_success_text, lookup_success, lookup_success_text, read_link_success, read_link_success_text, rename_wcc, rename_wcc_text, commit_success, commit_success_text}
+use Rattle.nfs3_msgs.specs.Listings.{read_dir_success, read_dir_success_text, read_dir_plus_success, read_dir_plus_success_text}
 
 -- the arguments of a procedure by its number, RFC 1813, section 3.3
 unfoldable pub arguments : ℕ → Grammar Kind NfsCall
@@ -118,39 +120,3 @@ result_text (replies.Rename r) = answer_text rename_wcc_text rename_wcc_text r
 result_text (replies.ReadDir r) = answer_text read_dir_success_text (optional_text file_attributes_text) r
 result_text (replies.ReadDirPlus r) = answer_text read_dir_plus_success_text (optional_text file_attributes_text) r
 result_text (replies.Commit r) = answer_text commit_success_text wcc_data_text r
-
--- the numbers and lengths of a call are those that the program has
-unfoldable pub CallFits : NfsCall → Type 0
-CallFits (calls.GetAttr a) = length a ≤ 64
-CallFits (calls.SetAttr a) = SetAttrArgumentsFit a
-CallFits (calls.Lookup a) = DirectoryNameFits a
-CallFits (calls.ReadLink a) = length a ≤ 64
-CallFits (calls.Read a) = ReadArgumentsFit a
-CallFits (calls.Write a) = WriteArgumentsFit a
-CallFits (calls.Create a) = CreateArgumentsFit a
-CallFits (calls.MkDir a) = MkDirArgumentsFit a
-CallFits (calls.SymLink a) = SymLinkArgumentsFit a
-CallFits (calls.Remove a) = DirectoryNameFits a
-CallFits (calls.RmDir a) = DirectoryNameFits a
-CallFits (calls.Rename a) = RenameArgumentsFit a
-CallFits (calls.ReadDir a) = ReadDirArgumentsFit a
-CallFits (calls.ReadDirPlus a) = ReadDirPlusArgumentsFit a
-CallFits (calls.Commit a) = CommitArgumentsFit a
-
--- the numbers and lengths of a reply are those that the program has
-unfoldable pub ReplyFits : NfsReply → Type 0
-ReplyFits (replies.GetAttr r) = AnswerFits FileAttributesFit (λ u. Unit {0}) r
-ReplyFits (replies.SetAttr r) = AnswerFits WccDataFits WccDataFits r
-ReplyFits (replies.Lookup r) = AnswerFits LookupSuccessFits (λ a. IfSome a FileAttributesFit) r
-ReplyFits (replies.ReadLink r) = AnswerFits ReadLinkSuccessFits (λ a. IfSome a FileAttributesFit) r
-ReplyFits (replies.Read r) = AnswerFits ReadSuccessFits (λ a. IfSome a FileAttributesFit) r
-ReplyFits (replies.Write r) = AnswerFits WriteSuccessFits WccDataFits r
-ReplyFits (replies.Create r) = AnswerFits CreateSuccessFits WccDataFits r
-ReplyFits (replies.MkDir r) = AnswerFits CreateSuccessFits WccDataFits r
-ReplyFits (replies.SymLink r) = AnswerFits CreateSuccessFits WccDataFits r
-ReplyFits (replies.Remove r) = AnswerFits WccDataFits WccDataFits r
-ReplyFits (replies.RmDir r) = AnswerFits WccDataFits WccDataFits r
-ReplyFits (replies.Rename r) = AnswerFits RenameWccFits RenameWccFits r
-ReplyFits (replies.ReadDir r) = AnswerFits ReadDirSuccessFits (λ a. IfSome a FileAttributesFit) r
-ReplyFits (replies.ReadDirPlus r) = AnswerFits ReadDirPlusSuccessFits (λ a. IfSome a FileAttributesFit) r
-ReplyFits (replies.Commit r) = AnswerFits CommitSuccessFits WccDataFits r

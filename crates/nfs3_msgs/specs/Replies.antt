@@ -1,9 +1,8 @@
 -- The results of the calls (RFC 1813, section 3.3): how they stand, how they are written, and what can be written.
 use Rattle.std.specs.Prelude.{ℕ, ◌<◌, ◌≤◌, ◌^◌, List, ◌++◌, length, Option, Some, None, IfSome}
-use Rattle.std.specs.List.{AllByRecursion}
 use Rattle.xdr_records.specs.Grammar.{Grammar, ◌>>=◌}
-use Rattle.xdr_records.specs.Grammar.Grammar.{one_word, one_long, one_flag, named, nothing}
-use Rattle.xdr_records.specs.Texts.{word_text, long_text, flag_text, opaque_text, optional_text, list_text}
+use Rattle.xdr_records.specs.Grammar.Grammar.{one_word, one_flag, named, nothing}
+use Rattle.xdr_records.specs.Texts.{word_text, flag_text, opaque_text, optional_text}
 use Rattle.nfs3_types.specs.declared.status.Failure.{Failure}
 use Rattle.nfs3_types.specs.declared.replies.Answer.{Answer}
 use Rattle.nfs3_types.specs.declared.replies.Answer.TheVariants as answers
@@ -13,14 +12,10 @@ use Rattle.nfs3_types.specs.declared.replies.CreateSuccess.{CreateSuccess}
 use Rattle.nfs3_types.specs.declared.replies.LookupSuccess.{LookupSuccess}
 use Rattle.nfs3_types.specs.declared.replies.ReadLinkSuccess.{ReadLinkSuccess}
 use Rattle.nfs3_types.specs.declared.replies.RenameWcc.{RenameWcc}
-use Rattle.nfs3_types.specs.declared.replies.DirectoryEntry.{DirectoryEntry}
-use Rattle.nfs3_types.specs.declared.replies.ReadDirSuccess.{ReadDirSuccess}
-use Rattle.nfs3_types.specs.declared.replies.DirectoryEntryPlus.{DirectoryEntryPlus}
-use Rattle.nfs3_types.specs.declared.replies.ReadDirPlusSuccess.{ReadDirPlusSuccess}
 use Rattle.nfs3_types.specs.declared.replies.CommitSuccess.{CommitSuccess}
 use Rattle.nfs3_msgs.specs.declared.fault.Kind.{Kind}
 use Rattle.nfs3_msgs.specs.Words.{stable_how_of, stable_how_word, failure_word, status_of}
-use Rattle.nfs3_msgs.specs.Bytes.{handle, name, link_text, file_data, verifier, verifier_text, optional_of, entries}
+use Rattle.nfs3_msgs.specs.Bytes.{handle, link_text, file_data, verifier, verifier_text, optional_of}
 use Rattle.nfs3_msgs.specs.Attributes.{file_attributes, file_attributes_text, FileAttributesFit, wcc_data, wcc_data_text, WccDataFits}
 
 -- what stands behind the status: the success behind NFS3_OK, else the failure
@@ -129,66 +124,6 @@ rename_wcc_text s = wcc_data_text s.from ++ wcc_data_text s.to
 
 unfoldable pub RenameWccFits : RenameWcc → Type 0
 RenameWccFits s = WccDataFits s.from × WccDataFits s.to
-
--- entry3, RFC 1813, section 3.3.16, without the link to the next
-unfoldable pub directory_entry : Grammar Kind DirectoryEntry
-directory_entry = do
-  file_number ← one_long
-  entry ← name
-  cookie ← one_long
-  nothing (record { file_number = file_number; name = entry; cookie = cookie })
-
-unfoldable pub directory_entry_text : DirectoryEntry → List ℕ
-directory_entry_text s = long_text s.file_number ++ (opaque_text s.name ++ long_text s.cookie)
-
-unfoldable pub DirectoryEntryFits : DirectoryEntry → Type 0
-DirectoryEntryFits s = (s.file_number < 2 ^ 64) × (length s.name < 2 ^ 32) × (s.cookie < 2 ^ 64)
-
--- READDIR3resok with dirlist3, RFC 1813, section 3.3.16
-unfoldable pub read_dir_success : Grammar Kind ReadDirSuccess
-read_dir_success = do
-  attributes ← optional_of file_attributes
-  server ← verifier
-  listed ← entries directory_entry
-  eof ← one_flag
-  nothing (record { attributes = attributes; verifier = server; entries = listed; eof = eof })
-
-unfoldable pub read_dir_success_text : ReadDirSuccess → List ℕ
-read_dir_success_text s = optional_text file_attributes_text s.attributes ++ (verifier_text s.verifier ++ (list_text directory_entry_text s.entries ++ flag_text s.eof))
-
-unfoldable pub ReadDirSuccessFits : ReadDirSuccess → Type 0
-ReadDirSuccessFits s = IfSome s.attributes FileAttributesFit × (s.verifier.value < 2 ^ 64) × AllByRecursion DirectoryEntryFits s.entries
-
--- entryplus3, RFC 1813, section 3.3.17, without the link to the next
-unfoldable pub directory_entry_plus : Grammar Kind DirectoryEntryPlus
-directory_entry_plus = do
-  file_number ← one_long
-  entry ← name
-  cookie ← one_long
-  attributes ← optional_of file_attributes
-  object ← optional_of handle
-  nothing (record { file_number = file_number; name = entry; cookie = cookie; attributes = attributes; object = object })
-
-unfoldable pub directory_entry_plus_text : DirectoryEntryPlus → List ℕ
-directory_entry_plus_text s = long_text s.file_number ++ (opaque_text s.name ++ (long_text s.cookie ++ (optional_text file_attributes_text s.attributes ++ optional_text opaque_text s.object)))
-
-unfoldable pub DirectoryEntryPlusFits : DirectoryEntryPlus → Type 0
-DirectoryEntryPlusFits s = (s.file_number < 2 ^ 64) × (length s.name < 2 ^ 32) × (s.cookie < 2 ^ 64) × IfSome s.attributes FileAttributesFit × IfSome s.object (λ h. length h ≤ 64)
-
--- READDIRPLUS3resok with dirlistplus3, RFC 1813, section 3.3.17
-unfoldable pub read_dir_plus_success : Grammar Kind ReadDirPlusSuccess
-read_dir_plus_success = do
-  attributes ← optional_of file_attributes
-  server ← verifier
-  listed ← entries directory_entry_plus
-  eof ← one_flag
-  nothing (record { attributes = attributes; verifier = server; entries = listed; eof = eof })
-
-unfoldable pub read_dir_plus_success_text : ReadDirPlusSuccess → List ℕ
-read_dir_plus_success_text s = optional_text file_attributes_text s.attributes ++ (verifier_text s.verifier ++ (list_text directory_entry_plus_text s.entries ++ flag_text s.eof))
-
-unfoldable pub ReadDirPlusSuccessFits : ReadDirPlusSuccess → Type 0
-ReadDirPlusSuccessFits s = IfSome s.attributes FileAttributesFit × (s.verifier.value < 2 ^ 64) × AllByRecursion DirectoryEntryPlusFits s.entries
 
 -- COMMIT3resok, RFC 1813, section 3.3.21
 unfoldable pub commit_success : Grammar Kind CommitSuccess

@@ -24,7 +24,8 @@ use Rattle.nfs3_types.specs.declared.attributes.SetAttributes.{SetAttributes}
 use Rattle.nfs3_msgs.specs.declared.fault.Kind.{Kind}
 use Rattle.nfs3_msgs.specs.Words.{file_type_of, file_type_word, stable_how_of, stable_how_word, TimeHow, time_how_of, CreateHow, create_how_of, failure_of, failure_word, status_of}
 use Rattle.nfs3_msgs.specs.Bytes.{handle, name, link_text, file_data, verifier, verifier_text, optional_of, entries, void, void_text}
-use Rattle.nfs3_msgs.specs.Attributes.{time, time_text, TimeFits, device, device_text, DeviceFits, file_attributes, file_attributes_text, sizes_text, times_text, FileAttributesFit, SizesFit, TimesFit, wcc_attributes, wcc_attributes_text, WccAttributesFit, wcc_data, wcc_data_text, WccDataFits, set_time, set_time_text, SetTimeFits, set_attributes, set_attributes_text, SetAttributesFit}
+use Rattle.nfs3_msgs.specs.Attributes.{time, time_text, TimeFits, device, device_text, DeviceFits, file_attributes, file_attributes_text, sizes_text, times_text, FileAttributesFit, SizesFit, TimesFit, wcc_attributes, wcc_attributes_text, WccAttributesFit, wcc_data, wcc_data_text, WccDataFits}
+use Rattle.nfs3_msgs.specs.Settings.{set_time, set_time_text, SetTimeFits, set_attributes, set_attributes_text, SetAttributesFit}
 
 -- one item, and others behind it
 pub joined : {First Others : List ℕ → Type 0} (front back : List ℕ) → First front → Others back → Joined First Others (front ++ back)

@@ -30,8 +30,10 @@ use Rattle.nfs3_types.specs.declared.calls.CreateArguments.{CreateArguments}
 use Rattle.nfs3_msgs.specs.declared.fault.Kind.{Kind}
 use Rattle.nfs3_msgs.specs.Words.{file_type_of, file_type_word, stable_how_of, stable_how_word, TimeHow, time_how_of, CreateHow, create_how_of, failure_of, failure_word, status_of}
 use Rattle.nfs3_msgs.specs.Bytes.{handle, name, link_text, file_data, verifier, verifier_text, optional_of}
-use Rattle.nfs3_msgs.specs.Attributes.{time, time_text, TimeFits, device, device_text, DeviceFits, file_attributes, file_attributes_text, sizes_text, times_text, FileAttributesFit, SizesFit, TimesFit, wcc_attributes, wcc_attributes_text, WccAttributesFit, wcc_data, wcc_data_text, WccDataFits, set_time, set_time_text, SetTimeFits, set_attributes, set_attributes_text, SetAttributesFit}
-use Rattle.nfs3_msgs.specs.Calls.{directory_name, directory_name_text, DirectoryNameFits, read_arguments, read_arguments_text, ReadArgumentsFit, write_arguments, write_arguments_text, WriteArgumentsFit, create_mode, create_mode_text, CreateModeFits, create_arguments, create_arguments_text, CreateArgumentsFit, set_attr_arguments, set_attr_arguments_text, SetAttrArgumentsFit, mk_dir_arguments, mk_dir_arguments_text, MkDirArgumentsFit, sym_link_arguments, sym_link_arguments_text, SymLinkArgumentsFit, rename_arguments, rename_arguments_text, RenameArgumentsFit, read_dir_arguments, read_dir_arguments_text, ReadDirArgumentsFit, read_dir_plus_arguments, read_dir_plus_arguments_text, ReadDirPlusArgumentsFit, commit_arguments, commit_arguments_text, CommitArgumentsFit}
+use Rattle.nfs3_msgs.specs.Attributes.{time, time_text, TimeFits, device, device_text, DeviceFits, file_attributes, file_attributes_text, sizes_text, times_text, FileAttributesFit, SizesFit, TimesFit, wcc_attributes, wcc_attributes_text, WccAttributesFit, wcc_data, wcc_data_text, WccDataFits}
+use Rattle.nfs3_msgs.specs.Settings.{set_time, set_time_text, SetTimeFits, set_attributes, set_attributes_text, SetAttributesFit}
+use Rattle.nfs3_msgs.specs.Calls.{directory_name, directory_name_text, DirectoryNameFits, read_arguments, read_arguments_text, ReadArgumentsFit, write_arguments, write_arguments_text, WriteArgumentsFit, set_attr_arguments, set_attr_arguments_text, SetAttrArgumentsFit, commit_arguments, commit_arguments_text, CommitArgumentsFit}
+use Rattle.nfs3_msgs.specs.EntryCalls.{create_mode, create_mode_text, CreateModeFits, create_arguments, create_arguments_text, CreateArgumentsFit, mk_dir_arguments, mk_dir_arguments_text, MkDirArgumentsFit, sym_link_arguments, sym_link_arguments_text, SymLinkArgumentsFit, rename_arguments, rename_arguments_text, RenameArgumentsFit, read_dir_arguments, read_dir_arguments_text, ReadDirArgumentsFit, read_dir_plus_arguments, read_dir_plus_arguments_text, ReadDirPlusArgumentsFit}
 use Rattle.nfs3_types.specs.declared.calls.SetAttrArguments.{SetAttrArguments}
 use Rattle.nfs3_types.specs.declared.calls.MkDirArguments.{MkDirArguments}
 use Rattle.nfs3_types.specs.declared.calls.SymLinkArguments.{SymLinkArguments}

@@ -29,8 +29,10 @@ use Rattle.nfs3_types.specs.declared.replies.CreateSuccess.{CreateSuccess}
 use Rattle.nfs3_msgs.specs.declared.fault.Kind.{Kind}
 use Rattle.nfs3_msgs.specs.Words.{file_type_of, file_type_word, stable_how_of, stable_how_word, TimeHow, time_how_of, CreateHow, create_how_of, failure_of, failure_word, status_of}
 use Rattle.nfs3_msgs.specs.Bytes.{handle, name, link_text, file_data, verifier, verifier_text, optional_of, entries}
-use Rattle.nfs3_msgs.specs.Attributes.{time, time_text, TimeFits, device, device_text, DeviceFits, file_attributes, file_attributes_text, sizes_text, times_text, FileAttributesFit, SizesFit, TimesFit, wcc_attributes, wcc_attributes_text, WccAttributesFit, wcc_data, wcc_data_text, WccDataFits, set_time, set_time_text, SetTimeFits, set_attributes, set_attributes_text, SetAttributesFit}
-use Rattle.nfs3_msgs.specs.Replies.{answer, answer_text, AnswerFits, read_success, read_success_text, ReadSuccessFits, write_success, write_success_text, WriteSuccessFits, create_success, create_success_text, CreateSuccessFits, lookup_success, lookup_success_text, LookupSuccessFits, read_link_success, read_link_success_text, ReadLinkSuccessFits, rename_wcc, rename_wcc_text, RenameWccFits, directory_entry, directory_entry_text, DirectoryEntryFits, read_dir_success, read_dir_success_text, ReadDirSuccessFits, directory_entry_plus, directory_entry_plus_text, DirectoryEntryPlusFits, read_dir_plus_success, read_dir_plus_success_text, ReadDirPlusSuccessFits, commit_success, commit_success_text, CommitSuccessFits}
+use Rattle.nfs3_msgs.specs.Attributes.{time, time_text, TimeFits, device, device_text, DeviceFits, file_attributes, file_attributes_text, sizes_text, times_text, FileAttributesFit, SizesFit, TimesFit, wcc_attributes, wcc_attributes_text, WccAttributesFit, wcc_data, wcc_data_text, WccDataFits}
+use Rattle.nfs3_msgs.specs.Settings.{set_time, set_time_text, SetTimeFits, set_attributes, set_attributes_text, SetAttributesFit}
+use Rattle.nfs3_msgs.specs.Replies.{answer, answer_text, AnswerFits, read_success, read_success_text, ReadSuccessFits, write_success, write_success_text, WriteSuccessFits, create_success, create_success_text, CreateSuccessFits, lookup_success, lookup_success_text, LookupSuccessFits, read_link_success, read_link_success_text, ReadLinkSuccessFits, rename_wcc, rename_wcc_text, RenameWccFits, commit_success, commit_success_text, CommitSuccessFits}
+use Rattle.nfs3_msgs.specs.Listings.{directory_entry, directory_entry_text, DirectoryEntryFits, read_dir_success, read_dir_success_text, ReadDirSuccessFits, directory_entry_plus, directory_entry_plus_text, DirectoryEntryPlusFits, read_dir_plus_success, read_dir_plus_success_text, ReadDirPlusSuccessFits}
 use Rattle.nfs3_types.specs.declared.replies.LookupSuccess.{LookupSuccess}
 use Rattle.nfs3_types.specs.declared.replies.ReadLinkSuccess.{ReadLinkSuccess}
 use Rattle.nfs3_types.specs.declared.replies.RenameWcc.{RenameWcc}

@@ -241,7 +241,7 @@ impl XdrValue for WccData {
 }
 
 impl XdrValue for SetTime {
-    ghost use Rattle.nfs3_msgs.specs.Attributes.{set_time, set_time_text, SetTimeFits};
+    ghost use Rattle.nfs3_msgs.specs.Settings.{set_time, set_time_text, SetTimeFits};
     ghost use Rattle.nfs3_msgs.specs.Spelled.{set_time_spelled};
 
     ghost grammar = { set_time };
@@ -277,7 +277,7 @@ impl XdrValue for SetTime {
 }
 
 impl XdrValue for SetAttributes {
-    ghost use Rattle.nfs3_msgs.specs.Attributes.{set_attributes, set_attributes_text, SetAttributesFit};
+    ghost use Rattle.nfs3_msgs.specs.Settings.{set_attributes, set_attributes_text, SetAttributesFit};
     ghost use Rattle.nfs3_msgs.specs.Spelled.{set_attributes_spelled};
 
     ghost grammar = { set_attributes };

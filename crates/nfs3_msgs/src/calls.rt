@@ -138,7 +138,7 @@ impl XdrValue for WriteArguments {
 }
 
 impl XdrValue for CreateMode {
-    ghost use Rattle.nfs3_msgs.specs.Calls.{create_mode, create_mode_text, CreateModeFits};
+    ghost use Rattle.nfs3_msgs.specs.EntryCalls.{create_mode, create_mode_text, CreateModeFits};
     ghost use Rattle.nfs3_msgs.specs.SpelledCalls.{create_mode_spelled};
 
     ghost grammar = { create_mode };
@@ -180,7 +180,7 @@ impl XdrValue for CreateMode {
 }
 
 impl XdrValue for CreateArguments {
-    ghost use Rattle.nfs3_msgs.specs.Calls.{create_arguments, create_arguments_text, CreateArgumentsFit};
+    ghost use Rattle.nfs3_msgs.specs.EntryCalls.{create_arguments, create_arguments_text, CreateArgumentsFit};
     ghost use Rattle.nfs3_msgs.specs.SpelledCalls.{create_arguments_spelled};
 
     ghost grammar = { create_arguments };
@@ -238,7 +238,7 @@ impl XdrValue for SetAttrArguments {
 }
 
 impl XdrValue for MkDirArguments {
-    ghost use Rattle.nfs3_msgs.specs.Calls.{mk_dir_arguments, mk_dir_arguments_text, MkDirArgumentsFit};
+    ghost use Rattle.nfs3_msgs.specs.EntryCalls.{mk_dir_arguments, mk_dir_arguments_text, MkDirArgumentsFit};
     ghost use Rattle.nfs3_msgs.specs.SpelledCalls.{mk_dir_arguments_spelled};
 
     ghost grammar = { mk_dir_arguments };
@@ -264,7 +264,7 @@ impl XdrValue for MkDirArguments {
 }
 
 impl XdrValue for SymLinkArguments {
-    ghost use Rattle.nfs3_msgs.specs.Calls.{sym_link_arguments, sym_link_arguments_text, SymLinkArgumentsFit};
+    ghost use Rattle.nfs3_msgs.specs.EntryCalls.{sym_link_arguments, sym_link_arguments_text, SymLinkArgumentsFit};
     ghost use Rattle.nfs3_msgs.specs.SpelledCalls.{sym_link_arguments_spelled};
 
     ghost grammar = { sym_link_arguments };
@@ -296,7 +296,7 @@ impl XdrValue for SymLinkArguments {
 }
 
 impl XdrValue for RenameArguments {
-    ghost use Rattle.nfs3_msgs.specs.Calls.{rename_arguments, rename_arguments_text, RenameArgumentsFit};
+    ghost use Rattle.nfs3_msgs.specs.EntryCalls.{rename_arguments, rename_arguments_text, RenameArgumentsFit};
     ghost use Rattle.nfs3_msgs.specs.SpelledCalls.{rename_arguments_spelled};
 
     ghost grammar = { rename_arguments };
@@ -322,7 +322,7 @@ impl XdrValue for RenameArguments {
 }
 
 impl XdrValue for ReadDirArguments {
-    ghost use Rattle.nfs3_msgs.specs.Calls.{read_dir_arguments, read_dir_arguments_text, ReadDirArgumentsFit};
+    ghost use Rattle.nfs3_msgs.specs.EntryCalls.{read_dir_arguments, read_dir_arguments_text, ReadDirArgumentsFit};
     ghost use Rattle.nfs3_msgs.specs.SpelledCalls.{read_dir_arguments_spelled};
 
     ghost grammar = { read_dir_arguments };
@@ -357,7 +357,7 @@ impl XdrValue for ReadDirArguments {
 }
 
 impl XdrValue for ReadDirPlusArguments {
-    ghost use Rattle.nfs3_msgs.specs.Calls.{read_dir_plus_arguments, read_dir_plus_arguments_text, ReadDirPlusArgumentsFit};
+    ghost use Rattle.nfs3_msgs.specs.EntryCalls.{read_dir_plus_arguments, read_dir_plus_arguments_text, ReadDirPlusArgumentsFit};
     ghost use Rattle.nfs3_msgs.specs.SpelledCalls.{read_dir_plus_arguments_spelled};
 
     ghost grammar = { read_dir_plus_arguments };

@@ -9,8 +9,10 @@ ghost use Rattle.nfs3_types.specs.declared.replies.NfsReply.{NfsReply};
 ghost use Rattle.nfs3_msgs.specs.declared.fault.Kind.{Kind};
 ghost use Rattle.nfs3_msgs.specs.Told.{kind_of, Reads, IsButForMemory};
 ghost use Rattle.nfs3_types.specs.Procedures.{procedure_called, procedure_answered};
-ghost use Rattle.nfs3_msgs.specs.Messages.{arguments, IsArguments, IsArgumentsFault, arguments_of, arguments_text, CallFits};
-ghost use Rattle.nfs3_msgs.specs.Messages.{results, IsResult, IsResultFault, result_of, result_text, ReplyFits};
+ghost use Rattle.nfs3_msgs.specs.Messages.{arguments, IsArguments, IsArgumentsFault, arguments_of, arguments_text};
+ghost use Rattle.nfs3_msgs.specs.Fits.{CallFits};
+ghost use Rattle.nfs3_msgs.specs.Messages.{results, IsResult, IsResultFault, result_of, result_text};
+ghost use Rattle.nfs3_msgs.specs.Fits.{ReplyFits};
 
 use crate::fault::{Kind, MessageFault};
 use crate::value::{XdrValue, fault_at};

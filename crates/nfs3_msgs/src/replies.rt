@@ -302,7 +302,7 @@ impl XdrValue for RenameWcc {
 }
 
 impl XdrValue for DirectoryEntry {
-    ghost use Rattle.nfs3_msgs.specs.Replies.{directory_entry, directory_entry_text, DirectoryEntryFits};
+    ghost use Rattle.nfs3_msgs.specs.Listings.{directory_entry, directory_entry_text, DirectoryEntryFits};
     ghost use Rattle.nfs3_msgs.specs.SpelledReplies.{directory_entry_spelled};
 
     ghost grammar = { directory_entry };
@@ -334,7 +334,7 @@ impl XdrValue for DirectoryEntry {
 }
 
 impl XdrValue for ReadDirSuccess {
-    ghost use Rattle.nfs3_msgs.specs.Replies.{read_dir_success, read_dir_success_text, ReadDirSuccessFits};
+    ghost use Rattle.nfs3_msgs.specs.Listings.{read_dir_success, read_dir_success_text, ReadDirSuccessFits};
     ghost use Rattle.nfs3_msgs.specs.SpelledReplies.{read_dir_success_spelled};
 
     ghost grammar = { read_dir_success };
@@ -369,7 +369,7 @@ impl XdrValue for ReadDirSuccess {
 }
 
 impl XdrValue for DirectoryEntryPlus {
-    ghost use Rattle.nfs3_msgs.specs.Replies.{directory_entry_plus, directory_entry_plus_text, DirectoryEntryPlusFits};
+    ghost use Rattle.nfs3_msgs.specs.Listings.{directory_entry_plus, directory_entry_plus_text, DirectoryEntryPlusFits};
     ghost use Rattle.nfs3_msgs.specs.SpelledReplies.{directory_entry_plus_spelled};
 
     ghost grammar = { directory_entry_plus };
@@ -407,7 +407,7 @@ impl XdrValue for DirectoryEntryPlus {
 }
 
 impl XdrValue for ReadDirPlusSuccess {
-    ghost use Rattle.nfs3_msgs.specs.Replies.{read_dir_plus_success, read_dir_plus_success_text, ReadDirPlusSuccessFits};
+    ghost use Rattle.nfs3_msgs.specs.Listings.{read_dir_plus_success, read_dir_plus_success_text, ReadDirPlusSuccessFits};
     ghost use Rattle.nfs3_msgs.specs.SpelledReplies.{read_dir_plus_success_spelled};
 
     ghost grammar = { read_dir_plus_success };

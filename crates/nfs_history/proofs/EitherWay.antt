@@ -11,8 +11,9 @@ use Rattle.xdr_records.proofs.Laws.{all_found}
 use Rattle.rpc_reader.specs.declared.fault.RpcFault.{RpcFault}
 use Rattle.rpc_reader.specs.Values.{CallValue, ReplyValue, Body}
 use Rattle.rpc_reader.specs.Values.Body.{success}
-use Rattle.rpc_reader.specs.Heads.{kind_of, CallStart, call_head, Status, ReplyStart, reply_head}
-use Rattle.rpc_reader.specs.Heads.Status.{results_follow, final}
+use Rattle.rpc_reader.specs.Heads.{kind_of, CallStart, call_head}
+use Rattle.rpc_reader.specs.ReplyHeads.{Status, ReplyStart, reply_head}
+use Rattle.rpc_reader.specs.ReplyHeads.Status.{results_follow, final}
 use Rattle.rpc_reader.specs.Messages.{call_start, IsCall, IsEnding, IsReply}
 use Rattle.nfs3_types.specs.declared.calls.NfsCall.{NfsCall}
 use Rattle.nfs3_types.specs.declared.replies.NfsReply.{NfsReply}

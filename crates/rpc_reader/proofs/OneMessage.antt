@@ -8,9 +8,10 @@ use Rattle.xdr_records.proofs.Fronts.{left_at, pair_is}
 use Rattle.xdr_records.proofs.KindLaws.{kind_again}
 use Rattle.rpc_reader.specs.declared.fault.RpcFault.{RpcFault}
 use Rattle.rpc_reader.specs.Values.{CallValue, ReplyValue, Body}
-use Rattle.rpc_reader.specs.Heads.{CallStart, call_head, Status, ReplyStart, reply_head}
+use Rattle.rpc_reader.specs.Heads.{CallStart, call_head}
+use Rattle.rpc_reader.specs.ReplyHeads.{Status, ReplyStart, reply_head}
 use Rattle.rpc_reader.specs.Heads as heads
-use Rattle.rpc_reader.specs.Heads.Status.{results_follow, final}
+use Rattle.rpc_reader.specs.ReplyHeads.Status.{results_follow, final}
 use Rattle.rpc_reader.specs.Messages.{call_start, IsCall, IsEnding, IsReply}
 
 with_args : CallStart → List ℕ → CallValue

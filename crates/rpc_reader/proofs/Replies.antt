@@ -15,8 +15,9 @@ use Rattle.rpc_reader.specs.declared.reply.ReplyBody.TheVariants as read
 use Rattle.rpc_reader.specs.declared.reply.ReplyHead.{ReplyHead}
 use Rattle.rpc_reader.specs.Values.{Body, ReplyValue}
 use Rattle.rpc_reader.specs.Values.Body.{success}
-use Rattle.rpc_reader.specs.Heads.{kind_of, Status, ReplyStart, reply_head}
-use Rattle.rpc_reader.specs.Heads.Status.{results_follow, final}
+use Rattle.rpc_reader.specs.Heads.{kind_of}
+use Rattle.rpc_reader.specs.ReplyHeads.{Status, ReplyStart, reply_head}
+use Rattle.rpc_reader.specs.ReplyHeads.Status.{results_follow, final}
 use Rattle.rpc_reader.specs.Views.{body_value, reply_value, status_of, start_of, HoldsResults, ending_at, ended, reply_from}
 use Rattle.rpc_reader.specs.Messages.{IsEnding, IsReply, ReplyFails}
 

@@ -6,11 +6,12 @@ use Rattle.xdr_records.specs.Texts.{word_text, opaque_text}
 use Rattle.xdr_records.proofs.Written.{word_spelled, opaque_spelled}
 use Rattle.rpc_reader.specs.Values.{CallValue, Body}
 use Rattle.rpc_reader.specs.Values.Body.{success, prog_unavail, prog_mismatch, proc_unavail, garbage_args, system_err, rpc_mismatch, auth_error}
-use Rattle.rpc_reader.specs.Heads.{auth, call_head, Status, versions, accepted_reply, rejected_reply, reply_body, ReplyStart, reply_head}
-use Rattle.rpc_reader.specs.Heads.Status.{results_follow, final}
-use Rattle.rpc_reader.specs.Heads.ReplyStatus.{accepted, denied}
-use Rattle.rpc_reader.specs.Heads.AcceptStatus.{accepted_as, versions_follow}
-use Rattle.rpc_reader.specs.Heads.RejectStatus.{other_version, not_authentic}
+use Rattle.rpc_reader.specs.Heads.{auth, call_head}
+use Rattle.rpc_reader.specs.ReplyHeads.{Status, versions, accepted_reply, rejected_reply, reply_body, ReplyStart, reply_head}
+use Rattle.rpc_reader.specs.ReplyHeads.Status.{results_follow, final}
+use Rattle.rpc_reader.specs.ReplyHeads.ReplyStatus.{accepted, denied}
+use Rattle.rpc_reader.specs.ReplyHeads.AcceptStatus.{accepted_as, versions_follow}
+use Rattle.rpc_reader.specs.ReplyHeads.RejectStatus.{other_version, not_authentic}
 use Rattle.rpc_reader.specs.Messages.{call_start, IsCall, IsEnding, IsReply}
 use Rattle.rpc_reader.specs.Texts.{no_auth_text, call_body_text, call_head_text, call_text, versions_text, accepted_text, denied_text, reply_body_text, reply_head_text, results_of, reply_text, BodyFits}
 

@@ -1,4 +1,5 @@
 pub mod Values
+pub mod ReplyHeads
 pub mod Heads
 pub mod Messages
 pub mod Views

@@ -7,8 +7,9 @@ use Rattle.rpc_reader.specs.declared.fault.RpcFault.{RpcFault}
 use Rattle.rpc_reader.specs.declared.fault.RpcFault.TheVariants.{Trailing}
 use Rattle.rpc_reader.specs.Values.{CallValue, Body, ReplyValue}
 use Rattle.rpc_reader.specs.Values.Body.{success}
-use Rattle.rpc_reader.specs.Heads.{kind_of, CallStart, call_head, Status, reply_head}
-use Rattle.rpc_reader.specs.Heads.Status.{results_follow, final}
+use Rattle.rpc_reader.specs.Heads.{kind_of, CallStart, call_head}
+use Rattle.rpc_reader.specs.ReplyHeads.{Status, reply_head}
+use Rattle.rpc_reader.specs.ReplyHeads.Status.{results_follow, final}
 
 -- what stands before a call's arguments
 abbrev pub call_start : CallValue → CallStart

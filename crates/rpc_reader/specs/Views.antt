@@ -11,8 +11,9 @@ use Rattle.rpc_reader.specs.declared.reply.ReplyBody.TheVariants as read
 use Rattle.rpc_reader.specs.declared.reply.ReplyHead.{ReplyHead}
 use Rattle.rpc_reader.specs.Values.{CallValue, Body, ReplyValue}
 use Rattle.rpc_reader.specs.Values.Body.{success, prog_unavail, prog_mismatch, proc_unavail, garbage_args, system_err, rpc_mismatch, auth_error}
-use Rattle.rpc_reader.specs.Heads.{kind_of, Status, ReplyStart, reply_head}
-use Rattle.rpc_reader.specs.Heads.Status.{results_follow, final}
+use Rattle.rpc_reader.specs.Heads.{kind_of}
+use Rattle.rpc_reader.specs.ReplyHeads.{Status, ReplyStart, reply_head}
+use Rattle.rpc_reader.specs.ReplyHeads.Status.{results_follow, final}
 
 abbrev pub call_value : CallHead → CallValue
 call_value call = record { xid = call.xid; program = call.program; version = call.version; procedure = call.procedure; flavor = call.flavor; args = call.args.now }

@@ -3,7 +3,8 @@
 ghost use Rattle.std.specs.Prelude.{◌≡◌, IfOk, IfErr, IsOkAnd};
 ghost use Rattle.xdr_records.specs.Grammar.Grammar.{named};
 ghost use Rattle.xdr_records.specs.Kinds.{Tells, kind_reading};
-ghost use Rattle.rpc_reader.specs.Heads.{kind_of, reply_type, versions, accepted_reply, rejected_reply, reply_body, reply_head};
+ghost use Rattle.rpc_reader.specs.Heads.{kind_of};
+ghost use Rattle.rpc_reader.specs.ReplyHeads.{reply_type, versions, accepted_reply, rejected_reply, reply_body, reply_head};
 ghost use Rattle.rpc_reader.specs.Views.{status_of, start_of, ending_at, reply_from, reply_value, HoldsResults};
 ghost use Rattle.rpc_reader.specs.declared.fault.RpcFault.{RpcFault};
 ghost use Rattle.rpc_reader.specs.Values.{ReplyValue};

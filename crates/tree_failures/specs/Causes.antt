@@ -1,5 +1,5 @@
 -- why a call may fail in a tree: RFC 1813, section 3.3, by procedure, and section 2.6 on the statuses
-use Rattle.std.specs.Prelude.{ℕ, ◌==◌, nat_lt, Bool, true, false, not, ◌&&◌, ◌||◌, List, [], ◌∷◌, ◌++◌, Option, None, is_some, is_none, option_map, option_and_then}
+use Rattle.std.specs.Prelude.{ℕ, ◌==◌, nat_lt, Bool, true, false, not, ◌&&◌, ◌||◌, List, Option, is_some, is_none, option_map}
 use Rattle.std.specs.Option.{option_map_or}
 use Rattle.std.specs.List.{list_any}
 use Rattle.nfs3_types.specs.declared.calls.CreateMode.{CreateMode}
@@ -9,7 +9,7 @@ use Rattle.nfs3_types.specs.declared.calls.NfsCall.{NfsCall}
 use Rattle.nfs3_types.specs.declared.calls.NfsCall.TheVariants as calls
 use Rattle.tree_nodes.specs.declared.node.Node.{Node}
 use Rattle.tree_nodes.specs.declared.node.Content.{Content}
-use Rattle.tree_nodes.specs.Tree.{Names, Tree, same_path, is_below, is_bare}
+use Rattle.tree_nodes.specs.Tree.{Names, Tree, is_bare}
 use Rattle.tree_handles.specs.Binding.{Bindings}
 use Rattle.tree_handles.specs.Live.{live_entry, directory_of}
 use Rattle.tree_handles.specs.Entry.{is_plain, named}
@@ -100,38 +100,6 @@ is_filled_directory tree e = is_directory e.1.content && not (is_bare tree e.0)
 abbrev pub rmdir_of_filled_directory : Bindings → Tree → NfsCall → Bool
 rmdir_of_filled_directory binds tree (calls.RmDir place) = option_map_or (is_filled_directory tree) (named binds tree place) false
 rmdir_of_filled_directory binds tree _ = false
-
--- the source of a RENAME, and the entry that stands at its target
-abbrev pub source_of : Bindings → Tree → NfsCall → Option (Names × Node)
-source_of binds tree (calls.Rename call) = named binds tree call.from
-source_of binds tree _ = None
-
-abbrev pub target_of : Bindings → Tree → NfsCall → Option (Names × Node)
-target_of binds tree (calls.Rename call) = named binds tree call.to
-target_of binds tree _ = None
-
--- RENAME of a directory onto an entry that is no directory
-abbrev pub rename_onto_no_directory : Bindings → Tree → NfsCall → Bool
-rename_onto_no_directory binds tree call =
-    option_map_or (λ s. is_directory s.1.content) (source_of binds tree call) false && option_map_or (λ t. not (is_directory t.1.content)) (target_of binds tree call) false
-
--- RENAME of what is no directory onto a directory
-abbrev pub rename_onto_directory : Bindings → Tree → NfsCall → Bool
-rename_onto_directory binds tree call =
-    option_map_or (λ s. not (is_directory s.1.content)) (source_of binds tree call) false && option_map_or (λ t. is_directory t.1.content) (target_of binds tree call) false
-
--- RENAME of an entry onto another one, a directory that isn't empty
-abbrev pub rename_onto_filled_directory : Bindings → Tree → NfsCall → Bool
-rename_onto_filled_directory binds tree call =
-    option_map_or (λ s. option_map_or (λ t. not (same_path s.0 t.0) && is_filled_directory tree t) (target_of binds tree call) false) (source_of binds tree call) false
-
--- RENAME of a directory to a path below itself
-abbrev pub target_path : Bindings → Tree → NfsCall → Option Names
-target_path binds tree call = option_and_then (λ place. option_map (λ directory. directory ++ place.name ∷ []) (directory_of binds tree place.directory)) (second_place call)
-
-abbrev pub rename_below_itself : Bindings → Tree → NfsCall → Bool
-rename_below_itself binds tree call =
-    option_map_or (λ s. is_directory s.1.content && option_map_or (λ q. is_below q s.0) (target_path binds tree call) false) (source_of binds tree call) false
 
 -- a name is empty, `.` or `..`
 abbrev pub isnt_plain : DirectoryName → Bool

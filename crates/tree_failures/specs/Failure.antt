@@ -10,6 +10,7 @@ use Rattle.tree_failures.specs.declared.failure.Cause.TheVariants as cause
 use Rattle.tree_handles.specs.Binding.{Bindings}
 use Rattle.tree_failures.specs.Asked.{is_listing_call}
 use Rattle.tree_failures.specs.Causes as when
+use Rattle.tree_failures.specs.RenameCauses as when_renamed
 
 -- a status's number in `nfsstat3`, RFC 1813, section 2.6
 abbrev pub status_number : Failure → ℕ
@@ -63,10 +64,10 @@ row cause.CreateOverDirectory = record { holds = when.create_over_directory; sta
 row cause.RemoveOfDirectory = record { holds = when.remove_of_directory; statuses = status.IsDirectory ∷ status.Invalid ∷ [] }  -- section 3.3.12
 row cause.RmDirOfNoDirectory = record { holds = when.rmdir_of_no_directory; statuses = status.NotDirectory ∷ [] }  -- section 3.3.13
 row cause.RmDirOfFilledDirectory = record { holds = when.rmdir_of_filled_directory; statuses = status.NotEmpty ∷ status.Exists ∷ [] }  -- section 3.3.13
-row cause.RenameOntoNoDirectory = record { holds = when.rename_onto_no_directory; statuses = status.Exists ∷ status.NotDirectory ∷ [] }  -- section 3.3.14
-row cause.RenameOntoDirectory = record { holds = when.rename_onto_directory; statuses = status.Exists ∷ status.IsDirectory ∷ [] }  -- section 3.3.14
-row cause.RenameOntoFilledDirectory = record { holds = when.rename_onto_filled_directory; statuses = status.NotEmpty ∷ status.Exists ∷ [] }  -- section 3.3.14
-row cause.RenameBelowItself = record { holds = when.rename_below_itself; statuses = status.Invalid ∷ [] }  -- section 3.3.14
+row cause.RenameOntoNoDirectory = record { holds = when_renamed.rename_onto_no_directory; statuses = status.Exists ∷ status.NotDirectory ∷ [] }  -- section 3.3.14
+row cause.RenameOntoDirectory = record { holds = when_renamed.rename_onto_directory; statuses = status.Exists ∷ status.IsDirectory ∷ [] }  -- section 3.3.14
+row cause.RenameOntoFilledDirectory = record { holds = when_renamed.rename_onto_filled_directory; statuses = status.NotEmpty ∷ status.Exists ∷ [] }  -- section 3.3.14
+row cause.RenameBelowItself = record { holds = when_renamed.rename_below_itself; statuses = status.Invalid ∷ [] }  -- section 3.3.14
 row cause.NameIsntPlain = record { holds = λ _ _. when.name_isnt_plain; statuses = status.Invalid ∷ status.Exists ∷ status.NoEntry ∷ status.IsDirectory ∷ status.NotEmpty ∷ [] }  -- sections 3.3.3, 3.3.8 to 3.3.14
 row cause.NameHasOddByte = record { holds = λ _ _. when.name_has_odd_byte; statuses = status.Invalid ∷ [] }  -- sections 3.3.3, 3.3.8 to 3.3.14
 row cause.SetAttrWithGuard = record { holds = λ _ _. when.setattr_with_guard; statuses = status.NotSynchronized ∷ [] }  -- section 3.3.2

@@ -1,3 +1,4 @@
 pub mod Asked
+pub mod RenameCauses
 pub mod Causes
 pub mod Failure

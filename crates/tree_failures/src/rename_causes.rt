@@ -3,7 +3,7 @@
 ghost use Rattle.std.specs.Prelude.{◌≡◌, IfOk};
 ghost use Rattle.std.specs.Option.{option_map};
 ghost use Rattle.tree_nodes.specs.Nodes.{tree_of};
-ghost use Rattle.tree_failures.specs.Causes.{source_of, target_of, rename_onto_no_directory, rename_onto_directory, rename_onto_filled_directory, target_path, rename_below_itself};
+ghost use Rattle.tree_failures.specs.RenameCauses.{source_of, target_of, rename_onto_no_directory, rename_onto_directory, rename_onto_filled_directory, target_path, rename_below_itself};
 
 use crate::asked::second_place;
 use crate::name_causes::is_filled_directory;

@@ -9,7 +9,8 @@ use Rattle.tree_nodes.specs.Moved.{is_from}
 use Rattle.tree_handles.specs.Entry.{named}
 use Rattle.tree_handles.specs.Kind.{is_directory}
 use Rattle.tree_reads.specs.Look.{same_flag}
-use Rattle.file_tree.specs.Success.{only_if, may_replace}
+use Rattle.file_tree.specs.Made.{only_if}
+use Rattle.file_tree.specs.Removed.{may_replace}
 use Rattle.tree_laws.specs.OneGone.{is_no_directory}
 use Rattle.tree_laws.specs.WellFormed.{IsDirectoryAt, IsWellFormed, NothingBelow, NoDirectoryIsBare, RemoveAsksOnly, may_take_place, RenameAsksOnly}
 use Rattle.tree_nodes.proofs.Chains.{empty_or, negated, absent}

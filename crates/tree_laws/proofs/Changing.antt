@@ -35,7 +35,10 @@ use Rattle.tree_reads.specs.Look.{got_attributes, looked_up, got_text, got_bytes
 use Rattle.tree_reads.specs.Listing.{listed, listed_plus}
 use Rattle.nfs3_types.specs.Procedures.{is_answered, failure_in}
 use Rattle.tree_failures.specs.Failure.{is_permitted}
-use Rattle.file_tree.specs.Success.{made_by, set_size, create_over, create_present, create_at, create_change, write_at, write_change, set_attributes, make_entry, may_replace, rename, change_written, change_done, change_answered, change_taken, change_of}
+use Rattle.file_tree.specs.Success.{change_written, change_done, change_answered, change_taken, change_of}
+use Rattle.file_tree.specs.Made.{made_by, set_size, create_over, create_present, create_at, create_change, make_entry}
+use Rattle.file_tree.specs.Removed.{may_replace, rename}
+use Rattle.file_tree.specs.Written.{write_at, write_change, set_attributes}
 use Rattle.tree_laws.specs.OnePath.{path_of, file_path, path_asked, is_rename}
 use Rattle.tree_laws.specs.LiveHandles.{path_taken}
 use Rattle.tree_laws.specs.Types.{MayBecome}

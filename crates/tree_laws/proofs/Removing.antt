@@ -19,7 +19,8 @@ use Rattle.tree_handles.specs.Live.{directory_of}
 use Rattle.tree_handles.specs.Entry.{is_plain, entry_at, named}
 use Rattle.tree_handles.specs.Kind.{is_directory}
 use Rattle.nfs3_types.specs.Procedures.{failure_in}
-use Rattle.file_tree.specs.Success.{only_if, changed, change_removed, change_directory_removed, change_answered}
+use Rattle.file_tree.specs.Success.{changed, change_removed, change_directory_removed, change_answered}
+use Rattle.file_tree.specs.Made.{only_if}
 use Rattle.tree_laws.specs.OneGone.{TakesOneAway, is_no_directory, RemoveTakesOne, RmDirTakesOne}
 use Rattle.tree_nodes.proofs.Chains.{chained, mapped, passed, same_some, both_pass}
 use Rattle.tree_nodes.proofs.Found.{tied, untied, bare_below}

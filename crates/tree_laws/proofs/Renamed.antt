@@ -17,7 +17,8 @@ use Rattle.tree_handles.specs.Binding.{Bindings}
 use Rattle.tree_handles.specs.Live.{directory_of}
 use Rattle.tree_handles.specs.Entry.{is_plain, named}
 use Rattle.nfs3_types.specs.Procedures.{failure_in}
-use Rattle.file_tree.specs.Success.{may_replace, changed, rename, change_renamed, change_answered}
+use Rattle.file_tree.specs.Success.{changed, change_renamed, change_answered}
+use Rattle.file_tree.specs.Removed.{may_replace, rename}
 use Rattle.tree_laws.specs.Renaming.{HasMoved, IsRenamed, RenameMoves}
 use Rattle.tree_nodes.proofs.Chains.{chained, mapped, passed, same_some, both_pass, negated, differ}
 use Rattle.tree_nodes.proofs.Found.{same_lists}

@@ -20,7 +20,9 @@ use Rattle.tree_nodes.specs.Tree.{Tree}
 use Rattle.tree_handles.specs.Binding.{Bindings}
 use Rattle.tree_handles.specs.Live.{FileEntry, live_entry, file_of}
 use Rattle.nfs3_types.specs.Procedures.{failure_in}
-use Rattle.file_tree.specs.Success.{changed, set_size, set_attributes, change_set, change_answered, write_at, write_change}
+use Rattle.file_tree.specs.Success.{changed, change_set, change_answered}
+use Rattle.file_tree.specs.Made.{set_size}
+use Rattle.file_tree.specs.Written.{set_attributes, write_at, write_change}
 use Rattle.tree_laws.specs.WellFormed.{IsWellFormed}
 use Rattle.tree_laws.specs.FileBytes.{BytesBecome, AreWritten, WriteSets, AreResized, SetAttrSets}
 use Rattle.tree_nodes.proofs.Chains.{chained, mapped, passed, same_some, both_pass}

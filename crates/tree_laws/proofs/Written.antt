@@ -26,7 +26,8 @@ use Rattle.tree_nodes.specs.Tree.{Names, Tree, entry_of, opening}
 use Rattle.tree_handles.specs.Binding.{Bindings, object_of, same_bytes}
 use Rattle.tree_handles.specs.Live.{FileEntry, live_entry, as_file, file_of}
 use Rattle.tree_reads.specs.Look.{same_flag, read_is_right, got_bytes}
-use Rattle.file_tree.specs.Success.{changed, write_at, write_change, next_tree}
+use Rattle.file_tree.specs.Success.{changed, next_tree}
+use Rattle.file_tree.specs.Written.{write_at, write_change}
 use Rattle.tree_laws.specs.Leaving.{only_looks}
 use Rattle.tree_laws.specs.Outcomes.{step}
 use Rattle.tree_laws.specs.WellFormed.{IsWellFormed}

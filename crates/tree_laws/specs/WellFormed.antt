@@ -14,7 +14,9 @@ use Rattle.file_tree.specs.declared.change.Change.TheVariants.{Keep, Remove, Mov
 use Rattle.tree_handles.specs.Binding.{Bindings}
 use Rattle.tree_handles.specs.Entry.{named}
 use Rattle.tree_handles.specs.Kind.{is_directory}
-use Rattle.file_tree.specs.Success.{only_if, remove_entry, rename_at, next_tree}
+use Rattle.file_tree.specs.Success.{next_tree}
+use Rattle.file_tree.specs.Made.{only_if}
+use Rattle.file_tree.specs.Removed.{remove_entry, rename_at}
 use Rattle.tree_laws.specs.OneGone.{is_no_directory}
 
 -- a directory stands at this path
