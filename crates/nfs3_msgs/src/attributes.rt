@@ -250,7 +250,7 @@ impl XdrValue for SetTime {
 
     ghost fits = { SetTimeFits };
 
-    #[tactic(auto, unfolding(crate::specs::Attributes::set_time, crate::specs::Words::time_how_of))]
+    #[tactic(auto, unfolding(crate::specs::Settings::set_time, crate::specs::Words::time_how_of))]
     fn read(alloc: Global, reader: &mut Reader<'_>) -> Result<SetTime, MessageFault> {
         let at = reader.offset();
         match read_word(reader)? {
@@ -261,7 +261,7 @@ impl XdrValue for SetTime {
         }
     }
 
-    #[tactic(auto, unfolding(crate::specs::Attributes::set_time_text, crate::specs::Attributes::SetTimeFits))]
+    #[tactic(auto, unfolding(crate::specs::Settings::set_time_text, crate::specs::Settings::SetTimeFits))]
     fn put(&self, out: &mut Vec<u8>) -> Result<(), AllocError> {
         match self {
             SetTime::Keep => put_u32(out, 0),
@@ -286,7 +286,7 @@ impl XdrValue for SetAttributes {
 
     ghost fits = { SetAttributesFit };
 
-    #[tactic(auto, unfolding(crate::specs::Attributes::set_attributes))]
+    #[tactic(auto, unfolding(crate::specs::Settings::set_attributes))]
     fn read(alloc: Global, reader: &mut Reader<'_>) -> Result<SetAttributes, MessageFault> {
         let mode = Option::<u32>::read(alloc, reader)?;
         let user = Option::<u32>::read(alloc, reader)?;
@@ -304,7 +304,7 @@ impl XdrValue for SetAttributes {
         })
     }
 
-    #[tactic(auto, unfolding(crate::specs::Attributes::set_attributes_text, crate::specs::Attributes::SetAttributesFit))]
+    #[tactic(auto, unfolding(crate::specs::Settings::set_attributes_text, crate::specs::Settings::SetAttributesFit))]
     fn put(&self, out: &mut Vec<u8>) -> Result<(), AllocError> {
         self.mode.put(out)?;
         self.user.put(out)?;

@@ -147,7 +147,7 @@ impl XdrValue for CreateMode {
 
     ghost fits = { CreateModeFits };
 
-    #[tactic(auto, unfolding(crate::specs::Calls::create_mode, crate::specs::Words::create_how_of))]
+    #[tactic(auto, unfolding(crate::specs::EntryCalls::create_mode, crate::specs::Words::create_how_of))]
     fn read(alloc: Global, reader: &mut Reader<'_>) -> Result<CreateMode, MessageFault> {
         let at = reader.offset();
         match read_word(reader)? {
@@ -158,7 +158,7 @@ impl XdrValue for CreateMode {
         }
     }
 
-    #[tactic(auto, unfolding(crate::specs::Calls::create_mode_text, crate::specs::Calls::CreateModeFits))]
+    #[tactic(auto, unfolding(crate::specs::EntryCalls::create_mode_text, crate::specs::EntryCalls::CreateModeFits))]
     fn put(&self, out: &mut Vec<u8>) -> Result<(), AllocError> {
         match self {
             CreateMode::Unchecked(attributes) => {
@@ -189,14 +189,14 @@ impl XdrValue for CreateArguments {
 
     ghost fits = { CreateArgumentsFit };
 
-    #[tactic(auto, unfolding(crate::specs::Calls::create_arguments))]
+    #[tactic(auto, unfolding(crate::specs::EntryCalls::create_arguments))]
     fn read(alloc: Global, reader: &mut Reader<'_>) -> Result<CreateArguments, MessageFault> {
         let place = DirectoryName::read(alloc, reader)?;
         let mode = CreateMode::read(alloc, reader)?;
         Ok(CreateArguments { place, mode })
     }
 
-    #[tactic(auto, unfolding(crate::specs::Calls::create_arguments_text, crate::specs::Calls::CreateArgumentsFit))]
+    #[tactic(auto, unfolding(crate::specs::EntryCalls::create_arguments_text, crate::specs::EntryCalls::CreateArgumentsFit))]
     fn put(&self, out: &mut Vec<u8>) -> Result<(), AllocError> {
         self.place.put(out)?;
         self.mode.put(out)
@@ -247,14 +247,14 @@ impl XdrValue for MkDirArguments {
 
     ghost fits = { MkDirArgumentsFit };
 
-    #[tactic(auto, unfolding(crate::specs::Calls::mk_dir_arguments))]
+    #[tactic(auto, unfolding(crate::specs::EntryCalls::mk_dir_arguments))]
     fn read(alloc: Global, reader: &mut Reader<'_>) -> Result<MkDirArguments, MessageFault> {
         let place = DirectoryName::read(alloc, reader)?;
         let attributes = SetAttributes::read(alloc, reader)?;
         Ok(MkDirArguments { place, attributes })
     }
 
-    #[tactic(auto, unfolding(crate::specs::Calls::mk_dir_arguments_text, crate::specs::Calls::MkDirArgumentsFit))]
+    #[tactic(auto, unfolding(crate::specs::EntryCalls::mk_dir_arguments_text, crate::specs::EntryCalls::MkDirArgumentsFit))]
     fn put(&self, out: &mut Vec<u8>) -> Result<(), AllocError> {
         self.place.put(out)?;
         self.attributes.put(out)
@@ -273,7 +273,7 @@ impl XdrValue for SymLinkArguments {
 
     ghost fits = { SymLinkArgumentsFit };
 
-    #[tactic(auto, unfolding(crate::specs::Calls::sym_link_arguments))]
+    #[tactic(auto, unfolding(crate::specs::EntryCalls::sym_link_arguments))]
     fn read(alloc: Global, reader: &mut Reader<'_>) -> Result<SymLinkArguments, MessageFault> {
         let place = DirectoryName::read(alloc, reader)?;
         let attributes = SetAttributes::read(alloc, reader)?;
@@ -285,7 +285,7 @@ impl XdrValue for SymLinkArguments {
         })
     }
 
-    #[tactic(auto, unfolding(crate::specs::Calls::sym_link_arguments_text, crate::specs::Calls::SymLinkArgumentsFit))]
+    #[tactic(auto, unfolding(crate::specs::EntryCalls::sym_link_arguments_text, crate::specs::EntryCalls::SymLinkArgumentsFit))]
     fn put(&self, out: &mut Vec<u8>) -> Result<(), AllocError> {
         self.place.put(out)?;
         self.attributes.put(out)?;
@@ -305,14 +305,14 @@ impl XdrValue for RenameArguments {
 
     ghost fits = { RenameArgumentsFit };
 
-    #[tactic(auto, unfolding(crate::specs::Calls::rename_arguments))]
+    #[tactic(auto, unfolding(crate::specs::EntryCalls::rename_arguments))]
     fn read(alloc: Global, reader: &mut Reader<'_>) -> Result<RenameArguments, MessageFault> {
         let from = DirectoryName::read(alloc, reader)?;
         let to = DirectoryName::read(alloc, reader)?;
         Ok(RenameArguments { from, to })
     }
 
-    #[tactic(auto, unfolding(crate::specs::Calls::rename_arguments_text, crate::specs::Calls::RenameArgumentsFit))]
+    #[tactic(auto, unfolding(crate::specs::EntryCalls::rename_arguments_text, crate::specs::EntryCalls::RenameArgumentsFit))]
     fn put(&self, out: &mut Vec<u8>) -> Result<(), AllocError> {
         self.from.put(out)?;
         self.to.put(out)
@@ -331,7 +331,7 @@ impl XdrValue for ReadDirArguments {
 
     ghost fits = { ReadDirArgumentsFit };
 
-    #[tactic(auto, unfolding(crate::specs::Calls::read_dir_arguments))]
+    #[tactic(auto, unfolding(crate::specs::EntryCalls::read_dir_arguments))]
     fn read(alloc: Global, reader: &mut Reader<'_>) -> Result<ReadDirArguments, MessageFault> {
         let directory = FileHandle::read(alloc, reader)?;
         let cookie = u64::read(alloc, reader)?;
@@ -345,7 +345,7 @@ impl XdrValue for ReadDirArguments {
         })
     }
 
-    #[tactic(auto, unfolding(crate::specs::Calls::read_dir_arguments_text, crate::specs::Calls::ReadDirArgumentsFit))]
+    #[tactic(auto, unfolding(crate::specs::EntryCalls::read_dir_arguments_text, crate::specs::EntryCalls::ReadDirArgumentsFit))]
     fn put(&self, out: &mut Vec<u8>) -> Result<(), AllocError> {
         self.directory.put(out)?;
         self.cookie.put(out)?;
@@ -366,7 +366,7 @@ impl XdrValue for ReadDirPlusArguments {
 
     ghost fits = { ReadDirPlusArgumentsFit };
 
-    #[tactic(auto, unfolding(crate::specs::Calls::read_dir_plus_arguments))]
+    #[tactic(auto, unfolding(crate::specs::EntryCalls::read_dir_plus_arguments))]
     fn read(alloc: Global, reader: &mut Reader<'_>) -> Result<ReadDirPlusArguments, MessageFault> {
         let directory = FileHandle::read(alloc, reader)?;
         let cookie = u64::read(alloc, reader)?;
@@ -382,7 +382,7 @@ impl XdrValue for ReadDirPlusArguments {
         })
     }
 
-    #[tactic(auto, unfolding(crate::specs::Calls::read_dir_plus_arguments_text, crate::specs::Calls::ReadDirPlusArgumentsFit))]
+    #[tactic(auto, unfolding(crate::specs::EntryCalls::read_dir_plus_arguments_text, crate::specs::EntryCalls::ReadDirPlusArgumentsFit))]
     fn put(&self, out: &mut Vec<u8>) -> Result<(), AllocError> {
         self.directory.put(out)?;
         self.cookie.put(out)?;

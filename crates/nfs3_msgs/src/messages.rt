@@ -174,7 +174,7 @@ pub fn read_result(alloc: Global, procedure: u32, bytes: &[u8]) -> Result<NfsRep
 }
 
 // Appends the arguments of a call, or a part of them.
-#[tactic(auto, unfolding(crate::specs::Messages::arguments_text, crate::specs::Messages::CallFits))]
+#[tactic(auto, unfolding(crate::specs::Messages::arguments_text, crate::specs::Fits::CallFits))]
 fn put_call(out: &mut Vec<u8>, call: &NfsCall) -> Result<(), AllocError>
     ensures ok { OnOk result (out.new.items ≡ out.old.items ++ arguments_text call.now) }
     ensures fits { OnOk result (CallFits call.now) }
@@ -199,7 +199,7 @@ fn put_call(out: &mut Vec<u8>, call: &NfsCall) -> Result<(), AllocError>
 }
 
 // Appends a result, or a part of it.
-#[tactic(auto, unfolding(crate::specs::Messages::result_text, crate::specs::Messages::ReplyFits))]
+#[tactic(auto, unfolding(crate::specs::Messages::result_text, crate::specs::Fits::ReplyFits))]
 fn put_reply(out: &mut Vec<u8>, reply: &NfsReply) -> Result<(), AllocError>
     ensures ok { OnOk result (out.new.items ≡ out.old.items ++ result_text reply.now) }
     ensures fits { OnOk result (ReplyFits reply.now) }

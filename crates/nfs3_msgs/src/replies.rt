@@ -311,7 +311,7 @@ impl XdrValue for DirectoryEntry {
 
     ghost fits = { DirectoryEntryFits };
 
-    #[tactic(auto, unfolding(crate::specs::Replies::directory_entry))]
+    #[tactic(auto, unfolding(crate::specs::Listings::directory_entry))]
     fn read(alloc: Global, reader: &mut Reader<'_>) -> Result<DirectoryEntry, MessageFault> {
         let file_number = u64::read(alloc, reader)?;
         let name = Name::read(alloc, reader)?;
@@ -323,7 +323,7 @@ impl XdrValue for DirectoryEntry {
         })
     }
 
-    #[tactic(auto, unfolding(crate::specs::Replies::directory_entry_text, crate::specs::Replies::DirectoryEntryFits))]
+    #[tactic(auto, unfolding(crate::specs::Listings::directory_entry_text, crate::specs::Listings::DirectoryEntryFits))]
     fn put(&self, out: &mut Vec<u8>) -> Result<(), AllocError> {
         self.file_number.put(out)?;
         self.name.put(out)?;
@@ -343,7 +343,7 @@ impl XdrValue for ReadDirSuccess {
 
     ghost fits = { ReadDirSuccessFits };
 
-    #[tactic(auto, unfolding(crate::specs::Replies::read_dir_success))]
+    #[tactic(auto, unfolding(crate::specs::Listings::read_dir_success))]
     fn read(alloc: Global, reader: &mut Reader<'_>) -> Result<ReadDirSuccess, MessageFault> {
         let attributes = Optional::<FileAttributes>::read(alloc, reader)?;
         let verifier = Verifier::read(alloc, reader)?;
@@ -357,7 +357,7 @@ impl XdrValue for ReadDirSuccess {
         })
     }
 
-    #[tactic(auto, unfolding(crate::specs::Replies::read_dir_success_text, crate::specs::Replies::ReadDirSuccessFits))]
+    #[tactic(auto, unfolding(crate::specs::Listings::read_dir_success_text, crate::specs::Listings::ReadDirSuccessFits))]
     fn put(&self, out: &mut Vec<u8>) -> Result<(), AllocError> {
         self.attributes.put(out)?;
         self.verifier.put(out)?;
@@ -378,7 +378,7 @@ impl XdrValue for DirectoryEntryPlus {
 
     ghost fits = { DirectoryEntryPlusFits };
 
-    #[tactic(auto, unfolding(crate::specs::Replies::directory_entry_plus))]
+    #[tactic(auto, unfolding(crate::specs::Listings::directory_entry_plus))]
     fn read(alloc: Global, reader: &mut Reader<'_>) -> Result<DirectoryEntryPlus, MessageFault> {
         let file_number = u64::read(alloc, reader)?;
         let name = Name::read(alloc, reader)?;
@@ -394,7 +394,7 @@ impl XdrValue for DirectoryEntryPlus {
         })
     }
 
-    #[tactic(auto, unfolding(crate::specs::Replies::directory_entry_plus_text, crate::specs::Replies::DirectoryEntryPlusFits))]
+    #[tactic(auto, unfolding(crate::specs::Listings::directory_entry_plus_text, crate::specs::Listings::DirectoryEntryPlusFits))]
     fn put(&self, out: &mut Vec<u8>) -> Result<(), AllocError> {
         self.file_number.put(out)?;
         self.name.put(out)?;
@@ -416,7 +416,7 @@ impl XdrValue for ReadDirPlusSuccess {
 
     ghost fits = { ReadDirPlusSuccessFits };
 
-    #[tactic(auto, unfolding(crate::specs::Replies::read_dir_plus_success))]
+    #[tactic(auto, unfolding(crate::specs::Listings::read_dir_plus_success))]
     fn read(alloc: Global, reader: &mut Reader<'_>) -> Result<ReadDirPlusSuccess, MessageFault> {
         let attributes = Optional::<FileAttributes>::read(alloc, reader)?;
         let verifier = Verifier::read(alloc, reader)?;
@@ -430,7 +430,7 @@ impl XdrValue for ReadDirPlusSuccess {
         })
     }
 
-    #[tactic(auto, unfolding(crate::specs::Replies::read_dir_plus_success_text, crate::specs::Replies::ReadDirPlusSuccessFits))]
+    #[tactic(auto, unfolding(crate::specs::Listings::read_dir_plus_success_text, crate::specs::Listings::ReadDirPlusSuccessFits))]
     fn put(&self, out: &mut Vec<u8>) -> Result<(), AllocError> {
         self.attributes.put(out)?;
         self.verifier.put(out)?;

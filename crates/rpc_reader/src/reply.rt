@@ -49,7 +49,7 @@ fn reply_type(reader: &mut Reader<'_>) -> Result<(), RpcFault>
 }
 
 // The lowest and the highest version.
-#[tactic(auto, unfolding(crate::specs::Heads::versions))]
+#[tactic(auto, unfolding(crate::specs::ReplyHeads::versions))]
 fn versions(reader: &mut Reader<'_>) -> Result<(u32, u32), RpcFault>
     ensures { Tells (λ range. (range.0, range.1)) reader.new result (kind_reading kind_of versions reader.old) }
 {
@@ -58,7 +58,7 @@ fn versions(reader: &mut Reader<'_>) -> Result<(u32, u32), RpcFault>
     Ok((low, high))
 }
 
-#[tactic(auto, unfolding(crate::specs::Heads::accepted_reply))]
+#[tactic(auto, unfolding(crate::specs::ReplyHeads::accepted_reply))]
 fn accepted<'a>(reader: &mut Reader<'a>) -> Result<ReplyBody<'a>, RpcFault>
     ensures status { Tells status_of reader.new result (kind_reading kind_of accepted_reply reader.old) }
     ensures results { IfOk result (HoldsResults reader.new) }
@@ -78,7 +78,7 @@ fn accepted<'a>(reader: &mut Reader<'a>) -> Result<ReplyBody<'a>, RpcFault>
     }
 }
 
-#[tactic(auto, unfolding(crate::specs::Heads::rejected_reply))]
+#[tactic(auto, unfolding(crate::specs::ReplyHeads::rejected_reply))]
 fn denied<'a>(reader: &mut Reader<'a>) -> Result<ReplyBody<'a>, RpcFault>
     ensures status { Tells status_of reader.new result (kind_reading kind_of rejected_reply reader.old) }
     ensures results { IfOk result (HoldsResults reader.new) }
@@ -93,7 +93,7 @@ fn denied<'a>(reader: &mut Reader<'a>) -> Result<ReplyBody<'a>, RpcFault>
     }
 }
 
-#[tactic(auto, unfolding(crate::specs::Heads::reply_body))]
+#[tactic(auto, unfolding(crate::specs::ReplyHeads::reply_body))]
 fn body<'a>(reader: &mut Reader<'a>) -> Result<ReplyBody<'a>, RpcFault>
     ensures status { Tells status_of reader.new result (kind_reading kind_of reply_body reader.old) }
     ensures results { IfOk result (HoldsResults reader.new) }
@@ -105,7 +105,7 @@ fn body<'a>(reader: &mut Reader<'a>) -> Result<ReplyBody<'a>, RpcFault>
     }
 }
 
-#[tactic(auto, unfolding(crate::specs::Heads::reply_head))]
+#[tactic(auto, unfolding(crate::specs::ReplyHeads::reply_head))]
 fn head<'a>(reader: &mut Reader<'a>) -> Result<ReplyHead<'a>, RpcFault>
     ensures start { Tells start_of reader.new result (kind_reading kind_of reply_head reader.old) }
     ensures results { IfOk result (λ reply. HoldsResults reader.new reply.body) }
