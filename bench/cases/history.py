@@ -1,0 +1,73 @@
+"""History files and certificates (docs/FORMATS.md), and the cases that are made of them."""
+from cases.xdr import opaque, word
+
+PROGRAM, VERSION = 100003, 3
+
+# Flavors of credentials (RFC 5531, section 8.2): none, and that of RPCSEC_GSS, which hides the arguments.
+NO_FLAVOR, SEALED = 0, 6
+
+# The states of an accepted reply (RFC 5531, section 9).
+SUCCESS, GARBAGE_ARGS = 0, 4
+
+
+def call_message(xid, procedure, arguments, program=PROGRAM, version=VERSION, flavor=NO_FLAVOR):
+    head = word(xid) + word(0) + word(2) + word(program) + word(version) + word(procedure)
+    return head + word(flavor) + word(0) + word(0) + word(0) + arguments
+
+
+def reply_message(xid, result, state=SUCCESS):
+    return word(xid) + word(1) + word(0) + word(0) + word(0) + word(state) + result
+
+
+def call_event(lane, message):
+    return word(0) + word(lane) + opaque(message)
+
+
+def reply_event(lane, message):
+    return word(1) + word(lane) + opaque(message)
+
+
+def close_event(lane):
+    return word(2) + word(lane)
+
+
+CRASH_EVENT = word(3)
+
+ROOT = b"\0"
+
+
+def history_file(events, root=ROOT):
+    return b"NFSHIST1" + opaque(root) + word(len(events)) + b"".join(events)
+
+
+def certificate(lines, binds=()):
+    """Binds are pairs of a handle and an object."""
+    bound = ["bind %s %d" % (handle.hex(), object_number) for handle, object_number in sorted(binds)]
+    return "".join(line + "\n" for line in ["witness 1", *bound, *lines, "end"])
+
+
+class Cases:
+    """What is asked, and what has to be answered, a line each."""
+
+    def __init__(self):
+        self.asked, self.answered, self.names = [], [], set()
+
+    def add(self, case, asked, answer):
+        assert case not in self.names and " " not in case, case
+        self.names.add(case)
+        self.asked.append(asked)
+        self.answered.append("%s: %s\n" % (case, answer))
+
+    def judge(self, case, answer, history, text):
+        """The answer that a history file and a certificate's text get."""
+        self.judge_line(case, answer, history.hex(), text)
+
+    def judge_line(self, case, answer, line, text):
+        """The same where the bundle's first line is given."""
+        assert text == "" or text.endswith("\n") and "\n\n" not in text, case
+        self.add(case, "%s\n%s\n%s\n" % (case, line, text), answer)
+
+    def write(self, folder):
+        for file, lines in (("stdin", self.asked), ("stdout", self.answered)):
+            with open("%s/%s" % (folder, file), "w") as out:
+                out.write("".join(lines))

@@ -1,0 +1,110 @@
+"""What calls that leave the tree may tell of the sample tree: GETATTR, LOOKUP, READLINK, READ, READDIR, READDIRPLUS and COMMIT."""
+from cases.calls import commit, get_attributes, list_entries, list_names, look_up, read, read_link
+from cases.sample import BINDS, D, E, F, G, L, NEVER_MADE, ROOT, SAMPLE, UNBOUND, V, allowed, illegal, run
+from cases.xdr import DIR, FIFO, LNK, REG
+
+
+def add_all(cases):
+    attributes(cases)
+    names(cases)
+    handles(cases)
+    texts(cases)
+    bytes_read(cases)
+    ends(cases)
+    lists(cases)
+    lists_with_handles(cases)
+    commits(cases)
+
+
+def attributes(cases):
+    allowed(cases, "an-object-has-its-type-and-a-file-its-size", get_attributes(F).gives(REG, 3), get_attributes(D).gives(DIR, 4096),
+            get_attributes(L).gives(LNK, 3), get_attributes(L).gives(LNK, 77))
+    illegal(cases, "a-file-has-no-other-size", get_attributes(F).gives(REG, 4))
+    illegal(cases, "a-file-has-not-the-type-of-a-directory", get_attributes(F).gives(DIR, 3))
+    illegal(cases, "a-directory-has-not-the-type-of-a-file", get_attributes(D).gives(REG, 0))
+    illegal(cases, "a-link-has-not-the-type-of-a-pipe", get_attributes(L).gives(FIFO, 3))
+    illegal(cases, "no-attributes-are-told-at-a-handle-that-names-nothing", get_attributes(UNBOUND).gives(REG, 3))
+    illegal(cases, "no-attributes-are-told-of-an-object-that-was-never-made", get_attributes(NEVER_MADE).gives(REG, 3))
+
+
+def names(cases):
+    allowed(cases, "a-name-is-looked-up", look_up(ROOT, "f").gives(F), look_up(D, "g").gives(G))
+    illegal(cases, "a-name-leads-to-no-other-object", look_up(ROOT, "f").gives(D))
+    illegal(cases, "a-name-is-not-found-in-the-directory-above", look_up(ROOT, "g").gives(G))
+    illegal(cases, "a-name-is-not-found-in-a-file", look_up(F, "f").gives(F))
+    illegal(cases, "a-name-is-not-found-at-a-handle-that-names-nothing", look_up(UNBOUND, "f").gives(F))
+    allowed(cases, "dots-lead-to-the-directory-and-its-parent", look_up(D, ".").gives(D), look_up(D, "..").gives(ROOT),
+            look_up(ROOT, "..").gives(ROOT))
+    illegal(cases, "two-dots-lead-not-to-the-directory-itself", look_up(D, "..").gives(D))
+    illegal(cases, "a-dot-leads-not-to-the-parent", look_up(D, ".").gives(ROOT))
+    illegal(cases, "an-empty-name-leads-nowhere", look_up(D, "").gives(D))
+
+
+def handles(cases):
+    """Two handles may name one object, and the root's handle names the root, whatever it is bound to."""
+    binds = [*BINDS, (b"\xbb", F), (b"\xbc", ROOT), (b"\0", D)]
+    run(cases, "two-handles-may-name-one-object", "yes", *SAMPLE, get_attributes(0xBB).gives(REG, 3), look_up(ROOT, "f").gives(0xBB),
+        look_up(0xBC, "f").gives(F), look_up(D, "..").gives(0xBC), get_attributes(ROOT).gives(DIR, 0), binds=binds)
+    run(cases, "a-second-handle-names-no-second-object", "no: Illegal 8", *SAMPLE, look_up(ROOT, "d").gives(0xBB), binds=binds)
+    run(cases, "the-root-handle-is-not-bound-to-another", "no: Illegal 8", *SAMPLE, look_up(ROOT, "d").gives(ROOT), binds=binds)
+
+
+def texts(cases):
+    allowed(cases, "a-link-has-its-text", read_link(L).gives(b"x/y"))
+    illegal(cases, "a-link-has-no-other-text", read_link(L).gives(b"x/z"))
+    illegal(cases, "a-file-has-no-text", read_link(F).gives(b"abc"))
+
+
+def bytes_read(cases):
+    allowed(cases, "a-read-gives-the-bytes-of-the-file", read(F, 0, 9).gives(b"abc", True), read(F, 1, 1).gives(b"b", False))
+    illegal(cases, "a-read-gives-no-other-bytes", read(F, 1, 1).gives(b"a", False))
+    illegal(cases, "a-read-gives-no-bytes-behind-the-file", read(F, 0, 9).gives(b"abcd", True))
+    allowed(cases, "a-read-may-give-fewer-bytes", read(F, 0, 2).gives(b"ab", False), read(F, 0, 2).gives(b"a", False),
+            read(F, 0, 9).gives(b"ab", False))
+    illegal(cases, "a-read-gives-no-more-than-is-asked", read(F, 0, 2).gives(b"abc", True))
+    illegal(cases, "the-count-of-a-read-is-that-of-its-data", read(F, 0, 9).gives(b"abc", True, told=2))
+    allowed(cases, "an-empty-file-is-read", read(G, 0, 9).gives(b"", True))
+    illegal(cases, "no-directory-is-read", read(D, 0, 9).gives(b"", True))
+    illegal(cases, "no-link-is-read", read(L, 0, 9).gives(b"", True))
+    illegal(cases, "nothing-is-read-at-a-handle-that-names-nothing", read(UNBOUND, 0, 9).gives(b"", True))
+
+
+def ends(cases):
+    illegal(cases, "the-end-is-told-where-it-is-reached", read(F, 1, 9).gives(b"bc", False))
+    illegal(cases, "no-end-is-told-ahead-of-it", read(F, 0, 2).gives(b"ab", True))
+    allowed(cases, "the-end-is-told-behind-the-last-byte", read(F, 3, 9).gives(b"", True), read(F, 100, 9).gives(b"", True),
+            read(F, 0, 0).gives(b"", False))
+    illegal(cases, "the-end-is-told-far-behind-it", read(F, 100, 9).gives(b"", False))
+
+
+def lists(cases):
+    allowed(cases, "a-whole-list-has-every-entry", list_names(ROOT).gives(["l", "f", "v", "e", "d"], True),
+            list_names(ROOT).gives([".", "d", "e", "f", "l", "v"], True), list_names(D).gives(["g"], True))
+    illegal(cases, "a-whole-list-leaves-no-entry-out", list_names(ROOT).gives(["d", "e", "f", "v"], True))
+    allowed(cases, "a-part-of-a-list-may-leave-entries-out", list_names(ROOT).gives(["d", "f"], False),
+            list_names(ROOT, 7).gives(["d", "f"], True))
+    illegal(cases, "a-list-has-only-entries-of-its-directory", list_names(ROOT).gives(["d", "e", "f", "l", "v", "g"], True))
+    illegal(cases, "a-list-has-no-name-twice", list_names(ROOT).gives(["d", "d"], False))
+    illegal(cases, "no-file-is-listed", list_names(F).gives([], True))
+    illegal(cases, "nothing-is-listed-at-a-handle-that-names-nothing", list_names(UNBOUND).gives([], True))
+    allowed(cases, "both-dots-may-be-listed", list_names(ROOT).gives(["."], False), list_names(ROOT).gives([".."], False))
+    illegal(cases, "three-dots-are-listed-only-where-they-are-there", list_names(ROOT).gives(["..."], False))
+    illegal(cases, "no-empty-name-is-listed", list_names(ROOT).gives([""], False))
+
+
+def lists_with_handles(cases):
+    allowed(cases, "entries-may-be-listed-with-their-handles",
+            list_entries(ROOT).gives([("d", D), ("e", E), ("f", F), ("l", None), ("v", V)], True),
+            list_entries(ROOT).gives([(".", UNBOUND), ("..", F)], False))
+    illegal(cases, "no-entry-is-listed-with-the-handle-of-another",
+            list_entries(ROOT).gives([("d", D), ("e", E), ("f", D), ("l", L), ("v", V)], True))
+    illegal(cases, "no-entry-is-listed-with-a-handle-that-names-nothing", list_entries(ROOT).gives([("d", UNBOUND)], False))
+    illegal(cases, "a-dot-alone-is-no-whole-list", list_entries(ROOT).gives([(".", ROOT)], True))
+    illegal(cases, "no-absent-name-is-listed-with-a-handle", list_entries(ROOT).gives([("x", F)], False))
+
+
+def commits(cases):
+    allowed(cases, "a-file-is-committed", commit(F).gives())
+    illegal(cases, "no-directory-is-committed", commit(D).gives())
+    illegal(cases, "no-link-is-committed", commit(L).gives())
+    illegal(cases, "nothing-is-committed-at-a-handle-that-names-nothing", commit(UNBOUND).gives())
