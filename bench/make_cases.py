@@ -1,27 +1,30 @@
 #!/usr/bin/env python3
-"""Writes the cases that two programs judge, and the answers that they have to give.
+"""Writes what two programs are run on, cases by their names, and the answers that they have to give.
 
-make_cases.py FOLDER        of the folder of the crates: judged_cases/stdin and stdout
+make_cases.py FOLDER        of the folder of the crates: stdin and stdout of judged_cases and of message_cases
 
-An answer stands beside its case, as docs/PROFILE.md and docs/FORMATS.md have it. It is never taken from a program.
+Of `judged_cases` a case is a history and a certificate, of `message_cases` a text of a format. The answers stand beside the
+cases in `cases/`, as RFC 1813, RFC 5531, docs/PROFILE.md and docs/FORMATS.md have them. None is taken from a program.
 """
 import sys
 
 sys.dont_write_bytecode = True
 
-from cases import bundles, changes, cuts, failures, faults, looks, orders
+from cases import bundles, changes, cuts, failures, faults, looks, messages, orders
 from cases.history import Cases
 
 
-def judged():
+def collected(*parts):
     cases = Cases()
-    for part in (looks, changes, failures, faults, orders, cuts, bundles):
+    for part in parts:
         part.add_all(cases)
     return cases
 
 
 def main():
-    judged().write(sys.argv[1] + "/judged_cases")
+    folder = sys.argv[1]
+    collected(looks, changes, failures, faults, orders, cuts, bundles).write(folder + "/judged_cases")
+    collected(messages).write(folder + "/message_cases")
 
 
 main()
