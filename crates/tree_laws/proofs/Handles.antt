@@ -1,5 +1,5 @@
 -- what handles name in a tree
-use Rattle.std.proofs.Common.{◌≡◌, ℕ, List, Some, subst}
+use Rattle.std.proofs.Common.{◌≡◌, ℕ, List, Some, sym, ap, ◌∙◌, subst}
 use Rattle.std.specs.Prelude.{◌==◌}
 use Rattle.std.proofs.lemmas.Bool.{eqb-true}
 use Rattle.std.specs.FinMap as map
@@ -52,3 +52,14 @@ pub file_stands : (binds : Bindings) (tree : Tree) (handle : List ℕ) (f : File
 file_stands binds tree handle f h =
     let live = chained (λ e. as_file e.0 e.1.object e.1.content) (live_entry binds tree handle) f h in
     file_is tree live.0.0 live.0.1.object live.0.1.content f (live_stands binds tree handle live.0 live.1) live.2
+
+-- the file that a handle names has the object that it is bound to
+pub names_object : (binds : Bindings) (tree : Tree) (handle : List ℕ) (f : FileEntry) → file_of binds tree handle ≡ Some f → object_of binds handle ≡ Some f.object
+names_object binds tree handle f h =
+    let live = chained (λ e. as_file e.0 e.1.object e.1.content) (live_entry binds tree handle) f h in
+    let found = chained (entry_of tree) (object_of binds handle) live.0 live.1 in
+    found.1 ∙ ap Some (sym (entry_object tree found.0 live.0 found.2) ∙ as_object live.0.0 live.0.1.object live.0.1.content live.2) where
+      as_object : (path : Names) (object : ℕ) (content : _) → as_file path object content ≡ Some f → object ≡ f.object
+      as_object path object contents.Directory e = absurd (cc)
+      as_object path object (contents.File file) e = cc
+      as_object path object (contents.Link _) e = absurd (cc)

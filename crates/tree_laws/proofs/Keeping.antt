@@ -213,7 +213,7 @@ module _ (tree after : Tree) (p q : Names) (formed : IsWellFormed tree) (what : 
 
 -- ---- the opening tree
 
-only_root : (p : Names) (x : Node) → map.get opening p ≡ Some x → p ≡ []
+pub only_root : (p : Names) (x : Node) → map.get opening p ≡ Some x → p ≡ []
 unfolding opening
 only_root p x there = go (is_or_isnt p []) where
   go : (p ≡ []) ⊎ (p ≡ [] → ⊥) → p ≡ []

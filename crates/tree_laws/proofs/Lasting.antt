@@ -1,5 +1,5 @@
 -- what of an object lasts
-use Rattle.std.proofs.Common.{◌≡◌, ◌⊎◌, inl, inr, Bool, ◌++◌, Option, Some, refl, sym, ap, ◌∙◌, subst}
+use Rattle.std.proofs.Common.{◌≡◌, ℕ, ◌⊎◌, inl, inr, Bool, ◌++◌, Option, Some, refl, sym, ap, ◌∙◌, subst}
 use Rattle.std.specs.Prelude.{IsSome}
 use Rattle.std.specs.FinMap as map
 use Rattle.file_tree.specs.declared.change.Change.{Change}
@@ -16,7 +16,7 @@ use Rattle.tree_laws.specs.Renaming.{HasMoved}
 use Rattle.tree_laws.specs.Types.{MayBecome, ObjectsLast}
 use Rattle.tree_laws.specs.WellFormed.{IsWellFormed}
 use Rattle.tree_nodes.proofs.Chains.{mapped, same_some}
-use Rattle.tree_laws.proofs.Changing.{Replaces, Grows, Moves, Fits, change_fits}
+use Rattle.tree_laws.proofs.Changing.{Replaces, Grows, Moves, Fits, Over, change_fits}
 use Rattle.tree_laws.proofs.Keeping.{is_or_isnt, put_there, unused, left, Came, came}
 use Rattle.tree_laws.proofs.Moved.{has_moved}
 use Rattle.tree_laws.proofs.Staying.{get_put}
@@ -51,11 +51,11 @@ module _ (tree : Tree) (formed : IsWellFormed tree) where
     go (inl c) = it_was tree (a ++ c.0) y (sym c.2 ∙ there)
     go (inr c) = it_was tree q y (sym c.2 ∙ there)
 
-  was : (renames : Bool) (taken asked : Option Names) (c : Change) (q : Names) (y : Node) → Fits tree renames taken asked c → map.get (changed tree c) q ≡ Some y → Was tree y
-  was renames taken asked Keep q y fits there = it_was tree q y there
-  was renames taken asked (Put k v) q y fits there = was_put k v q y fits.1 there
-  was renames taken asked (Remove k) q y fits there = it_was tree q y (left tree k formed fits.2 q y there)
-  was renames taken asked (Move a b) q y fits there =
+  was : (number : ℕ) (over : ℕ → ℕ → Type 0) (renames : Bool) (taken asked : Option Names) (c : Change) (q : Names) (y : Node) → Fits number over tree renames taken asked c → map.get (changed tree c) q ≡ Some y → Was tree y
+  was number over renames taken asked Keep q y fits there = it_was tree q y there
+  was number over renames taken asked (Put k v) q y fits there = was_put k v q y fits.1 there
+  was number over renames taken asked (Remove k) q y fits there = it_was tree q y (left tree k formed fits.2 q y there)
+  was number over renames taken asked (Move a b) q y fits there =
       let what = fits.2 in
       was_moved a b what (has_moved tree a b what.stood what.outside what.bare) q y there
 
@@ -69,5 +69,5 @@ pub objects_last : ObjectsLast
 objects_last binds before after number call outcome p q x y formed e at_p at_q same =
     let change = mapped (changed before) (change_of binds before number call outcome) after e in
     lasts before formed p x y at_p same
-    (was before formed (is_rename call) (path_taken binds before call) (path_asked binds before call) change.0 q y (change_fits binds before number call outcome change.0 change.1)
+    (was before formed number (Over binds before call outcome) (is_rename call) (path_taken binds before call) (path_asked binds before call) change.0 q y (change_fits binds before number call outcome change.0 change.1)
     (ap (λ (t : Tree). map.get t q) change.2 ∙ at_q))

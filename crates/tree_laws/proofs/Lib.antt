@@ -14,3 +14,5 @@ pub mod Sizes
 pub mod Set
 pub mod Lasting
 pub mod Living
+pub mod Unwritten
+pub mod Later

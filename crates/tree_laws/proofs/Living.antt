@@ -14,7 +14,7 @@ use Rattle.tree_laws.specs.OnePath.{path_asked, is_rename}
 use Rattle.tree_laws.specs.LiveHandles.{path_taken, HandlesLast}
 use Rattle.tree_laws.specs.Renaming.{HasMoved}
 use Rattle.tree_nodes.proofs.Chains.{chained, mapped, value_of, absent, decide, differ}
-use Rattle.tree_laws.proofs.Changing.{Replaces, Grows, Moves, Fits, change_fits}
+use Rattle.tree_laws.proofs.Changing.{Replaces, Grows, Moves, Fits, Over, change_fits}
 use Rattle.tree_nodes.proofs.Found.{some_found, from_front, parts_of, bare_below}
 use Rattle.tree_laws.proofs.Handles.{entry_object, live_stands}
 use Rattle.tree_laws.proofs.Keeping.{is_or_isnt, put_there}
@@ -62,11 +62,11 @@ module _ (tree : Tree) (p : Names) (x : Node) (there : map.get tree p ≡ Some x
       same = refl;
     }
 
-  on : (renames : Bool) (taken asked : Option Names) (c : Change) → Fits tree renames taken asked c → (taken ≡ Some p → ⊥) → Stands (changed tree c) x.object
-  on renames taken asked Keep fits kept = record { path = p; node = x; there = there; same = refl }
-  on renames taken asked (Put k v) fits kept = put_on k v fits.1
-  on renames taken asked (Remove k) fits kept = record { path = p; node = x; there = get_left tree k p (λ same. kept (fits.1 ∙ ap Some (sym same))) ∙ there; same = refl }
-  on renames taken asked (Move a b) fits kept =
+  on : (number : ℕ) (over : ℕ → ℕ → Type 0) (renames : Bool) (taken asked : Option Names) (c : Change) → Fits number over tree renames taken asked c → (taken ≡ Some p → ⊥) → Stands (changed tree c) x.object
+  on number over renames taken asked Keep fits kept = record { path = p; node = x; there = there; same = refl }
+  on number over renames taken asked (Put k v) fits kept = put_on k v fits.1
+  on number over renames taken asked (Remove k) fits kept = record { path = p; node = x; there = get_left tree k p (λ same. kept (fits.1 ∙ ap Some (sym same))) ∙ there; same = refl }
+  on number over renames taken asked (Move a b) fits kept =
       let what = fits.2 in
       moved_on a b what (has_moved tree a b what.stood what.outside what.bare) (λ same. kept (fits.1 ∙ ap Some (sym same)))
 
@@ -82,5 +82,5 @@ handles_last binds before after number call outcome handle e formed next live ke
     let fits = change_fits binds before number call outcome change.0 change.1 in
     let found = chained (entry_of before) (object_of binds handle) e live in
     let object : e.1.object ≡ found.0 = entry_object before found.0 e found.2 in
-    let stands = on before e.0 e.1 (live_stands binds before handle e live) (is_rename call) (path_taken binds before call) (path_asked binds before call) change.0 fits kept in
+    let stands = on before e.0 e.1 (live_stands binds before handle e live) number (Over binds before call outcome) (is_rename call) (path_taken binds before call) (path_asked binds before call) change.0 fits kept in
     lives binds after handle e.1.object (found.1 ∙ ap Some (sym object)) (subst (λ (t : Tree). Stands t e.1.object) change.2 stands)

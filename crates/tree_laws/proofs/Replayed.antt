@@ -20,13 +20,13 @@ use Rattle.tree_laws.proofs.Keeping.{is_or_isnt}
 use Rattle.tree_laws.specs.Outcomes.{step}
 use Rattle.tree_laws.specs.Example.{handles, create, write, two_written, read, two_read, look_up, none_found, set_size, make_directory, remove_directory, rename_file, rename_directory, make_link, remove_file, unseen, IsRun}
 
-abbrev root : Node
+abbrev pub root : Node
 root = record { object = 0; content = contents.Directory }
 
 abbrev first : List (Names × Node)
 first = ([], root) ∷ []
 
-entries_opening : map.entries opening ≡ first
+pub entries_opening : map.entries opening ≡ first
 unfolding opening
 entries_opening = map.entries-insert path_total map.empty [] root ∙ ap (es.put path_cmp [] root) (entries_empty path_cmp Node)
 
@@ -58,10 +58,10 @@ abbrev target : Node
 target = record { object = 11; content = contents.Link (101 ∷ []) }
 
 -- the entries of a tree, and those that a change makes of them
-abbrev Has : Tree → List (Names × Node) → Type 0
+abbrev pub Has : Tree → List (Names × Node) → Type 0
 Has tree xs = map.entries tree ≡ xs
 
-put : (t : Tree) (xs : List (Names × Node)) (p : Names) (node : Node) → Has t xs → Has (map.insert t p node) (es.put path_cmp p node xs)
+pub put : (t : Tree) (xs : List (Names × Node)) (p : Names) (node : Node) → Has t xs → Has (map.insert t p node) (es.put path_cmp p node xs)
 put t xs p node is = map.entries-insert path_total t p node ∙ ap (es.put path_cmp p node) is
 
 all_put : List (Names × Node) → List (Names × Node)

@@ -1,5 +1,5 @@
 -- every step, and so every run, keeps a tree well formed
-use Rattle.std.proofs.Common.{◌≡◌, ◌⊎◌, inl, inr, Bool, List, [], ◌∷◌, Option, Some, subst}
+use Rattle.std.proofs.Common.{◌≡◌, ℕ, ◌⊎◌, inl, inr, Bool, List, [], ◌∷◌, Option, Some, subst}
 use Rattle.std.specs.FinMap as map
 use Rattle.nfs3_types.specs.declared.calls.NfsCall.{NfsCall}
 use Rattle.nfs3_types.specs.declared.replies.Outcome.{Outcome}
@@ -15,7 +15,7 @@ use Rattle.tree_laws.specs.LiveHandles.{path_taken}
 use Rattle.tree_laws.specs.OnePath.{path_asked, is_rename}
 use Rattle.tree_laws.specs.WellFormed.{IsWellFormed, StepsKeep, RunsKeep}
 use Rattle.tree_nodes.proofs.Chains.{chained, mapped, same_some}
-use Rattle.tree_laws.proofs.Changing.{Replaces, Grows, Fits, change_fits}
+use Rattle.tree_laws.proofs.Changing.{Replaces, Grows, Fits, Over, change_fits}
 use Rattle.tree_laws.proofs.Moved.{has_moved}
 use Rattle.tree_laws.proofs.Keeping.{formed_replaced, formed_grown, formed_shrunk, formed_moved, formed_opening}
 
@@ -23,18 +23,19 @@ formed_put : (tree : Tree) (path : Names) (node : Node) → IsWellFormed tree �
 formed_put tree path node formed (inl what) = formed_replaced tree path node formed what
 formed_put tree path node formed (inr what) = formed_grown tree path node formed what
 
-formed_changed : (tree : Tree) (renames : Bool) (taken asked : Option Names) (c : Change) → IsWellFormed tree → Fits tree renames taken asked c → IsWellFormed (changed tree c)
-formed_changed tree renames taken asked Keep formed fits = formed
-formed_changed tree renames taken asked (Put path node) formed fits = formed_put tree path node formed fits.1
-formed_changed tree renames taken asked (Remove path) formed fits = formed_shrunk tree path formed fits.2
-formed_changed tree renames taken asked (Move p q) formed fits =
+formed_changed : (number : ℕ) (over : ℕ → ℕ → Type 0) (tree : Tree) (renames : Bool) (taken asked : Option Names) (c : Change) → IsWellFormed tree
+    → Fits number over tree renames taken asked c → IsWellFormed (changed tree c)
+formed_changed number over tree renames taken asked Keep formed fits = formed
+formed_changed number over tree renames taken asked (Put path node) formed fits = formed_put tree path node formed fits.1
+formed_changed number over tree renames taken asked (Remove path) formed fits = formed_shrunk tree path formed fits.2
+formed_changed number over tree renames taken asked (Move p q) formed fits =
     let what = fits.2 in
     formed_moved tree (moved tree p q) p q formed what (has_moved tree p q what.stood what.outside what.bare)
 
 pub steps_keep : StepsKeep
 steps_keep binds before after number call outcome e formed =
     let change = mapped (changed before) (change_of binds before number call outcome) after e in
-    subst IsWellFormed change.2 (formed_changed before (is_rename call) (path_taken binds before call) (path_asked binds before call) change.0 formed (change_fits binds before number call outcome change.0 change.1))
+    subst IsWellFormed change.2 (formed_changed number (Over binds before call outcome) before (is_rename call) (path_taken binds before call) (path_asked binds before call) change.0 formed (change_fits binds before number call outcome change.0 change.1))
 
 run_keeps : (binds : Bindings) (start : Tree) (steps : List (Taken NfsCall Outcome)) (tree : Tree) → IsWellFormed start → state_after (next_tree binds) start steps ≡ Some tree → IsWellFormed tree
 run_keeps binds start [] tree formed e = subst IsWellFormed (same_some start tree e) formed

@@ -26,11 +26,11 @@ use Rattle.file_tree.specs.Written.{set_attributes, write_at, write_change}
 use Rattle.tree_laws.specs.WellFormed.{IsWellFormed}
 use Rattle.tree_laws.specs.FileBytes.{BytesBecome, AreWritten, WriteSets, AreResized, SetAttrSets}
 use Rattle.tree_nodes.proofs.Chains.{chained, mapped, passed, same_some, both_pass}
-use Rattle.tree_laws.proofs.Handles.{IsFileAt}
+use Rattle.tree_laws.proofs.Handles.{IsFileAt, names_object}
 use Rattle.tree_laws.proofs.Keeping.{put_there}
 use Rattle.tree_laws.proofs.Running.{steps_keep}
 use Rattle.tree_laws.proofs.Sizes.{resized_length, resized_byte, written_length, written_new, written_ahead, written_behind}
-use Rattle.tree_laws.proofs.Written.{names_object, finds_file, wrote}
+use Rattle.tree_laws.proofs.Written.{finds_file, wrote}
 
 -- a file that is put in place of the one that a handle names
 became : (binds : Bindings) (before after : Tree) (handle bytes : List ℕ) (f : FileEntry) (Become : List ℕ → List ℕ → Type 0) → IsWellFormed after → file_of binds before handle ≡ Some f

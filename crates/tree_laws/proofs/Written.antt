@@ -1,16 +1,14 @@
 -- what stands in a file after a WRITE, and what a READ gives of it
-use Rattle.std.proofs.Common.{◌≡◌, ℕ, ◌+◌, ◌≤◌, Bool, true, false, cond, eq-eqb, List, [], ◌∷◌, ◌++◌, suc, zero, length, take, drop, Option, Some, None, refl, sym, ap, ◌∙◌, subst, arith, append_assoc}
+use Rattle.std.proofs.Common.{◌≡◌, ℕ, ◌+◌, ◌≤◌, Bool, true, false, cond, eq-eqb, List, ◌++◌, suc, zero, length, take, drop, Option, Some, None, refl, sym, ap, ◌∙◌, subst, arith, append_assoc}
 use Rattle.std.specs.Prelude.{◌&&◌, ◌==◌, nat_le, nat_eq, option_and_then, option_map}
 use Rattle.std.specs.Option.{option_map_or}
 use Rattle.std.proofs.lemmas.Bool.{eqb-true, leb-true, le-leb}
 use Rattle.std.proofs.lemmas.Cmp.{nat_list_eq_equiv}
 use Rattle.std.proofs.lemmas.List.{length-take-le, take-take, take-append-le, drop_at}
-use Rattle.std.specs.List.{list_all}
 use Rattle.std.specs.FinMap as map
 use Rattle.nfs3_types.specs.declared.calls.StableHow.{StableHow}
 use Rattle.nfs3_types.specs.declared.calls.WriteArguments.{WriteArguments}
 use Rattle.nfs3_types.specs.declared.calls.ReadArguments.{ReadArguments}
-use Rattle.nfs3_types.specs.declared.calls.NfsCall.{NfsCall}
 use Rattle.nfs3_types.specs.declared.calls.NfsCall.TheVariants as calls
 use Rattle.nfs3_types.specs.declared.replies.Answer.TheVariants.{Done}
 use Rattle.nfs3_types.specs.declared.replies.ReadSuccess.{ReadSuccess}
@@ -21,23 +19,20 @@ use Rattle.file_tree.specs.declared.change.Change.TheVariants.{Keep, Put}
 use Rattle.tree_nodes.specs.declared.node.File.{File}
 use Rattle.tree_nodes.specs.declared.node.Content.TheVariants as contents
 use Rattle.tree_nodes.specs.Files.{file_node, resized, written}
-use Rattle.replay_law.specs.Run as run
-use Rattle.tree_nodes.specs.Tree.{Names, Tree, entry_of, opening}
+use Rattle.tree_nodes.specs.Tree.{Names, Tree, entry_of}
 use Rattle.tree_handles.specs.Binding.{Bindings, object_of, same_bytes}
-use Rattle.tree_handles.specs.Live.{FileEntry, live_entry, as_file, file_of}
+use Rattle.tree_handles.specs.Live.{FileEntry, as_file, file_of}
 use Rattle.tree_reads.specs.Look.{same_flag, read_is_right, got_bytes}
 use Rattle.file_tree.specs.Success.{changed, next_tree}
 use Rattle.file_tree.specs.Written.{write_at, write_change}
-use Rattle.tree_laws.specs.Leaving.{only_looks}
-use Rattle.tree_laws.specs.Outcomes.{step}
+use Rattle.tree_laws.specs.Outcomes.{count_written}
 use Rattle.tree_laws.specs.WellFormed.{IsWellFormed}
-use Rattle.tree_laws.specs.ReadBack.{count_written, ReadsBack, OnlyWhatWasWritten, WhatWasWritten, RunsReadBack}
+use Rattle.tree_laws.specs.ReadBack.{ReadsBack, OnlyWhatWasWritten, WhatWasWritten}
 use Rattle.tree_nodes.proofs.Chains.{chained, mapped, passed, same_some, both_pass, value_of}
 use Rattle.tree_nodes.proofs.Found.{found_stands, some_found, pointwise_same}
-use Rattle.tree_laws.proofs.Handles.{IsFileAt, entry_object}
-use Rattle.tree_laws.proofs.Kept.{looking_leaves}
+use Rattle.tree_laws.proofs.Handles.{IsFileAt, entry_object, names_object}
 use Rattle.tree_laws.proofs.Keeping.{put_there}
-use Rattle.tree_laws.proofs.Running.{steps_keep, runs_keep}
+use Rattle.tree_laws.proofs.Running.{steps_keep}
 use Rattle.tree_laws.proofs.Sizes.{resized_length}
 
 -- ---- bytes
@@ -50,16 +45,6 @@ written_at old offset added n within =
     ∙ take-append-le n added (drop (offset + length added) old) within
 
 -- ---- the file that a handle names
-
-pub names_object : (binds : Bindings) (tree : Tree) (handle : List ℕ) (f : FileEntry) → file_of binds tree handle ≡ Some f → object_of binds handle ≡ Some f.object
-names_object binds tree handle f h =
-    let live = chained (λ e. as_file e.0 e.1.object e.1.content) (live_entry binds tree handle) f h in
-    let found = chained (entry_of tree) (object_of binds handle) live.0 live.1 in
-    found.1 ∙ ap Some (sym (entry_object tree found.0 live.0 found.2) ∙ as_object live.0.0 live.0.1.object live.0.1.content live.2) where
-      as_object : (path : Names) (object : ℕ) (content : _) → as_file path object content ≡ Some f → object ≡ f.object
-      as_object path object contents.Directory e = absurd (cc)
-      as_object path object (contents.File file) e = cc
-      as_object path object (contents.Link _) e = absurd (cc)
 
 -- in a well-formed tree a handle of a file's object names that file
 pub finds_file : (binds : Bindings) (tree : Tree) (handle : List ℕ) (path : Names) (object : ℕ) (file : File) → IsWellFormed tree → object_of binds handle ≡ Some object → IsFileAt tree path object file
@@ -146,7 +131,7 @@ fits_write binds before after write read back =
 same_text : (a b : List ℕ) → same_bytes a b ≡ true → a ≡ b
 same_text = pointwise_same nat_eq eqb-true
 
-right_is : (bytes : List ℕ) (read : ReadArguments) (answer : ReadSuccess) → read_is_right bytes read answer ≡ true
+pub right_is : (bytes : List ℕ) (read : ReadArguments) (answer : ReadSuccess) → read_is_right bytes read answer ≡ true
     → (answer.count ≡ length answer.bytes) × (length answer.bytes ≤ read.count) × (answer.bytes ≡ take (length answer.bytes) (drop read.offset bytes))
 right_is bytes read answer h =
     let all = both_pass _ _ h in
@@ -199,49 +184,3 @@ what_was_written binds before after write read attributes count back few =
           ∙ four _ _ _ _ (eq-eqb count (length bytes) (sym long)) (le-leb (length bytes) read.count (omega arith))
           (ap (same_bytes bytes) same ∙ nat_list_eq_equiv.refl bytes) (flag_itself eof),
     )
-
--- ---- in a run
-
-split_run : (binds : Bindings) (start last : Tree) (ahead behind : List (run.Taken NfsCall Outcome)) → run.state_after (next_tree binds) start (ahead ++ behind) ≡ Some last
-    → (middle : Tree) × (run.state_after (next_tree binds) start ahead ≡ Some middle) × (run.state_after (next_tree binds) middle behind ≡ Some last)
-split_run binds start last [] behind e = (start, refl, e)
-split_run binds start last (one ∷ ahead) behind e =
-    let next = chained (λ after. run.state_after (next_tree binds) after (ahead ++ behind)) (next_tree binds start one.number one.call one.outcome) last e in
-    let parts = split_run binds next.0 last ahead behind next.2 in
-    (parts.0, ap (option_and_then (λ after. run.state_after (next_tree binds) after ahead)) next.1 ∙ parts.1, parts.2)
-
-read_right : (binds : Bindings) (before after : Tree) (right : Bool) → option_map (changed before) (cond right (Some Keep) None) ≡ Some after → right ≡ true
-read_right binds before after true e = refl
-read_right binds before after false e = absurd (cc)
-
--- calls that only look leave the tree
-looks_leave : (binds : Bindings) (start last : Tree) (between : List (run.Taken NfsCall Outcome)) → list_all (λ one. only_looks one.call) between ≡ true
-    → run.state_after (next_tree binds) start between ≡ Some last → last ≡ start
-looks_leave binds start last [] look e = sym (same_some start last e)
-looks_leave binds start last (one ∷ between) look e =
-    let next = chained (λ after. run.state_after (next_tree binds) after between) (next_tree binds start one.number one.call one.outcome) last e in
-    let both = both_pass (only_looks one.call) (list_all (λ one. only_looks one.call) between) look in
-    looks_leave binds next.0 last between both.1 next.2 ∙ looking_leaves binds start next.0 one.number one.call one.outcome both.0 next.1
-
-pub runs_read_back : RunsReadBack
-runs_read_back binds ahead between m n write outcome count read answer runs look counted file offset within =
-    let reading = step n (calls.Read read) (Received (replies.Read (Done answer))) ∷ [] in
-    let last = value_of _ runs in
-    let parts = split_run binds opening last.0 ahead (step m (calls.Write write) outcome ∷ (between ++ reading)) last.1 in
-    let wrote = chained (λ after. run.state_after (next_tree binds) after (between ++ reading)) (next_tree binds parts.0 m (calls.Write write) outcome) last.0 parts.2 in
-    let looked = split_run binds wrote.0 last.0 between reading wrote.2 in
-    let was_read = chained (λ after. run.state_after (next_tree binds) after []) (next_tree binds looked.0 n (calls.Read read) (Received (replies.Read (Done answer)))) last.0 looked.2 in
-    let same = looks_leave binds wrote.0 looked.0 between look looked.1 in
-    let right = read_right binds looked.0 was_read.0 (got_bytes binds looked.0 read (replies.Read (Done answer))) was_read.1 in
-    let back : ReadsBack binds parts.0 wrote.0 write read = record {
-      formed = runs_keep binds ahead parts.0 parts.1;
-      number = m;
-      outcome = outcome;
-      wrote = wrote.1;
-      count = count;
-      counted = counted;
-      same_file = file;
-      same_offset = offset;
-      within = within;
-    } in
-    (only_what_was_written binds parts.0 wrote.0 write read answer back (ap (λ (t : Tree). got_bytes binds t read (replies.Read (Done answer))) (sym same) ∙ right)).1

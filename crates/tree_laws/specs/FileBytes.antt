@@ -9,9 +9,8 @@ use Rattle.tree_nodes.specs.Tree.{Tree}
 use Rattle.tree_handles.specs.Binding.{Bindings}
 use Rattle.tree_handles.specs.Live.{FileEntry, file_of}
 use Rattle.file_tree.specs.Success.{next_tree}
-use Rattle.tree_laws.specs.Outcomes.{IsSuccess}
+use Rattle.tree_laws.specs.Outcomes.{IsSuccess, count_written}
 use Rattle.tree_laws.specs.WellFormed.{IsWellFormed}
-use Rattle.tree_laws.specs.ReadBack.{count_written}
 
 -- a handle names the same file in both trees, and this is what became of its bytes
 pub record BytesBecome (binds : Bindings) (handle : List ℕ) (before after : Tree) (Become : List ℕ → List ℕ → Type 0) : Type 0 where

@@ -4,6 +4,7 @@ pub mod OneGone
 pub mod OnePath
 pub mod Renaming
 pub mod WellFormed
+pub mod WritingOver
 pub mod ReadBack
 pub mod FileBytes
 pub mod Types

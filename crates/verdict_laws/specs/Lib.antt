@@ -1,2 +1,3 @@
 pub mod Without
 pub mod Kept
+pub mod Example

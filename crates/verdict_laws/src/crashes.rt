@@ -9,7 +9,7 @@ ghost use Rattle.cut_check.specs.Places.{bindings_of, effects_of, era_at};
 ghost use Rattle.cut_check.specs.Stable.{IsStableAt};
 ghost use Rattle.cut_check.specs.Verifier.{loses_write, Shows};
 ghost use Rattle.witness_check.specs.Witness.{IsWitness};
-ghost use Rattle.verdict_laws.specs.Kept.{WhatWasKept};
+ghost use Rattle.verdict_laws.specs.Kept.{SyncedIsLeft, WhatWasKept};
 
 /// A crash takes no stable place away: the position of each one, from 1 on, is within its era's cut.
 pub fn stable_places_are_kept()
@@ -19,10 +19,13 @@ pub fn stable_places_are_kept()
         → position ≤ cut_of era }
 {}
 
-/// What a WRITE that a crash left wrote is read after it, where the calls that were kept behind it, and those ahead of the
-/// READ, only look.
+/// A WRITE that was answered DATA_SYNC or FILE_SYNC is left by the crash that ends its era. What a WRITE wrote that was left is
+/// read in each later era, and before that in its own, byte by byte, unless a call in between that was left too wrote over it; no
+/// READ says that the file ends ahead of it. Whether the file was removed isn't asked: where the READ succeeds it wasn't, since
+/// no object comes back.
 pub fn what_was_kept_is_read()
-    ensures { WhatWasKept }
+    ensures synced { SyncedIsLeft }
+    ensures read { WhatWasKept }
 {}
 
 /// Two eras that each lost a WRITE of at least one byte never show the same write verifier.

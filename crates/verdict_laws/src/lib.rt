@@ -3,9 +3,11 @@
 #![tactic(auto)]
 
 mod crashes;
+mod example;
 mod without;
 
 pub use crashes::{
     lost_writes_show_different_verifiers, stable_places_are_kept, what_was_kept_is_read,
 };
+pub use example::the_premises_are_met;
 pub use without::without_a_crash_the_order_is_linear;

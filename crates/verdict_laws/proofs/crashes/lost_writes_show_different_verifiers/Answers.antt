@@ -1,4 +1,4 @@
-use Rattle.std.proofs.Common.{◌≡◌, ℕ, ◌<◌, sym, subst, arith, inl, inr}
+use Rattle.std.proofs.Common.{sym, subst, arith, inl, inr}
 use Rattle.std.proofs.lemmas.Bool.{cases_lt}
 use Rattle.cut_check.specs.Verifier.{Shows}
 use Rattle.verdict_laws.proofs.crashes.lost_writes_show_different_verifiers.Goals as goal

@@ -1,0 +1,4 @@
+pub mod Left
+pub mod Numbers
+pub mod Seen
+pub mod Applies
