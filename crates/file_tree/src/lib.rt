@@ -3,18 +3,8 @@
 
 mod change;
 mod create;
-#[cfg(test)]
-mod file_tests;
-#[cfg(test)]
-mod name_tests;
 mod naming;
-#[cfg(test)]
-mod outcome_tests;
 mod rename;
-#[cfg(test)]
-mod rename_tests;
-#[cfg(test)]
-mod sample;
 mod success;
 #[cfg(test)]
 mod tests;

@@ -1,16 +1,8 @@
-//! Tests of what is read from bytes and texts and written to them, through the public calls of the crates that do it.
+//! Tests of items of XDR, of records in pieces, and of values that are copied and compared.
 #![tactic(auto)]
 
 #[cfg(test)]
-mod certificates;
-#[cfg(test)]
-mod heads;
-#[cfg(test)]
-mod histories;
-#[cfg(test)]
 mod items;
-#[cfg(test)]
-mod messages;
 #[cfg(test)]
 mod records;
 #[cfg(test)]

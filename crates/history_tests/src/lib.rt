@@ -1,10 +1,8 @@
-//! Tests of histories, and of the order of plans against them, through the public calls of the crates that judge them.
+//! Tests of histories, through the public calls of the crate that reads them.
 #![tactic(auto)]
 
 #[cfg(test)]
 mod eras;
-#[cfg(test)]
-mod order;
 #[cfg(test)]
 mod reading;
 #[cfg(test)]
