@@ -8,8 +8,8 @@ use Rattle.nfs3_types.specs.declared.calls.CreateArguments.{CreateArguments}
 use Rattle.nfs3_types.specs.declared.calls.DirectoryName.{DirectoryName}
 use Rattle.nfs3_types.specs.declared.calls.MkDirArguments.{MkDirArguments}
 use Rattle.nfs3_types.specs.declared.calls.SymLinkArguments.{SymLinkArguments}
-use Rattle.file_tree.specs.declared.change.Change.{Change}
-use Rattle.file_tree.specs.declared.change.Change.TheVariants.{Keep, Put}
+use Rattle.file_tree.specs.Change.{Change}
+use Rattle.file_tree.specs.Change.Change.{Keep, Put}
 use Rattle.tree_nodes.specs.declared.node.Node.{Node}
 use Rattle.tree_nodes.specs.declared.node.Content.{Content}
 use Rattle.tree_nodes.specs.declared.node.Content.TheVariants as contents

@@ -119,6 +119,13 @@ impl Path {
         }
     }
 
+    /// The path of these names.
+    pub(crate) fn new(names: Vec<Bytes>) -> Path
+        ensures { result ≡ names.items }
+    {
+        Path { names }
+    }
+
     /// The names.
     pub fn names(&self) -> &[Bytes]
         ensures { result.now ≡ self.now }
