@@ -1,9 +1,9 @@
 //! Whether the events of a recording may follow one another.
 
-ghost use Rattle.std.specs.Prelude.{◌+◌, ◌<◌, ◌^◌, ◌≡◌, OnOk, IfOk};
+ghost use Rattle.std.specs.Prelude.{◌+◌, ◌<◌, ◌^◌, ◌≡◌, [], OnOk, OnErr, IfOk};
 ghost use Rattle.history_file.specs.Event.Event.{call, reply};
 ghost use Rattle.history_file.specs.Owning.{happened, all_happened};
-ghost use Rattle.nfs_history.specs.Checking.{is_known_closed, IsFaultBehind, KnowsOneMore, IsFirstFault};
+ghost use Rattle.nfs_history.specs.Checking.{is_known_closed, Knows, IsFaultBehind, KnowsOneMore, KnowsAsMuch, IsFirstFault};
 
 use crate::fault::EventFault;
 use crate::matching::transaction;
@@ -26,14 +26,25 @@ pub enum LaneUse {
 pub struct OpenCalls {
     /// The calls that are unanswered, each by its lane and transaction number. Those of an era that has ended stay:
     /// their lanes are closed.
-    pub unanswered: IndexSet<(u32, u32)>,
+    unanswered: IndexSet<(u32, u32)>,
     /// The lanes with an event.
-    pub lanes: IndexMap<u32, LaneUse>,
+    lanes: IndexMap<u32, LaneUse>,
     /// The era, from 1 on.
-    pub era: u64,
+    era: u64,
 }
 
 impl OpenCalls {
+    /// Ahead of the first event.
+    pub fn new(alloc: Global) -> OpenCalls
+        ensures { Knows result [] }
+    {
+        OpenCalls {
+            unanswered: IndexSet::new(alloc),
+            lanes: IndexMap::new(alloc),
+            era: 1,
+        }
+    }
+
     /// Whether a lane is closed: by its close, or since it was last used in an era that has ended.
     fn is_closed(&self, lane: u32) -> bool
         ensures { result ≡ is_known_closed self.now lane }
@@ -80,7 +91,7 @@ impl OpenCalls {
     }
 
     /// Why event `number` may not come next.
-    fn fault_of(&self, number: u64, event: &Event) -> Option<EventFault>
+    pub fn fault_of(&self, number: u64, event: &Event) -> Option<EventFault>
         ensures { IsFaultBehind self.now number (happened event.now) result }
     {
         match event {
@@ -97,12 +108,14 @@ impl OpenCalls {
     }
 
     /// Takes in the next event.
-    fn follow(&mut self, event: &Event) -> Result<(), AllocError>
+    pub fn follow(&mut self, event: &Event) -> Result<(), AllocError>
         requires { self.old.era + 1 < 2 ^ 64 }
-        ensures { OnOk result (KnowsOneMore self.old self.new (happened event.now)) }
+        ensures ok { OnOk result (KnowsOneMore self.old self.new (happened event.now)) }
+        ensures err { OnErr result (KnowsAsMuch self.old self.new) }
     {
         match event {
             Event::Call { lane, message } => {
+                self.unanswered.reserve(1)?;
                 self.lanes.insert(*lane, LaneUse::InEra(self.era))?;
                 self.unanswered
                     .insert((*lane, transaction(message.as_slice())))?;
@@ -125,11 +138,7 @@ impl OpenCalls {
 pub fn first_event_fault(alloc: Global, events: &[Event]) -> Result<Option<EventFault>, AllocError>
     ensures { IfOk result (IsFirstFault (all_happened events.now)) }
 {
-    let mut calls = OpenCalls {
-        unanswered: IndexSet::new(alloc),
-        lanes: IndexMap::new(alloc),
-        era: 1,
-    };
+    let mut calls = OpenCalls::new(alloc);
     for (index, event) in events.iter().enumerate() {
         if let Some(fault) = calls.fault_of(index as u64 + 1, event) {
             return Ok(Some(fault));
