@@ -6,7 +6,7 @@ use nfs3_types::FileHandle;
 use std::marker::Model;
 
 /// A handle, and the number of the object that it names: 0 is the root, n what call n made.
-#[derive(Debug, PartialEq, Eq, Drop)]
+#[derive(Debug, Drop)]
 pub struct Bind {
     pub handle: FileHandle,
     pub object: u64,

@@ -15,14 +15,14 @@ pub enum FileType {
 }
 
 /// A moment since the first of January 1970, `nfstime3`.
-#[derive(Clone, Copy, Debug, PartialEq, Eq)]
+#[derive(Clone, Copy, Debug)]
 pub struct Time {
     pub seconds: u32,
     pub nanoseconds: u32,
 }
 
 /// The two numbers of a device, `specdata3`.
-#[derive(Clone, Copy, Debug, PartialEq, Eq)]
+#[derive(Clone, Copy, Debug)]
 pub struct Device {
     pub major: u32,
     pub minor: u32,
@@ -36,7 +36,7 @@ pub struct Verifier {
 }
 
 /// The attributes of an object, `fattr3`.
-#[derive(Clone, Copy, Debug, PartialEq, Eq)]
+#[derive(Clone, Copy, Debug)]
 pub struct FileAttributes {
     /// `type`
     pub file_type: FileType,
@@ -66,7 +66,7 @@ pub struct FileAttributes {
 }
 
 /// The attributes that tell whether an object has changed, `wcc_attr`.
-#[derive(Clone, Copy, Debug, PartialEq, Eq)]
+#[derive(Clone, Copy, Debug)]
 pub struct WccAttributes {
     pub size: u64,
     pub modify_time: Time,
@@ -74,14 +74,14 @@ pub struct WccAttributes {
 }
 
 /// Attributes before and after an operation, `wcc_data` (weak cache consistency).
-#[derive(Clone, Debug, PartialEq, Eq, Drop)]
+#[derive(Clone, Debug, Drop)]
 pub struct WccData {
     pub before: Optional<WccAttributes>,
     pub after: Optional<FileAttributes>,
 }
 
 /// How a call sets a time, `set_atime` and `set_mtime`.
-#[derive(Clone, Copy, Debug, PartialEq, Eq)]
+#[derive(Clone, Copy, Debug)]
 pub enum SetTime {
     Keep,
     ServerTime,
@@ -89,7 +89,7 @@ pub enum SetTime {
 }
 
 /// The attributes that a call sets, `sattr3`: those that are absent stay.
-#[derive(Clone, Copy, Debug, PartialEq, Eq)]
+#[derive(Clone, Copy, Debug)]
 pub struct SetAttributes {
     pub mode: Option<u32>,
     pub user: Option<u32>,

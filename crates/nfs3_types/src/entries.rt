@@ -1,7 +1,6 @@
 //! The entries of a directory as a list.
 
 ghost use Rattle.std.specs.Prelude.{◌≡◌};
-ghost use Rattle.std.specs.Cmp.Lexicographic.{pointwise};
 
 use std::alloc::AllocError;
 use std::marker::Model;
@@ -34,24 +33,6 @@ impl<E> Entries<E> {
     {
         self.entries.as_slice()
     }
-}
-
-impl<E: PartialEq> PartialEq for Entries<E> {
-    ghost use Rattle.std.specs.Cmp.Lexicographic.{lists_per};
-
-    ghost eq = { λ a b. pointwise E.eq a b };
-
-    ghost laws = { lists_per E.laws };
-
-    fn eq(&self, other: &Self) -> bool {
-        self.entries == other.entries
-    }
-}
-
-impl<E: Eq> Eq for Entries<E> {
-    ghost use Rattle.std.proofs.lemmas.Cmp.{lists_equiv};
-
-    ghost laws = { lists_equiv E.Eq.laws };
 }
 
 impl<E: Clone> Clone for Entries<E> {

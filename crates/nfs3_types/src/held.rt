@@ -1,9 +1,7 @@
 //! Values on the heap, so that what is large or may be absent takes little room in a message's value.
 
 ghost use Rattle.std.specs.Prelude.{◌≡◌, IfOk, Some, None};
-ghost use Rattle.std.specs.Option.{option_copied, option_eq};
-ghost use Rattle.std.specs.Cmp.{partial_equiv_from_equiv};
-ghost use Rattle.std.specs.Cmp.Lexicographic.{options_equiv};
+ghost use Rattle.std.specs.Option.{option_copied};
 
 use std::alloc::{AllocError, Global};
 use std::marker::Model;
@@ -51,20 +49,6 @@ impl<T: Drop> Drop for Held<T> {
         let Held { place } = self;
         drop(place);
     }
-}
-
-impl<T: PartialEq> PartialEq for Held<T> {
-    ghost eq = { T.eq };
-
-    ghost laws = { T.laws };
-
-    fn eq(&self, other: &Self) -> bool {
-        self.place.as_ref() == other.place.as_ref()
-    }
-}
-
-impl<T: Eq> Eq for Held<T> {
-    ghost laws = { T.Eq.laws };
 }
 
 impl<T: Clone + Drop> Clone for Held<T> {
@@ -125,24 +109,6 @@ impl<T: Drop> Drop for Optional<T> {
         let Optional { place } = self;
         drop(place);
     }
-}
-
-impl<T: Eq> PartialEq for Optional<T> {
-    ghost eq = { option_eq T.eq };
-
-    ghost laws = { partial_equiv_from_equiv (options_equiv T.Eq.laws) };
-
-    fn eq(&self, other: &Self) -> bool {
-        match (self.as_ref(), other.as_ref()) {
-            (Some(one), Some(another)) => one == another,
-            (None, None) => true,
-            _ => false,
-        }
-    }
-}
-
-impl<T: Eq> Eq for Optional<T> {
-    ghost laws = { options_equiv T.Eq.laws };
 }
 
 impl<T: Copy + Drop> Clone for Optional<T> {
