@@ -1,0 +1,27 @@
+use Rattle.std.proofs.Common.{◌∙◌, sym, subst, take, arith}
+use Rattle.std.specs.Ordering.{nat_cmp}
+use Rattle.std.specs.BTreeMap.{ContainsKey}
+use Rattle.std.proofs.lemmas.List.{take_all}
+use Rattle.std.proofs.lemmas.List.Elements.{All-more, All-same, All-weaker}
+use Rattle.file_bytes.specs.declared.changes.Change.{Change}
+use Rattle.file_bytes.proofs.changes.make_room.Goals as goal
+
+pub loop-change-preserved : goal.loop-change-preserved
+loop-change-preserved c =
+    let changes = c.args.changes.now in
+    let i = c.loop-change.change-index in
+    let change = c.change-item.result in
+    let old = c.loop-change.pages in
+    let new = c.set_up.new.pages in (
+      c.set_up.ensures.same ∙ c.loop-change.invariant.0,
+      All-more (λ (other : Change). ContainsKey nat_cmp new other.number) changes i change (omega arith)
+          (All-weaker (λ (other : Change). ContainsKey nat_cmp old other.number) (λ (other : Change). ContainsKey nat_cmp new other.number)
+          (λ other here. c.set_up.ensures.kept other.number here) (take i changes) c.loop-change.invariant.1)
+          (subst (λ (other : Change). ContainsKey nat_cmp new other.number) c.change-item.is c.in_ok-set_up.ensures.present),
+    )
+
+pub returns-clause-present : goal.returns-clause-present
+returns-clause-present c =
+    let changes = c.args.changes.now in
+    let i = c.loop-change.change-index in
+    All-same (λ (change : Change). ContainsKey nat_cmp c.loop-change.pages change.number) changes (take i changes) (sym (take_all i changes (omega arith))) c.loop-change.invariant.1

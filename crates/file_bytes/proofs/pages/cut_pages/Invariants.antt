@@ -1,0 +1,9 @@
+use Rattle.std.proofs.Common.{◌≡◌, ◌++◌, map}
+use Rattle.file_bytes.proofs.Windows.{cut_entry, pages_from}
+use Rattle.file_bytes.proofs.pages.cut_pages.Given as goal
+
+-- the pages so far are cut, and those that are left come behind
+abbrev pub invariant-loop-number : goal.invariant-loop-number
+invariant-loop-number l =
+    (goal.iterator-loop-number).can_next l.number-iterator × (goal.iterator-loop-number).is_finite l.number-iterator
+    × (l.changes.items ++ map (cut_entry l.size) l.number-iterator ≡ map (cut_entry l.size) (pages_from l.size l.pages.entries))

@@ -1,0 +1,39 @@
+-- The bytes of a file by pages, as a function of their places, and the list of those below the file's size.
+use Rattle.std.specs.Prelude.{ℕ, ◌+◌, ◌-◌, ◌/◌, ◌%◌, ◌≡◌, ◌≤◌, ◌==◌, ◌&&◌, nat_le, nat_lt, cond, List, [], ◌∷◌, map, length, slice_index, unwrap_or}
+use Rattle.std.specs.List.{range_with_len}
+use Rattle.std.specs.Ordering.{nat_cmp}
+use Rattle.std.specs.BTreeMap as tree
+use Rattle.std.specs.BTreeMap.{BTreeMap}
+use Rattle.nfs3_types.specs.Limits.{file_limit}
+use Rattle.file_bytes.specs.declared.page.TheConstants.{PAGE}
+use Rattle.file_bytes.specs.declared.changes.Change.{Change}
+
+-- what is kept of a page
+abbrev pub page_of : BTreeMap ℕ (List ℕ) → ℕ → List ℕ
+page_of pages number = unwrap_or (tree.get nat_cmp pages number) []
+
+-- the byte at a place: zero where nothing is kept
+unfoldable pub byte_of : BTreeMap ℕ (List ℕ) → ℕ → ℕ
+byte_of pages i = slice_index (page_of pages (i / PAGE)) (i % PAGE)
+
+-- the bytes below a size
+unfoldable pub listed : (ℕ → ℕ) → ℕ → List ℕ
+listed f size = map f (range_with_len 0 size)
+
+-- what every file keeps: behind its size stand zeros, so that they show when it grows
+pub record IsFile (f : ℕ → ℕ) (size : ℕ) : Type 0 where
+  pub limit : size ≤ file_limit
+  pub ended : (i : ℕ) → size ≤ i → f i ≡ 0
+
+-- the byte at a place once pages are in the place of others: the first that has it
+abbrev pub changed : List Change → (ℕ → ℕ) → ℕ → ℕ
+changed [] f i = f i
+changed (c ∷ cs) f i = cond (c.number == i / PAGE) (slice_index c.page (i % PAGE)) (changed cs f i)
+
+-- the byte at a place once others stand from an offset on
+unfoldable pub overwritten : (ℕ → ℕ) → ℕ → List ℕ → ℕ → ℕ
+overwritten f offset added i = cond (nat_le offset i && nat_lt i (offset + length added)) (slice_index added (i - offset)) (f i)
+
+-- the byte at a place once zeros stand from a size on
+unfoldable pub cut : (ℕ → ℕ) → ℕ → ℕ → ℕ
+cut f size i = cond (nat_lt i size) (f i) 0
