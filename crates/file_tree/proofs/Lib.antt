@@ -1,2 +1,1 @@
-pub mod Growth
-pub mod Undoing
+pub mod Planned

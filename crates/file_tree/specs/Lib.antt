@@ -1,6 +1,6 @@
 pub mod Made
 pub mod Written
 pub mod Removed
+pub mod Change
 pub mod Success
-pub mod Answers
-pub mod Undo
+pub mod Planning

@@ -8,14 +8,15 @@ use Rattle.nfs3_types.specs.declared.calls.CreateArguments.{CreateArguments}
 use Rattle.nfs3_types.specs.declared.calls.DirectoryName.{DirectoryName}
 use Rattle.nfs3_types.specs.declared.calls.MkDirArguments.{MkDirArguments}
 use Rattle.nfs3_types.specs.declared.calls.SymLinkArguments.{SymLinkArguments}
-use Rattle.file_tree.specs.declared.change.Change.{Change}
-use Rattle.file_tree.specs.declared.change.Change.TheVariants.{Keep, Put}
+use Rattle.file_tree.specs.Change.{Change}
+use Rattle.file_tree.specs.Change.Change.{Keep, Put}
 use Rattle.tree_nodes.specs.declared.node.Node.{Node}
 use Rattle.tree_nodes.specs.declared.node.Content.{Content}
 use Rattle.tree_nodes.specs.declared.node.Content.TheVariants as contents
 use Rattle.tree_nodes.specs.declared.node.File.{File}
 use Rattle.nfs3_types.specs.Limits.{file_limit}
-use Rattle.tree_nodes.specs.Files.{node_limit, file_node, resized}
+use Rattle.tree_nodes.specs.Files.{node_limit, file_node}
+use Rattle.file_bytes.specs.Files.{resized}
 use Rattle.tree_nodes.specs.Tree.{Names, Tree, entry_of}
 use Rattle.tree_handles.specs.Binding.{Bindings, gives_object}
 use Rattle.tree_handles.specs.Live.{directory_of}

@@ -3,8 +3,8 @@ use Rattle.std.specs.Prelude.{Bool, true, not, ◌&&◌, if◌then◌else◌, []
 use Rattle.std.specs.FinMap as map
 use Rattle.nfs3_types.specs.declared.calls.DirectoryName.{DirectoryName}
 use Rattle.nfs3_types.specs.declared.calls.RenameArguments.{RenameArguments}
-use Rattle.file_tree.specs.declared.change.Change.{Change}
-use Rattle.file_tree.specs.declared.change.Change.TheVariants.{Keep, Remove, Move}
+use Rattle.file_tree.specs.Change.{Change}
+use Rattle.file_tree.specs.Change.Change.{Keep, Remove, Move}
 use Rattle.tree_nodes.specs.declared.node.Node.{Node}
 use Rattle.tree_nodes.specs.declared.node.Content.{Content}
 use Rattle.tree_nodes.specs.Tree.{Names, Tree, same_path, is_bare}

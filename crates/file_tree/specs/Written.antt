@@ -4,10 +4,11 @@ use Rattle.nfs3_types.specs.declared.calls.StableHow.{StableHow}
 use Rattle.nfs3_types.specs.declared.calls.StableHow.TheVariants.{Unstable, DataSync, FileSync}
 use Rattle.nfs3_types.specs.declared.calls.WriteArguments.{WriteArguments}
 use Rattle.nfs3_types.specs.declared.calls.SetAttrArguments.{SetAttrArguments}
-use Rattle.file_tree.specs.declared.change.Change.{Change}
-use Rattle.file_tree.specs.declared.change.Change.TheVariants.{Keep, Put}
+use Rattle.file_tree.specs.Change.{Change}
+use Rattle.file_tree.specs.Change.Change.{Keep, Put}
 use Rattle.nfs3_types.specs.Limits.{file_limit}
-use Rattle.tree_nodes.specs.Files.{file_node, written}
+use Rattle.tree_nodes.specs.Files.{file_node}
+use Rattle.file_bytes.specs.Files.{written}
 use Rattle.tree_nodes.specs.Tree.{Tree}
 use Rattle.tree_handles.specs.Binding.{Bindings}
 use Rattle.tree_handles.specs.Live.{FileEntry, live_entry, file_of}

@@ -1,17 +1,21 @@
 //! What a successful CREATE makes of a tree (RFC 1813, section 3.3.8).
 
-ghost use Rattle.std.specs.Prelude.{◌≡◌, ◌^◌, ◌<◌, IfOk, replicate};
-ghost use Rattle.tree_nodes.specs.Nodes.{tree_of};
-ghost use Rattle.file_tree.specs.Answers.{Answers};
-ghost use Rattle.file_tree.specs.Made.{first_size, first_verifier, made_by, create_absent, set_size, create_over, create_present, create_change};
+ghost use Rattle.std.specs.Prelude.{◌≡◌, ◌≤◌, ◌∷◌, ◌++◌, [], Some, None, IfOk, replicate};
+ghost use Rattle.nfs3_types.specs.Limits.{file_limit};
+ghost use Rattle.tree_nodes.specs.Tree.{Names, entry_of};
 ghost use Rattle.tree_nodes.specs.Files.{file_node};
+ghost use Rattle.tree_nodes.specs.Place.{node_in};
+ghost use Rattle.tree_nodes.specs.declared.node.Content.TheVariants as contents;
+ghost use Rattle.file_tree.specs.Planning.{Plans};
+ghost use Rattle.file_tree.specs.Made.{first_size, first_verifier, made_by, create_absent, set_size, create_over, create_present, create_change};
 
-use crate::change::Change;
+use crate::plan::Plan;
+use file_bytes::FileBytes;
 use nfs3_types::{CreateArguments, CreateMode, FILE_LIMIT, FileHandle, Verifier};
 use replay_law::StepFault;
 use std::alloc::{AllocError, Global};
-use tree_handles::{Binds, directory_of, gives_object, is_plain};
-use tree_nodes::{Bytes, Content, File, Node, Nodes, Path, count, entry_of, node_at, resized};
+use tree_handles::{View, directory_of, gives_object, is_plain};
+use tree_nodes::{Content, File, Node, Nodes};
 
 /// The most nodes of a tree.
 pub const NODE_LIMIT: u64 = 4_294_967_295;
@@ -49,84 +53,83 @@ fn is_made_by(first: &Option<Verifier>, verifier: Verifier) -> bool
 }
 
 /// A file of zeros.
-fn new_file(alloc: Global, number: u64, mode: &CreateMode, size: u64) -> Result<Node, AllocError>
-    requires { size < 2 ^ 32 }
-    ensures { IfOk result (λ n. n ≡ file_node number (replicate size 0) (first_verifier mode.now)) }
+fn new_file(alloc: Global, number: u64, mode: &CreateMode, size: u64) -> Node
+    requires { size ≤ file_limit }
+    ensures { result ≡ file_node number (replicate size 0) (first_verifier mode.now) }
 {
-    let bytes = Bytes::from_vec(vec![in alloc; 0; size as usize]?);
-    let verifier = first_verifier(mode);
-    Ok(Node {
+    Node {
         object: number,
-        content: Content::File(File { bytes, verifier }),
-    })
+        content: Content::File(File {
+            bytes: FileBytes::zeros(alloc, size),
+            verifier: first_verifier(mode),
+        }),
+    }
 }
 
 /// An absent name is made a file.
-fn create_absent(
+fn create_absent<'a>(
     alloc: Global,
-    binds: &Binds,
-    nodes: &Nodes,
+    view: &View<'_>,
     number: u64,
-    mode: &CreateMode,
+    call: &'a CreateArguments,
     handle: &Option<FileHandle>,
-    path: Path,
-) -> Result<Change, StepFault>
-    ensures { Answers result (create_absent binds.now (tree_of nodes.now) number mode.now handle.now path) }
+    directory: u64,
+) -> Result<Plan<'a>, StepFault>
+    requires { node_in view.now.nodes.now directory call.now.place.name ≡ None }
+    ensures { (e : Names × Node) → entry_of view.now.nodes.now directory ≡ Some e → Plans view.now.nodes.now result
+        (create_absent view.now.binds.now view.now.nodes.now number call.now.mode handle.now (e.0 ++ call.now.place.name ∷ [])) }
 {
-    let size = first_size(mode);
-    let stands = entry_of(nodes, number).is_some();
-    if !stands
-        && (count(nodes) as u64) < NODE_LIMIT
+    let size = first_size(&call.mode);
+    if view.nodes.node(number).is_none()
+        && view.nodes.count() < NODE_LIMIT
         && size <= FILE_LIMIT
-        && gives_object(binds, handle, number)
+        && gives_object(view.binds, handle, number)
     {
-        let node = new_file(alloc, number, mode, size)?;
-        Ok(Change::Put(path, node))
+        let node = new_file(alloc, number, &call.mode, size);
+        let name = call.place.name.as_slice();
+        Ok(Plan::Make {
+            directory,
+            name,
+            node,
+        })
     } else {
         Err(StepFault::NotAllowed)
     }
 }
 
 /// A call sets the size that is given.
-pub(crate) fn set_size(
-    alloc: Global,
-    path: Path,
+pub(crate) fn set_size<'a>(
+    nodes: &Nodes,
     object: u64,
     file: &File,
     size: Option<u64>,
-) -> Result<Change, StepFault>
-    ensures { Answers result (set_size path object file.now size) }
+) -> Result<Plan<'a>, StepFault>
+    ensures { (path : Names) → entry_of nodes.now object ≡ Some (path, record { object = object; content = contents.File file.now })
+        → Plans nodes.now result (set_size path object file.now size) }
 {
-    let Some(size) = size else {
-        return Ok(Change::Keep);
-    };
-    if size > FILE_LIMIT {
-        return Err(StepFault::NotAllowed);
+    match size {
+        None => Ok(Plan::Keep),
+        Some(size) if size <= FILE_LIMIT => Ok(Plan::Resize { object, size }),
+        Some(_) => Err(StepFault::NotAllowed),
     }
-    let bytes = resized(alloc, file.bytes.as_slice(), size as usize)?;
-    let content = Content::File(File {
-        bytes: Bytes::from_vec(bytes),
-        verifier: file.verifier,
-    });
-    Ok(Change::Put(path, Node { object, content }))
 }
 
 /// A file stands at the name.
-fn create_over(
-    alloc: Global,
+fn create_over<'a>(
+    nodes: &Nodes,
     mode: &CreateMode,
-    path: Path,
     object: u64,
     file: &File,
-) -> Result<Change, StepFault>
-    ensures { Answers result (create_over mode.now path object file.now) }
+) -> Result<Plan<'a>, StepFault>
+    ensures { (path : Names) → entry_of nodes.now object ≡ Some (path, record { object = object; content = contents.File file.now })
+        → Plans nodes.now result (create_over mode.now path object file.now) }
 {
     match mode {
-        CreateMode::Unchecked(attributes) => set_size(alloc, path, object, file, attributes.size),
+        CreateMode::Unchecked(attributes) => set_size(nodes, object, file, attributes.size),
         CreateMode::Guarded(_) => Err(StepFault::NotAllowed),
         CreateMode::Exclusive(verifier) => {
             if is_made_by(&file.verifier, *verifier) {
-                Ok(Change::Keep)
+                Ok(Plan::Keep)
             } else {
                 Err(StepFault::NotAllowed)
             }
@@ -135,20 +138,19 @@ fn create_over(
 }
 
 /// A node stands at the name.
-fn create_present(
-    alloc: Global,
-    binds: &Binds,
+fn create_present<'a>(
+    view: &View<'_>,
     mode: &CreateMode,
     handle: &Option<FileHandle>,
-    path: Path,
     node: &Node,
-) -> Result<Change, StepFault>
-    ensures { Answers result (create_present binds.now mode.now handle.now path node.now.object node.now.content) }
+) -> Result<Plan<'a>, StepFault>
+    ensures { (path : Names) → entry_of view.now.nodes.now node.now.object ≡ Some (path, node.now)
+        → Plans view.now.nodes.now result (create_present view.now.binds.now mode.now handle.now path node.now.object node.now.content) }
 {
     match &node.content {
         Content::File(file) => {
-            if gives_object(binds, handle, node.object) {
-                create_over(alloc, mode, path, node.object, file)
+            if gives_object(view.binds, handle, node.object) {
+                create_over(view.nodes, mode, node.object, file)
             } else {
                 Err(StepFault::NotAllowed)
             }
@@ -158,26 +160,24 @@ fn create_present(
 }
 
 /// What the call makes of the tree, where it gives this handle.
-pub(crate) fn create_change(
+pub(crate) fn create_change<'a>(
     alloc: Global,
-    binds: &Binds,
-    nodes: &Nodes,
+    view: &View<'_>,
     number: u64,
-    call: &CreateArguments,
+    call: &'a CreateArguments,
     handle: &Option<FileHandle>,
-) -> Result<Change, StepFault>
-    ensures { Answers result (create_change binds.now (tree_of nodes.now) number call.now handle.now) }
+) -> Result<Plan<'a>, StepFault>
+    ensures { Plans view.now.nodes.now result (create_change view.now.binds.now view.now.nodes.now number call.now handle.now) }
 {
-    let Some(directory) = directory_of(binds, nodes, &call.place.directory) else {
+    let Some(directory) = directory_of(view, &call.place.directory) else {
         return Err(StepFault::NotAllowed);
     };
     let name = call.place.name.as_slice();
     if !is_plain(name) {
         return Err(StepFault::NotAllowed);
     }
-    let path = directory.child(alloc, name)?;
-    match node_at(nodes, &path) {
-        None => create_absent(alloc, binds, nodes, number, &call.mode, handle, path),
-        Some(node) => create_present(alloc, binds, &call.mode, handle, path, node),
+    match view.nodes.entry(directory, name) {
+        None => create_absent(alloc, view, number, call, handle, directory),
+        Some(node) => create_present(view, &call.mode, handle, node),
     }
 }

@@ -1,9 +1,9 @@
 //! The file tree that the calls of NFS version 3 act on, and the tree after a call with its outcome.
 #![tactic(auto)]
 
-mod change;
 mod create;
 mod naming;
+mod plan;
 mod rename;
 mod success;
 #[cfg(test)]
@@ -11,6 +11,6 @@ mod tests;
 mod tree;
 mod write;
 
-pub use change::Undo;
 pub use tree::FileTree;
 pub use tree_handles::Binds;
+pub use tree_nodes::Undo;

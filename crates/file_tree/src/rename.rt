@@ -1,17 +1,17 @@
 //! What a successful RENAME makes of a tree (RFC 1813, section 3.3.14).
 
-ghost use Rattle.std.specs.Prelude.{◌≡◌};
-ghost use Rattle.std.specs.Option.{option_copied};
-ghost use Rattle.tree_nodes.specs.Nodes.{tree_of};
-ghost use Rattle.file_tree.specs.Answers.{Answers};
+ghost use Rattle.std.specs.Prelude.{◌≡◌, ◌<◌, ◌^◌, ◌==◌, ◌∷◌, ◌++◌, [], Some, false, length};
+ghost use Rattle.std.specs.Option.{option_copied, option_map_or};
+ghost use Rattle.tree_nodes.specs.declared.node.Node.{Node};
+ghost use Rattle.tree_nodes.specs.Tree.{Names, entry_of};
+ghost use Rattle.file_tree.specs.Planning.{Plans};
 ghost use Rattle.file_tree.specs.Removed.{may_replace, rename_at, rename};
 
-use crate::change::Change;
+use crate::plan::Plan;
 use nfs3_types::RenameArguments;
 use replay_law::StepFault;
-use std::alloc::Global;
-use tree_handles::{Binds, directory_of, is_directory, is_plain, named};
-use tree_nodes::{Content, Node, Nodes, Path, is_bare, node_at};
+use tree_handles::{View, directory_of, is_directory, is_plain, named};
+use tree_nodes::{Content, Node, Nodes};
 
 /// Whether such an object may take the place of a node, if any: both are directories, or neither is.
 fn may_replace(content: &Content, target: Option<&Node>) -> bool
@@ -23,40 +23,58 @@ fn may_replace(content: &Content, target: Option<&Node>) -> bool
     }
 }
 
-/// What stands from one path on goes to another.
-fn rename_at(nodes: &Nodes, from: Path, content: &Content, to: Path) -> Result<Change, StepFault>
-    ensures { Answers result (rename_at (tree_of nodes.now) from content.now to) }
+/// Whether a node, if any, is an object.
+fn is_object(node: Option<&Node>, object: u64) -> bool
+    ensures { result ≡ option_map_or (λ n. object == n.object) (option_copied node.entry) false }
 {
-    if from == to {
-        return Ok(Change::Keep);
-    }
-    let is_below = to.names().starts_with(from.names());
-    if !is_below && may_replace(content, node_at(nodes, &to)) && is_bare(nodes, &to) {
-        Ok(Change::Move(from, to))
-    } else {
-        Err(StepFault::NotAllowed)
+    match node {
+        Some(node) => object == node.object,
+        None => false,
     }
 }
 
-/// What the call makes of the tree.
-pub(crate) fn rename(
-    alloc: Global,
-    binds: &Binds,
+/// An entry goes to a name of a directory.
+fn rename_at<'a>(
     nodes: &Nodes,
-    call: &RenameArguments,
-) -> Result<Change, StepFault>
-    ensures { Answers result (rename binds.now (tree_of nodes.now) call.now) }
+    source: &Node,
+    directory: u64,
+    name: &'a [u8],
+) -> Result<Plan<'a>, StepFault>
+    requires { length name.now < 2 ^ 32 }
+    ensures { (p : Names) (e : Names × Node) → entry_of nodes.now source.now.object ≡ Some (p, source.now)
+        → entry_of nodes.now directory ≡ Some e → Plans nodes.now result (rename_at nodes.now p source.now.content (e.0 ++ name.now ∷ [])) }
 {
-    let Some(spot) = named(alloc, binds, nodes, &call.from)? else {
+    let target = nodes.entry(directory, name);
+    let object = source.object;
+    if is_object(target, object) {
+        return Ok(Plan::Keep);
+    }
+    if nodes.is_from(directory, object)
+        || !may_replace(&source.content, target)
+        || !nodes.is_bare_at(directory, name)
+    {
+        return Err(StepFault::NotAllowed);
+    }
+    Ok(Plan::Rename {
+        object,
+        directory,
+        name,
+    })
+}
+
+/// What the call makes of the tree.
+pub(crate) fn rename<'a>(view: &View<'_>, call: &'a RenameArguments) -> Result<Plan<'a>, StepFault>
+    ensures { Plans view.now.nodes.now result (rename view.now.binds.now view.now.nodes.now call.now) }
+{
+    let Some(source) = named(view, &call.from) else {
         return Err(StepFault::NotAllowed);
     };
-    let Some(directory) = directory_of(binds, nodes, &call.to.directory) else {
+    let Some(directory) = directory_of(view, &call.to.directory) else {
         return Err(StepFault::NotAllowed);
     };
     let name = call.to.name.as_slice();
     if !is_plain(name) {
         return Err(StepFault::NotAllowed);
     }
-    let to = directory.child(alloc, name)?;
-    rename_at(nodes, spot.path, &spot.node.content, to)
+    rename_at(view.nodes, source, directory, name)
 }

@@ -1,14 +1,14 @@
 //! What a call with its outcome makes of a tree.
 
-ghost use Rattle.tree_nodes.specs.Nodes.{tree_of};
-ghost use Rattle.file_tree.specs.Answers.{Answers};
-ghost use Rattle.file_tree.specs.declared.change.Change.TheVariants.{Keep};
+ghost use Rattle.tree_nodes.specs.Tree.{Tree};
+ghost use Rattle.file_tree.specs.Planning.{Plans};
+ghost use Rattle.file_tree.specs.Change.Change.{Keep};
 ghost use Rattle.file_tree.specs.Success.{change_written, change_created, change_set, change_directory_made, change_link_made, change_removed, change_directory_removed, change_renamed, change_done, change_received, change_taken, change_of};
 ghost use Rattle.file_tree.specs.Made.{only_if};
 
-use crate::change::Change;
 use crate::create::create_change;
 use crate::naming::{make_directory, make_link, remove_directory, remove_entry, set_attributes};
+use crate::plan::Plan;
 use crate::rename::rename;
 use crate::write::write_change;
 use nfs3_types::{
@@ -18,97 +18,80 @@ use nfs3_types::{
 use replay_law::StepFault;
 use std::alloc::Global;
 use tree_failures::is_permitted;
-use tree_handles::Binds;
-use tree_nodes::Nodes;
+use tree_handles::View;
 use tree_reads::{committed, got_attributes, got_bytes, got_text, listed, listed_plus, looked_up};
 
 /// The tree stays, where this is right.
-fn keep_if(right: bool) -> Result<Change, StepFault>
-    ensures { Answers result (only_if right Keep) }
+fn keep_if<'a>(right: bool) -> Result<Plan<'a>, StepFault>
+    ensures { (tree : Tree) → Plans tree result (only_if right Keep) }
 {
     if right {
-        Ok(Change::Keep)
+        Ok(Plan::Keep)
     } else {
         Err(StepFault::NotAllowed)
     }
 }
 
 /// A reply to a WRITE.
-fn change_written(
-    alloc: Global,
-    binds: &Binds,
-    nodes: &Nodes,
-    call: &WriteArguments,
+fn change_written<'a>(
+    view: &View<'_>,
+    call: &'a WriteArguments,
     reply: &NfsReply,
-) -> Result<Change, StepFault>
-    ensures { Answers result (change_written binds.now (tree_of nodes.now) call.now reply.now) }
+) -> Result<Plan<'a>, StepFault>
+    ensures { Plans view.now.nodes.now result (change_written view.now.binds.now view.now.nodes.now call.now reply.now) }
 {
     match reply {
         NfsReply::Write(Answer::Done(success)) => {
-            write_change(
-                alloc,
-                binds,
-                nodes,
-                call,
-                success.count,
-                Some(success.level),
-            )
+            write_change(view, call, success.count, Some(success.level))
         }
         _ => Err(StepFault::NotAllowed),
     }
 }
 
 /// A reply to a CREATE.
-fn change_created(
+fn change_created<'a>(
     alloc: Global,
-    binds: &Binds,
-    nodes: &Nodes,
+    view: &View<'_>,
     number: u64,
-    call: &CreateArguments,
+    call: &'a CreateArguments,
     reply: &NfsReply,
-) -> Result<Change, StepFault>
-    ensures { Answers result (change_created binds.now (tree_of nodes.now) number call.now reply.now) }
+) -> Result<Plan<'a>, StepFault>
+    ensures { Plans view.now.nodes.now result (change_created view.now.binds.now view.now.nodes.now number call.now reply.now) }
 {
     match reply {
         NfsReply::Create(Answer::Done(success)) => {
-            create_change(alloc, binds, nodes, number, call, &success.object)
+            create_change(alloc, view, number, call, &success.object)
         }
         _ => Err(StepFault::NotAllowed),
     }
 }
 
 /// A reply to a SETATTR.
-fn change_set(
-    alloc: Global,
-    binds: &Binds,
-    nodes: &Nodes,
-    call: &SetAttrArguments,
+fn change_set<'a>(
+    view: &View<'_>,
+    call: &'a SetAttrArguments,
     reply: &NfsReply,
-) -> Result<Change, StepFault>
-    ensures { Answers result (change_set binds.now (tree_of nodes.now) call.now reply.now) }
+) -> Result<Plan<'a>, StepFault>
+    ensures { Plans view.now.nodes.now result (change_set view.now.binds.now view.now.nodes.now call.now reply.now) }
 {
     match reply {
-        NfsReply::SetAttr(Answer::Done(_)) => set_attributes(alloc, binds, nodes, call),
+        NfsReply::SetAttr(Answer::Done(_)) => set_attributes(view, call),
         _ => Err(StepFault::NotAllowed),
     }
 }
 
 /// A reply to a MKDIR.
-fn change_directory_made(
-    alloc: Global,
-    binds: &Binds,
-    nodes: &Nodes,
+fn change_directory_made<'a>(
+    view: &View<'_>,
     number: u64,
-    call: &MkDirArguments,
+    call: &'a MkDirArguments,
     reply: &NfsReply,
-) -> Result<Change, StepFault>
-    ensures { Answers result (change_directory_made binds.now (tree_of nodes.now) number call.now reply.now) }
+) -> Result<Plan<'a>, StepFault>
+    ensures { Plans view.now.nodes.now result (change_directory_made view.now.binds.now view.now.nodes.now number call.now reply.now) }
 {
     match reply {
         NfsReply::MkDir(Answer::Done(success)) => make_directory(
-            alloc,
-            binds,
-            nodes,
+            view,
             number,
             call,
             &success.object,
@@ -118,21 +101,19 @@ fn change_directory_made(
 }
 
 /// A reply to a SYMLINK.
-fn change_link_made(
+fn change_link_made<'a>(
     alloc: Global,
-    binds: &Binds,
-    nodes: &Nodes,
+    view: &View<'_>,
     number: u64,
-    call: &SymLinkArguments,
+    call: &'a SymLinkArguments,
     reply: &NfsReply,
-) -> Result<Change, StepFault>
-    ensures { Answers result (change_link_made binds.now (tree_of nodes.now) number call.now reply.now) }
+) -> Result<Plan<'a>, StepFault>
+    ensures { Plans view.now.nodes.now result (change_link_made view.now.binds.now view.now.nodes.now number call.now reply.now) }
 {
     match reply {
         NfsReply::SymLink(Answer::Done(success)) => make_link(
             alloc,
-            binds,
-            nodes,
+            view,
             number,
             call,
             &success.object,
@@ -142,140 +123,130 @@ fn change_link_made(
 }
 
 /// A reply to a REMOVE.
-fn change_removed(
-    alloc: Global,
-    binds: &Binds,
-    nodes: &Nodes,
-    place: &DirectoryName,
+fn change_removed<'a>(
+    view: &View<'_>,
+    place: &'a DirectoryName,
     reply: &NfsReply,
-) -> Result<Change, StepFault>
-    ensures { Answers result (change_removed binds.now (tree_of nodes.now) place.now reply.now) }
+) -> Result<Plan<'a>, StepFault>
+    ensures { Plans view.now.nodes.now result (change_removed view.now.binds.now view.now.nodes.now place.now reply.now) }
 {
     match reply {
-        NfsReply::Remove(Answer::Done(_)) => remove_entry(alloc, binds, nodes, place),
+        NfsReply::Remove(Answer::Done(_)) => remove_entry(view, place),
         _ => Err(StepFault::NotAllowed),
     }
 }
 
 /// A reply to an RMDIR.
-fn change_directory_removed(
-    alloc: Global,
-    binds: &Binds,
-    nodes: &Nodes,
-    place: &DirectoryName,
+fn change_directory_removed<'a>(
+    view: &View<'_>,
+    place: &'a DirectoryName,
     reply: &NfsReply,
-) -> Result<Change, StepFault>
-    ensures { Answers result (change_directory_removed binds.now (tree_of nodes.now) place.now reply.now) }
+) -> Result<Plan<'a>, StepFault>
+    ensures { Plans view.now.nodes.now result (change_directory_removed view.now.binds.now view.now.nodes.now place.now reply.now) }
 {
     match reply {
-        NfsReply::RmDir(Answer::Done(_)) => remove_directory(alloc, binds, nodes, place),
+        NfsReply::RmDir(Answer::Done(_)) => remove_directory(view, place),
         _ => Err(StepFault::NotAllowed),
     }
 }
 
 /// A reply to a RENAME.
-fn change_renamed(
-    alloc: Global,
-    binds: &Binds,
-    nodes: &Nodes,
-    call: &RenameArguments,
+fn change_renamed<'a>(
+    view: &View<'_>,
+    call: &'a RenameArguments,
     reply: &NfsReply,
-) -> Result<Change, StepFault>
-    ensures { Answers result (change_renamed binds.now (tree_of nodes.now) call.now reply.now) }
+) -> Result<Plan<'a>, StepFault>
+    ensures { Plans view.now.nodes.now result (change_renamed view.now.binds.now view.now.nodes.now call.now reply.now) }
 {
     match reply {
-        NfsReply::Rename(Answer::Done(_)) => rename(alloc, binds, nodes, call),
+        NfsReply::Rename(Answer::Done(_)) => rename(view, call),
         _ => Err(StepFault::NotAllowed),
     }
 }
 
 /// The call succeeded.
-fn change_done(
+fn change_done<'a>(
     alloc: Global,
-    binds: &Binds,
-    nodes: &Nodes,
+    view: &View<'_>,
     number: u64,
-    call: &NfsCall,
+    call: &'a NfsCall,
     reply: &NfsReply,
-) -> Result<Change, StepFault>
-    ensures { Answers result (change_done binds.now (tree_of nodes.now) number call.now reply.now) }
+) -> Result<Plan<'a>, StepFault>
+    ensures { Plans view.now.nodes.now result (change_done view.now.binds.now view.now.nodes.now number call.now reply.now) }
 {
     match call {
-        NfsCall::GetAttr(object) => keep_if(got_attributes(binds, nodes, object, reply)),
-        NfsCall::Lookup(place) => keep_if(looked_up(alloc, binds, nodes, place, reply)?),
-        NfsCall::ReadLink(link) => keep_if(got_text(binds, nodes, link, reply)),
-        NfsCall::Read(call) => keep_if(got_bytes(binds, nodes, call, reply)),
-        NfsCall::ReadDir(call) => keep_if(listed(alloc, binds, nodes, call, reply)?),
-        NfsCall::ReadDirPlus(call) => keep_if(listed_plus(alloc, binds, nodes, call, reply)?),
-        NfsCall::Commit(call) => keep_if(committed(binds, nodes, &call.file, reply)),
-        NfsCall::Write(call) => change_written(alloc, binds, nodes, call, reply),
-        NfsCall::Create(call) => change_created(alloc, binds, nodes, number, call, reply),
-        NfsCall::SetAttr(call) => change_set(alloc, binds, nodes, call, reply),
-        NfsCall::MkDir(call) => change_directory_made(alloc, binds, nodes, number, call, reply),
-        NfsCall::SymLink(call) => change_link_made(alloc, binds, nodes, number, call, reply),
-        NfsCall::Remove(place) => change_removed(alloc, binds, nodes, place, reply),
-        NfsCall::RmDir(place) => change_directory_removed(alloc, binds, nodes, place, reply),
-        NfsCall::Rename(call) => change_renamed(alloc, binds, nodes, call, reply),
+        NfsCall::GetAttr(object) => keep_if(got_attributes(view, object, reply)),
+        NfsCall::Lookup(place) => keep_if(looked_up(view, place, reply)),
+        NfsCall::ReadLink(link) => keep_if(got_text(view, link, reply)),
+        NfsCall::Read(call) => keep_if(got_bytes(view, call, reply)),
+        NfsCall::ReadDir(call) => keep_if(listed(alloc, view, call, reply)?),
+        NfsCall::ReadDirPlus(call) => keep_if(listed_plus(alloc, view, call, reply)?),
+        NfsCall::Commit(call) => keep_if(committed(view, &call.file, reply)),
+        NfsCall::Write(call) => change_written(view, call, reply),
+        NfsCall::Create(call) => change_created(alloc, view, number, call, reply),
+        NfsCall::SetAttr(call) => change_set(view, call, reply),
+        NfsCall::MkDir(call) => change_directory_made(view, number, call, reply),
+        NfsCall::SymLink(call) => change_link_made(alloc, view, number, call, reply),
+        NfsCall::Remove(place) => change_removed(view, place, reply),
+        NfsCall::RmDir(place) => change_directory_removed(view, place, reply),
+        NfsCall::Rename(call) => change_renamed(view, call, reply),
     }
 }
 
 /// A reply was received.
-fn change_received(
+fn change_received<'a>(
     alloc: Global,
-    binds: &Binds,
-    nodes: &Nodes,
+    view: &View<'_>,
     number: u64,
-    call: &NfsCall,
+    call: &'a NfsCall,
     reply: &NfsReply,
-) -> Result<Change, StepFault>
-    ensures { Answers result (change_received binds.now (tree_of nodes.now) number call.now reply.now) }
+) -> Result<Plan<'a>, StepFault>
+    ensures { Plans view.now.nodes.now result (change_received view.now.binds.now view.now.nodes.now number call.now reply.now) }
 {
     let Some(failure) = reply.failure() else {
-        return change_done(alloc, binds, nodes, number, call, reply);
+        return change_done(alloc, view, number, call, reply);
     };
     if !call.is_answered_by(reply) {
         return Err(StepFault::NotAllowed);
     }
-    keep_if(is_permitted(alloc, binds, nodes, call, failure)?)
+    keep_if(is_permitted(view, call, failure))
 }
 
 /// The call is taken as done.
-fn change_taken(
+fn change_taken<'a>(
     alloc: Global,
-    binds: &Binds,
-    nodes: &Nodes,
+    view: &View<'_>,
     number: u64,
-    call: &NfsCall,
+    call: &'a NfsCall,
     count: Option<u32>,
-) -> Result<Change, StepFault>
-    ensures { Answers result (change_taken binds.now (tree_of nodes.now) number call.now count) }
+) -> Result<Plan<'a>, StepFault>
+    ensures { Plans view.now.nodes.now result (change_taken view.now.binds.now view.now.nodes.now number call.now count) }
 {
     match (call, count) {
-        (NfsCall::Write(call), Some(count)) => write_change(alloc, binds, nodes, call, count, None),
-        (NfsCall::Create(call), None) => create_change(alloc, binds, nodes, number, call, &None),
-        (NfsCall::SetAttr(call), None) => set_attributes(alloc, binds, nodes, call),
-        (NfsCall::MkDir(call), None) => make_directory(alloc, binds, nodes, number, call, &None),
-        (NfsCall::SymLink(call), None) => make_link(alloc, binds, nodes, number, call, &None),
-        (NfsCall::Remove(place), None) => remove_entry(alloc, binds, nodes, place),
-        (NfsCall::RmDir(place), None) => remove_directory(alloc, binds, nodes, place),
-        (NfsCall::Rename(call), None) => rename(alloc, binds, nodes, call),
+        (NfsCall::Write(call), Some(count)) => write_change(view, call, count, None),
+        (NfsCall::Create(call), None) => create_change(alloc, view, number, call, &None),
+        (NfsCall::SetAttr(call), None) => set_attributes(view, call),
+        (NfsCall::MkDir(call), None) => make_directory(view, number, call, &None),
+        (NfsCall::SymLink(call), None) => make_link(alloc, view, number, call, &None),
+        (NfsCall::Remove(place), None) => remove_entry(view, place),
+        (NfsCall::RmDir(place), None) => remove_directory(view, place),
+        (NfsCall::Rename(call), None) => rename(view, call),
         _ => Err(StepFault::NotAllowed),
     }
 }
 
 /// What a call with its outcome makes of the tree.
-pub(crate) fn change_of(
+pub(crate) fn change_of<'a>(
     alloc: Global,
-    binds: &Binds,
-    nodes: &Nodes,
+    view: &View<'_>,
     number: u64,
-    call: &NfsCall,
+    call: &'a NfsCall,
     outcome: &Outcome,
-) -> Result<Change, StepFault>
-    ensures { Answers result (change_of binds.now (tree_of nodes.now) number call.now outcome.now) }
+) -> Result<Plan<'a>, StepFault>
+    ensures { Plans view.now.nodes.now result (change_of view.now.binds.now view.now.nodes.now number call.now outcome.now) }
 {
     match outcome {
-        Outcome::Received(reply) => change_received(alloc, binds, nodes, number, call, reply),
-        Outcome::Taken(count) => change_taken(alloc, binds, nodes, number, call, *count),
+        Outcome::Received(reply) => change_received(alloc, view, number, call, reply),
+        Outcome::Taken(count) => change_taken(alloc, view, number, call, *count),
     }
 }

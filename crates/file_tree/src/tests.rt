@@ -1,7 +1,6 @@
 ghost use Rattle.std.specs.Prelude.{IfOk};
-ghost use Rattle.file_tree.specs.Undo.{TakesBack};
+ghost use Rattle.tree_nodes.specs.Undo.{TakesBack};
 
-use crate::change::Undo;
 use crate::tree::FileTree;
 use nfs3_types::{
     Answer, CreateArguments, CreateMode, CreateSuccess, Data, DirectoryName, FileHandle, Held,
@@ -12,6 +11,7 @@ use replay_law::{EraRun, Replayable, RunFault, Step, StepFault, run_eras};
 use std::alloc::{AllocError, Global};
 use std::test::Fail;
 use tree_handles::Binds;
+use tree_nodes::Undo;
 
 /// Attributes neither before nor after.
 fn no_changes() -> WccData {

@@ -1,24 +1,22 @@
 //! The file tree, stepped by the calls of a history and taken back.
 
 ghost use Rattle.std.specs.Prelude.{◌≡◌, OnOk, OnErr, IfOk};
-ghost use Rattle.std.specs.FinMap as map;
-ghost use Rattle.tree_nodes.specs.Moved.{moved};
 ghost use Rattle.tree_nodes.specs.Tree.{opening};
-ghost use Rattle.file_tree.specs.Undo.{TakesBack};
-ghost use Rattle.tree_nodes.specs.Sound.{IsSound};
-ghost use Rattle.file_tree.specs.Success.{next_tree};
+ghost use Rattle.tree_nodes.specs.Undo.{TakesBack};
+ghost use Rattle.file_tree.specs.Change.{Change};
+ghost use Rattle.file_tree.specs.Planning.{Does};
+ghost use Rattle.file_tree.specs.Success.{changed, next_tree};
 ghost use Rattle.tree_nodes.specs.Printed.{tree_text, IsPrintable};
 ghost use Rattle.tree_nodes.specs.Unprinted.{same_text};
 
-use crate::change::{Change, Undo, undo_of};
+use crate::plan::Plan;
 use crate::success::change_of;
 use nfs3_types::{NfsCall, Outcome};
 use replay_law::{Replayable, StepFault};
 use std::alloc::{AllocError, Global};
 use std::marker::Model;
-use std::mem;
-use tree_handles::Binds;
-use tree_nodes::{Node, Nodes, Path, moved, put, put_tree, remove, root_alone, take};
+use tree_handles::{Binds, View};
+use tree_nodes::{Nodes, Undo};
 
 /// A file tree. Contracts see it as a finite map from paths to nodes.
 #[derive(Debug, Drop)]
@@ -38,47 +36,37 @@ impl Model for FileTree {
 
     ghost coded = { map.code (coded_list (coded_list coded_ℕ)) node.the_row.coded };
 
-    ghost use Rattle.tree_nodes.specs.Nodes.{tree_of};
-    ghost use Rattle.tree_nodes.specs.Sound.{IsSound};
-
-    ghost view = { λ t. tree_of t.nodes };
-
-    ghost invariant = { λ t. IsSound (tree_of t.nodes) };
+    ghost view = { λ t. t.nodes };
 }
 
 impl FileTree {
-    /// Puts a node at a path.
-    fn put(&mut self, path: Path, node: Node) -> Result<Undo, AllocError>
-        requires { IsSound (map.insert self.old path node) }
-        ensures ok { OnOk result (self.new ≡ map.insert self.old path node) }
+    /// Does what is planned.
+    fn carry_out(&mut self, plan: Plan<'_>) -> Result<Undo, AllocError>
+        requires { (change : Change) × Does self.old plan change }
+        ensures next { OnOk result ((change : Change) → Does self.old plan.entry change → self.new ≡ changed self.old change) }
         ensures undo { IfOk result (λ undo. TakesBack undo self.new self.old) }
         ensures err { OnErr result (self.new ≡ self.old) }
     {
-        let place = path.copy(self.alloc)?;
-        let before = put(&mut self.nodes, path, node)?;
-        Ok(undo_of(place, before))
-    }
-
-    /// Takes the node at a path away.
-    fn remove(&mut self, path: Path) -> Undo
-        requires { IsSound (map.remove self.old path) }
-        ensures tree { self.new ≡ map.remove self.old path }
-        ensures undo { TakesBack result self.new self.old }
-    {
-        let before = take(&mut self.nodes, &path);
-        undo_of(path, before)
-    }
-
-    /// Moves what stands from one path on to another.
-    fn rename(&mut self, from: Path, to: Path) -> Result<Undo, AllocError>
-        requires { IsSound (moved self.old from to) }
-        ensures ok { OnOk result (self.new ≡ moved self.old from to) }
-        ensures undo { IfOk result (λ undo. TakesBack undo self.new self.old) }
-        ensures err { OnErr result (self.new ≡ self.old) }
-    {
-        let after = moved(self.alloc, &self.nodes, &from, &to)?;
-        let before = mem::replace(&mut self.nodes, after);
-        Ok(Undo::Whole(before))
+        match plan {
+            Plan::Keep => Ok(Undo::nothing()),
+            Plan::Make {
+                directory,
+                name,
+                node,
+            } => self.nodes.make(directory, name, node),
+            Plan::Write {
+                object,
+                offset,
+                bytes,
+            } => self.nodes.write(object, offset, bytes),
+            Plan::Resize { object, size } => self.nodes.resize(object, size),
+            Plan::Remove { object } => Ok(self.nodes.remove(object)),
+            Plan::Rename {
+                object,
+                directory,
+                name,
+            } => self.nodes.rename(object, directory, name),
+        }
     }
 }
 
@@ -106,7 +94,7 @@ impl Replayable for FileTree {
     fn opening(alloc: Global, _setting: &Binds) -> Result<Self, AllocError> {
         Ok(FileTree {
             alloc,
-            nodes: root_alone(alloc)?,
+            nodes: Nodes::opening(alloc)?,
         })
     }
 
@@ -117,29 +105,22 @@ impl Replayable for FileTree {
         call: &NfsCall,
         outcome: &Outcome,
     ) -> Result<Undo, StepFault> {
-        match change_of(self.alloc, setting, &self.nodes, number, call, outcome)? {
-            Change::Keep => Ok(Undo::Nothing),
-            Change::Put(path, node) => Ok(self.put(path, node)?),
-            Change::Remove(path) => Ok(self.remove(path)),
-            Change::Move(from, to) => Ok(self.rename(from, to)?),
-        }
+        let view = View {
+            binds: setting,
+            nodes: &self.nodes,
+        };
+        let plan = change_of(self.alloc, &view, number, call, outcome)?;
+        Ok(self.carry_out(plan)?)
     }
 
     fn undo(mut self, undo: Undo) -> Result<Self, AllocError> {
-        match undo {
-            Undo::Nothing => {}
-            Undo::Restore(path, node) => {
-                put(&mut self.nodes, path, node)?;
-            }
-            Undo::Remove(path) => remove(&mut self.nodes, &path),
-            Undo::Whole(nodes) => self.nodes = nodes,
-        }
+        self.nodes.undo(undo)?;
         Ok(self)
     }
 
     fn print_state(&self, out: &mut Vec<u8>) -> Result<(), AllocError> {
         let mut text = Vec::new(self.alloc);
-        put_tree(&mut text, &self.nodes)?;
+        self.nodes.put_tree(&mut text)?;
         out.extend_from_slice(text.as_slice())
     }
 }

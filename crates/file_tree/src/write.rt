@@ -1,16 +1,16 @@
 //! What a successful WRITE makes of a tree (RFC 1813, section 3.3.7).
 
-ghost use Rattle.std.specs.Prelude.{◌≡◌, ◌<◌, ◌^◌, length};
-ghost use Rattle.tree_nodes.specs.Nodes.{tree_of};
-ghost use Rattle.file_tree.specs.Answers.{Answers};
+ghost use Rattle.std.specs.Prelude.{◌≡◌, ◌<◌, ◌^◌, Some, length};
+ghost use Rattle.tree_nodes.specs.Tree.{Names, entry_of};
+ghost use Rattle.tree_nodes.specs.declared.node.Content.TheVariants as contents;
+ghost use Rattle.file_tree.specs.Planning.{Plans};
 ghost use Rattle.file_tree.specs.Written.{level_rank, reaches, write_at, write_change};
 
-use crate::change::Change;
+use crate::plan::Plan;
 use nfs3_types::{StableHow, WriteArguments};
 use replay_law::StepFault;
-use std::alloc::Global;
-use tree_handles::{Binds, FileEntry, file_of};
-use tree_nodes::{Bytes, Content, File, Node, Nodes, front, is_within_limit, written};
+use tree_handles::{View, file_of};
+use tree_nodes::{File, Nodes, front, is_within_limit};
 
 /// How much a level promises.
 fn rank(level: StableHow) -> u8
@@ -33,55 +33,52 @@ fn reaches(asked: StableHow, answered: Option<StableHow>) -> bool
     }
 }
 
-/// These bytes go to the file at the offset.
-fn write_at(
-    alloc: Global,
-    entry: FileEntry<'_>,
+/// These bytes go to a file at an offset.
+fn write_at<'a>(
+    nodes: &Nodes,
+    object: u64,
+    file: &File,
     offset: u64,
-    added: &[u8],
-) -> Result<Change, StepFault>
+    added: &'a [u8],
+) -> Result<Plan<'a>, StepFault>
     requires { length added.now < 2 ^ 32 }
-    ensures { Answers result (write_at (record { path = entry.entry.path.now; object = entry.entry.object; file = entry.entry.file.now }) offset added.now) }
+    ensures { (path : Names) → entry_of nodes.now object ≡ Some (path, record { object = object; content = contents.File file.now })
+        → Plans nodes.now result (write_at (record { path = path; object = object; file = file.now }) offset added.now) }
 {
     if added.is_empty() {
-        return Ok(Change::Keep);
+        return Ok(Plan::Keep);
     }
-    let bytes = entry.file.bytes.as_slice();
-    if !is_within_limit(bytes.len(), offset, added.len()) {
+    if !is_within_limit(file.bytes.len() as usize, offset, added.len()) {
         return Err(StepFault::NotAllowed);
     }
-    let bytes = written(alloc, bytes, offset as usize, added)?;
-    let path = entry.path.copy(alloc)?;
-    let content = Content::File(File {
-        bytes: Bytes::from_vec(bytes),
-        verifier: entry.file.verifier,
-    });
-    Ok(Change::Put(
-        path,
-        Node {
-            object: entry.object,
-            content,
-        },
-    ))
+    Ok(Plan::Write {
+        object,
+        offset,
+        bytes: added,
+    })
 }
 
 /// What the call makes of the tree, where it wrote this count of bytes and reached this level.
-pub(crate) fn write_change(
-    alloc: Global,
-    binds: &Binds,
-    nodes: &Nodes,
-    call: &WriteArguments,
+pub(crate) fn write_change<'a>(
+    view: &View<'_>,
+    call: &'a WriteArguments,
     count: u32,
     level: Option<StableHow>,
-) -> Result<Change, StepFault>
-    ensures { Answers result (write_change binds.now (tree_of nodes.now) call.now count level) }
+) -> Result<Plan<'a>, StepFault>
+    ensures { Plans view.now.nodes.now result (write_change view.now.binds.now view.now.nodes.now call.now count level) }
 {
-    let Some(entry) = file_of(binds, nodes, &call.file) else {
+    let Some(entry) = file_of(view, &call.file) else {
         return Err(StepFault::NotAllowed);
     };
     let asked = call.bytes.as_slice();
     if count <= call.count && count as usize <= asked.len() && reaches(call.level, level) {
-        write_at(alloc, entry, call.offset, front(asked, count as usize))
+        write_at(
+            view.nodes,
+            entry.object,
+            entry.file,
+            call.offset,
+            front(asked, count as usize),
+        )
     } else {
         Err(StepFault::NotAllowed)
     }

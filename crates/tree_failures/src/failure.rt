@@ -1,8 +1,7 @@
 //! Which failures are permitted (RFC 1813, section 2.6 and section 3.3, by procedure).
 
-ghost use Rattle.std.specs.Prelude.{◌≡◌, IfOk};
+ghost use Rattle.std.specs.Prelude.{◌≡◌};
 ghost use Rattle.std.specs.List.{list_any};
-ghost use Rattle.tree_nodes.specs.Nodes.{tree_of};
 ghost use Rattle.tree_failures.specs.Failure.{status_number, same_status, row, causes, is_judged, is_caused_by, is_permitted};
 
 use crate::asked::is_listing_call;
@@ -19,9 +18,7 @@ use crate::rename_causes::{
     rename_onto_no_directory,
 };
 use nfs3_types::{Failure, NfsCall};
-use std::alloc::{AllocError, Global};
-use tree_handles::Binds;
-use tree_nodes::Nodes;
+use tree_handles::View;
 
 /// Why a call may fail.
 #[derive(Clone, Copy, Debug, PartialEq, Eq)]
@@ -132,85 +129,59 @@ fn gives(cause: Cause, failure: Failure) -> bool
 }
 
 /// Whether a cause holds.
-fn holds(
-    alloc: Global,
-    binds: &Binds,
-    nodes: &Nodes,
-    call: &NfsCall,
-    cause: Cause,
-) -> Result<bool, AllocError>
-    ensures { IfOk result (λ holds. holds ≡ (row cause).holds binds.now (tree_of nodes.now) call.now) }
+fn holds(view: &View<'_>, call: &NfsCall, cause: Cause) -> bool
+    ensures { result ≡ (row cause).holds view.now.binds.now view.now.nodes.now call.now }
 {
     match cause {
-        Cause::HandleIsntLive => Ok(handle_isnt_live(binds, nodes, call)),
-        Cause::HandleOfNoDirectory => Ok(handle_of_no_directory(binds, nodes, call)),
-        Cause::ReadLinkOfNoLink => Ok(readlink_of_no_link(binds, nodes, call)),
-        Cause::FileIsDirectory => Ok(file_is_directory(binds, nodes, call)),
-        Cause::FileIsLink => Ok(file_is_link(binds, nodes, call)),
-        Cause::NameIsAbsent => name_is_absent(alloc, binds, nodes, call),
-        Cause::NameIsPresent => name_is_present(alloc, binds, nodes, call),
-        Cause::CreateOverDirectory => create_over_directory(alloc, binds, nodes, call),
-        Cause::RemoveOfDirectory => remove_of_directory(alloc, binds, nodes, call),
-        Cause::RmDirOfNoDirectory => rmdir_of_no_directory(alloc, binds, nodes, call),
-        Cause::RmDirOfFilledDirectory => rmdir_of_filled_directory(alloc, binds, nodes, call),
-        Cause::RenameOntoNoDirectory => rename_onto_no_directory(alloc, binds, nodes, call),
-        Cause::RenameOntoDirectory => rename_onto_directory(alloc, binds, nodes, call),
-        Cause::RenameOntoFilledDirectory => rename_onto_filled_directory(alloc, binds, nodes, call),
-        Cause::RenameBelowItself => rename_below_itself(alloc, binds, nodes, call),
-        Cause::NameIsntPlain => Ok(name_isnt_plain(call)),
-        Cause::NameHasOddByte => Ok(name_has_odd_byte(call)),
-        Cause::SetAttrWithGuard => Ok(setattr_with_guard(call)),
-        Cause::ListingWithCookie => Ok(listing_with_cookie(call)),
-        Cause::AnyListing => Ok(is_listing_call(call)),
+        Cause::HandleIsntLive => handle_isnt_live(view, call),
+        Cause::HandleOfNoDirectory => handle_of_no_directory(view, call),
+        Cause::ReadLinkOfNoLink => readlink_of_no_link(view, call),
+        Cause::FileIsDirectory => file_is_directory(view, call),
+        Cause::FileIsLink => file_is_link(view, call),
+        Cause::NameIsAbsent => name_is_absent(view, call),
+        Cause::NameIsPresent => name_is_present(view, call),
+        Cause::CreateOverDirectory => create_over_directory(view, call),
+        Cause::RemoveOfDirectory => remove_of_directory(view, call),
+        Cause::RmDirOfNoDirectory => rmdir_of_no_directory(view, call),
+        Cause::RmDirOfFilledDirectory => rmdir_of_filled_directory(view, call),
+        Cause::RenameOntoNoDirectory => rename_onto_no_directory(view, call),
+        Cause::RenameOntoDirectory => rename_onto_directory(view, call),
+        Cause::RenameOntoFilledDirectory => rename_onto_filled_directory(view, call),
+        Cause::RenameBelowItself => rename_below_itself(view, call),
+        Cause::NameIsntPlain => name_isnt_plain(call),
+        Cause::NameHasOddByte => name_has_odd_byte(call),
+        Cause::SetAttrWithGuard => setattr_with_guard(call),
+        Cause::ListingWithCookie => listing_with_cookie(call),
+        Cause::AnyListing => is_listing_call(call),
     }
 }
 
 /// Whether a cause holds that a status stands beside.
-fn is_caused_by(
-    alloc: Global,
-    binds: &Binds,
-    nodes: &Nodes,
-    call: &NfsCall,
-    failure: Failure,
-    cause: Cause,
-) -> Result<bool, AllocError>
-    ensures { IfOk result (λ caused. caused ≡ is_caused_by binds.now (tree_of nodes.now) call.now failure cause) }
+fn is_caused_by(view: &View<'_>, call: &NfsCall, failure: Failure, cause: Cause) -> bool
+    ensures { result ≡ is_caused_by view.now.binds.now view.now.nodes.now call.now failure cause }
 {
     if gives(cause, failure) {
-        holds(alloc, binds, nodes, call, cause)
+        holds(view, call, cause)
     } else {
-        Ok(false)
+        false
     }
 }
 
 /// Whether one of these causes does.
-fn is_caused_by_any(
-    alloc: Global,
-    binds: &Binds,
-    nodes: &Nodes,
-    call: &NfsCall,
-    failure: Failure,
-    causes: &[Cause],
-) -> Result<bool, AllocError>
-    ensures { IfOk result (λ caused. caused ≡ list_any (is_caused_by binds.now (tree_of nodes.now) call.now failure) causes.now) }
+fn is_caused_by_any(view: &View<'_>, call: &NfsCall, failure: Failure, causes: &[Cause]) -> bool
+    ensures { result ≡ list_any (is_caused_by view.now.binds.now view.now.nodes.now call.now failure) causes.now }
 {
     for cause in causes {
-        if is_caused_by(alloc, binds, nodes, call, failure, *cause)? {
-            return Ok(true);
+        if is_caused_by(view, call, failure, *cause) {
+            return true;
         }
     }
-    Ok(false)
+    false
 }
 
 /// Whether any cause does.
-fn is_caused(
-    alloc: Global,
-    binds: &Binds,
-    nodes: &Nodes,
-    call: &NfsCall,
-    failure: Failure,
-) -> Result<bool, AllocError>
-    ensures { IfOk result (λ caused. caused ≡ list_any (is_caused_by binds.now (tree_of nodes.now) call.now failure) causes) }
+fn is_caused(view: &View<'_>, call: &NfsCall, failure: Failure) -> bool
+    ensures { result ≡ list_any (is_caused_by view.now.binds.now view.now.nodes.now call.now failure) causes }
 {
     let causes = [
         Cause::HandleIsntLive,
@@ -234,7 +205,7 @@ fn is_caused(
         Cause::ListingWithCookie,
         Cause::AnyListing,
     ];
-    is_caused_by_any(alloc, binds, nodes, call, failure, &causes)
+    is_caused_by_any(view, call, failure, &causes)
 }
 
 /// Whether a status may answer only beside a cause.
@@ -259,18 +230,12 @@ fn is_judged(failure: Failure) -> bool
 }
 
 /// Whether a call may fail with a status.
-pub fn is_permitted(
-    alloc: Global,
-    binds: &Binds,
-    nodes: &Nodes,
-    call: &NfsCall,
-    failure: Failure,
-) -> Result<bool, AllocError>
-    ensures { IfOk result (λ permitted. permitted ≡ is_permitted binds.now (tree_of nodes.now) call.now failure) }
+pub fn is_permitted(view: &View<'_>, call: &NfsCall, failure: Failure) -> bool
+    ensures { result ≡ is_permitted view.now.binds.now view.now.nodes.now call.now failure }
 {
     if is_judged(failure) {
-        is_caused(alloc, binds, nodes, call, failure)
+        is_caused(view, call, failure)
     } else {
-        Ok(true)
+        true
     }
 }

@@ -1,42 +1,31 @@
 //! Why a call may fail at its names, and without a look at the tree (RFC 1813, section 3.3, by procedure).
 
-ghost use Rattle.std.specs.Prelude.{◌≡◌, IfOk};
-ghost use Rattle.tree_nodes.specs.Nodes.{tree_of};
+ghost use Rattle.std.specs.Prelude.{◌≡◌, Some};
+ghost use Rattle.tree_nodes.specs.Tree.{Names, entry_of};
 ghost use Rattle.tree_failures.specs.Causes.{is_absent, name_is_absent, stops, name_is_present, is_unchecked, create_over_directory, remove_of_directory, rmdir_of_no_directory, is_filled_directory, rmdir_of_filled_directory, isnt_plain, name_isnt_plain, is_odd, has_odd_byte, name_has_odd_byte, setattr_with_guard, listing_with_cookie};
 
 use crate::asked::{entry_wanted, first_place, second_place};
 use nfs3_types::{CreateMode, DirectoryName, NfsCall};
-use std::alloc::{AllocError, Global};
-use tree_handles::{Binds, Spot, directory_of, is_directory, is_file, is_plain, named};
-use tree_nodes::{Content, Nodes, is_bare};
+use tree_handles::{View, directory_of, is_directory, is_file, is_plain, named};
+use tree_nodes::{Content, Node, Nodes};
 
 /// Whether a live directory has no such entry.
-fn is_absent(
-    alloc: Global,
-    binds: &Binds,
-    nodes: &Nodes,
-    place: &DirectoryName,
-) -> Result<bool, AllocError>
-    ensures { IfOk result (λ absent. absent ≡ is_absent binds.now (tree_of nodes.now) place.now) }
+fn is_absent(view: &View<'_>, place: &DirectoryName) -> bool
+    ensures { result ≡ is_absent view.now.binds.now view.now.nodes.now place.now }
 {
-    if directory_of(binds, nodes, &place.directory).is_none() {
-        return Ok(false);
+    if directory_of(view, &place.directory).is_none() {
+        return false;
     }
-    Ok(named(alloc, binds, nodes, place)?.is_none())
+    named(view, place).is_none()
 }
 
 /// A name that has to be an entry is none.
-pub(crate) fn name_is_absent(
-    alloc: Global,
-    binds: &Binds,
-    nodes: &Nodes,
-    call: &NfsCall,
-) -> Result<bool, AllocError>
-    ensures { IfOk result (λ holds. holds ≡ name_is_absent binds.now (tree_of nodes.now) call.now) }
+pub(crate) fn name_is_absent(view: &View<'_>, call: &NfsCall) -> bool
+    ensures { result ≡ name_is_absent view.now.binds.now view.now.nodes.now call.now }
 {
     match entry_wanted(call) {
-        Some(place) => is_absent(alloc, binds, nodes, place),
-        None => Ok(false),
+        Some(place) => is_absent(view, place),
+        None => false,
     }
 }
 
@@ -51,24 +40,19 @@ fn stops(mode: &CreateMode, content: &Content) -> bool
 }
 
 /// A name that would be made is an entry.
-pub(crate) fn name_is_present(
-    alloc: Global,
-    binds: &Binds,
-    nodes: &Nodes,
-    call: &NfsCall,
-) -> Result<bool, AllocError>
-    ensures { IfOk result (λ holds. holds ≡ name_is_present binds.now (tree_of nodes.now) call.now) }
+pub(crate) fn name_is_present(view: &View<'_>, call: &NfsCall) -> bool
+    ensures { result ≡ name_is_present view.now.binds.now view.now.nodes.now call.now }
 {
     match call {
         NfsCall::Create(call) => {
-            match named(alloc, binds, nodes, &call.place)? {
-                Some(spot) => Ok(stops(&call.mode, &spot.node.content)),
-                None => Ok(false),
+            match named(view, &call.place) {
+                Some(node) => stops(&call.mode, &node.content),
+                None => false,
             }
         }
-        NfsCall::MkDir(call) => Ok(named(alloc, binds, nodes, &call.place)?.is_some()),
-        NfsCall::SymLink(call) => Ok(named(alloc, binds, nodes, &call.place)?.is_some()),
-        _ => Ok(false),
+        NfsCall::MkDir(call) => named(view, &call.place).is_some(),
+        NfsCall::SymLink(call) => named(view, &call.place).is_some(),
+        _ => false,
     }
 }
 
@@ -83,89 +67,70 @@ fn is_unchecked(mode: &CreateMode) -> bool
 }
 
 /// An unchecked CREATE of a directory's name.
-pub(crate) fn create_over_directory(
-    alloc: Global,
-    binds: &Binds,
-    nodes: &Nodes,
-    call: &NfsCall,
-) -> Result<bool, AllocError>
-    ensures { IfOk result (λ holds. holds ≡ create_over_directory binds.now (tree_of nodes.now) call.now) }
+pub(crate) fn create_over_directory(view: &View<'_>, call: &NfsCall) -> bool
+    ensures { result ≡ create_over_directory view.now.binds.now view.now.nodes.now call.now }
 {
     match call {
         NfsCall::Create(call) => {
-            match named(alloc, binds, nodes, &call.place)? {
-                Some(spot) => Ok(is_unchecked(&call.mode) && is_directory(&spot.node.content)),
-                None => Ok(false),
+            match named(view, &call.place) {
+                Some(node) => is_unchecked(&call.mode) && is_directory(&node.content),
+                None => false,
             }
         }
-        _ => Ok(false),
+        _ => false,
     }
 }
 
 /// REMOVE of a directory.
-pub(crate) fn remove_of_directory(
-    alloc: Global,
-    binds: &Binds,
-    nodes: &Nodes,
-    call: &NfsCall,
-) -> Result<bool, AllocError>
-    ensures { IfOk result (λ holds. holds ≡ remove_of_directory binds.now (tree_of nodes.now) call.now) }
+pub(crate) fn remove_of_directory(view: &View<'_>, call: &NfsCall) -> bool
+    ensures { result ≡ remove_of_directory view.now.binds.now view.now.nodes.now call.now }
 {
     match call {
         NfsCall::Remove(place) => {
-            match named(alloc, binds, nodes, place)? {
-                Some(spot) => Ok(is_directory(&spot.node.content)),
-                None => Ok(false),
+            match named(view, place) {
+                Some(node) => is_directory(&node.content),
+                None => false,
             }
         }
-        _ => Ok(false),
+        _ => false,
     }
 }
 
 /// RMDIR of no directory.
-pub(crate) fn rmdir_of_no_directory(
-    alloc: Global,
-    binds: &Binds,
-    nodes: &Nodes,
-    call: &NfsCall,
-) -> Result<bool, AllocError>
-    ensures { IfOk result (λ holds. holds ≡ rmdir_of_no_directory binds.now (tree_of nodes.now) call.now) }
+pub(crate) fn rmdir_of_no_directory(view: &View<'_>, call: &NfsCall) -> bool
+    ensures { result ≡ rmdir_of_no_directory view.now.binds.now view.now.nodes.now call.now }
 {
     match call {
         NfsCall::RmDir(place) => {
-            match named(alloc, binds, nodes, place)? {
-                Some(spot) => Ok(!is_directory(&spot.node.content)),
-                None => Ok(false),
+            match named(view, place) {
+                Some(node) => !is_directory(&node.content),
+                None => false,
             }
         }
-        _ => Ok(false),
+        _ => false,
     }
 }
 
 /// Whether an entry is a directory that isn't empty.
-pub(crate) fn is_filled_directory(nodes: &Nodes, spot: &Spot<'_>) -> bool
-    ensures { result ≡ is_filled_directory (tree_of nodes.now) (spot.now.path, spot.now.node.now) }
+pub(crate) fn is_filled_directory(nodes: &Nodes, node: &Node) -> bool
+    ensures { (path : Names) → entry_of nodes.now node.now.object ≡ Some (path, node.now)
+        → result ≡ is_filled_directory nodes.now (path, node.now) }
 {
-    is_directory(&spot.node.content) && !is_bare(nodes, &spot.path)
+    is_directory(&node.content) && !nodes.is_bare(node.object)
 }
 
 /// RMDIR of a directory that isn't empty.
-pub(crate) fn rmdir_of_filled_directory(
-    alloc: Global,
-    binds: &Binds,
-    nodes: &Nodes,
-    call: &NfsCall,
-) -> Result<bool, AllocError>
-    ensures { IfOk result (λ holds. holds ≡ rmdir_of_filled_directory binds.now (tree_of nodes.now) call.now) }
+pub(crate) fn rmdir_of_filled_directory(view: &View<'_>, call: &NfsCall) -> bool
+    ensures { result ≡ rmdir_of_filled_directory view.now.binds.now view.now.nodes.now call.now }
 {
     match call {
         NfsCall::RmDir(place) => {
-            match named(alloc, binds, nodes, place)? {
-                Some(spot) => Ok(is_filled_directory(nodes, &spot)),
-                None => Ok(false),
+            match named(view, place) {
+                Some(node) => is_filled_directory(view.nodes, node),
+                None => false,
             }
         }
-        _ => Ok(false),
+        _ => false,
     }
 }
 

@@ -2,3 +2,4 @@ pub mod Binding
 pub mod Kind
 pub mod Live
 pub mod Entry
+pub mod Standing

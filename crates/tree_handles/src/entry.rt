@@ -1,15 +1,15 @@
 //! Names in directories.
 
-ghost use Rattle.std.specs.Prelude.{◌≡◌, ◌<◌, ◌^◌, length, IfOk};
+ghost use Rattle.std.specs.Prelude.{◌≡◌, ◌∷◌, ◌++◌, [], option_and_then};
 ghost use Rattle.std.specs.Option.{option_copied, option_map};
-ghost use Rattle.tree_nodes.specs.Nodes.{tree_of};
+ghost use Rattle.tree_nodes.specs.declared.node.Node.{Node};
+ghost use Rattle.tree_nodes.specs.Tree.{Names, entry_of};
+ghost use Rattle.tree_nodes.specs.Place.{path_of};
 ghost use Rattle.tree_handles.specs.Entry.{is_dot, is_two_dots, is_plain, entry_at, named};
 
-use crate::binds::Binds;
-use crate::live::directory_of;
+use crate::live::{View, directory_of};
 use nfs3_types::DirectoryName;
-use std::alloc::{AllocError, Global};
-use tree_nodes::{Node, Nodes, Path, node_at};
+use tree_nodes::{Node, Nodes};
 
 /// Whether a name is `.`, the directory itself.
 pub fn is_dot(name: &[u8]) -> bool
@@ -32,49 +32,25 @@ pub fn is_plain(name: &[u8]) -> bool
     !(name.is_empty() || is_dot(name) || is_two_dots(name))
 }
 
-/// The node of an entry.
-pub fn entry_at<'a>(
-    alloc: Global,
-    nodes: &'a Nodes,
-    directory: &Path,
-    name: &[u8],
-) -> Result<Option<&'a Node>, AllocError>
-    requires { length name.now < 2 ^ 32 }
-    ensures { IfOk result (λ node. option_copied node ≡ entry_at (tree_of nodes.now) directory.now name.now) }
+/// The node of an entry of a directory.
+pub fn entry_at<'a>(nodes: &'a Nodes, directory: u64, name: &[u8]) -> Option<&'a Node>
+    ensures node { option_copied result ≡ option_and_then (λ path. entry_at nodes.now path name.now) (path_of nodes.now directory) }
+    ensures place { option_and_then (λ n. entry_of nodes.now n.object) (option_copied result)
+        ≡ option_and_then (λ path. option_map {U = Names × Node} (λ n. (path ++ name.now ∷ [], n)) (entry_at nodes.now path name.now)) (path_of nodes.now directory) }
 {
-    if !is_plain(name) {
-        return Ok(None);
+    if is_plain(name) {
+        nodes.entry(directory, name)
+    } else {
+        None
     }
-    let path = directory.child(alloc, name)?;
-    Ok(node_at(nodes, &path))
 }
 
-/// An entry with its place.
-#[derive(Drop)]
-pub struct Spot<'a> {
-    pub path: Path,
-    pub node: &'a Node,
-}
-
-/// Where the entry stands that a call names.
-pub fn named<'a>(
-    alloc: Global,
-    binds: &Binds,
-    nodes: &'a Nodes,
-    place: &DirectoryName,
-) -> Result<Option<Spot<'a>>, AllocError>
-    ensures { IfOk result (λ spot. option_map (λ s. (s.path, s.node.now)) spot ≡ named binds.now (tree_of nodes.now) place.now) }
+/// The entry that a call names.
+pub fn named<'a>(view: &View<'a>, place: &DirectoryName) -> Option<&'a Node>
+    ensures node { option_copied result ≡ option_map (λ e. e.1) (named view.now.binds.now view.now.nodes.now place.now) }
+    ensures place { option_and_then (λ n. entry_of view.now.nodes.now n.object) (option_copied result)
+        ≡ named view.now.binds.now view.now.nodes.now place.now }
 {
-    let Some(directory) = directory_of(binds, nodes, &place.directory) else {
-        return Ok(None);
-    };
-    let name = place.name.as_slice();
-    if !is_plain(name) {
-        return Ok(None);
-    }
-    let path = directory.child(alloc, name)?;
-    match node_at(nodes, &path) {
-        Some(node) => Ok(Some(Spot { path, node })),
-        None => Ok(None),
-    }
+    let directory = directory_of(view, &place.directory)?;
+    entry_at(view.nodes, directory, place.name.as_slice())
 }

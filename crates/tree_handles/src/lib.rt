@@ -7,6 +7,6 @@ mod kind;
 mod live;
 
 pub use binds::Binds;
-pub use entry::{Spot, entry_at, is_dot, is_plain, is_two_dots, named};
+pub use entry::{entry_at, is_dot, is_plain, is_two_dots, named};
 pub use kind::{is_directory, is_file, is_link};
-pub use live::{FileEntry, directory_of, file_of, gives_object, is_bound, live_entry};
+pub use live::{FileEntry, View, directory_of, file_of, gives_object, is_bound, live_entry};

@@ -1,57 +1,65 @@
 //! What a handle names in a tree.
 
-ghost use Rattle.std.specs.Prelude.{◌≡◌};
+ghost use Rattle.std.specs.Prelude.{◌≡◌, ℕ, is_some, option_and_then};
+ghost use Rattle.tree_nodes.specs.declared.node.File.{File};
 ghost use Rattle.std.specs.Option.{option_copied, option_map};
-ghost use Rattle.tree_nodes.specs.Nodes.{tree_of};
+ghost use Rattle.tree_nodes.specs.declared.node.Node.{Node};
+ghost use Rattle.tree_nodes.specs.declared.node.Content.TheVariants as contents;
+ghost use Rattle.tree_nodes.specs.Tree.{Names, entry_of};
+ghost use Rattle.tree_nodes.specs.Place.{path_of};
 ghost use Rattle.tree_handles.specs.Live.{live_entry, directory_of, file_of};
 ghost use Rattle.tree_handles.specs.Binding.{is_bound, gives_object};
 
 use crate::binds::Binds;
 use nfs3_types::FileHandle;
-use tree_nodes::{Content, File, Node, Nodes, Path, entry_of};
+use tree_nodes::{Content, File, Node, Nodes};
 
-/// A file with its place and its object.
-#[derive(Drop)]
+/// What a call sees: the tree, and what its handles name.
+#[derive(Clone, Copy)]
+pub struct View<'a> {
+    pub binds: &'a Binds,
+    pub nodes: &'a Nodes,
+}
+
+/// A file with its object.
+#[derive(Clone, Copy)]
 pub struct FileEntry<'a> {
-    pub path: &'a Path,
     pub object: u64,
     pub file: &'a File,
 }
 
-/// Where the object that a handle names stands.
-pub fn live_entry<'a>(
-    binds: &Binds,
-    nodes: &'a Nodes,
-    handle: &FileHandle,
-) -> Option<(&'a Path, &'a Node)>
-    ensures { option_map (λ e. (e.0.now, e.1.now)) result ≡ live_entry binds.now (tree_of nodes.now) handle.now }
+/// The object that a handle names, where it stands.
+pub fn live_entry<'a>(view: &View<'a>, handle: &FileHandle) -> Option<&'a Node>
+    ensures node { option_copied result ≡ option_map (λ e. e.1) (live_entry view.now.binds.now view.now.nodes.now handle.now) }
+    ensures place { option_and_then (λ n. entry_of view.now.nodes.now n.object) (option_copied result)
+        ≡ live_entry view.now.binds.now view.now.nodes.now handle.now }
 {
-    match binds.object(handle.as_slice()) {
-        Some(object) => entry_of(nodes, object),
-        None => None,
-    }
+    let object = view.binds.object(handle.as_slice())?;
+    view.nodes.node(object)
 }
 
-/// The path of the directory that a handle names.
-pub fn directory_of<'a>(binds: &Binds, nodes: &'a Nodes, handle: &FileHandle) -> Option<&'a Path>
-    ensures { option_copied result ≡ directory_of binds.now (tree_of nodes.now) handle.now }
+/// The object of the directory that a handle names.
+pub fn directory_of(view: &View<'_>, handle: &FileHandle) -> Option<u64>
+    ensures path { option_and_then (path_of view.now.nodes.now) result ≡ directory_of view.now.binds.now view.now.nodes.now handle.now }
+    ensures stands { is_some result ≡ is_some (directory_of view.now.binds.now view.now.nodes.now handle.now) }
 {
-    let (path, node) = live_entry(binds, nodes, handle)?;
+    let node = live_entry(view, handle)?;
     match node.content {
-        Content::Directory => Some(path),
+        Content::Directory => Some(node.object),
         Content::File(_) | Content::Link(_) => None,
     }
 }
 
 /// The file that a handle names.
-pub fn file_of<'a>(binds: &Binds, nodes: &'a Nodes, handle: &FileHandle) -> Option<FileEntry<'a>>
-    ensures { option_map (λ e. record { path = e.path.now; object = e.object; file = e.file.now }) result
-        ≡ file_of binds.now (tree_of nodes.now) handle.now }
+pub fn file_of<'a>(view: &View<'a>, handle: &FileHandle) -> Option<FileEntry<'a>>
+    ensures file { option_map {U = ℕ × File} (λ e. (e.object, e.file.now)) result
+        ≡ option_map {U = ℕ × File} (λ e. (e.object, e.file)) (file_of view.now.binds.now view.now.nodes.now handle.now) }
+    ensures place { option_and_then (λ e. entry_of view.now.nodes.now e.object) result
+        ≡ option_map {U = Names × Node} (λ e. (e.path, record { object = e.object; content = contents.File e.file })) (file_of view.now.binds.now view.now.nodes.now handle.now) }
 {
-    let (path, node) = live_entry(binds, nodes, handle)?;
+    let node = live_entry(view, handle)?;
     match &node.content {
         Content::File(file) => Some(FileEntry {
-            path,
             object: node.object,
             file,
         }),

@@ -2,7 +2,7 @@
 use Rattle.std.proofs.Common.{◌≡◌, ℕ, Bool, true, false, cond, List, [], ◌∷◌, ◌++◌, Option, Some, None, refl, sym, ap, ◌∙◌, subst, append_assoc}
 use Rattle.std.specs.Prelude.{IsSome, not, ◌&&◌, option_and_then}
 use Rattle.std.specs.FinMap as map
-use Rattle.file_tree.specs.declared.change.Change.TheVariants.{Keep, Remove, Move}
+use Rattle.file_tree.specs.Change.Change.{Keep, Remove, Move}
 use Rattle.tree_nodes.specs.declared.node.Node.{Node}
 use Rattle.tree_nodes.specs.Tree.{Names, Tree, same_path, is_bare}
 use Rattle.tree_nodes.specs.Moved.{is_from}

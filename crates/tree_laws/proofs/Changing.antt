@@ -20,13 +20,14 @@ use Rattle.nfs3_types.specs.declared.replies.NfsReply.TheVariants as replies
 use Rattle.nfs3_types.specs.declared.replies.Outcome.{Outcome}
 use Rattle.nfs3_types.specs.declared.replies.Outcome.TheVariants.{Received, Taken}
 use Rattle.nfs3_types.specs.declared.status.Failure.{Failure}
-use Rattle.file_tree.specs.declared.change.Change.{Change}
-use Rattle.file_tree.specs.declared.change.Change.TheVariants.{Keep, Put, Remove, Move}
+use Rattle.file_tree.specs.Change.{Change}
+use Rattle.file_tree.specs.Change.Change.{Keep, Put, Remove, Move}
 use Rattle.tree_nodes.specs.declared.node.Node.{Node}
 use Rattle.tree_nodes.specs.declared.node.File.{File}
 use Rattle.tree_nodes.specs.declared.node.Content.{Content}
 use Rattle.tree_nodes.specs.declared.node.Content.TheVariants as contents
-use Rattle.tree_nodes.specs.Files.{file_node, resized, written}
+use Rattle.tree_nodes.specs.Files.{file_node}
+use Rattle.file_bytes.specs.Files.{resized, written}
 use Rattle.tree_nodes.specs.Tree.{Names, Tree, same_path, entry_of, is_bare}
 use Rattle.tree_nodes.specs.Moved.{is_from}
 use Rattle.tree_handles.specs.Binding.{Bindings, gives_object, object_of}

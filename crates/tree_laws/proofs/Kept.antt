@@ -6,7 +6,7 @@ use Rattle.nfs3_types.specs.declared.calls.NfsCall.TheVariants as calls
 use Rattle.nfs3_types.specs.declared.replies.NfsReply.{NfsReply}
 use Rattle.nfs3_types.specs.declared.replies.Outcome.TheVariants.{Received, Taken}
 use Rattle.nfs3_types.specs.declared.status.Failure.{Failure}
-use Rattle.file_tree.specs.declared.change.Change.TheVariants.{Keep}
+use Rattle.file_tree.specs.Change.Change.{Keep}
 use Rattle.tree_nodes.specs.Tree.{Tree}
 use Rattle.tree_handles.specs.Binding.{Bindings}
 use Rattle.nfs3_types.specs.Procedures.{is_answered, failure_in}

@@ -16,7 +16,7 @@ use Rattle.nfs3_types.specs.declared.replies.NfsReply.TheVariants as replies
 use Rattle.nfs3_types.specs.declared.replies.Outcome.{Outcome}
 use Rattle.nfs3_types.specs.declared.replies.Outcome.TheVariants.{Received}
 use Rattle.replay_law.specs.Run.{Taken, state_after}
-use Rattle.file_tree.specs.declared.change.Change.TheVariants.{Keep}
+use Rattle.file_tree.specs.Change.Change.{Keep}
 use Rattle.tree_nodes.specs.declared.node.Node.{Node}
 use Rattle.tree_nodes.specs.declared.node.File.{File}
 use Rattle.tree_nodes.specs.declared.node.Content.TheVariants as contents

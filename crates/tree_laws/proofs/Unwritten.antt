@@ -4,8 +4,8 @@ use Rattle.std.specs.Prelude.{IsSome}
 use Rattle.std.specs.FinMap as map
 use Rattle.nfs3_types.specs.declared.calls.NfsCall.{NfsCall}
 use Rattle.nfs3_types.specs.declared.replies.Outcome.{Outcome}
-use Rattle.file_tree.specs.declared.change.Change.{Change}
-use Rattle.file_tree.specs.declared.change.Change.TheVariants.{Keep, Put, Remove, Move}
+use Rattle.file_tree.specs.Change.{Change}
+use Rattle.file_tree.specs.Change.Change.{Keep, Put, Remove, Move}
 use Rattle.tree_nodes.specs.declared.node.Node.{Node}
 use Rattle.tree_nodes.specs.declared.node.File.{File}
 use Rattle.tree_nodes.specs.declared.node.Content.{Content}

@@ -15,10 +15,11 @@ use Rattle.nfs3_types.specs.declared.replies.ReadSuccess.{ReadSuccess}
 use Rattle.nfs3_types.specs.declared.replies.NfsReply.TheVariants as replies
 use Rattle.nfs3_types.specs.declared.replies.Outcome.{Outcome}
 use Rattle.nfs3_types.specs.declared.replies.Outcome.TheVariants.{Received, Taken}
-use Rattle.file_tree.specs.declared.change.Change.TheVariants.{Keep, Put}
+use Rattle.file_tree.specs.Change.Change.{Keep, Put}
 use Rattle.tree_nodes.specs.declared.node.File.{File}
 use Rattle.tree_nodes.specs.declared.node.Content.TheVariants as contents
-use Rattle.tree_nodes.specs.Files.{file_node, resized, written}
+use Rattle.tree_nodes.specs.Files.{file_node}
+use Rattle.file_bytes.specs.Files.{resized, written}
 use Rattle.tree_nodes.specs.Tree.{Names, Tree, entry_of}
 use Rattle.tree_handles.specs.Binding.{Bindings, object_of, same_bytes}
 use Rattle.tree_handles.specs.Live.{FileEntry, as_file, file_of}

@@ -10,7 +10,7 @@ use Rattle.tree_nodes.specs.declared.node.Content.{Content}
 use Rattle.tree_nodes.specs.declared.node.Content.TheVariants.{Directory}
 use Rattle.tree_nodes.specs.Tree.{Names, Tree, same_path, opening, is_bare}
 use Rattle.tree_nodes.specs.Moved.{is_from}
-use Rattle.file_tree.specs.declared.change.Change.TheVariants.{Keep, Remove, Move}
+use Rattle.file_tree.specs.Change.Change.{Keep, Remove, Move}
 use Rattle.tree_handles.specs.Binding.{Bindings}
 use Rattle.tree_handles.specs.Entry.{named}
 use Rattle.tree_handles.specs.Kind.{is_directory}

@@ -1,4 +1,4 @@
--- the sorted map of nodes as a finite map
+-- the order of paths, and sorted entries as a finite map
 use Rattle.std.proofs.Common.{◌≡◌, cond, List, [], ◌∷◌, length, Some, None, refl, sym, ap, ◌∙◌, arith}
 use Rattle.std.specs.declared.cmp.Ordering.{Ordering}
 use Rattle.std.specs.declared.cmp.Ordering.TheVariants.{Less}
@@ -14,7 +14,6 @@ use Rattle.std.specs.BTreeMap.{BTreeMap, IsOrdered, is_at, Updates}
 use Rattle.std.specs.Map.{lookup, keys_of}
 use Rattle.tree_nodes.specs.declared.node.Node.{Node}
 use Rattle.tree_nodes.specs.Tree.{Names, path_cmp}
-use Rattle.tree_nodes.specs.Nodes.{tree_of}
 
 -- paths are in a total order, and only equal ones tie
 pub path_total : IsTotalOrder path_cmp
@@ -23,7 +22,7 @@ path_total = lists_total nat_list_cmp_total
 pub path_ties : map.IsAntisymmetric path_cmp
 path_ties = map.slice_cmp-IsAntisymmetric (map.slice_cmp-IsAntisymmetric map.nat_cmp-IsAntisymmetric)
 
-find_lookup : {K X : Type 0} (R : K → K → Ordering) (q : K) (xs : List (K × X)) → es.find R q xs ≡ lookup (is_at (R q)) xs
+pub find_lookup : {K X : Type 0} (R : K → K → Ordering) (q : K) (xs : List (K × X)) → es.find R q xs ≡ lookup (is_at (R q)) xs
 find_lookup R q [] = refl
 find_lookup R q (e ∷ xs) = ap (cond (eq_by_cmp R q e.0) (Some e.1)) (find_lookup R q xs)
 
@@ -38,44 +37,8 @@ no_entries (x ∷ xs) e = absurd (omega arith)
 pub entries_empty : {K : Type 0} (R : K → K → Ordering) (X : Type 0) → map.entries (map.empty {X = X} {R = R}) ≡ []
 entries_empty R X = no_entries _ (sym (map.len-entries (map.empty {X = X} {R = R})) ∙ map.len-empty R X)
 
-entries_sorted : {K X : Type 0} (R : K → K → Ordering) → IsTotalOrder R → (xs : List (K × X)) → IsStrictlySortedBy R (keys_of xs) → map.entries (map.from_entries {R = R} xs) ≡ xs
+pub entries_sorted : {K X : Type 0} (R : K → K → Ordering) → IsTotalOrder R → (xs : List (K × X)) → IsStrictlySortedBy R (keys_of xs) → map.entries (map.from_entries {R = R} xs) ≡ xs
 unfolding IsStrictlySortedBy
 entries_sorted {K} {X} R o [] h = entries_empty R X
 entries_sorted R o (e ∷ xs) h =
     map.entries-insert o (map.from_entries xs) e.0 e.1 ∙ ap (es.put R e.0 e.1) (entries_sorted R o xs h.1) ∙ put_first R e.0 e.1 xs h.0
-
--- the same node at each path
-pub get_nodes : (m : BTreeMap Names Node) (q : Names) → map.get (tree_of m) q ≡ tree.get path_cmp m q
-unfolding tree_of
-get_nodes m q = map.get-from_entries path_total m.entries q ∙ find_lookup path_cmp q m.entries
-
--- the same entries
-pub entries_nodes : (m : BTreeMap Names Node) → IsOrdered path_cmp m → map.entries (tree_of m) ≡ m.entries
-unfolding tree_of
-entries_nodes m h = entries_sorted path_cmp path_total m.entries h
-
--- as many nodes
-pub len_nodes : (m : BTreeMap Names Node) → IsOrdered path_cmp m → map.len (tree_of m) ≡ length m.entries
-len_nodes m h = map.len-entries (tree_of m) ∙ ap length (entries_nodes m h)
-
--- one node put at a path
-pub put_nodes : (m n : BTreeMap Names Node) (k : Names) (v : Node) → Updates path_cmp m n k (Some v) → tree_of n ≡ map.insert (tree_of m) k v
-put_nodes m n k v h = map.same_map path_total path_ties _ _ (λ q.
-    get_nodes n q ∙ h.0 q ∙ ap (λ b. cond b (Some v) (tree.get path_cmp m q)) ((eq_by_cmp_equiv path_total).symm k q)
-    ∙ ap (cond (eq_by_cmp path_cmp q k) (Some v)) (sym (get_nodes m q)) ∙ sym (map.get-insert path_total (tree_of m) k v q))
-
--- the node at a path taken away
-pub remove_nodes : (m n : BTreeMap Names Node) (k : Names) → Updates path_cmp m n k None → tree_of n ≡ map.remove (tree_of m) k
-remove_nodes m n k h = map.same_map path_total path_ties _ _ (λ q.
-    get_nodes n q ∙ h.0 q ∙ ap (λ b. cond b None (tree.get path_cmp m q)) ((eq_by_cmp_equiv path_total).symm k q)
-    ∙ ap (cond (eq_by_cmp path_cmp q k) None) (sym (get_nodes m q)) ∙ sym (map.get-remove path_total (tree_of m) k q))
-
--- without entries the tree is empty
-pub none_nodes : (m : BTreeMap Names Node) → m.entries ≡ [] → tree_of m ≡ map.empty
-unfolding tree_of
-none_nodes m e = ap map.from_entries e
-
--- the same entries, the same tree
-pub same_nodes : (m n : BTreeMap Names Node) → n.entries ≡ m.entries → tree_of n ≡ tree_of m
-unfolding tree_of
-same_nodes m n e = ap map.from_entries e

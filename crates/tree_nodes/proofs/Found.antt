@@ -84,7 +84,7 @@ t_second : (a b : Bool) → T (a && b) → T b
 t_second true b h = h
 t_second false b h = absurd h
 
-apart : (x q : Names) (xs : List (Names × Node)) → T (es.below_all path_cmp x xs) → IsSome (es.find path_cmp q xs) → q ≡ x → ⊥
+pub apart : (x q : Names) (xs : List (Names × Node)) → T (es.below_all path_cmp x xs) → IsSome (es.find path_cmp q xs) → q ≡ x → ⊥
 apart x q [] below there same = no_node there
 apart x q (e ∷ xs) below there same = go (same_path q e.0) (λ later. apart x q xs (t_second _ _ below) later same) where
   go : (eq_by_cmp path_cmp q e.0 ≡ true) × (q ≡ e.0) ⊎ (eq_by_cmp path_cmp q e.0 ≡ false) → (IsSome (es.find path_cmp q xs) → ⊥) → ⊥
@@ -146,14 +146,14 @@ some_found tree test p node h passes = some_in test (map.entries tree) p node (s
 
 -- ---- what lies below a path
 
-any_of_found : (test : Names × Node → Bool) (xs : List (Names × Node)) → IsSome (find test xs) → list_any test xs ≡ true
+pub any_of_found : (test : Names × Node → Bool) (xs : List (Names × Node)) → IsSome (find test xs) → list_any test xs ≡ true
 any_of_found test [] h = absurd (cc)
 any_of_found test (x ∷ xs) h = go (test x) h (any_of_found test xs) where
   go : (b : Bool) → IsSome (cond b (Some x) (find test xs)) → (IsSome (find test xs) → list_any test xs ≡ true) → (b || list_any test xs) ≡ true
   go true there later = refl
   go false there later = later there
 
-found_of_any : (test : Names × Node → Bool) (xs : List (Names × Node)) → list_any test xs ≡ true → IsSome (find test xs)
+pub found_of_any : (test : Names × Node → Bool) (xs : List (Names × Node)) → list_any test xs ≡ true → IsSome (find test xs)
 found_of_any test [] h = absurd (cc)
 found_of_any test (x ∷ xs) h = go (test x) h (found_of_any test xs) where
   go : (b : Bool) → (b || list_any test xs) ≡ true → (list_any test xs ≡ true → IsSome (find test xs)) → IsSome (cond b (Some x) (find test xs))

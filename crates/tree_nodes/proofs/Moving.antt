@@ -98,7 +98,7 @@ one_moved p q was now left rest e whole is before put =
     ap (λ (t : Tree). put_all t (moved_entries p q rest)) put ∙ sym (put_behind was (moved_entries p q rest) (moved_entries p q (e ∷ [])))
     ∙ ap (put_all was) (sym (moved_behind p q rest (e ∷ [])) ∙ ap (moved_entries p q) (sym is)) ∙ before
 
-get_moved : (tree : Tree) (p q x : Names) → map.get (moved tree p q) x ≡ es.find path_cmp x (moved_entries p q (map.entries tree))
+pub get_moved : (tree : Tree) (p q x : Names) → map.get (moved tree p q) x ≡ es.find path_cmp x (moved_entries p q (map.entries tree))
 get_moved tree p q x = ap (λ (t : Tree). map.get t x) (built (moved_entries p q (map.entries tree))) ∙ map.get-from_entries path_total (moved_entries p q (map.entries tree)) x
 
 -- ---- a sound tree stays sound

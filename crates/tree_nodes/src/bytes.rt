@@ -1,13 +1,11 @@
 //! Byte strings and paths. A contract sees a byte string as the list of its bytes, and a path as the list of
 //! its names.
 
-ghost use Rattle.std.specs.Prelude.{◌≡◌, ◌<◌, ◌^◌, [], ◌∷◌, ◌++◌, IfOk, length, nat_eq, refl};
+ghost use Rattle.std.specs.Prelude.{◌≡◌, ◌<◌, ◌^◌, IfOk, length, nat_eq, refl};
 ghost use Rattle.std.specs.Ordering.{nat_cmp, as_partial_cmp};
 ghost use Rattle.std.specs.Cmp.{partial_equiv_from_equiv, partial_order_from_agreeing_total};
 ghost use Rattle.std.specs.Cmp.Lexicographic.{pointwise, slice_cmp, texts_ties, lists_ties};
 ghost use Rattle.std.proofs.lemmas.Cmp.{nat_list_eq_equiv, nat_list_cmp_total, lists_equiv, lists_total};
-ghost use Rattle.tree_nodes.specs.Moved.{moved_path};
-ghost use Rattle.tree_nodes.specs.Tree.{parent, is_below, is_in};
 
 use std::alloc::{AllocError, Global};
 use std::cmp::Ordering;
@@ -97,7 +95,7 @@ impl Ord for Bytes {
 
 /// The names from the root down to an object.
 #[derive(Debug, Drop)]
-pub struct Path {
+pub(crate) struct Path {
     names: Vec<Bytes>,
 }
 
@@ -110,95 +108,18 @@ impl Model for Path {
 }
 
 impl Path {
-    /// The root's path.
-    pub fn root(alloc: Global) -> Path
-        ensures { result ≡ [] }
+    /// The path of these names.
+    pub(crate) fn new(names: Vec<Bytes>) -> Path
+        ensures { result ≡ names.items }
     {
-        Path {
-            names: Vec::new(alloc),
-        }
+        Path { names }
     }
 
     /// The names.
-    pub fn names(&self) -> &[Bytes]
+    pub(crate) fn names(&self) -> &[Bytes]
         ensures { result.now ≡ self.now }
     {
         self.names.as_slice()
-    }
-
-    /// The same path.
-    pub fn copy(&self, alloc: Global) -> Result<Path, AllocError>
-        ensures { IfOk result (λ p. p ≡ self.now) }
-    {
-        Path::of_names(alloc, self.names())
-    }
-
-    /// The path of these names.
-    pub fn of_names(alloc: Global, names: &[Bytes]) -> Result<Path, AllocError>
-        ensures { IfOk result (λ p. p ≡ names.now) }
-    {
-        let mut copies = Vec::new(alloc);
-        for name in names {
-            copies.push(Bytes::from_slice(alloc, name.as_slice())?)?;
-        }
-        Ok(Path { names: copies })
-    }
-
-    /// The path of the directory that this one lies in. The root lies in itself (RFC 1813, section 3.3.3).
-    pub fn parent(&self, alloc: Global) -> Result<Path, AllocError>
-        ensures { IfOk result (λ p. p ≡ parent self.now) }
-    {
-        let names = self.names();
-        Path::of_names(alloc, &names[..names.len().saturating_sub(1)])
-    }
-
-    /// The path of these names behind this one.
-    pub fn join(&self, alloc: Global, rest: &[Bytes]) -> Result<Path, AllocError>
-        ensures { IfOk result (λ p. p ≡ self.now ++ rest.now) }
-    {
-        let Path { mut names } = self.copy(alloc)?;
-        for name in rest {
-            names.push(Bytes::from_slice(alloc, name.as_slice())?)?;
-        }
-        Ok(Path { names })
-    }
-
-    /// Where this path leads once what stood at one place stands at another.
-    pub fn moved(&self, alloc: Global, from: &Path, to: &Path) -> Result<Path, AllocError>
-        ensures { IfOk result (λ p. p ≡ moved_path from.now to.now self.now) }
-    {
-        let names = self.names();
-        if names.starts_with(from.names()) {
-            to.join(alloc, &names[from.names().len()..])
-        } else {
-            self.copy(alloc)
-        }
-    }
-
-    /// Whether this path lies below another one.
-    pub fn is_below(&self, front: &Path) -> bool
-        ensures { result ≡ is_below self.now front.now }
-    {
-        let names = self.names();
-        front.names().len() < names.len() && names.starts_with(front.names())
-    }
-
-    /// Whether this path is that of an entry of a directory.
-    pub fn is_in(&self, directory: &Path) -> bool
-        ensures { result ≡ is_in self.now directory.now }
-    {
-        let names = self.names();
-        names.len() == directory.names().len() + 1 && names.starts_with(directory.names())
-    }
-
-    /// The path of this name in the directory at this path.
-    pub fn child(&self, alloc: Global, name: &[u8]) -> Result<Path, AllocError>
-        requires { length name.now < 2 ^ 32 }
-        ensures { IfOk result (λ p. p ≡ self.now ++ name.now ∷ []) }
-    {
-        let Path { mut names } = self.copy(alloc)?;
-        names.push(Bytes::from_slice(alloc, name)?)?;
-        Ok(Path { names })
     }
 }
 

@@ -1,4 +1,4 @@
-//! The nodes of a file tree by their paths: look-ups and changes, the bytes of files, and the printed tree.
+//! The nodes of a file tree by their objects' numbers: look-ups, changes and how to take them back, and the printed tree.
 #![tactic(auto)]
 
 mod bytes;
@@ -6,11 +6,11 @@ mod content;
 mod node;
 mod nodes;
 mod print;
+mod table;
+mod undo;
 
-pub use bytes::{Bytes, Path};
-pub use content::{behind, front, is_within_limit, reaches_end, resized, written};
+pub use bytes::Bytes;
+pub use content::{front, is_within_limit, reaches_end};
 pub use node::{Content, File, Node};
-pub use nodes::{
-    Nodes, count, entry_of, is_bare, moved, node_at, none, put, remove, root_alone, take,
-};
-pub use print::put_tree;
+pub use nodes::Nodes;
+pub use undo::Undo;

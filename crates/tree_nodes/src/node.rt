@@ -1,10 +1,8 @@
 //! The nodes of a tree.
 
-ghost use Rattle.std.specs.Prelude.{◌≡◌, IfOk};
-
 use crate::bytes::Bytes;
+use file_bytes::FileBytes;
 use nfs3_types::Verifier;
-use std::alloc::{AllocError, Global};
 
 /// An object with its number.
 #[derive(Debug, Drop)]
@@ -25,36 +23,6 @@ pub enum Content {
 /// A regular file, and the verifier with which an exclusive CREATE made it.
 #[derive(Debug, Drop)]
 pub struct File {
-    pub bytes: Bytes,
+    pub bytes: FileBytes,
     pub verifier: Option<Verifier>,
-}
-
-impl Content {
-    /// The same content.
-    pub fn copy(&self, alloc: Global) -> Result<Content, AllocError>
-        ensures { IfOk result (λ content. content ≡ self.now) }
-    {
-        match self {
-            Content::Directory => Ok(Content::Directory),
-            Content::File(file) => {
-                Ok(Content::File(File {
-                    bytes: Bytes::from_slice(alloc, file.bytes.as_slice())?,
-                    verifier: file.verifier,
-                }))
-            }
-            Content::Link(text) => Ok(Content::Link(Bytes::from_slice(alloc, text.as_slice())?)),
-        }
-    }
-}
-
-impl Node {
-    /// The same node.
-    pub fn copy(&self, alloc: Global) -> Result<Node, AllocError>
-        ensures { IfOk result (λ node. node ≡ self.now) }
-    {
-        Ok(Node {
-            object: self.object,
-            content: self.content.copy(alloc)?,
-        })
-    }
 }

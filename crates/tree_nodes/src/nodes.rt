@@ -1,137 +1,298 @@
-//! The nodes by their paths: look-ups and changes, as of a finite map.
+//! The nodes of a tree, by the numbers of their objects.
 
-ghost use Rattle.std.specs.Prelude.{◌≡◌, [], ◌∷◌, IfOk, OnOk, OnErr};
+ghost use Rattle.std.specs.Prelude.{List, ◌≡◌, ◌≢◌, ◌<◌, ◌≤◌, ◌+◌, ◌^◌, ℕ, false, true, [], ◌∷◌, ◌++◌, IfOk, OnOk, OnErr, Some, None, IsSome, All, length, option_and_then};
 ghost use Rattle.std.specs.Option.{option_copied, option_map};
 ghost use Rattle.std.specs.FinMap as map;
-ghost use Rattle.tree_nodes.specs.Tree.{entry_of, is_bare, opening};
-ghost use Rattle.tree_nodes.specs.Moved.{put_all, moved_entries, moved};
-ghost use Rattle.tree_nodes.specs.Nodes.{tree_of};
+ghost use Rattle.nfs3_types.specs.Limits.{file_limit};
+ghost use Rattle.tree_nodes.specs.declared.node.Node.{Node};
+ghost use Rattle.tree_nodes.specs.declared.node.File.{File};
+ghost use Rattle.tree_nodes.specs.declared.node.Content.TheVariants as contents;
+ghost use Rattle.tree_nodes.specs.Tree.{Names, Tree, path_cmp, entry_of, is_bare, opening, parent};
+ghost use Rattle.tree_nodes.specs.Files.{node_limit, file_node};
+ghost use Rattle.file_bytes.specs.Files.{resized, written};
+ghost use Rattle.tree_nodes.specs.Moved.{is_from, moved};
+ghost use Rattle.tree_nodes.specs.Sound.{IsSound};
+ghost use Rattle.tree_nodes.specs.Shown.{Shown, Shown-prop};
+ghost use Rattle.tree_nodes.specs.Place.{node_in, object_above, are_among};
+ghost use Rattle.tree_nodes.specs.Numbered.{IsNumbered};
+ghost use Rattle.tree_nodes.specs.Printed.{entry_text, tree_text, EntryFits, IsPrintable};
+ghost use Rattle.tree_nodes.specs.Paths.{paths_of, LiesIn};
+ghost use Rattle.std.specs.List.{flat_map};
+ghost use Rattle.std.specs.BTreeMap.{get, IsOrdered};
+ghost use Rattle.tree_nodes.specs.Undo.{TakesBack};
 
-use crate::bytes::Path;
-use crate::node::{Content, Node};
+use crate::bytes::{Bytes, Path};
+use crate::node::Node;
+use crate::print::{put_entry, put_word};
+use crate::table::{
+    Edit, Entry, cut, entry_in, is_bare, lists_all, node_at, parent_of, place_of, root_alone,
+};
+use crate::undo::{Step, Undo, edit, make, rename, take_back};
 use std::alloc::{AllocError, Global};
-use std::collections::BTreeMap;
+use std::collections::{BTreeMap, BTreeSet};
+use std::marker::Model;
 
-pub type Nodes = BTreeMap<Path, Node>;
-
-/// No node at all.
-pub fn none(alloc: Global) -> Nodes
-    ensures { tree_of result ≡ map.empty }
-{
-    BTreeMap::new(alloc)
-}
-
-/// The root alone, a directory, object 0.
-#[tactic(auto, unfolding(crate::specs::Tree::opening))]
-pub fn root_alone(alloc: Global) -> Result<Nodes, AllocError>
-    ensures { IfOk result (λ nodes. tree_of nodes ≡ opening) }
-{
-    let mut nodes = none(alloc);
-    let root = Node {
-        object: 0,
-        content: Content::Directory,
-    };
-    put(&mut nodes, Path::root(alloc), root)?;
-    Ok(nodes)
-}
-
-/// The node at a path.
-pub fn node_at<'a>(nodes: &'a Nodes, path: &Path) -> Option<&'a Node>
-    ensures { option_copied result ≡ map.get (tree_of nodes.now) path.now }
-{
-    nodes.get(path)
-}
-
-/// How many nodes there are.
-#[tactic(auto, using(crate::proofs::Entries::len_nodes))]
-pub fn count(nodes: &Nodes) -> usize
-    ensures { result ≡ map.len (tree_of nodes.now) }
-{
-    nodes.len()
-}
-
-/// Where an object stands, and its node.
-#[tactic(auto, using(crate::proofs::Entries::entries_nodes))]
-pub fn entry_of(nodes: &Nodes, object: u64) -> Option<(&Path, &Node)>
-    ensures { option_map (λ e. (e.0.now, e.1.now)) result ≡ entry_of (tree_of nodes.now) object }
-{
-    for (path, node) in nodes.iter() {
-        if node.object == object {
-            return Some((path, node));
-        }
-    }
-    None
-}
-
-/// Whether nothing lies below a path.
-#[tactic(auto, using(crate::proofs::Entries::entries_nodes))]
-pub fn is_bare(nodes: &Nodes, path: &Path) -> bool
-    ensures { result ≡ is_bare (tree_of nodes.now) path.now }
-{
-    for (other, _) in nodes.iter() {
-        if other.is_below(path) {
-            return false;
-        }
-    }
-    true
-}
-
-/// Puts a node at a path, and gives the one that stood there.
-#[tactic(auto, using(crate::proofs::Entries::put_nodes, crate::proofs::Entries::same_nodes, crate::proofs::Entries::get_nodes))]
-pub fn put(nodes: &mut Nodes, path: Path, node: Node) -> Result<Option<Node>, AllocError>
-    ensures before { IfOk result (λ before. before ≡ map.get (tree_of nodes.old) path) }
-    ensures ok { OnOk result (tree_of nodes.new ≡ map.insert (tree_of nodes.old) path node) }
-    ensures err { OnErr result (tree_of nodes.new ≡ tree_of nodes.old) }
-{
-    match nodes.insert(path, node) {
-        Ok(before) => Ok(before),
-        Err(_) => Err(AllocError),
-    }
-}
-
-/// Takes the node at a path away, and gives it.
-#[tactic(auto, using(crate::proofs::Entries::remove_nodes, crate::proofs::Entries::get_nodes))]
-pub fn take(nodes: &mut Nodes, path: &Path) -> Option<Node>
-    ensures before { result ≡ map.get (tree_of nodes.old) path.now }
-    ensures after { tree_of nodes.new ≡ map.remove (tree_of nodes.old) path.now }
-{
-    nodes.remove(path)
-}
-
-/// Takes the node at a path away.
-pub fn remove(nodes: &mut Nodes, path: &Path)
-    ensures { tree_of nodes.new ≡ map.remove (tree_of nodes.old) path.now }
-{
-    drop(take(nodes, path));
-}
-
-/// Puts a copy of a node where its path leads, unless it stands at the target.
-fn put_moved(
+/// The nodes of a tree. A contract sees the finite map from paths to nodes.
+#[derive(Debug, Drop)]
+pub struct Nodes {
     alloc: Global,
-    after: &mut Nodes,
-    path: &Path,
-    node: &Node,
-    from: &Path,
-    to: &Path,
-) -> Result<(), AllocError>
-    ensures { OnOk result (tree_of after.new ≡ put_all (tree_of after.old) (moved_entries from.now to.now ((path.now, node.now) ∷ []))) }
-{
-    if path == to {
-        return Ok(());
-    }
-    let place = path.moved(alloc, from, to)?;
-    put(after, place, node.copy(alloc)?)?;
-    Ok(())
+    entries: BTreeMap<u64, Entry>,
+    /// The tree, with that it is the one that the names lead through.
+    ghost shown: { Shown entries } by { Shown-prop entries },
 }
 
-/// Copies of the nodes, with what stood at one path at another, and without what stood there.
-#[tactic(auto, using(crate::proofs::Entries::entries_nodes))]
-pub fn moved(alloc: Global, nodes: &Nodes, from: &Path, to: &Path) -> Result<Nodes, AllocError>
-    ensures { IfOk result (λ after. tree_of after ≡ moved (tree_of nodes.now) from.now to.now) }
-{
-    let mut after = none(alloc);
-    for (path, node) in nodes.iter().rev() {
-        put_moved(alloc, &mut after, path, node, from, to)?;
+impl Model for Nodes {
+    ghost use Rattle.std.specs.Prelude.{ℕ};
+    ghost use Rattle.std.specs.Coded.{coded_ℕ, coded_list};
+    ghost use Rattle.std.specs.FinMap as finite;
+    ghost use Rattle.tree_nodes.specs.Tree.{Tree};
+    ghost use Rattle.tree_nodes.specs.Codes.{node_code};
+    ghost use Rattle.tree_nodes.specs.Shown.{IsTable};
+
+    ghost Value = { Tree };
+
+    ghost coded = { finite.code (coded_list (coded_list coded_ℕ)) node_code };
+
+    ghost view = { λ n. n.shown.0 };
+
+    ghost invariant = { λ n. IsTable n.entries };
+}
+
+impl Nodes {
+    /// The root alone, a directory, object 0.
+    pub fn opening(alloc: Global) -> Result<Nodes, AllocError>
+        ensures { IfOk result (λ nodes. nodes ≡ opening) }
+    {
+        Ok(Nodes {
+            alloc,
+            entries: root_alone(alloc)?,
+        })
     }
-    Ok(after)
+
+    /// How many nodes there are, and what every tree keeps.
+    pub fn count(&self) -> u64
+        ensures value { result ≡ map.len self.now }
+        ensures sound { IsSound self.now }
+        ensures numbered { IsNumbered self.now }
+    {
+        self.entries.len() as u64
+    }
+
+    /// The node of an object.
+    pub fn node(&self, object: u64) -> Option<&Node>
+        ensures { option_copied result ≡ option_map (λ e. e.1) (entry_of self.now object) }
+    {
+        node_at(&self.entries, object)
+    }
+
+    /// The node of a name in a directory, by the directory's object.
+    pub fn entry(&self, directory: u64, name: &[u8]) -> Option<&Node>
+        ensures node { option_copied result ≡ node_in self.now directory name.now }
+        ensures place { option_and_then (λ n. entry_of self.now n.object) (option_copied result)
+            ≡ option_and_then (λ e. option_map (λ n. (e.0 ++ name.now ∷ [], n)) (map.get self.now (e.0 ++ name.now ∷ []))) (entry_of self.now directory) }
+        ensures stands { (e : Names × Node) (node : Node) → entry_of self.now directory ≡ Some e → option_copied result ≡ Some node
+            → entry_of self.now node.object ≡ Some (e.0 ++ name.now ∷ [], node) }
+    {
+        entry_in(&self.entries, directory, name)
+    }
+
+    /// The object of the directory that an object lies in. The root lies in itself (RFC 1813, section 3.3.3).
+    pub fn parent(&self, object: u64) -> Option<u64>
+        ensures { result ≡ object_above self.now object }
+    {
+        self.above(object)
+    }
+
+    fn above(&self, object: u64) -> Option<u64>
+        ensures value { result ≡ object_above self.now object }
+        ensures sound { IsSound self.now }
+        ensures numbered { IsNumbered self.now }
+    {
+        parent_of(&self.entries, object)
+    }
+
+    /// Whether nothing lies below an object.
+    pub fn is_bare(&self, object: u64) -> bool
+        ensures { (e : Names × Node) → entry_of self.now object ≡ Some e → result ≡ is_bare self.now e.0 }
+    {
+        is_bare(&self.entries, object)
+    }
+
+    /// Whether nothing lies below a name in a directory.
+    pub fn is_bare_at(&self, directory: u64, name: &[u8]) -> bool
+        ensures { (e : Names × Node) → entry_of self.now directory ≡ Some e → result ≡ is_bare self.now (e.0 ++ name.now ∷ []) }
+    {
+        match entry_in(&self.entries, directory, name) {
+            Some(node) => self.is_bare(node.object),
+            None => true,
+        }
+    }
+
+    /// Whether an object is the one in front, or lies below it.
+    pub fn is_from(&self, object: u64, front: u64) -> bool
+        ensures { (e f : Names × Node) → entry_of self.now object ≡ Some e → entry_of self.now front ≡ Some f → result ≡ is_from e.0 f.0 }
+    {
+        let mut at = object;
+        while at != front {
+            let Some(above) = self.above(at) else {
+                return false;
+            };
+            if above == at {
+                return false;
+            }
+            at = above;
+        }
+        true
+    }
+
+    /// Whether the name of each entry of a directory is among these. It looks at one entry more than there are names, at most.
+    pub fn lists_all(&self, directory: u64, names: &BTreeSet<Bytes>) -> bool
+        ensures { (e : Names × Node) → entry_of self.now directory ≡ Some e → result ≡ are_among names.now self.now e.0 }
+    {
+        lists_all(&self.entries, directory, names)
+    }
+
+    /// Puts a node that isn't there at a free name of a directory.
+    pub fn make(&mut self, directory: u64, name: &[u8], node: Node) -> Result<Undo, AllocError>
+        requires stands { IsSome (entry_of self.old directory) }
+        requires free { node_in self.old directory name.now ≡ None }
+        requires new { entry_of self.old node.object ≡ None }
+        requires room { map.len self.old < node_limit }
+        requires short { length name.now < 2 ^ 32 }
+        ensures ok { OnOk result ((e : Names × Node) → entry_of self.old directory ≡ Some e → self.new ≡ map.insert self.old (e.0 ++ name.now ∷ []) node) }
+        ensures undo { IfOk result (λ undo. TakesBack undo self.new self.old) }
+        ensures err { OnErr result (self.new ≡ self.old) }
+    {
+        make(&mut self.entries, self.alloc, directory, name, node)
+    }
+
+    /// Takes an object with nothing below it away, unless it is the root.
+    pub fn remove(&mut self, object: u64) -> Undo
+        requires stands { IsSome (entry_of self.old object) }
+        requires isnt_root { (e : Names × Node) → entry_of self.old object ≡ Some e → e.0 ≡ [] → ⊥ }
+        requires bare { (e : Names × Node) → entry_of self.old object ≡ Some e → is_bare self.old e.0 ≡ true }
+        ensures ok { (e : Names × Node) → entry_of self.old object ≡ Some e → self.new ≡ map.remove self.old e.0 }
+        ensures undo { TakesBack result self.new self.old }
+    {
+        Undo {
+            step: Step::Removed(cut(&mut self.entries, object)),
+        }
+    }
+
+    /// Writes bytes to a file. Those outside stay, and a gap behind the end is filled with zeros.
+    pub fn write(&mut self, object: u64, offset: u64, added: &[u8]) -> Result<Undo, AllocError>
+        requires limit { offset + length added.now ≤ file_limit }
+        requires file { (e : Names × Node) × (file : File) × (entry_of self.old object ≡ Some e) × (e.1.content ≡ contents.File file) }
+        ensures ok { OnOk result ((e : Names × Node) (file : File) → entry_of self.old object ≡ Some e → e.1.content ≡ contents.File file
+            → self.new ≡ map.insert self.old e.0 (file_node object (written file.bytes offset added.now) file.verifier)) }
+        ensures undo { IfOk result (λ undo. TakesBack undo self.new self.old) }
+        ensures err { OnErr result (self.new ≡ self.old) }
+    {
+        edit(&mut self.entries, object, Edit::Write(offset, added))
+    }
+
+    /// Cuts a file's bytes, or fills them with zeros, to a size.
+    pub fn resize(&mut self, object: u64, size: u64) -> Result<Undo, AllocError>
+        requires limit { size ≤ file_limit }
+        requires file { (e : Names × Node) × (file : File) × (entry_of self.old object ≡ Some e) × (e.1.content ≡ contents.File file) }
+        ensures ok { OnOk result ((e : Names × Node) (file : File) → entry_of self.old object ≡ Some e → e.1.content ≡ contents.File file
+            → self.new ≡ map.insert self.old e.0 (file_node object (resized file.bytes size) file.verifier)) }
+        ensures undo { IfOk result (λ undo. TakesBack undo self.new self.old) }
+        ensures err { OnErr result (self.new ≡ self.old) }
+    {
+        edit(&mut self.entries, object, Edit::Resize(size))
+    }
+
+    /// Moves an object, with all that lies below it, to a name in a directory. What stood there, with nothing below it, goes.
+    pub fn rename(&mut self, object: u64, directory: u64, name: &[u8]) -> Result<Undo, AllocError>
+        requires stands { IsSome (entry_of self.old object) }
+        requires directory { IsSome (entry_of self.old directory) }
+        requires outside { (e f : Names × Node) → entry_of self.old object ≡ Some e → entry_of self.old directory ≡ Some f → is_from (f.0 ++ name.now ∷ []) e.0 ≡ false }
+        requires bare { (f : Names × Node) → entry_of self.old directory ≡ Some f → is_bare self.old (f.0 ++ name.now ∷ []) ≡ true }
+        requires short { length name.now < 2 ^ 32 }
+        ensures ok { OnOk result ((e f : Names × Node) → entry_of self.old object ≡ Some e → entry_of self.old directory ≡ Some f
+            → self.new ≡ moved self.old e.0 (f.0 ++ name.now ∷ [])) }
+        ensures undo { IfOk result (λ undo. TakesBack undo self.new self.old) }
+        ensures err { OnErr result (self.new ≡ self.old) }
+    {
+        rename(&mut self.entries, self.alloc, object, directory, name)
+    }
+
+    /// Takes a change back.
+    pub fn undo(&mut self, undo: Undo) -> Result<(), AllocError>
+        requires { (before : Tree) × TakesBack undo self.old before }
+        ensures ok { OnOk result ((before : Tree) → TakesBack undo self.old before → self.new ≡ before) }
+    {
+        take_back(&mut self.entries, self.alloc, undo.step)
+    }
+
+    /// The object of the directory that an object lies in, and its name there.
+    fn lies(&self, object: u64) -> Option<(u64, &Bytes)>
+        ensures { (e : Names × Node) → entry_of self.now object ≡ Some e → (object ≡ 0 → ⊥) → LiesIn self.now e.0 (option_map {U = ℕ × List ℕ} (λ place. (place.0, place.1.now)) result) }
+    {
+        place_of(&self.entries, object)
+    }
+
+    /// The path of an object.
+    fn path(&self, object: u64) -> Result<Path, AllocError>
+        requires stands { IsSome (entry_of self.now object) }
+        requires numbered { IsNumbered self.now }
+        ensures { IfOk result (λ path. (e : Names × Node) → entry_of self.now object ≡ Some e → path ≡ e.0) }
+    {
+        let alloc = self.alloc;
+        let mut names = Vec::new(alloc);
+        let mut at = object;
+        while at != 0 {
+            let Some((directory, name)) = self.lies(at) else {
+                unreachable!()
+            };
+            names.push(Bytes::from_slice(alloc, name.as_slice())?)?;
+            at = directory;
+        }
+        names.reverse();
+        Ok(Path::new(names))
+    }
+
+    /// The objects by their paths.
+    fn paths(&self) -> Result<BTreeMap<Path, u64>, AllocError>
+        ensures ordered { IfOk result (λ paths. IsOrdered path_cmp paths) }
+        ensures objects { IfOk result (λ paths. (p : Names) → get path_cmp paths p ≡ option_map (λ n. n.object) (map.get self.now p)) }
+    {
+        let mut paths = BTreeMap::new(self.alloc);
+        for (object, _) in self.entries.iter() {
+            let path = self.path(*object)?;
+            let Ok(_) = paths.insert(path, *object) else {
+                return Err(AllocError);
+            };
+        }
+        Ok(paths)
+    }
+
+    /// The nodes in the order of their paths.
+    fn put_entries(&self, out: &mut Vec<u8>, paths: &BTreeMap<Path, u64>) -> Result<(), AllocError>
+        requires paths { paths.now.entries ≡ paths_of (map.entries self.now) }
+        requires sound { IsSound self.now }
+        requires numbered { IsNumbered self.now }
+        ensures ok { OnOk result (out.new.items ≡ out.old.items ++ flat_map entry_text (map.entries self.now)) }
+        ensures fits { OnOk result (All EntryFits (map.entries self.now)) }
+    {
+        for (path, object) in paths.iter() {
+            let Some(node) = self.node(*object) else {
+                unreachable!()
+            };
+            put_entry(out, path, node)?;
+        }
+        Ok(())
+    }
+
+    /// The nodes by path, in the items of XDR (RFC 4506).
+    #[tactic(auto, unfolding(crate::specs::Printed::tree_text))]
+    pub fn put_tree(&self, out: &mut Vec<u8>) -> Result<(), AllocError>
+        ensures ok { OnOk result (out.new.items ≡ out.old.items ++ tree_text self.now) }
+        ensures fits { OnOk result (IsPrintable self.now) }
+    {
+        let paths = self.paths()?;
+        put_word(out, self.count() as u32)?;
+        self.put_entries(out, &paths)
+    }
 }

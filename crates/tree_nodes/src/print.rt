@@ -2,19 +2,17 @@
 
 ghost use Rattle.std.specs.Prelude.{◌≡◌, ◌+◌, ◌<◌, ◌^◌, ◌++◌, length, OnOk, All};
 ghost use Rattle.std.specs.List.{flat_map};
-ghost use Rattle.tree_nodes.specs.Printed.{word_text, long_text, opaque_text, verifier_text, content_text, path_text, entry_text, IsShort, IsShallow, VerifierFits, ContentFits, EntryFits, IsPrintable, tree_text};
-ghost use Rattle.tree_nodes.specs.Nodes.{tree_of};
-ghost use Rattle.tree_nodes.specs.Sound.{IsSound};
+ghost use Rattle.tree_nodes.specs.Printed.{word_text, long_text, opaque_text, verifier_text, content_text, path_text, entry_text, IsShort, VerifierFits, ContentFits, EntryFits};
 
 use crate::bytes::Path;
 use crate::node::{Content, File, Node};
-use crate::nodes::Nodes;
+use file_bytes::FileBytes;
 use nfs3_types::Verifier;
 use std::alloc::AllocError;
 
 /// Four bytes.
 #[tactic(auto, unfolding(crate::specs::Printed::word_text))]
-fn put_word(out: &mut Vec<u8>, number: u32) -> Result<(), AllocError>
+pub(crate) fn put_word(out: &mut Vec<u8>, number: u32) -> Result<(), AllocError>
     ensures { OnOk result (out.new.items ≡ out.old.items ++ word_text number) }
 {
     out.extend_from_slice(&number.to_be_bytes())
@@ -39,6 +37,17 @@ fn put_opaque(out: &mut Vec<u8>, bytes: &[u8]) -> Result<(), AllocError>
     out.resize(out.len() + (4 - bytes.len() % 4) % 4, 0)
 }
 
+/// The length of a file's bytes, the bytes and their padding.
+#[tactic(auto, unfolding(crate::specs::Printed::opaque_text))]
+fn put_file_bytes(out: &mut Vec<u8>, bytes: &FileBytes) -> Result<(), AllocError>
+    ensures ok { OnOk result (out.new.items ≡ out.old.items ++ opaque_text bytes.now) }
+    ensures fits { OnOk result (IsShort bytes.now) }
+{
+    put_word(out, bytes.len() as u32)?;
+    bytes.put(out)?;
+    out.resize(out.len() + ((4 - bytes.len() % 4) % 4) as usize, 0)
+}
+
 /// A flag, and the verifier behind it.
 #[tactic(auto, unfolding(crate::specs::Printed::verifier_text))]
 fn put_verifier(out: &mut Vec<u8>, verifier: &Option<Verifier>) -> Result<(), AllocError>
@@ -60,7 +69,7 @@ fn put_file(out: &mut Vec<u8>, file: &File) -> Result<(), AllocError>
     ensures fits { OnOk result (IsShort file.now.bytes × VerifierFits file.now.verifier) }
 {
     put_word(out, 1)?;
-    put_opaque(out, file.bytes.as_slice())?;
+    put_file_bytes(out, &file.bytes)?;
     put_verifier(out, &file.verifier)
 }
 
@@ -96,7 +105,7 @@ fn put_path(out: &mut Vec<u8>, path: &Path) -> Result<(), AllocError>
 
 /// One entry.
 #[tactic(auto, unfolding(crate::specs::Printed::entry_text))]
-fn put_entry(out: &mut Vec<u8>, path: &Path, node: &Node) -> Result<(), AllocError>
+pub(crate) fn put_entry(out: &mut Vec<u8>, path: &Path, node: &Node) -> Result<(), AllocError>
     requires { length path.now < 2 ^ 32 }
     ensures ok { OnOk result (out.new.items ≡ out.old.items ++ entry_text (path.now, node.now)) }
     ensures fits { OnOk result (EntryFits (path.now, node.now)) }
@@ -104,27 +113,4 @@ fn put_entry(out: &mut Vec<u8>, path: &Path, node: &Node) -> Result<(), AllocErr
     put_path(out, path)?;
     put_long(out, node.object)?;
     put_content(out, &node.content)
-}
-
-/// The entries in the order of their paths.
-fn put_entries(out: &mut Vec<u8>, nodes: &Nodes) -> Result<(), AllocError>
-    requires { All IsShallow nodes.now.entries }
-    ensures ok { OnOk result (out.new.items ≡ out.old.items ++ flat_map entry_text nodes.now.entries) }
-    ensures fits { OnOk result (All EntryFits nodes.now.entries) }
-{
-    for (path, node) in nodes.iter() {
-        put_entry(out, path, node)?;
-    }
-    Ok(())
-}
-
-/// The entries behind their number.
-#[tactic(auto, using(crate::proofs::Printing::few_nodes, crate::proofs::Printing::shallow_nodes, crate::proofs::Printing::text_nodes, crate::proofs::Printing::printable_nodes))]
-pub fn put_tree(out: &mut Vec<u8>, nodes: &Nodes) -> Result<(), AllocError>
-    requires { IsSound (tree_of nodes.now) }
-    ensures ok { OnOk result (out.new.items ≡ out.old.items ++ tree_text (tree_of nodes.now)) }
-    ensures fits { OnOk result (IsPrintable (tree_of nodes.now)) }
-{
-    put_word(out, nodes.len() as u32)?;
-    put_entries(out, nodes)
 }

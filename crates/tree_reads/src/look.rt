@@ -1,16 +1,15 @@
 //! Where a call that leaves the tree may succeed with these results: GETATTR, LOOKUP, READLINK and COMMIT.
 
-ghost use Rattle.std.specs.Prelude.{◌≡◌, ◌<◌, ◌^◌, length, IfOk};
+ghost use Rattle.std.specs.Prelude.{◌≡◌, option_and_then};
 ghost use Rattle.std.specs.Option.{option_copied};
-ghost use Rattle.tree_nodes.specs.Nodes.{tree_of};
+ghost use Rattle.tree_nodes.specs.Place.{path_of};
 ghost use Rattle.tree_reads.specs.Look.{type_number, shows, got_attributes, object_at, object_named, looked_up, has_text, got_text, committed};
 
 use nfs3_types::{Answer, DirectoryName, FileAttributes, FileHandle, FileType, NfsReply};
-use std::alloc::{AllocError, Global};
 use tree_handles::{
-    Binds, directory_of, entry_at, file_of, is_bound, is_dot, is_two_dots, live_entry,
+    View, directory_of, entry_at, file_of, is_bound, is_dot, is_two_dots, live_entry,
 };
-use tree_nodes::{Content, Node, Nodes, Path, node_at};
+use tree_nodes::{Content, Node, Nodes};
 
 /// The number of a type in `ftype3` (RFC 1813, section 2.6).
 fn type_number(file_type: FileType) -> u32
@@ -26,19 +25,19 @@ fn shows(content: &Content, attributes: &FileAttributes) -> bool
     let number = type_number(attributes.file_type);
     match content {
         Content::Directory => number == 2,
-        Content::File(file) => number == 1 && attributes.size == file.bytes.as_slice().len() as u64,
+        Content::File(file) => number == 1 && attributes.size == file.bytes.len(),
         Content::Link(_) => number == 5,
     }
 }
 
 /// A GETATTR succeeds with the object's attributes.
-pub fn got_attributes(binds: &Binds, nodes: &Nodes, object: &FileHandle, reply: &NfsReply) -> bool
-    ensures { result ≡ got_attributes binds.now (tree_of nodes.now) object.now reply.now }
+pub fn got_attributes(view: &View<'_>, object: &FileHandle, reply: &NfsReply) -> bool
+    ensures { result ≡ got_attributes view.now.binds.now view.now.nodes.now object.now reply.now }
 {
     match reply {
         NfsReply::GetAttr(Answer::Done(attributes)) => {
-            match live_entry(binds, nodes, object) {
-                Some((_, node)) => shows(&node.content, attributes),
+            match live_entry(view, object) {
+                Some(node) => shows(&node.content, attributes),
                 None => false,
             }
         }
@@ -57,46 +56,33 @@ fn object_at(node: Option<&Node>) -> Option<u64>
 }
 
 /// The object that a name leads to from a directory.
-fn object_named(
-    alloc: Global,
-    nodes: &Nodes,
-    directory: &Path,
-    name: &[u8],
-) -> Result<Option<u64>, AllocError>
-    requires { length name.now < 2 ^ 32 }
-    ensures { IfOk result (λ object. object ≡ object_named (tree_of nodes.now) directory.now name.now) }
+fn object_named(nodes: &Nodes, directory: u64, name: &[u8]) -> Option<u64>
+    ensures { result ≡ option_and_then (λ path. object_named nodes.now path name.now) (path_of nodes.now directory) }
 {
     if is_dot(name) {
-        return Ok(object_at(node_at(nodes, directory)));
+        return object_at(nodes.node(directory));
     }
     if is_two_dots(name) {
-        let parent = directory.parent(alloc)?;
-        return Ok(object_at(node_at(nodes, &parent)));
+        return nodes.parent(directory);
     }
-    Ok(object_at(entry_at(alloc, nodes, directory, name)?))
+    object_at(entry_at(nodes, directory, name))
 }
 
 /// A LOOKUP succeeds with a handle of the object.
-pub fn looked_up(
-    alloc: Global,
-    binds: &Binds,
-    nodes: &Nodes,
-    place: &DirectoryName,
-    reply: &NfsReply,
-) -> Result<bool, AllocError>
-    ensures { IfOk result (λ right. right ≡ looked_up binds.now (tree_of nodes.now) place.now reply.now) }
+pub fn looked_up(view: &View<'_>, place: &DirectoryName, reply: &NfsReply) -> bool
+    ensures { result ≡ looked_up view.now.binds.now view.now.nodes.now place.now reply.now }
 {
     match reply {
         NfsReply::Lookup(Answer::Done(success)) => {
-            let Some(directory) = directory_of(binds, nodes, &place.directory) else {
-                return Ok(false);
+            let Some(directory) = directory_of(view, &place.directory) else {
+                return false;
             };
-            match object_named(alloc, nodes, directory, place.name.as_slice())? {
-                Some(object) => Ok(is_bound(binds, &success.object, object)),
-                None => Ok(false),
+            match object_named(view.nodes, directory, place.name.as_slice()) {
+                Some(object) => is_bound(view.binds, &success.object, object),
+                None => false,
             }
         }
-        _ => Ok(false),
+        _ => false,
     }
 }
 
@@ -111,13 +97,13 @@ fn has_text(content: &Content, text: &[u8]) -> bool
 }
 
 /// A READLINK succeeds with the link's text.
-pub fn got_text(binds: &Binds, nodes: &Nodes, link: &FileHandle, reply: &NfsReply) -> bool
-    ensures { result ≡ got_text binds.now (tree_of nodes.now) link.now reply.now }
+pub fn got_text(view: &View<'_>, link: &FileHandle, reply: &NfsReply) -> bool
+    ensures { result ≡ got_text view.now.binds.now view.now.nodes.now link.now reply.now }
 {
     match reply {
         NfsReply::ReadLink(Answer::Done(success)) => {
-            match live_entry(binds, nodes, link) {
-                Some((_, node)) => has_text(&node.content, success.target.as_slice()),
+            match live_entry(view, link) {
+                Some(node) => has_text(&node.content, success.target.as_slice()),
                 None => false,
             }
         }
@@ -126,11 +112,11 @@ pub fn got_text(binds: &Binds, nodes: &Nodes, link: &FileHandle, reply: &NfsRepl
 }
 
 /// A COMMIT succeeds at a file.
-pub fn committed(binds: &Binds, nodes: &Nodes, file: &FileHandle, reply: &NfsReply) -> bool
-    ensures { result ≡ committed binds.now (tree_of nodes.now) file.now reply.now }
+pub fn committed(view: &View<'_>, file: &FileHandle, reply: &NfsReply) -> bool
+    ensures { result ≡ committed view.now.binds.now view.now.nodes.now file.now reply.now }
 {
     match reply {
-        NfsReply::Commit(Answer::Done(_)) => file_of(binds, nodes, file).is_some(),
+        NfsReply::Commit(Answer::Done(_)) => file_of(view, file).is_some(),
         _ => false,
     }
 }

@@ -1,12 +1,14 @@
 //! Names in their order, with a sorted set of them: whether a name is among them takes no walk over all of them.
 
-ghost use Rattle.std.specs.Prelude.{◌≡◌, ◌<◌, ◌^◌, ◌++◌, ◌∷◌, [], length, IfOk};
-ghost use Rattle.tree_reads.specs.Listing.{is_among, are_distinct};
+ghost use Rattle.std.specs.Prelude.{◌≡◌, ◌<◌, ◌^◌, ◌++◌, ◌∷◌, [], length, IfOk, IsSome};
+ghost use Rattle.tree_nodes.specs.Place.{path_of};
+ghost use Rattle.tree_handles.specs.Standing.{place_of};
+ghost use Rattle.tree_reads.specs.Listing.{are_all_listed, are_distinct};
 
 use std::alloc::{AllocError, Global};
 use std::collections::BTreeSet;
 use std::marker::Model;
-use tree_nodes::Bytes;
+use tree_nodes::{Bytes, Nodes};
 
 /// Names in their order. A contract sees the list of them.
 #[derive(Drop)]
@@ -66,11 +68,12 @@ impl Names {
         self.list.as_slice()
     }
 
-    /// Whether a name is among them.
-    pub(crate) fn contains(&self, name: &Bytes) -> bool
-        ensures { result ≡ is_among self.now name.now }
+    /// Whether each entry of a directory is among them.
+    pub(crate) fn hold_all_of(&self, nodes: &Nodes, directory: u64) -> bool
+        requires { IsSome (path_of nodes.now directory) }
+        ensures { result ≡ are_all_listed nodes.now (place_of nodes.now directory) self.now }
     {
-        self.set.contains(name)
+        nodes.lists_all(directory, &self.set)
     }
 
     /// Whether no name stands twice.

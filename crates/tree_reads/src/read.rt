@@ -1,33 +1,33 @@
 //! Where a READ may succeed with these bytes (RFC 1813, section 3.3.6).
 
 ghost use Rattle.std.specs.Prelude.{◌≡◌};
-ghost use Rattle.tree_nodes.specs.Nodes.{tree_of};
 ghost use Rattle.tree_reads.specs.Look.{read_is_right, got_bytes};
 
+use file_bytes::FileBytes;
 use nfs3_types::{Answer, NfsReply, ReadArguments, ReadSuccess};
-use tree_handles::{Binds, file_of};
-use tree_nodes::{Nodes, behind, front, reaches_end};
+use tree_handles::{View, file_of};
+use tree_nodes::reaches_end;
 
 /// Whether the answer is what a read of these bytes gives.
-fn is_right(bytes: &[u8], call: &ReadArguments, success: &ReadSuccess) -> bool
+fn is_right(bytes: &FileBytes, call: &ReadArguments, success: &ReadSuccess) -> bool
     ensures { result ≡ read_is_right bytes.now call.now success.now }
 {
     let answered = success.bytes.as_slice();
     let count = answered.len();
     success.count as usize == count
         && count <= call.count as usize
-        && answered == front(behind(bytes, call.offset), count)
-        && success.eof == reaches_end(bytes.len(), call.offset, count)
+        && bytes.has_at(call.offset, answered)
+        && success.eof == reaches_end(bytes.len() as usize, call.offset, count)
 }
 
 /// A READ succeeds with the file's bytes.
-pub fn got_bytes(binds: &Binds, nodes: &Nodes, call: &ReadArguments, reply: &NfsReply) -> bool
-    ensures { result ≡ got_bytes binds.now (tree_of nodes.now) call.now reply.now }
+pub fn got_bytes(view: &View<'_>, call: &ReadArguments, reply: &NfsReply) -> bool
+    ensures { result ≡ got_bytes view.now.binds.now view.now.nodes.now call.now reply.now }
 {
     match reply {
         NfsReply::Read(Answer::Done(success)) => {
-            match file_of(binds, nodes, &call.file) {
-                Some(entry) => is_right(entry.file.bytes.as_slice(), call, success),
+            match file_of(view, &call.file) {
+                Some(entry) => is_right(&entry.file.bytes, call, success),
                 None => false,
             }
         }

@@ -17,8 +17,8 @@ use Rattle.nfs_history.specs.declared.history.RecordedCall.{RecordedCall}
 use Rattle.certificate.specs.declared.plan.Place.{Place}
 use Rattle.tree_nodes.specs.Tree.{Tree, opening}
 use Rattle.tree_handles.specs.Binding.{Bindings}
-use Rattle.file_tree.specs.declared.change.Undo.{Undo}
-use Rattle.file_tree.specs.Undo.{TakesBack}
+use Rattle.tree_nodes.specs.declared.undo.Undo.{Undo}
+use Rattle.tree_nodes.specs.Undo.{TakesBack}
 use Rattle.file_tree.specs.Success.{next_tree}
 use Rattle.witness_check.specs.Run.{step_at, steps_of}
 use Rattle.witness_check.specs.Running.{Stands, tree_after, IsStuckAt, IsIllegalBehind}

@@ -12,8 +12,8 @@ use Rattle.replay_law.specs.Run.{state_after, IsFirstIllegal}
 use Rattle.replay_law.specs.Standing as standing
 use Rattle.tree_nodes.specs.Tree.{Tree, opening}
 use Rattle.tree_handles.specs.Binding.{Bindings}
-use Rattle.file_tree.specs.declared.change.Undo.{Undo}
-use Rattle.file_tree.specs.Undo.{TakesBack}
+use Rattle.tree_nodes.specs.declared.undo.Undo.{Undo}
+use Rattle.tree_nodes.specs.Undo.{TakesBack}
 use Rattle.file_tree.specs.Success.{next_tree}
 use Rattle.witness_check.specs.declared.run.Found.{Found}
 use Rattle.witness_check.specs.Run.{step_at}

@@ -9,7 +9,7 @@ use Rattle.replay_law.specs.Run.{Taken, IsFirstIllegal}
 use Rattle.replay_law.proofs.Crashes.{from_base}
 use Rattle.replay_law.proofs.Within.{first_of_front, first_behind, era_runs}
 use Rattle.tree_nodes.specs.Tree.{opening}
-use Rattle.file_tree.specs.Undo.{TakesBack}
+use Rattle.tree_nodes.specs.Undo.{TakesBack}
 use Rattle.file_tree.specs.Success.{next_tree}
 use Rattle.witness_check.specs.Run.{step_at, steps_of}
 use Rattle.witness_check.specs.Running.{Stands}

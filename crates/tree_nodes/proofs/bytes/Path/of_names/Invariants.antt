@@ -1,6 +1,0 @@
-use Rattle.std.proofs.Common.{◌≡◌, take}
-use Rattle.tree_nodes.proofs.bytes.Path.of_names.Given as goal
-
--- the names so far are copied
-abbrev pub invariant-loop-name : goal.invariant-loop-name
-invariant-loop-name l = l.copies.items ≡ take l.name-index l.names

@@ -1,0 +1,38 @@
+use Rattle.std.proofs.Common.{◌≡◌, sym, ap}
+use Rattle.std.proofs.lemmas.Result.{on_ok_weaker}
+use Rattle.tree_nodes.specs.Tree.{Tree}
+use Rattle.tree_nodes.specs.Shown.{Shown, IsTable, IsTableOf}
+use Rattle.tree_nodes.specs.Undo.{TakesBack, StepsBack}
+use Rattle.tree_nodes.proofs.Methods.{good_at, by_both, one_tree}
+use Rattle.tree_nodes.proofs.nodes.Nodes.undo.Goals as goal
+
+pub take_back-requires : goal.take_back-requires
+unfolding TakesBack
+take_back-requires c =
+    let good = good_at c.self.inside.entries c.self.inside.shown c.args.self.now c.self.view_is c.self.invariant in
+    (c.args.self.now, c.requires.0, good, c.requires.1)
+
+pub invariant_of-self-inside : goal.invariant_of-self-inside
+unfolding TakesBack
+invariant_of-self-inside c =
+    let good = good_at c.self.inside.entries c.self.inside.shown c.args.self.now c.self.view_is c.self.invariant in
+    let n = c.take_back.new.entries in
+    let shown : Shown n = by_both c.take_back.result _ _ c.take_back.ensures.ok c.take_back.ensures.err
+    (λ put. (c.requires.0, (put c.args.self.now c.requires.0 good c.requires.1).agrees))
+    (λ put. let now = put c.args.self.now c.requires.0 good c.requires.1 in (now.0, now.1.agrees)) in
+    (shown, tt)
+
+pub invariant_of-self : goal.invariant_of-self
+unfolding TakesBack
+invariant_of-self c =
+    let good = good_at c.self.inside.entries c.self.inside.shown c.args.self.now c.self.view_is c.self.invariant in
+    by_both c.take_back.result _ _ c.take_back.ensures.ok c.take_back.ensures.err
+    (λ put. (put c.args.self.now c.requires.0 good c.requires.1).table)
+    (λ put. (put c.args.self.now c.requires.0 good c.requires.1).1.table)
+
+pub returns : goal.returns
+unfolding TakesBack
+returns c =
+    let good = good_at c.self.inside.entries c.self.inside.shown c.args.self.now c.self.view_is c.self.invariant in
+    let n = c.take_back.new.entries in
+    record { ok = on_ok_weaker c.take_back.result (λ put before back. one_tree n _ before (assumption c) (put c.args.self.now before good back).agrees) c.take_back.ensures.ok }

@@ -1,0 +1,13 @@
+use Rattle.std.proofs.Common.{ℕ, List, ◌∙◌, sym, subst}
+use Rattle.tree_nodes.specs.Changes.{Adds}
+use Rattle.tree_nodes.specs.Table.{child, held}
+use Rattle.tree_nodes.proofs.Tables.{added}
+use Rattle.tree_nodes.proofs.table.add.Goals as goal
+
+pub returns-clause-ok : goal.returns-clause-ok
+returns-clause-ok c =
+    let m = c.args.entries.now in
+    let n = c.set_name.new.entries in
+    let name = c.in_ok-from_slice.ensures in
+    subst (λ (z : List ℕ). Adds c.args.directory z c.args.node.object c.args.node (child m) (child n) (held m) (held n)) name
+    (added m c.insert.new.self n c.args.node.object _ c.in_ok-key.key.items c.in-Ok.ensures.updates c.in-Ok-set_name.ensures.ok (c.in_ok-key.ensures.items ∙ sym name) c.new.ensures.empty c.requires.new)

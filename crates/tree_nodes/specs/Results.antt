@@ -1,0 +1,41 @@
+-- what a change of the table gives, with what takes it back
+use Rattle.std.specs.Prelude.{◌≡◌, ℕ, ◌+◌, List, Some}
+use Rattle.std.specs.Ordering.{nat_cmp}
+use Rattle.std.specs.BTreeMap.{btree_map_len, IsOrdered}
+use Rattle.tree_nodes.specs.declared.node.Node.{Node}
+use Rattle.tree_nodes.specs.declared.node.File.{File}
+use Rattle.tree_nodes.specs.declared.node.Content.TheVariants as contents
+use Rattle.file_bytes.specs.declared.changes.FileUndo.{FileUndo}
+use Rattle.tree_nodes.specs.declared.table.Edit.{Edit}
+use Rattle.tree_nodes.specs.declared.undo.Undo.{Undo}
+use Rattle.tree_nodes.specs.declared.undo.Move.{Move}
+use Rattle.tree_nodes.specs.declared.undo.Step.TheVariants.{Made, Edited, Moved}
+use Rattle.tree_nodes.specs.Files.{file_node}
+use Rattle.file_bytes.specs.Undo.{Restores}
+use Rattle.tree_nodes.specs.Edits.{edited}
+use Rattle.tree_nodes.specs.Walk.{Held}
+use Rattle.tree_nodes.specs.Changes.{Adds, Sets}
+use Rattle.tree_nodes.specs.Table.{Table, child, held}
+use Rattle.tree_nodes.specs.Renames.{IsRenamed}
+
+-- an object more
+pub record IsMade (directory : ℕ) (name : List ℕ) (node : Node) (undo : Undo) (before after : Table) : Type 0 where
+  pub step : undo.step ≡ Made node.object
+  pub adds : Adds directory name node.object node (child before) (child after) (held before) (held after)
+  pub len : btree_map_len after ≡ btree_map_len before + 1
+  pub ordered : IsOrdered nat_cmp before
+
+-- a file with other bytes
+pub record IsEdited (object : ℕ) (edit : Edit) (undo : Undo) (before after : Table) : Type 0 where
+  pub file : FileUndo
+  pub step : undo.step ≡ Edited object file
+  pub sets : (h : Held) (was : File) → held before object ≡ Some h → h.2.content ≡ contents.File was
+      → Sets object (file_node h.2.object (edited edit was.bytes) was.verifier) (child before) (child after) (held before) (held after)
+  pub restores : (h : Held) (was : File) → held before object ≡ Some h → h.2.content ≡ contents.File was → Restores file (edited edit was.bytes) was.bytes
+  pub len : btree_map_len after ≡ btree_map_len before
+
+-- an object under another name
+pub record IsMoved (object directory : ℕ) (name : List ℕ) (undo : Undo) (before after : Table) : Type 0 where
+  pub move : Move
+  pub step : undo.step ≡ Moved move
+  pub renamed : IsRenamed object directory name move before after

@@ -1,0 +1,378 @@
+//! The table of a tree's objects.
+
+ghost use Rattle.std.specs.Prelude.{true, false, option_and_then, ◌≡◌, ◌+◌, ◌<◌, ◌^◌, ℕ, List, length, IsSome, IfOk, OnOk, OnErr, Some, None};
+ghost use Rattle.std.specs.Ordering.{nat_cmp};
+ghost use Rattle.std.specs.BTreeMap.{btree_map_len, IsOrdered};
+ghost use Rattle.tree_nodes.specs.declared.node.File.{File};
+ghost use Rattle.tree_nodes.specs.declared.node.Content.TheVariants as contents;
+ghost use Rattle.tree_nodes.specs.Files.{file_node};
+ghost use Rattle.tree_nodes.specs.Edits.{edited, IsWithin};
+ghost use Rattle.file_bytes.specs.Undo.{Restores};
+ghost use Rattle.tree_nodes.specs.Changes.{Adds, Cuts, Sets, Shifts};
+ghost use Rattle.std.specs.Option.{option_copied, option_map};
+ghost use Rattle.std.specs.Cmp.Lexicographic.{slice_cmp};
+ghost use Rattle.std.specs.BTreeSet.{contains};
+ghost use Rattle.tree_nodes.specs.Walk.{Held, node_of, IsTree};
+ghost use Rattle.tree_nodes.specs.Openings.{IsOpening};
+ghost use Rattle.tree_nodes.specs.Table.{name_in, child, placed, held};
+ghost use Rattle.tree_nodes.specs.TableChanges.{IsSame, HasName, HasPlace};
+
+use crate::bytes::Bytes;
+use crate::node::{Content, File, Node};
+use file_bytes::FileUndo;
+use std::alloc::{AllocError, Global};
+use std::collections::{BTreeMap, BTreeSet};
+use std::mem::replace;
+
+/// An object with its place.
+#[derive(Debug, Drop)]
+pub(crate) struct Entry {
+    /// The object of the directory that it lies in; the root's is its own.
+    pub(crate) parent: u64,
+    /// Its name there.
+    pub(crate) name: Bytes,
+    pub(crate) node: Node,
+    /// The objects of the names in it.
+    pub(crate) names: BTreeMap<Vec<u8>, u64>,
+}
+
+/// The root alone, a directory, object 0.
+pub(crate) fn root_alone(alloc: Global) -> Result<BTreeMap<u64, Entry>, AllocError>
+    ensures { IfOk result IsOpening }
+{
+    let root = Entry {
+        parent: 0,
+        name: Bytes::from_vec(Vec::new(alloc)),
+        node: Node {
+            object: 0,
+            content: Content::Directory,
+        },
+        names: BTreeMap::new(alloc),
+    };
+    let mut entries = BTreeMap::new(alloc);
+    let Ok(_) = entries.insert(0, root) else {
+        return Err(AllocError);
+    };
+    Ok(entries)
+}
+
+/// The node of an object.
+pub(crate) fn node_at(entries: &BTreeMap<u64, Entry>, object: u64) -> Option<&Node>
+    ensures { option_copied result ≡ node_of (held entries.now) object }
+{
+    let Some(entry) = entries.get(&object) else {
+        return None;
+    };
+    Some(&entry.node)
+}
+
+/// The object of the directory that an object lies in.
+pub(crate) fn parent_of(entries: &BTreeMap<u64, Entry>, object: u64) -> Option<u64>
+    ensures { result ≡ option_map (λ h. h.0) (held entries.now object) }
+{
+    let Some(entry) = entries.get(&object) else {
+        return None;
+    };
+    Some(entry.parent)
+}
+
+/// The object of the directory that an object lies in, and its name there.
+pub(crate) fn place_of(entries: &BTreeMap<u64, Entry>, object: u64) -> Option<(u64, &Bytes)>
+    ensures { option_map {U = ℕ × List ℕ} (λ place. (place.0, place.1.now)) result ≡ option_map (λ h. (h.0, h.1)) (held entries.now object) }
+{
+    let Some(entry) = entries.get(&object) else {
+        return None;
+    };
+    Some((entry.parent, &entry.name))
+}
+
+/// Whether no name leads on from an object.
+pub(crate) fn is_bare(entries: &BTreeMap<u64, Entry>, object: u64) -> bool
+    ensures bare { result ≡ true → (name : List ℕ) → child entries.now object name ≡ None }
+    ensures other { result ≡ false → (name : List ℕ) × (next : ℕ) × (child entries.now object name ≡ Some next) }
+{
+    let Some(entry) = entries.get(&object) else {
+        return true;
+    };
+    entry.names.is_empty()
+}
+
+/// The object of a name in a directory.
+pub(crate) fn child(entries: &BTreeMap<u64, Entry>, directory: u64, name: &[u8]) -> Option<u64>
+    ensures { result ≡ child entries.now directory name.now }
+{
+    let Some(entry) = entries.get(&directory) else {
+        return None;
+    };
+    entry.names.get(name).copied()
+}
+
+/// The node of a name in a directory.
+pub(crate) fn entry_in<'a>(
+    entries: &'a BTreeMap<u64, Entry>,
+    directory: u64,
+    name: &[u8],
+) -> Option<&'a Node>
+    ensures { option_copied result ≡ option_and_then (node_of (held entries.now)) (child entries.now directory name.now) }
+{
+    let Some(object) = child(entries, directory, name) else {
+        return None;
+    };
+    node_at(entries, object)
+}
+
+/// Whether the name of each of these objects is among others.
+fn are_among(
+    entries: &BTreeMap<u64, Entry>,
+    here: &BTreeMap<Vec<u8>, u64>,
+    names: &BTreeSet<Bytes>,
+) -> bool
+    requires { (name : List ℕ) (next : ℕ) → name_in here.now name ≡ Some next → (h : Held) × (held entries.now next ≡ Some h) × (h.1 ≡ name) }
+    ensures all { result ≡ true → (name : List ℕ) (next : ℕ) → name_in here.now name ≡ Some next → contains (slice_cmp nat_cmp) names.now name ≡ true }
+    ensures missing { result ≡ false → (name : List ℕ) × (next : ℕ) × (name_in here.now name ≡ Some next) × (contains (slice_cmp nat_cmp) names.now name ≡ false) }
+{
+    for (_, object) in here.iter() {
+        let Some(listed) = entries.get(object) else {
+            unreachable!()
+        };
+        if !names.contains(&listed.name) {
+            return false;
+        }
+    }
+    true
+}
+
+/// Whether the name of each object in a directory is among these. It looks at one more than there are, at most.
+pub(crate) fn lists_all(
+    entries: &BTreeMap<u64, Entry>,
+    directory: u64,
+    names: &BTreeSet<Bytes>,
+) -> bool
+    requires { IsTree (child entries.now) (held entries.now) }
+    ensures all { result ≡ true → (name : List ℕ) (next : ℕ) → child entries.now directory name ≡ Some next → contains (slice_cmp nat_cmp) names.now name ≡ true }
+    ensures missing { result ≡ false → (name : List ℕ) × (next : ℕ) × (child entries.now directory name ≡ Some next) × (contains (slice_cmp nat_cmp) names.now name ≡ false) }
+{
+    let Some(entry) = entries.get(&directory) else {
+        return true;
+    };
+    are_among(entries, &entry.names, names)
+}
+
+/// Has a name in a directory lead to an object.
+fn set_name(
+    entries: &mut BTreeMap<u64, Entry>,
+    directory: u64,
+    name: Vec<u8>,
+    object: u64,
+) -> Result<(), AllocError>
+    requires { IsSome (held entries.old directory) }
+    ensures ok { OnOk result (HasName directory name.items (Some object) entries.old entries.new) }
+    ensures err { OnErr result (IsSame entries.old entries.new) }
+    ensures absent { OnErr result (child entries.old directory name.items ≡ None) }
+{
+    let Some(entry) = entries.get_mut(&directory) else {
+        unreachable!()
+    };
+    let Ok(_) = entry.names.insert(name, object) else {
+        return Err(AllocError);
+    };
+    Ok(())
+}
+
+/// Takes a name out of a directory.
+fn drop_name(entries: &mut BTreeMap<u64, Entry>, directory: u64, name: &[u8])
+    requires { IsSome (held entries.old directory) }
+    ensures { HasName directory name.now None entries.old entries.new }
+{
+    let Some(entry) = entries.get_mut(&directory) else {
+        unreachable!()
+    };
+    entry.names.remove(name);
+}
+
+/// Where an object lies.
+#[derive(Debug, Drop)]
+pub(crate) struct Place {
+    pub(crate) parent: u64,
+    pub(crate) name: Bytes,
+}
+
+/// Notes that an object lies elsewhere, and gives where it lay.
+fn set_place(entries: &mut BTreeMap<u64, Entry>, object: u64, place: Place) -> Place
+    requires { IsSome (held entries.old object) }
+    ensures after { HasPlace object place.parent place.name entries.old entries.new }
+    ensures before { (h : Held) → held entries.old object ≡ Some h → (result.parent ≡ h.0) × (result.name ≡ h.1) }
+{
+    let Some(entry) = entries.get_mut(&object) else {
+        unreachable!()
+    };
+    let parent = replace(&mut entry.parent, place.parent);
+    let name = replace(&mut entry.name, place.name);
+    Place { parent, name }
+}
+
+/// Puts an object that isn't there under a name of a directory.
+pub(crate) fn add(
+    entries: &mut BTreeMap<u64, Entry>,
+    alloc: Global,
+    directory: u64,
+    name: &[u8],
+    node: Node,
+) -> Result<(), AllocError>
+    requires stands { IsSome (held entries.old directory) }
+    requires new { held entries.old node.object ≡ None }
+    requires short { length name.now < 2 ^ 32 }
+    ensures ok { OnOk result (Adds directory name.now node.object node (child entries.old) (child entries.new) (held entries.old) (held entries.new)) }
+    ensures len { OnOk result (btree_map_len entries.new ≡ btree_map_len entries.old + 1) }
+    ensures ordered { OnOk result (IsOrdered nat_cmp entries.old) }
+    ensures err { OnErr result (IsSame entries.old entries.new) }
+{
+    let object = node.object;
+    let key = Vec::from_slice(alloc, name)?;
+    let entry = Entry {
+        parent: directory,
+        name: Bytes::from_slice(alloc, name)?,
+        node,
+        names: BTreeMap::new(alloc),
+    };
+    let Ok(_) = entries.insert(object, entry) else {
+        return Err(AllocError);
+    };
+    let Ok(()) = set_name(entries, directory, key, object) else {
+        entries.remove(&object);
+        return Err(AllocError);
+    };
+    Ok(())
+}
+
+/// Takes an object with no names in it out, and gives it.
+pub(crate) fn cut(entries: &mut BTreeMap<u64, Entry>, object: u64) -> Entry
+    requires stands { (h : Held) × (held entries.old object ≡ Some h) × (h.0 ≡ object → ⊥) × IsSome (held entries.old h.0) }
+    requires bare { (name : List ℕ) → child entries.old object name ≡ None }
+    ensures entry { held entries.old object ≡ Some (placed result) }
+    ensures ok { Cuts result.parent result.name object (child entries.old) (child entries.new) (held entries.old) (held entries.new) }
+    ensures len { btree_map_len entries.new + 1 ≡ btree_map_len entries.old }
+{
+    let Some(entry) = entries.remove(&object) else {
+        unreachable!()
+    };
+    drop_name(entries, entry.parent, entry.name.as_slice());
+    entry
+}
+
+/// Puts an object under another name, and gives where it lay. What lay there loses its name, but stays in the table.
+pub(crate) fn shift(
+    entries: &mut BTreeMap<u64, Entry>,
+    alloc: Global,
+    object: u64,
+    place: Place,
+) -> Result<Place, AllocError>
+    requires stands { (h : Held) × (held entries.old object ≡ Some h) × IsSome (held entries.old h.0) × (place.parent ≡ h.0 → place.name ≡ h.1 → ⊥) }
+    requires directory { IsSome (held entries.old place.parent) }
+    ensures before { IfOk result (λ before. (h : Held) → held entries.old object ≡ Some h → (before.parent ≡ h.0) × (before.name ≡ h.1)) }
+    ensures ok { IfOk result (λ before. Shifts object before.parent before.name place.parent place.name (child entries.old) (child entries.new) (held entries.old) (held entries.new)) }
+    ensures len { btree_map_len entries.new ≡ btree_map_len entries.old }
+    ensures err { OnErr result (IsSame entries.old entries.new) }
+{
+    let key = Vec::from_slice(alloc, place.name.as_slice())?;
+    set_name(entries, place.parent, key, object)?;
+    let before = set_place(entries, object, place);
+    drop_name(entries, before.parent, before.name.as_slice());
+    Ok(before)
+}
+
+/// A change of a file's bytes.
+pub(crate) enum Edit<'a> {
+    /// These bytes stand at an offset.
+    Write(u64, &'a [u8]),
+    /// The file is cut, or filled with zeros, to a size.
+    Resize(u64),
+}
+
+/// Changes a file's bytes.
+fn edit_file(file: &mut File, edit: Edit<'_>) -> Result<FileUndo, AllocError>
+    requires { IsWithin edit }
+    ensures ok { OnOk result (file.new ≡ record file.old { bytes = edited edit.entry file.old.bytes }) }
+    ensures undo { IfOk result (λ undo. Restores undo (edited edit.entry file.old.bytes) file.old.bytes) }
+    ensures err { OnErr result (file.new ≡ file.old) }
+{
+    match edit {
+        Edit::Write(offset, added) => file.bytes.write(offset, added),
+        Edit::Resize(size) => file.bytes.resize(size),
+    }
+}
+
+/// Changes the bytes of what is a file.
+fn edit_content(content: &mut Content, edit: Edit<'_>) -> Result<FileUndo, AllocError>
+    requires limit { IsWithin edit }
+    requires file { (file : File) × (content.old ≡ contents.File file) }
+    ensures ok { OnOk result ((file : File) → content.old ≡ contents.File file → content.new ≡ contents.File (record file { bytes = edited edit.entry file.bytes })) }
+    ensures undo { IfOk result (λ undo. (file : File) → content.old ≡ contents.File file → Restores undo (edited edit.entry file.bytes) file.bytes) }
+    ensures err { OnErr result (content.new ≡ content.old) }
+{
+    let Content::File(file) = content else {
+        unreachable!()
+    };
+    edit_file(file, edit)
+}
+
+/// Changes the bytes of a file that stands.
+pub(crate) fn edit_bytes(
+    entries: &mut BTreeMap<u64, Entry>,
+    object: u64,
+    edit: Edit<'_>,
+) -> Result<FileUndo, AllocError>
+    requires limit { IsWithin edit }
+    requires file { (h : Held) × (file : File) × (held entries.old object ≡ Some h) × (h.2.content ≡ contents.File file) }
+    ensures ok { OnOk result ((h : Held) (file : File) → held entries.old object ≡ Some h → h.2.content ≡ contents.File file
+        → Sets object (file_node h.2.object (edited edit.entry file.bytes) file.verifier) (child entries.old) (child entries.new) (held entries.old) (held entries.new)) }
+    ensures undo { IfOk result (λ undo. (h : Held) (file : File) → held entries.old object ≡ Some h → h.2.content ≡ contents.File file
+        → Restores undo (edited edit.entry file.bytes) file.bytes) }
+    ensures len { btree_map_len entries.new ≡ btree_map_len entries.old }
+    ensures err { OnErr result (IsSame entries.old entries.new) }
+{
+    let Some(entry) = entries.get_mut(&object) else {
+        unreachable!()
+    };
+    edit_content(&mut entry.node.content, edit)
+}
+
+/// Takes a change of a file's bytes back.
+fn restore_file(file: &mut File, undo: FileUndo) -> Result<(), AllocError>
+    requires { (before : List ℕ) × Restores undo file.old.bytes before }
+    ensures ok { OnOk result ((before : List ℕ) → Restores undo file.old.bytes before → file.new ≡ record file.old { bytes = before }) }
+    ensures err { OnErr result (file.new ≡ file.old) }
+{
+    file.bytes.restore(undo)
+}
+
+/// Takes a change of the bytes of what is a file back.
+fn restore_content(content: &mut Content, undo: FileUndo) -> Result<(), AllocError>
+    requires { (file : File) × (before : List ℕ) × (content.old ≡ contents.File file) × Restores undo file.bytes before }
+    ensures ok { OnOk result ((file : File) (before : List ℕ) → content.old ≡ contents.File file → Restores undo file.bytes before
+        → content.new ≡ contents.File (record file { bytes = before })) }
+    ensures err { OnErr result (content.new ≡ content.old) }
+{
+    let Content::File(file) = content else {
+        unreachable!()
+    };
+    restore_file(file, undo)
+}
+
+/// Takes a change of the bytes of a file that stands back.
+pub(crate) fn restore_bytes(
+    entries: &mut BTreeMap<u64, Entry>,
+    object: u64,
+    undo: FileUndo,
+) -> Result<(), AllocError>
+    requires { (h : Held) × (file : File) × (before : List ℕ) × (held entries.old object ≡ Some h) × (h.2.content ≡ contents.File file) × Restores undo file.bytes before }
+    ensures ok { OnOk result ((h : Held) (file : File) (before : List ℕ) → held entries.old object ≡ Some h → h.2.content ≡ contents.File file → Restores undo file.bytes before
+        → Sets object (file_node h.2.object before file.verifier) (child entries.old) (child entries.new) (held entries.old) (held entries.new)) }
+    ensures len { btree_map_len entries.new ≡ btree_map_len entries.old }
+    ensures err { OnErr result (IsSame entries.old entries.new) }
+{
+    let Some(entry) = entries.get_mut(&object) else {
+        unreachable!()
+    };
+    restore_content(&mut entry.node.content, undo)
+}

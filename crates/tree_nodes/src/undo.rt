@@ -1,0 +1,187 @@
+//! Changes of the table, each with what takes it back.
+
+ghost use Rattle.std.specs.Prelude.{◌≡◌, ◌<◌, ◌^◌, ℕ, List, length, IsSome, IfOk, OnOk, OnErr, Some, None};
+ghost use Rattle.tree_nodes.specs.declared.node.File.{File};
+ghost use Rattle.tree_nodes.specs.declared.node.Content.TheVariants as contents;
+ghost use Rattle.tree_nodes.specs.Tree.{Tree};
+ghost use Rattle.tree_nodes.specs.Walk.{Held};
+ghost use Rattle.tree_nodes.specs.Table.{child, held};
+ghost use Rattle.tree_nodes.specs.TableChanges.{IsSame};
+ghost use Rattle.tree_nodes.specs.Edits.{IsWithin};
+ghost use Rattle.tree_nodes.specs.Results.{IsMade, IsEdited, IsMoved};
+ghost use Rattle.tree_nodes.specs.Shown.{IsTableOf};
+ghost use Rattle.tree_nodes.specs.Undo.{IsPutBack, IsMovedBack, StepsBack, TakesBack};
+
+use crate::bytes::Bytes;
+use crate::node::Node;
+use crate::table::{Edit, Entry, Place, add, child, cut, edit_bytes, restore_bytes, shift};
+use file_bytes::FileUndo;
+use std::alloc::{AllocError, Global};
+use std::collections::BTreeMap;
+
+/// What one change took away or put, in the place of a copy of the tree.
+#[derive(Debug, Drop)]
+pub struct Undo {
+    pub(crate) step: Step,
+}
+
+/// What a change was.
+#[derive(Debug, Drop)]
+pub(crate) enum Step {
+    /// The tree stayed.
+    Nothing,
+    /// This object was put.
+    Made(u64),
+    /// This object was taken away.
+    Removed(Entry),
+    /// This file's bytes were others.
+    Edited(u64, FileUndo),
+    /// This object lay elsewhere.
+    Moved(Move),
+}
+
+/// Where an object lay, and what lay where it went.
+#[derive(Debug, Drop)]
+pub(crate) struct Move {
+    pub(crate) object: u64,
+    pub(crate) place: Place,
+    pub(crate) displaced: Option<Entry>,
+}
+
+impl Undo {
+    /// What a change takes back that leaves the tree as it is.
+    #[tactic(auto, unfolding(crate::specs::Undo::TakesBack))]
+    pub fn nothing() -> Undo
+        ensures { (tree : Tree) → TakesBack result tree tree }
+    {
+        Undo {
+            step: Step::Nothing,
+        }
+    }
+}
+
+/// Puts an object that isn't there under a name of a directory.
+pub(crate) fn make(
+    entries: &mut BTreeMap<u64, Entry>,
+    alloc: Global,
+    directory: u64,
+    name: &[u8],
+    node: Node,
+) -> Result<Undo, AllocError>
+    requires stands { IsSome (held entries.old directory) }
+    requires new { held entries.old node.object ≡ None }
+    requires short { length name.now < 2 ^ 32 }
+    ensures ok { IfOk result (λ undo. IsMade directory name.now node undo entries.old entries.new) }
+    ensures err { OnErr result (IsSame entries.old entries.new) }
+{
+    let object = node.object;
+    add(entries, alloc, directory, name, node)?;
+    Ok(Undo {
+        step: Step::Made(object),
+    })
+}
+
+/// Changes the bytes of a file that stands.
+pub(crate) fn edit(
+    entries: &mut BTreeMap<u64, Entry>,
+    object: u64,
+    edit: Edit<'_>,
+) -> Result<Undo, AllocError>
+    requires limit { IsWithin edit }
+    requires file { (h : Held) × (file : File) × (held entries.old object ≡ Some h) × (h.2.content ≡ contents.File file) }
+    ensures ok { IfOk result (λ undo. IsEdited object edit.entry undo entries.old entries.new) }
+    ensures err { OnErr result (IsSame entries.old entries.new) }
+{
+    let undo = edit_bytes(entries, object, edit)?;
+    Ok(Undo {
+        step: Step::Edited(object, undo),
+    })
+}
+
+/// Puts an object under another name. What lay there goes.
+pub(crate) fn rename(
+    entries: &mut BTreeMap<u64, Entry>,
+    alloc: Global,
+    object: u64,
+    directory: u64,
+    name: &[u8],
+) -> Result<Undo, AllocError>
+    requires stands { (h : Held) × (held entries.old object ≡ Some h) × IsSome (held entries.old h.0) × (directory ≡ h.0 → name.now ≡ h.1 → ⊥) }
+    requires directory { IsSome (held entries.old directory) }
+    requires displaced { (other : ℕ) → child entries.old directory name.now ≡ Some other → IsSome (held entries.old other) × (other ≡ object → ⊥) × (other ≡ directory → ⊥) }
+    requires bare { (other : ℕ) (any : List ℕ) → child entries.old directory name.now ≡ Some other → child entries.old other any ≡ None }
+    requires short { length name.now < 2 ^ 32 }
+    ensures ok { IfOk result (λ undo. IsMoved object directory name.now undo entries.old entries.new) }
+    ensures err { OnErr result (IsSame entries.old entries.new) }
+{
+    let place = Place {
+        parent: directory,
+        name: Bytes::from_slice(alloc, name)?,
+    };
+    let target = child(entries, directory, name);
+    let place = shift(entries, alloc, object, place)?;
+    let displaced = match target {
+        Some(target) => entries.remove(&target),
+        None => None,
+    };
+    Ok(Undo {
+        step: Step::Moved(Move {
+            object,
+            place,
+            displaced,
+        }),
+    })
+}
+
+/// Puts an object that was taken away back.
+fn put_back(
+    entries: &mut BTreeMap<u64, Entry>,
+    alloc: Global,
+    entry: Entry,
+) -> Result<(), AllocError>
+    requires { (tree : Tree) × (before : Tree) × IsTableOf entries.old tree × IsPutBack entry tree before }
+    ensures ok { OnOk result ((tree before : Tree) → IsTableOf entries.old tree → IsPutBack entry tree before → IsTableOf entries.new before) }
+    ensures err { OnErr result (IsSame entries.old entries.new) }
+{
+    let name = entry.name;
+    add(entries, alloc, entry.parent, name.as_slice(), entry.node)
+}
+
+/// Puts an object where it lay, and back what it took the place of.
+fn move_back(
+    entries: &mut BTreeMap<u64, Entry>,
+    alloc: Global,
+    step: Move,
+) -> Result<(), AllocError>
+    requires { (tree : Tree) × (before : Tree) × IsTableOf entries.old tree × IsMovedBack step tree before }
+    ensures ok { OnOk result ((tree before : Tree) → IsTableOf entries.old tree → IsMovedBack step tree before → IsTableOf entries.new before) }
+    ensures err { OnErr result ((tree before : Tree) → IsTableOf entries.old tree → IsMovedBack step tree before → (now : Tree) × IsTableOf entries.new now) }
+{
+    shift(entries, alloc, step.object, step.place)?;
+    match step.displaced {
+        Some(entry) => put_back(entries, alloc, entry),
+        None => Ok(()),
+    }
+}
+
+/// Takes a change back. Where memory runs out, a part of it may be.
+pub(crate) fn take_back(
+    entries: &mut BTreeMap<u64, Entry>,
+    alloc: Global,
+    step: Step,
+) -> Result<(), AllocError>
+    requires { (tree : Tree) × (before : Tree) × IsTableOf entries.old tree × StepsBack step tree before }
+    ensures ok { OnOk result ((tree before : Tree) → IsTableOf entries.old tree → StepsBack step tree before → IsTableOf entries.new before) }
+    ensures err { OnErr result ((tree before : Tree) → IsTableOf entries.old tree → StepsBack step tree before → (now : Tree) × IsTableOf entries.new now) }
+{
+    match step {
+        Step::Nothing => Ok(()),
+        Step::Made(object) => {
+            drop(cut(entries, object));
+            Ok(())
+        }
+        Step::Removed(entry) => put_back(entries, alloc, entry),
+        Step::Edited(object, bytes) => restore_bytes(entries, object, bytes),
+        Step::Moved(step) => move_back(entries, alloc, step),
+    }
+}
