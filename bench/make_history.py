@@ -5,6 +5,7 @@ make_history.py N refused           the last event has an unknown kind word, so 
 make_history.py N replayed          a CREATE, then WRITEs and READs of one file in turn, each answered
 make_history.py N common            the same, with handles of 32 bytes and AUTH_SYS credentials, as common clients have them
 make_history.py N taken             a CREATE, then WRITEs of such a client, none answered and each taken as done
+make_history.py N eras              as common, and the server goes down at each hundredth event; every place is kept
 make_history.py N SHAPE FOLDER      the same, as the files FOLDER/history and FOLDER/certificate
 """
 import os
@@ -51,8 +52,8 @@ def reply(n, results):
     return struct.pack(">III", n, 1, 0) + b"\0" * 12 + results
 
 
-def event(kind, message):
-    return struct.pack(">II", kind, 1) + opaque(message)
+def event(kind, message, lane=1):
+    return struct.pack(">II", kind, lane) + opaque(message)
 
 
 def answered(client, calls):
@@ -69,15 +70,31 @@ def unanswered(client, calls):
         yield event(0, client.write(n)[0]), "take %d 3" % n
 
 
+def over_crashes(client, eras):
+    """The events of eras of a hundred each: 49 answered calls, a close and, but for the last era, a crash."""
+    for era in range(1, eras + 1):
+        for n in range(49 * era - 48, 49 * era + 1):
+            asked, given = client.exchange(n)
+            yield event(0, asked, era) + event(1, given, era), "place %d" % n
+        closed = struct.pack(">II", 2, era)
+        yield (closed + struct.pack(">I", 3), "cut 49") if era < eras else (closed, None)
+
+
 def main():
     events, shape = int(sys.argv[1]), sys.argv[2]
-    client = Client(USER, 32) if shape in ("common", "taken") else Client(NOBODY, 1)
+    client = Client(USER, 32) if shape in ("common", "taken", "eras") else Client(NOBODY, 1)
     count = events if shape == "taken" else events // 2 * 2
-    made = unanswered(client, count) if shape == "taken" else answered(client, count // 2)
+    if shape == "eras":
+        count = events // 100 * 100 - 1
+        made = over_crashes(client, events // 100)
+    elif shape == "taken":
+        made = unanswered(client, count)
+    else:
+        made = answered(client, count // 2)
     body, lines = bytearray(), ["witness 1", "bind " + "aa" * client.width + " 1"]
     for happened, place in made:
         body += happened
-        lines.append(place)
+        lines += [place] if place else []
     if shape == "refused":
         body += struct.pack(">I", 9)
         count += 1
