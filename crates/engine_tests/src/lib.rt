@@ -1,5 +1,16 @@
-//! Tests of `nfsbench_engine`: whole bundles with their lines, streams that fail, and words of the command line.
+//! Tests of `nfsbench_engine` and of the verdict: files that are cut off or changed at each byte, streams that fail or come
+//! in pieces, and words of the command line.
 #![tactic(auto)]
 
 #[cfg(test)]
-mod tests;
+mod changed;
+#[cfg(test)]
+mod cut;
+#[cfg(test)]
+mod pieces;
+#[cfg(test)]
+mod samples;
+#[cfg(test)]
+mod streams;
+#[cfg(test)]
+mod words;

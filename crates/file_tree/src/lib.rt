@@ -6,8 +6,6 @@ mod naming;
 mod plan;
 mod rename;
 mod success;
-#[cfg(test)]
-mod tests;
 mod tree;
 mod write;
 

@@ -1,9 +1,25 @@
 //! Histories in which the server went down.
 
-use crate::samples::{Step, history};
-use nfs_history::{History, HistoryFault};
+use crate::reading::EXAMPLE;
+use nfs_history::{History, read_history};
 use std::alloc::{AllocError, Global};
 use std::test::Fail;
+
+/// A crash, and the close of lane 1.
+const CRASH: &[u8] = b"\x00\x00\x00\x03";
+
+const CLOSE: &[u8] = b"\x00\x00\x00\x02\x00\x00\x00\x01";
+
+/// A file of these events, with the example's root handle.
+fn file_of(alloc: Global, events: &[&[u8]]) -> Result<Vec<u8>, AllocError> {
+    let mut bytes = Vec::from_slice(alloc, &EXAMPLE[..16])?;
+    bytes.extend_from_slice([0, 0, 0].as_slice())?;
+    bytes.push(events.len().min(255) as u8)?;
+    for event in events {
+        bytes.extend_from_slice(event)?;
+    }
+    Ok(bytes)
+}
 
 /// The era of each call.
 fn eras_of_calls(alloc: Global, history: &History) -> Result<Vec<u64>, AllocError> {
@@ -16,78 +32,24 @@ fn eras_of_calls(alloc: Global, history: &History) -> Result<Vec<u64>, AllocErro
 
 #[test]
 fn each_call_has_its_era(rt: HostRuntime) -> Result<(), Fail> {
-    let rows: [(&[Step], u64, &[u64]); 7] = [
+    let create = &EXAMPLE[20..116];
+    let read = &EXAMPLE[328..400];
+    let reply = &EXAMPLE[400..];
+    let rows: [(&[&[u8]], u64, &[u64]); 7] = [
         (&[], 1, &[]),
-        (&[Step::Crash, Step::Read(1), Step::Answer(1)], 2, &[2]),
-        (&[Step::Read(1), Step::Answer(1), Step::Crash], 2, &[1]),
-        (&[Step::Crash, Step::Crash, Step::Read(1)], 3, &[3]),
-        (
-            &[Step::Read(1), Step::Crash, Step::Crash, Step::Read(2)],
-            3,
-            &[1, 3],
-        ),
-        (
-            &[Step::Read(7), Step::Crash, Step::Read(8), Step::Answer(8)],
-            2,
-            &[1, 2],
-        ),
-        (&[Step::Close(1), Step::Crash, Step::Read(2)], 2, &[2]),
+        (&[CRASH, read, reply], 2, &[2]),
+        (&[read, reply, CRASH], 2, &[1]),
+        (&[CRASH, CRASH, read], 3, &[3]),
+        (&[create, CRASH, CRASH, read], 3, &[1, 3]),
+        (&[create, CRASH, read, reply], 2, &[1, 2]),
+        (&[CLOSE, CRASH, read], 2, &[2]),
     ];
-    for (steps, eras, of_calls) in rows {
-        let history = history(rt.alloc(), steps)?;
+    for (events, eras, of_calls) in rows {
+        let file = file_of(rt.alloc(), events)?;
+        let history = read_history(rt.alloc(), file.as_slice())?;
         assert_eq!(rt; history.eras(), eras);
         let found = eras_of_calls(rt.alloc(), &history)?;
         assert_eq!(rt; found.as_slice(), of_calls);
-    }
-    Ok(())
-}
-
-fn fault_of(answer: Result<History, HistoryFault>) -> Option<HistoryFault> {
-    match answer {
-        Ok(_) => None,
-        Err(fault) => Some(fault),
-    }
-}
-
-#[test]
-fn a_crash_closes_each_lane_that_was_used(rt: HostRuntime) -> Result<(), Fail> {
-    let rows: [(&[Step], HistoryFault); 8] = [
-        (
-            &[Step::Read(1), Step::Answer(1), Step::Crash, Step::Read(1)],
-            HistoryFault::LaneClosed(4),
-        ),
-        (
-            &[Step::Read(1), Step::Crash, Step::Answer(1)],
-            HistoryFault::LaneClosed(3),
-        ),
-        (
-            &[Step::Read(1), Step::Crash, Step::Close(1)],
-            HistoryFault::LaneClosed(3),
-        ),
-        (
-            &[Step::Close(1), Step::Crash, Step::Read(1)],
-            HistoryFault::LaneClosed(3),
-        ),
-        (
-            &[Step::Crash, Step::Read(1), Step::Crash, Step::Read(1)],
-            HistoryFault::LaneClosed(4),
-        ),
-        (
-            &[Step::Read(1), Step::Crash, Step::Crash, Step::Answer(1)],
-            HistoryFault::LaneClosed(4),
-        ),
-        // A lane that wasn't used is open behind a crash, and has no call to be answered.
-        (
-            &[Step::Read(1), Step::Crash, Step::Answer(2)],
-            HistoryFault::NoSuchCall(3),
-        ),
-        (
-            &[Step::Crash, Step::Read(1), Step::Read(1)],
-            HistoryFault::XidInUse(3),
-        ),
-    ];
-    for (steps, fault) in rows {
-        assert_eq!(rt; fault_of(history(rt.alloc(), steps)), Some(fault));
     }
     Ok(())
 }

@@ -1,9 +1,7 @@
-//! Tests of histories, through the public calls of the crate that reads them.
+//! Tests of what a history shows of its calls and eras, through the public calls of `nfs_history`.
 #![tactic(auto)]
 
 #[cfg(test)]
 mod eras;
 #[cfg(test)]
 mod reading;
-#[cfg(test)]
-mod samples;

@@ -1,11 +1,8 @@
 //! Judges the bundle on standard input twice, and prints both answers, a line each. Nothing but the judging takes
-//! memory, so that each allocation of it can be refused from outside: see `bench/README.md`. Its tests attack the
-//! verdict with files that are cut off or changed, and with streams that fail.
+//! memory, so that each allocation of it can be refused from outside: see `bench/README.md`.
 #![tactic(auto)]
 
 mod bundle;
-#[cfg(test)]
-mod tests;
 
 use bundle::{LONGEST, LONGEST_HISTORY, read_bytes, split};
 use std::alloc::AllocError;

@@ -1,8 +1,8 @@
-//! A history with its certificate: a file is made and written on one connection, and read on another.
+//! A history with its certificate, in which a file is made and written on one connection and read on another; and one of no event.
 
 /// The history in hex. Its items, each on lines of its own: the head (magic, root handle, number of events), then CREATE
 /// of `a` in the root, its reply with the handle aa, WRITE of `abc`, its reply, READ of ten bytes, its reply with `abc`.
-pub(super) const HISTORY: &str = "4e46534849535431000000010000000000000006\
+pub const HISTORY: &str = "4e46534849535431000000010000000000000006\
     000000000000000100000054000000010000000000000002000186a30000000300000008000000000000000000000000\
     000000000000000100000000000000016100000000000000000000000000000000000000000000000000000000000000\
     000000010000000100000034000000010000000100000000000000000000000000000000000000000000000100000001\
@@ -17,4 +17,7 @@ pub(super) const HISTORY: &str = "4e46534849535431000000010000000000000006\
     000000010000000361626300";
 
 /// The certificate: the three calls in the order in which they were sent.
-pub(super) const CERTIFICATE: &str = "witness 1\nbind aa 1\nplace 1\nplace 2\nplace 3\nend\n";
+pub const CERTIFICATE: &str = "witness 1\nbind aa 1\nplace 1\nplace 2\nplace 3\nend\n";
+
+/// A history of no event, in hex.
+pub const EMPTY: &str = "4e46534849535431000000010000000000000000";

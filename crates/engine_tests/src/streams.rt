@@ -1,6 +1,6 @@
 //! Inputs that fail or never end, outputs that are interrupted or full, and both over memory.
 
-use super::histories::EMPTY;
+use crate::samples::EMPTY;
 use nfsbench_engine::{Sink, Stream, run_bundle};
 use std::alloc::Global;
 use std::io::{self, ErrorKind, Read, Write};

@@ -1,6 +1,6 @@
 //! Words of the command line, on the system's own files.
 
-use super::histories::EMPTY;
+use crate::samples::EMPTY;
 use nfsbench_engine::run_words;
 use std::rt::Files;
 use std::test::Fail;

@@ -1,6 +1,6 @@
 //! Files of which one byte is changed.
 
-use super::samples::{CERTIFICATE, HISTORY};
+use crate::samples::{CERTIFICATE, HISTORY};
 use std::alloc::Global;
 use std::mem;
 use std::test::Fail;

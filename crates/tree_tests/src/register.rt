@@ -1,3 +1,5 @@
+//! Runs over a register, in one era and over a crash.
+
 ghost use Rattle.std.specs.Prelude.{◌≤◌, length};
 
 use replay_law::register::{Call, Outcome};

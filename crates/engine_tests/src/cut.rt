@@ -1,12 +1,19 @@
 //! Files that break off.
 
-use super::is_verdict;
-use super::samples::{CERTIFICATE, HISTORY};
+use crate::samples::{CERTIFICATE, HISTORY};
 use certificate::TextFault;
 use nfs_history::HistoryFault;
 use std::alloc::{AllocError, Global};
 use std::test::Fail;
-use witness_check::FileVerdict;
+use witness_check::{FileVerdict, check_files};
+
+/// Whether this is the verdict on these files.
+fn is_verdict(alloc: Global, history: &[u8], certificate: &[u8], want: FileVerdict) -> bool {
+    match check_files(alloc, history, certificate) {
+        Ok(verdict) => verdict == want,
+        Err(_) => false,
+    }
+}
 
 /// The verdict on a history file that breaks off: its magic has eight bytes, and every later item is missing bytes.
 fn verdict_on_a_front(length: usize) -> FileVerdict {

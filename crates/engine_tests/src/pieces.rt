@@ -1,6 +1,6 @@
-//! Readers and writers that fail, or that move little at a time.
+//! Readers that give a bundle in pieces or break off, and writers with little room.
 
-use super::samples::{CERTIFICATE, HISTORY};
+use crate::samples::{CERTIFICATE, HISTORY};
 use nfsbench_engine::{Sink, Stream, run_bundle};
 use std::alloc::Global;
 use std::io::{self, ErrorKind, Read, Write};

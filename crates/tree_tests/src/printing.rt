@@ -1,13 +1,15 @@
+//! A tree that is printed.
+
 ghost use Rattle.std.specs.Prelude.{IfOk};
 ghost use Rattle.tree_nodes.specs.Undo.{TakesBack};
 
-use crate::tree::FileTree;
+use file_tree::FileTree;
 use nfs3_types::{
     Answer, CreateArguments, CreateMode, CreateSuccess, Data, DirectoryName, FileHandle, Held,
-    Name, NfsCall, NfsReply, Optional, Outcome, ReadArguments, ReadSuccess, SetAttributes, SetTime,
-    StableHow, Verifier, WccData, WriteArguments, WriteSuccess,
+    Name, NfsCall, NfsReply, Optional, Outcome, SetAttributes, SetTime, StableHow, Verifier,
+    WccData, WriteArguments, WriteSuccess,
 };
-use replay_law::{EraRun, Replayable, RunFault, Step, StepFault, run_eras};
+use replay_law::{Replayable, StepFault};
 use std::alloc::{AllocError, Global};
 use std::test::Fail;
 use tree_handles::Binds;
@@ -28,7 +30,7 @@ const ONE_FILE: [u8; 56] = [
 ];
 
 /// The handle of one byte.
-pub(crate) fn handle(alloc: Global, byte: u8) -> Result<FileHandle, AllocError> {
+fn handle(alloc: Global, byte: u8) -> Result<FileHandle, AllocError> {
     FileHandle::from_slice(alloc, &[byte])
 }
 
@@ -80,63 +82,11 @@ fn wrote(count: u32, level: StableHow) -> Outcome {
     })))
 }
 
-/// READ of ten bytes of the file of handle aa from its start.
-fn read(alloc: Global) -> Result<NfsCall, AllocError> {
-    Ok(NfsCall::Read(ReadArguments {
-        file: handle(alloc, 0xaa)?,
-        offset: 0,
-        count: 10,
-    }))
-}
-
-/// Its success.
-fn got(alloc: Global, bytes: &[u8], eof: bool) -> Result<Outcome, AllocError> {
-    let bytes = Data::from_slice(alloc, &bytes[..bytes.len().min(10)])?;
-    let success = ReadSuccess {
-        attributes: Optional::none(),
-        count: bytes.as_slice().len() as u32,
-        eof,
-        bytes,
-    };
-    Ok(Outcome::Received(NfsReply::Read(Answer::Done(success))))
-}
-
 /// The root's handle 00, and aa for object 1.
 fn binds(alloc: Global) -> Result<Binds, AllocError> {
     let mut binds = Binds::of_root(alloc, &[0])?;
     binds.push(&[0xaa], 1)?;
     Ok(binds)
-}
-
-/// CREATE of `a`, a WRITE of `abc`, and a READ that gives these bytes, numbered from 1.
-fn placed(
-    alloc: Global,
-    bytes: &[u8],
-    eof: bool,
-) -> Result<Vec<Step<NfsCall, Outcome>>, AllocError> {
-    let mut placed = Vec::new(alloc);
-    placed.push(numbered(1, create(alloc)?, created(alloc, 0xaa)?))?;
-    placed.push(numbered(2, write(alloc)?, wrote(3, StableHow::FileSync)))?;
-    placed.push(numbered(3, read(alloc)?, got(alloc, bytes, eof)?))?;
-    Ok(placed)
-}
-
-/// A step of a run.
-fn numbered(number: u64, call: NfsCall, outcome: Outcome) -> Step<NfsCall, Outcome> {
-    Step {
-        number,
-        call,
-        outcome,
-    }
-}
-
-/// The run of these in one era.
-fn run(
-    alloc: Global,
-    placed: Vec<Step<NfsCall, Outcome>>,
-) -> Result<Result<(), RunFault>, AllocError> {
-    let eras = [EraRun::new(placed, 0)];
-    Ok(run_eras::<FileTree>(alloc, &binds(alloc)?, &eras))
 }
 
 /// One step.
@@ -150,22 +100,6 @@ fn step(
     ensures { IfOk result (λ undo. TakesBack undo tree.new tree.old) }
 {
     tree.step(binds, number, &call, &outcome)
-}
-
-#[test]
-fn a_written_file_is_read(rt: HostRuntime) -> Result<(), Fail> {
-    let alloc = rt.alloc();
-    assert_eq!(rt; run(alloc, placed(alloc, b"abc", true)?)?, Ok(()));
-    assert_eq!(rt;
-        run(alloc, placed(alloc, b"abc", false)?)?,
-        Err(RunFault::Illegal(3))
-    );
-    assert_eq!(rt;
-        run(alloc, placed(alloc, b"ab", true)?)?,
-        Err(RunFault::Illegal(3))
-    );
-    assert_eq!(rt; run(alloc, placed(alloc, b"ab", false)?)?, Ok(()));
-    Ok(())
 }
 
 #[test]
