@@ -16,7 +16,7 @@ use nfs3_types::{FileHandle, HANDLE_LIMIT};
 use std::alloc::{AllocError, Global};
 
 /// What a line says.
-#[derive(Debug, Drop)]
+#[derive(Drop)]
 pub enum Line {
     Witness,
     Bind(Bind),

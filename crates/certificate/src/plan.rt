@@ -6,14 +6,14 @@ use nfs3_types::FileHandle;
 use std::marker::Model;
 
 /// A handle, and the number of the object that it names: 0 is the root, n what call n made.
-#[derive(Debug, Drop)]
+#[derive(Drop)]
 pub struct Bind {
     pub handle: FileHandle,
     pub object: u64,
 }
 
 /// A call's place in the serial order.
-#[derive(Clone, Copy, Debug, PartialEq, Eq)]
+#[derive(Clone, Copy, PartialEq, Eq)]
 pub enum Place {
     /// Call n, with the reply that it was given.
     Answered(u64),
@@ -22,7 +22,7 @@ pub enum Place {
 }
 
 /// The binds, in the order of their handles.
-#[derive(Debug, Drop)]
+#[derive(Drop)]
 pub struct BindList {
     binds: Vec<Bind>,
 }
@@ -53,7 +53,7 @@ impl BindList {
 }
 
 /// The places of an era, in the serial order.
-#[derive(Debug, Drop)]
+#[derive(Drop)]
 pub struct PlaceList {
     places: Vec<Place>,
 }
@@ -84,7 +84,7 @@ impl PlaceList {
 }
 
 /// What is said of one era, the part of a history between two crashes.
-#[derive(Debug, Drop)]
+#[derive(Drop)]
 pub struct EraPlan {
     pub places: PlaceList,
     /// How many of the places survived the crash that ended the era; the last era has none.
@@ -92,7 +92,7 @@ pub struct EraPlan {
 }
 
 /// The eras, in order.
-#[derive(Debug, Drop)]
+#[derive(Drop)]
 pub struct EraPlanList {
     eras: Vec<EraPlan>,
 }
@@ -123,7 +123,7 @@ impl EraPlanList {
 }
 
 /// A certificate, which is a claim: nothing in it is trusted.
-#[derive(Debug, Drop)]
+#[derive(Drop)]
 pub struct Certificate {
     pub binds: BindList,
     pub eras: EraPlanList,

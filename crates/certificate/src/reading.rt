@@ -50,7 +50,7 @@ impl From<AllocError> for TextFault {
 }
 
 /// The binds that have been read, the eras that a cut has ended, and the places behind them.
-#[derive(Debug, Drop)]
+#[derive(Drop)]
 struct Draft {
     binds: Vec<Bind>,
     eras: Vec<EraPlan>,
@@ -58,7 +58,7 @@ struct Draft {
 }
 
 /// What becomes of a draft with the next line.
-#[derive(Clone, Copy, Debug, PartialEq, Eq)]
+#[derive(Clone, Copy, PartialEq, Eq)]
 enum Step {
     GoesOn,
     Ends,

@@ -7,7 +7,7 @@ ghost use Rattle.cut_check.specs.Effect.{write_success, commit_success, succeede
 use nfs3_types::{Answer, CommitSuccess, NfsCall, NfsReply, Outcome, StableHow, WriteSuccess};
 
 /// What a place of an era means for stable storage. Objects are named by their numbers.
-#[derive(Clone, Copy, Debug, PartialEq, Eq)]
+#[derive(Clone, Copy, PartialEq, Eq)]
 pub enum Effect {
     /// It need not be there, and puts nothing there.
     Nothing,

@@ -10,7 +10,7 @@ use std::collections::BTreeMap;
 use std::ops::Bound;
 
 /// Of each byte the position of the last WRITE that covers it, from 1 on, or 0.
-#[derive(Debug, Drop)]
+#[derive(Drop)]
 pub struct LastWrites {
     /// The positions from a boundary on, up to the next one.
     boundaries: BTreeMap<u64, u64>,

@@ -10,7 +10,7 @@ use std::alloc::{AllocError, Global};
 use std::collections::BTreeMap;
 
 /// What is known of the places of an era that were noted, in order. Each note takes logarithmic time, taken over all of them.
-#[derive(Debug, Drop)]
+#[derive(Drop)]
 pub struct Stability {
     alloc: Global,
     /// How many places were noted.

@@ -10,14 +10,14 @@ use crate::pages::{Pages, stored};
 use std::alloc::{AllocError, Global};
 
 /// What a page is to hold.
-#[derive(Debug, Drop)]
+#[derive(Drop)]
 pub(crate) struct Change {
     pub(crate) number: u64,
     pub(crate) page: Page,
 }
 
 /// What turns a file back to what it was ahead of one change: its size, and the pages that changed.
-#[derive(Debug, Drop)]
+#[derive(Drop)]
 pub struct FileUndo {
     pub(crate) size: u64,
     pub(crate) changes: Vec<Change>,

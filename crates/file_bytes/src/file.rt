@@ -15,7 +15,7 @@ use std::marker::Model;
 use std::mem;
 
 /// At most `nfs3_types::FILE_LIMIT` bytes.
-#[derive(Debug, Drop)]
+#[derive(Drop)]
 pub struct FileBytes {
     alloc: Global,
     size: u64,

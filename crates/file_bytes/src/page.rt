@@ -11,7 +11,7 @@ use std::marker::Model;
 pub(crate) const PAGE: u64 = 512;
 
 /// The bytes of a page up to some place; those behind it are zeros.
-#[derive(Debug, Drop)]
+#[derive(Drop)]
 pub(crate) struct Page {
     bytes: Vec<u8>,
 }

@@ -3,7 +3,7 @@
 use tree_nodes::Node;
 
 /// What becomes of a tree.
-#[derive(Debug, Drop)]
+#[derive(Drop)]
 pub(crate) enum Plan<'a> {
     /// It stays.
     Keep,

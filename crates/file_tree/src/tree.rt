@@ -19,7 +19,7 @@ use tree_handles::{Binds, View};
 use tree_nodes::{Nodes, Undo};
 
 /// A file tree. Contracts see it as a finite map from paths to nodes.
-#[derive(Debug, Drop)]
+#[derive(Drop)]
 pub struct FileTree {
     alloc: Global,
     nodes: Nodes,

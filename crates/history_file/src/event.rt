@@ -6,7 +6,7 @@ use std::alloc::{AllocError, Global};
 use std::marker::Model;
 
 /// The bytes of a message, without record marking.
-#[derive(Debug, Drop)]
+#[derive(Drop)]
 pub struct Message {
     content: Vec<u8>,
 }
@@ -38,7 +38,7 @@ impl Message {
 }
 
 /// What happened once.
-#[derive(Debug, Drop)]
+#[derive(Drop)]
 pub enum Event {
     /// A client sent a call on a lane, which is one connection.
     Call { lane: u32, message: Message },

@@ -22,7 +22,7 @@ use xdr_records::{RECORD_LIMIT, Reader, XdrFault};
 const EVENT_SIZE: usize = 32;
 
 /// The kind word of an event.
-#[derive(Clone, Copy, Debug, PartialEq, Eq)]
+#[derive(Clone, Copy, PartialEq, Eq)]
 pub enum EventKind {
     Call,
     Reply,
@@ -31,14 +31,14 @@ pub enum EventKind {
 }
 
 /// What stands in a history file.
-#[derive(Debug, Drop)]
+#[derive(Drop)]
 pub struct SeenRecording<'a> {
     pub root: &'a [u8],
     pub events: Vec<Event>,
 }
 
 /// Why an item can't be read, and where it stands.
-#[derive(Clone, Copy, Debug, PartialEq, Eq)]
+#[derive(Clone, Copy, PartialEq, Eq)]
 pub enum ItemFault {
     Fault { at: usize, fault: FileFault },
     NoMemory,

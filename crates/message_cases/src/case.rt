@@ -3,7 +3,7 @@
 use anyhow::{Context, Result, bail};
 
 /// What a text is.
-#[derive(Clone, Copy, Debug, PartialEq, Eq)]
+#[derive(Clone, Copy, PartialEq, Eq)]
 pub enum Kind {
     /// The arguments of a procedure of NFS version 3.
     Call(u32),
@@ -16,7 +16,7 @@ pub enum Kind {
 }
 
 /// A text to read and to write again.
-#[derive(Clone, Copy, Debug, PartialEq, Eq)]
+#[derive(Clone, Copy, PartialEq, Eq)]
 pub struct Case<'a> {
     pub name: &'a str,
     pub kind: Kind,

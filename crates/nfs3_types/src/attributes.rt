@@ -3,7 +3,7 @@
 use crate::held::Optional;
 
 /// What kind of object a handle names, `ftype3` (RFC 1813, section 2.6).
-#[derive(Clone, Copy, Debug, PartialEq, Eq)]
+#[derive(Clone, Copy, PartialEq, Eq)]
 pub enum FileType {
     Regular = 1,
     Directory = 2,
@@ -15,14 +15,14 @@ pub enum FileType {
 }
 
 /// A moment since the first of January 1970, `nfstime3`.
-#[derive(Clone, Copy, Debug)]
+#[derive(Clone, Copy)]
 pub struct Time {
     pub seconds: u32,
     pub nanoseconds: u32,
 }
 
 /// The two numbers of a device, `specdata3`.
-#[derive(Clone, Copy, Debug)]
+#[derive(Clone, Copy)]
 pub struct Device {
     pub major: u32,
     pub minor: u32,
@@ -30,13 +30,13 @@ pub struct Device {
 
 /// Eight bytes that only their maker understands (`writeverf3`, `createverf3`), as the number that they
 /// spell in big-endian order.
-#[derive(Clone, Copy, Debug, PartialEq, Eq)]
+#[derive(Clone, Copy, PartialEq, Eq)]
 pub struct Verifier {
     pub value: u64,
 }
 
 /// The attributes of an object, `fattr3`.
-#[derive(Clone, Copy, Debug)]
+#[derive(Clone, Copy)]
 pub struct FileAttributes {
     /// `type`
     pub file_type: FileType,
@@ -66,7 +66,7 @@ pub struct FileAttributes {
 }
 
 /// The attributes that tell whether an object has changed, `wcc_attr`.
-#[derive(Clone, Copy, Debug)]
+#[derive(Clone, Copy)]
 pub struct WccAttributes {
     pub size: u64,
     pub modify_time: Time,
@@ -74,14 +74,14 @@ pub struct WccAttributes {
 }
 
 /// Attributes before and after an operation, `wcc_data` (weak cache consistency).
-#[derive(Clone, Debug, Drop)]
+#[derive(Clone, Drop)]
 pub struct WccData {
     pub before: Optional<WccAttributes>,
     pub after: Optional<FileAttributes>,
 }
 
 /// How a call sets a time, `set_atime` and `set_mtime`.
-#[derive(Clone, Copy, Debug)]
+#[derive(Clone, Copy)]
 pub enum SetTime {
     Keep,
     ServerTime,
@@ -89,7 +89,7 @@ pub enum SetTime {
 }
 
 /// The attributes that a call sets, `sattr3`: those that are absent stay.
-#[derive(Clone, Copy, Debug)]
+#[derive(Clone, Copy)]
 pub struct SetAttributes {
     pub mode: Option<u32>,
     pub user: Option<u32>,

@@ -12,7 +12,7 @@ pub const HANDLE_LIMIT: usize = 64;
 pub const FILE_LIMIT: u64 = 16_777_216;
 
 /// A file handle, `nfs_fh3`: at most 64 bytes that only the server understands.
-#[derive(Debug, Drop)]
+#[derive(Drop)]
 pub struct FileHandle {
     bytes: Vec<u8>,
 }
@@ -48,7 +48,7 @@ impl FileHandle {
 }
 
 /// A name in a directory, `filename3`: below 2^32 bytes, with no rule on which.
-#[derive(Debug, Drop)]
+#[derive(Drop)]
 pub struct Name {
     text: Vec<u8>,
 }
@@ -84,7 +84,7 @@ impl Name {
 }
 
 /// What is read from a file or written to it, `opaque data<>`: below 2^32 bytes.
-#[derive(Debug, Drop)]
+#[derive(Drop)]
 pub struct Data {
     content: Vec<u8>,
 }
@@ -120,7 +120,7 @@ impl Data {
 }
 
 /// The text of a symbolic link, `nfspath3`: below 2^32 bytes, with no rule on which.
-#[derive(Debug, Drop)]
+#[derive(Drop)]
 pub struct LinkText {
     target: Vec<u8>,
 }

@@ -8,7 +8,7 @@ use crate::held::Held;
 use std::alloc::AllocError;
 
 /// A name in a directory, `diropargs3`.
-#[derive(Clone, Debug, Drop)]
+#[derive(Clone, Drop)]
 pub struct DirectoryName {
     pub directory: FileHandle,
     pub name: Name,
@@ -16,7 +16,7 @@ pub struct DirectoryName {
 
 /// How far a WRITE has to have come when it is answered, `stable_how` (RFC 1813, section 3.3.7). A later
 /// one promises more.
-#[derive(Clone, Copy, Debug, PartialEq, Eq)]
+#[derive(Clone, Copy, PartialEq, Eq)]
 pub enum StableHow {
     Unstable = 0,
     DataSync = 1,
@@ -24,7 +24,7 @@ pub enum StableHow {
 }
 
 /// How a CREATE treats a name that is present, `createhow3` (RFC 1813, section 3.3.8).
-#[derive(Clone, Copy, Debug)]
+#[derive(Clone, Copy)]
 pub enum CreateMode {
     Unchecked(SetAttributes),
     Guarded(SetAttributes),
@@ -32,7 +32,7 @@ pub enum CreateMode {
 }
 
 /// `SETATTR3args` (RFC 1813, section 3.3.2).
-#[derive(Clone, Debug, Drop)]
+#[derive(Clone, Drop)]
 pub struct SetAttrArguments {
     pub object: FileHandle,
     /// `new_attributes`
@@ -42,7 +42,7 @@ pub struct SetAttrArguments {
 }
 
 /// `READ3args` (RFC 1813, section 3.3.6).
-#[derive(Clone, Debug, Drop)]
+#[derive(Clone, Drop)]
 pub struct ReadArguments {
     pub file: FileHandle,
     pub offset: u64,
@@ -50,7 +50,7 @@ pub struct ReadArguments {
 }
 
 /// `WRITE3args` (RFC 1813, section 3.3.7).
-#[derive(Clone, Debug, Drop)]
+#[derive(Clone, Drop)]
 pub struct WriteArguments {
     pub file: FileHandle,
     pub offset: u64,
@@ -61,21 +61,21 @@ pub struct WriteArguments {
 }
 
 /// `CREATE3args` (RFC 1813, section 3.3.8).
-#[derive(Clone, Debug, Drop)]
+#[derive(Clone, Drop)]
 pub struct CreateArguments {
     pub place: DirectoryName,
     pub mode: CreateMode,
 }
 
 /// `MKDIR3args` (RFC 1813, section 3.3.9).
-#[derive(Clone, Debug, Drop)]
+#[derive(Clone, Drop)]
 pub struct MkDirArguments {
     pub place: DirectoryName,
     pub attributes: SetAttributes,
 }
 
 /// `SYMLINK3args` (RFC 1813, section 3.3.10).
-#[derive(Clone, Debug, Drop)]
+#[derive(Clone, Drop)]
 pub struct SymLinkArguments {
     pub place: DirectoryName,
     pub attributes: SetAttributes,
@@ -84,14 +84,14 @@ pub struct SymLinkArguments {
 }
 
 /// `RENAME3args` (RFC 1813, section 3.3.14).
-#[derive(Clone, Debug, Drop)]
+#[derive(Clone, Drop)]
 pub struct RenameArguments {
     pub from: DirectoryName,
     pub to: DirectoryName,
 }
 
 /// `READDIR3args` (RFC 1813, section 3.3.16).
-#[derive(Clone, Debug, Drop)]
+#[derive(Clone, Drop)]
 pub struct ReadDirArguments {
     pub directory: FileHandle,
     /// 0, or the cookie of the entry behind which the list goes on.
@@ -102,7 +102,7 @@ pub struct ReadDirArguments {
 }
 
 /// `READDIRPLUS3args` (RFC 1813, section 3.3.17).
-#[derive(Clone, Debug, Drop)]
+#[derive(Clone, Drop)]
 pub struct ReadDirPlusArguments {
     pub directory: FileHandle,
     /// 0, or the cookie of the entry behind which the list goes on.
@@ -115,7 +115,7 @@ pub struct ReadDirPlusArguments {
 }
 
 /// `COMMIT3args` (RFC 1813, section 3.3.21).
-#[derive(Clone, Debug, Drop)]
+#[derive(Clone, Drop)]
 pub struct CommitArguments {
     pub file: FileHandle,
     pub offset: u64,
@@ -124,7 +124,7 @@ pub struct CommitArguments {
 }
 
 /// A call of a judged procedure.
-#[derive(Clone, Debug, Drop)]
+#[derive(Clone, Drop)]
 pub enum NfsCall {
     GetAttr(FileHandle),
     SetAttr(Held<SetAttrArguments>),

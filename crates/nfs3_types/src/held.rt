@@ -8,7 +8,6 @@ use std::marker::Model;
 use std::ops::Deref;
 
 /// A value that stands on the heap. A contract sees the value.
-#[derive(Debug)]
 pub struct Held<T> {
     place: Box<T>,
 }
@@ -61,7 +60,6 @@ impl<T: Clone + Drop> Clone for Held<T> {
 }
 
 /// A value that may be absent, and stands on the heap where it is there. A contract sees the option.
-#[derive(Debug)]
 pub struct Optional<T> {
     place: Option<Box<T>>,
 }

@@ -11,14 +11,14 @@ use crate::status::Failure;
 use std::alloc::AllocError;
 
 /// A result: what stands behind `NFS3_OK`, or the failure's status and what stands behind it.
-#[derive(Clone, Debug, Drop)]
+#[derive(Clone, Drop)]
 pub enum Answer<S, F> {
     Done(S),
     Failed(Failure, F),
 }
 
 /// `LOOKUP3resok` (RFC 1813, section 3.3.3).
-#[derive(Clone, Debug, Drop)]
+#[derive(Clone, Drop)]
 pub struct LookupSuccess {
     pub object: FileHandle,
     pub attributes: Optional<FileAttributes>,
@@ -27,14 +27,14 @@ pub struct LookupSuccess {
 }
 
 /// `READLINK3resok` (RFC 1813, section 3.3.5).
-#[derive(Clone, Debug, Drop)]
+#[derive(Clone, Drop)]
 pub struct ReadLinkSuccess {
     pub attributes: Optional<FileAttributes>,
     pub target: LinkText,
 }
 
 /// `READ3resok` (RFC 1813, section 3.3.6).
-#[derive(Clone, Debug, Drop)]
+#[derive(Clone, Drop)]
 pub struct ReadSuccess {
     pub attributes: Optional<FileAttributes>,
     pub count: u32,
@@ -43,7 +43,7 @@ pub struct ReadSuccess {
 }
 
 /// `WRITE3resok` (RFC 1813, section 3.3.7).
-#[derive(Clone, Debug, Drop)]
+#[derive(Clone, Drop)]
 pub struct WriteSuccess {
     pub wcc: WccData,
     pub count: u32,
@@ -53,7 +53,7 @@ pub struct WriteSuccess {
 }
 
 /// `CREATE3resok`, `MKDIR3resok` and `SYMLINK3resok` (RFC 1813, sections 3.3.8 to 3.3.10).
-#[derive(Clone, Debug, Drop)]
+#[derive(Clone, Drop)]
 pub struct CreateSuccess {
     pub object: Option<FileHandle>,
     pub attributes: Optional<FileAttributes>,
@@ -62,7 +62,7 @@ pub struct CreateSuccess {
 }
 
 /// What stands behind the status of a RENAME, done or failed (RFC 1813, section 3.3.14).
-#[derive(Clone, Debug, Drop)]
+#[derive(Clone, Drop)]
 pub struct RenameWcc {
     /// `fromdir_wcc`
     pub from: WccData,
@@ -71,7 +71,7 @@ pub struct RenameWcc {
 }
 
 /// An entry of a directory, `entry3` (RFC 1813, section 3.3.16).
-#[derive(Debug, Drop)]
+#[derive(Drop)]
 pub struct DirectoryEntry {
     /// `fileid`
     pub file_number: u64,
@@ -92,7 +92,7 @@ impl Clone for DirectoryEntry {
 }
 
 /// `READDIR3resok` (RFC 1813, section 3.3.16).
-#[derive(Debug, Drop)]
+#[derive(Drop)]
 pub struct ReadDirSuccess {
     /// Of the directory.
     pub attributes: Optional<FileAttributes>,
@@ -116,7 +116,7 @@ impl Clone for ReadDirSuccess {
 }
 
 /// An entry of a directory with its object, `entryplus3` (RFC 1813, section 3.3.17).
-#[derive(Debug, Drop)]
+#[derive(Drop)]
 pub struct DirectoryEntryPlus {
     /// `fileid`
     pub file_number: u64,
@@ -141,7 +141,7 @@ impl Clone for DirectoryEntryPlus {
 }
 
 /// `READDIRPLUS3resok` (RFC 1813, section 3.3.17).
-#[derive(Debug, Drop)]
+#[derive(Drop)]
 pub struct ReadDirPlusSuccess {
     /// Of the directory.
     pub attributes: Optional<FileAttributes>,
@@ -165,14 +165,14 @@ impl Clone for ReadDirPlusSuccess {
 }
 
 /// `COMMIT3resok` (RFC 1813, section 3.3.21).
-#[derive(Clone, Debug, Drop)]
+#[derive(Clone, Drop)]
 pub struct CommitSuccess {
     pub wcc: WccData,
     pub verifier: Verifier,
 }
 
 /// The result of a judged procedure, which it names.
-#[derive(Clone, Debug, Drop)]
+#[derive(Clone, Drop)]
 pub enum NfsReply {
     GetAttr(Answer<Held<FileAttributes>, ()>),
     SetAttr(Answer<WccData, WccData>),
@@ -193,7 +193,7 @@ pub enum NfsReply {
 
 /// How a placed call came out: with the reply that was received, or taken as done though no reply came (a
 /// WRITE with its count of bytes written).
-#[derive(Clone, Debug, Drop)]
+#[derive(Clone, Drop)]
 pub enum Outcome {
     Received(NfsReply),
     Taken(Option<u32>),

@@ -1,7 +1,7 @@
 //! The statuses of a reply that is no success.
 
 /// A status other than `NFS3_OK`, with its number in `nfsstat3` (RFC 1813, section 2.6).
-#[derive(Clone, Copy, Debug, PartialEq, Eq)]
+#[derive(Clone, Copy, PartialEq, Eq)]
 pub enum Failure {
     NotOwner = 1,
     NoEntry = 2,

@@ -13,7 +13,7 @@ use rpc_reader::{read_call, read_reply};
 use std::alloc::{AllocError, Global};
 
 /// How a lane was last used.
-#[derive(Clone, Copy, Debug, PartialEq, Eq)]
+#[derive(Clone, Copy, PartialEq, Eq)]
 pub enum LaneUse {
     /// By a call or a reply, in this era.
     InEra(u64),

@@ -19,7 +19,7 @@ use std::alloc::Global;
 use std::marker::Model;
 
 /// What a call was.
-#[derive(Debug, Drop)]
+#[derive(Drop)]
 pub enum Meaning {
     /// A call of a judged procedure.
     Judged(NfsCall),
@@ -28,7 +28,7 @@ pub enum Meaning {
 }
 
 /// A call of a history.
-#[derive(Debug, Drop)]
+#[derive(Drop)]
 pub struct RecordedCall {
     pub lane: u32,
     /// The transaction number.
@@ -44,7 +44,7 @@ pub struct RecordedCall {
 }
 
 /// A history without a fault.
-#[derive(Debug, Drop)]
+#[derive(Drop)]
 pub struct History {
     root: FileHandle,
     eras: u64,

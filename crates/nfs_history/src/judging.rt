@@ -32,7 +32,7 @@ const MKNOD: u32 = 11;
 const LINK: u32 = 15;
 
 /// Why it isn't found what a call was.
-#[derive(Clone, Copy, Debug, PartialEq, Eq)]
+#[derive(Clone, Copy, PartialEq, Eq)]
 pub enum Stop {
     Fault(CallFault),
     NoMemory,

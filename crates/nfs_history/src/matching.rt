@@ -12,14 +12,14 @@ use indexmap::IndexMap;
 use std::alloc::{AllocError, Global};
 
 /// A reply, with the number of its event.
-#[derive(Clone, Copy, Debug)]
+#[derive(Clone, Copy)]
 pub struct SeenReply<'a> {
     pub number: u64,
     pub message: &'a Message,
 }
 
 /// A call, with the number of its event, its era and the reply that answers it.
-#[derive(Clone, Copy, Debug)]
+#[derive(Clone, Copy)]
 pub struct SeenCall<'a> {
     pub lane: u32,
     pub message: &'a Message,

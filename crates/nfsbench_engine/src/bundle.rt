@@ -9,7 +9,7 @@ use hex::FromHexError;
 use std::alloc::Global;
 
 /// Why there is no bundle.
-#[derive(Clone, Copy, Debug, PartialEq, Eq)]
+#[derive(Clone, Copy, PartialEq, Eq)]
 pub(crate) enum BundleFault {
     /// The bytes are no bundle.
     Malformed,
@@ -32,7 +32,7 @@ impl From<FromHexError> for BundleFault {
 }
 
 /// The bytes of a history, and the text of a certificate.
-#[derive(Debug, Drop)]
+#[derive(Drop)]
 pub(crate) struct Bundle<'a> {
     pub(crate) history: Vec<u8>,
     pub(crate) certificate: &'a [u8],

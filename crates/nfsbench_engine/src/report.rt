@@ -11,7 +11,7 @@ use std::marker::Model;
 use witness_check::{FileVerdict, check_files};
 
 /// A line that ends in a line feed, and the exit status that goes with it.
-#[derive(Debug, Drop)]
+#[derive(Drop)]
 pub struct Report {
     status: u8,
     line: String,

@@ -18,7 +18,7 @@ use std::convert::AsStr;
 use std::rt::Files;
 
 /// What the words ask for.
-#[derive(Clone, Copy, Debug, PartialEq, Eq)]
+#[derive(Clone, Copy, PartialEq, Eq)]
 enum Request<'a> {
     /// The verdict on the bundle on the input.
     Bundle,

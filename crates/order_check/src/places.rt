@@ -10,7 +10,7 @@ use nfs3_types::NfsCall;
 use std::alloc::{AllocError, Global};
 
 /// A place, and the era in which it stands.
-#[derive(Clone, Copy, Debug, PartialEq, Eq)]
+#[derive(Clone, Copy, PartialEq, Eq)]
 pub struct OrderedPlace {
     pub era: u64,
     pub place: Place,

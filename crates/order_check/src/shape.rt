@@ -60,7 +60,7 @@ fn bad_cut(eras: &[EraPlan]) -> Option<ShapeFault>
 }
 
 /// What goes over the places once: of each call, whether some place names it.
-#[derive(Debug, Drop)]
+#[derive(Drop)]
 struct Marking {
     named: Vec<bool>,
     /// The first place whose call a place before it names; the marks stop there.

@@ -6,21 +6,21 @@ use crate::replay::{Replayable, StepFault};
 use std::alloc::{AllocError, Global};
 
 /// What is asked of the register.
-#[derive(Clone, Copy, Debug, PartialEq, Eq, Drop)]
+#[derive(Clone, Copy, PartialEq, Eq, Drop)]
 pub enum Call {
     Read,
     Write(u64),
 }
 
 /// What it answered.
-#[derive(Clone, Copy, Debug, PartialEq, Eq, Drop)]
+#[derive(Clone, Copy, PartialEq, Eq, Drop)]
 pub enum Outcome {
     Value(u64),
     Done,
 }
 
 /// One number, at first 0.
-#[derive(Clone, Copy, Debug, PartialEq, Eq)]
+#[derive(Clone, Copy, PartialEq, Eq)]
 pub struct Register {
     pub value: u64,
 }

@@ -8,7 +8,7 @@ use std::marker::Model;
 use thiserror::Error;
 
 /// A numbered call with its outcome.
-#[derive(Clone, Copy, Debug, Drop)]
+#[derive(Clone, Copy, Drop)]
 pub struct Step<C, O> {
     pub number: u64,
     pub call: C,
@@ -17,7 +17,7 @@ pub struct Step<C, O> {
 
 /// The steps between two crashes, and how many of them are kept at the second. Of the last era it counts for nothing how
 /// many. A contract sees it as an `Era`.
-#[derive(Debug, Drop)]
+#[derive(Drop)]
 pub struct EraRun<C, O> {
     steps: Vec<Step<C, O>>,
     kept: usize,

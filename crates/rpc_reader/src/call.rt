@@ -14,7 +14,7 @@ use crate::item::{auth, word};
 use xdr_records::Reader;
 
 /// A call of a procedure. Its arguments are the bytes of the message behind the head.
-#[derive(Clone, Copy, PartialEq, Eq, Debug)]
+#[derive(Clone, Copy, PartialEq, Eq)]
 pub struct CallHead<'a> {
     pub xid: u32,
     pub program: u32,

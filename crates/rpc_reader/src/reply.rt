@@ -15,7 +15,7 @@ use crate::item::{auth, rpc_fault, word};
 use xdr_records::Reader;
 
 /// What a reply says of its call.
-#[derive(Clone, Copy, PartialEq, Eq, Debug)]
+#[derive(Clone, Copy, PartialEq, Eq)]
 pub enum ReplyBody<'a> {
     /// The results of the procedure: the bytes of the message behind the head.
     Success(&'a [u8]),
@@ -32,7 +32,7 @@ pub enum ReplyBody<'a> {
 }
 
 /// A reply to the call with this transaction identifier.
-#[derive(Clone, Copy, PartialEq, Eq, Debug)]
+#[derive(Clone, Copy, PartialEq, Eq)]
 pub struct ReplyHead<'a> {
     pub xid: u32,
     pub body: ReplyBody<'a>,

@@ -21,7 +21,7 @@ use nfs3_types::{Failure, NfsCall};
 use tree_handles::View;
 
 /// Why a call may fail.
-#[derive(Clone, Copy, Debug, PartialEq, Eq)]
+#[derive(Clone, Copy, PartialEq, Eq)]
 pub enum Cause {
     /// A handle isn't live.
     HandleIsntLive,

@@ -8,14 +8,14 @@ use std::collections::BTreeMap;
 use std::marker::Model;
 
 /// A handle with the object that it names.
-#[derive(Debug, Drop)]
+#[derive(Drop)]
 struct Pair {
     handle: Vec<u8>,
     object: u64,
 }
 
 /// The root's handle, and the objects of other handles.
-#[derive(Debug, Drop)]
+#[derive(Drop)]
 pub struct Binds {
     alloc: Global,
     root: Vec<u8>,

@@ -12,7 +12,7 @@ use std::cmp::Ordering;
 use std::marker::Model;
 
 /// Fewer than 2^32 bytes: a name, a file's content or a link's text.
-#[derive(Debug, Drop)]
+#[derive(Drop)]
 pub struct Bytes {
     bytes: Vec<u8>,
 }
@@ -94,7 +94,7 @@ impl Ord for Bytes {
 }
 
 /// The names from the root down to an object.
-#[derive(Debug, Drop)]
+#[derive(Drop)]
 pub(crate) struct Path {
     names: Vec<Bytes>,
 }

@@ -5,14 +5,14 @@ use file_bytes::FileBytes;
 use nfs3_types::Verifier;
 
 /// An object with its number.
-#[derive(Debug, Drop)]
+#[derive(Drop)]
 pub struct Node {
     pub object: u64,
     pub content: Content,
 }
 
 /// What an object is (RFC 1813, section 2.6, `ftype3`), as far as a tree has it.
-#[derive(Debug, Drop)]
+#[derive(Drop)]
 pub enum Content {
     Directory,
     File(File),
@@ -21,7 +21,7 @@ pub enum Content {
 }
 
 /// A regular file, and the verifier with which an exclusive CREATE made it.
-#[derive(Debug, Drop)]
+#[derive(Drop)]
 pub struct File {
     pub bytes: FileBytes,
     pub verifier: Option<Verifier>,

@@ -33,7 +33,7 @@ use std::collections::{BTreeMap, BTreeSet};
 use std::marker::Model;
 
 /// The nodes of a tree. A contract sees the finite map from paths to nodes.
-#[derive(Debug, Drop)]
+#[derive(Drop)]
 pub struct Nodes {
     alloc: Global,
     entries: BTreeMap<u64, Entry>,

@@ -25,7 +25,7 @@ use std::collections::{BTreeMap, BTreeSet};
 use std::mem::replace;
 
 /// An object with its place.
-#[derive(Debug, Drop)]
+#[derive(Drop)]
 pub(crate) struct Entry {
     /// The object of the directory that it lies in; the root's is its own.
     pub(crate) parent: u64,
@@ -191,7 +191,7 @@ fn drop_name(entries: &mut BTreeMap<u64, Entry>, directory: u64, name: &[u8])
 }
 
 /// Where an object lies.
-#[derive(Debug, Drop)]
+#[derive(Drop)]
 pub(crate) struct Place {
     pub(crate) parent: u64,
     pub(crate) name: Bytes,

@@ -20,13 +20,13 @@ use std::alloc::{AllocError, Global};
 use std::collections::BTreeMap;
 
 /// What one change took away or put, in the place of a copy of the tree.
-#[derive(Debug, Drop)]
+#[derive(Drop)]
 pub struct Undo {
     pub(crate) step: Step,
 }
 
 /// What a change was.
-#[derive(Debug, Drop)]
+#[derive(Drop)]
 pub(crate) enum Step {
     /// The tree stayed.
     Nothing,
@@ -41,7 +41,7 @@ pub(crate) enum Step {
 }
 
 /// Where an object lay, and what lay where it went.
-#[derive(Debug, Drop)]
+#[derive(Drop)]
 pub(crate) struct Move {
     pub(crate) object: u64,
     pub(crate) place: Place,
