@@ -1,4 +1,4 @@
-/* For LD_PRELOAD, see refuse_memory.sh: refuses the allocation whose number the environment's word REFUSE gives, counted
+/* For LD_PRELOAD, see refuse_memory.py: refuses the allocation whose number the environment's word REFUSE gives, counted
    from 1, and writes the size of each that is asked for as a line to file descriptor 3. */
 #include <errno.h>
 #include <stddef.h>

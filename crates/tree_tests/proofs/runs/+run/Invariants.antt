@@ -1,4 +1,4 @@
-use Rattle.file_bytes_tests.proofs.runs.+run.Given as goal
+use Rattle.tree_tests.proofs.runs.+run.Given as goal
 
 abbrev pub decreases-run : goal.decreases-run
 decreases-run l = l.steps
