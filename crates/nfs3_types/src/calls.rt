@@ -124,7 +124,7 @@ pub struct CommitArguments {
 }
 
 /// A call of a judged procedure.
-#[derive(Clone, Drop)]
+#[derive(Clone)]
 pub enum NfsCall {
     GetAttr(FileHandle),
     SetAttr(Held<SetAttrArguments>),
@@ -141,6 +141,29 @@ pub enum NfsCall {
     ReadDir(ReadDirArguments),
     ReadDirPlus(ReadDirPlusArguments),
     Commit(CommitArguments),
+}
+
+// One call where a message goes, in the crates above too.
+impl Drop for NfsCall {
+    fn drop(self) {
+        match self {
+            NfsCall::GetAttr(value) => drop(value),
+            NfsCall::SetAttr(value) => drop(value),
+            NfsCall::Lookup(value) => drop(value),
+            NfsCall::ReadLink(value) => drop(value),
+            NfsCall::Read(value) => drop(value),
+            NfsCall::Write(value) => drop(value),
+            NfsCall::Create(value) => drop(value),
+            NfsCall::MkDir(value) => drop(value),
+            NfsCall::SymLink(value) => drop(value),
+            NfsCall::Remove(value) => drop(value),
+            NfsCall::RmDir(value) => drop(value),
+            NfsCall::Rename(value) => drop(value),
+            NfsCall::ReadDir(value) => drop(value),
+            NfsCall::ReadDirPlus(value) => drop(value),
+            NfsCall::Commit(value) => drop(value),
+        }
+    }
 }
 
 impl NfsCall {

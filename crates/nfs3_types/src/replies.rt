@@ -172,7 +172,7 @@ pub struct CommitSuccess {
 }
 
 /// The result of a judged procedure, which it names.
-#[derive(Clone, Drop)]
+#[derive(Clone)]
 pub enum NfsReply {
     GetAttr(Answer<Held<FileAttributes>, ()>),
     SetAttr(Answer<WccData, WccData>),
@@ -191,12 +191,44 @@ pub enum NfsReply {
     Commit(Answer<CommitSuccess, WccData>),
 }
 
+// One call where a message goes, in the crates above too.
+impl Drop for NfsReply {
+    fn drop(self) {
+        match self {
+            NfsReply::GetAttr(answer) => drop(answer),
+            NfsReply::SetAttr(answer) => drop(answer),
+            NfsReply::Lookup(answer) => drop(answer),
+            NfsReply::ReadLink(answer) => drop(answer),
+            NfsReply::Read(answer) => drop(answer),
+            NfsReply::Write(answer) => drop(answer),
+            NfsReply::Create(answer) => drop(answer),
+            NfsReply::MkDir(answer) => drop(answer),
+            NfsReply::SymLink(answer) => drop(answer),
+            NfsReply::Remove(answer) => drop(answer),
+            NfsReply::RmDir(answer) => drop(answer),
+            NfsReply::Rename(answer) => drop(answer),
+            NfsReply::ReadDir(answer) => drop(answer),
+            NfsReply::ReadDirPlus(answer) => drop(answer),
+            NfsReply::Commit(answer) => drop(answer),
+        }
+    }
+}
+
 /// How a placed call came out: with the reply that was received, or taken as done though no reply came (a
 /// WRITE with its count of bytes written).
-#[derive(Clone, Drop)]
+#[derive(Clone)]
 pub enum Outcome {
     Received(NfsReply),
     Taken(Option<u32>),
+}
+
+impl Drop for Outcome {
+    fn drop(self) {
+        match self {
+            Outcome::Received(reply) => drop(reply),
+            Outcome::Taken(_) => {}
+        }
+    }
 }
 
 impl Outcome {
