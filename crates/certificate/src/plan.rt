@@ -123,8 +123,15 @@ impl EraPlanList {
 }
 
 /// A certificate, which is a claim: nothing in it is trusted.
-#[derive(Drop)]
 pub struct Certificate {
     pub binds: BindList,
     pub eras: EraPlanList,
+}
+
+impl Drop for Certificate {
+    fn drop(self) {
+        let Certificate { binds, eras } = self;
+        drop(binds);
+        drop(eras);
+    }
 }

@@ -15,11 +15,21 @@ use std::marker::Model;
 use std::mem;
 
 /// At most `nfs3_types::FILE_LIMIT` bytes.
-#[derive(Drop)]
 pub struct FileBytes {
     alloc: Global,
     size: u64,
     pages: Pages,
+}
+
+impl Drop for FileBytes {
+    fn drop(self) {
+        let FileBytes {
+            alloc: _,
+            size: _,
+            pages,
+        } = self;
+        drop(pages);
+    }
 }
 
 impl Model for FileBytes {

@@ -19,10 +19,16 @@ use tree_handles::{Binds, View};
 use tree_nodes::{Nodes, Undo};
 
 /// A file tree. Contracts see it as a finite map from paths to nodes.
-#[derive(Drop)]
 pub struct FileTree {
     alloc: Global,
     nodes: Nodes,
+}
+
+impl Drop for FileTree {
+    fn drop(self) {
+        let FileTree { alloc: _, nodes } = self;
+        drop(nodes);
+    }
 }
 
 impl Model for FileTree {

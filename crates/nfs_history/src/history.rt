@@ -28,7 +28,6 @@ pub enum Meaning {
 }
 
 /// A call of a history.
-#[derive(Drop)]
 pub struct RecordedCall {
     pub lane: u32,
     /// The transaction number.
@@ -43,13 +42,42 @@ pub struct RecordedCall {
     pub outcome: Option<Outcome>,
 }
 
+impl Drop for RecordedCall {
+    fn drop(self) {
+        let RecordedCall {
+            lane: _,
+            xid: _,
+            meaning,
+            begin: _,
+            end: _,
+            era: _,
+            outcome,
+        } = self;
+        drop(meaning);
+        drop(outcome);
+    }
+}
+
 /// A history without a fault.
-#[derive(Drop)]
 pub struct History {
     root: FileHandle,
     eras: u64,
     calls: Vec<RecordedCall>,
     events: Vec<Event>,
+}
+
+impl Drop for History {
+    fn drop(self) {
+        let History {
+            root,
+            eras: _,
+            calls,
+            events,
+        } = self;
+        drop(root);
+        drop(calls);
+        drop(events);
+    }
 }
 
 impl Model for History {

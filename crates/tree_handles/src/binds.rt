@@ -15,13 +15,26 @@ struct Pair {
 }
 
 /// The root's handle, and the objects of other handles.
-#[derive(Drop)]
 pub struct Binds {
     alloc: Global,
     root: Vec<u8>,
     pairs: Vec<Pair>,
     /// The object of each handle's first pair.
     objects: BTreeMap<Vec<u8>, u64>,
+}
+
+impl Drop for Binds {
+    fn drop(self) {
+        let Binds {
+            alloc: _,
+            root,
+            pairs,
+            objects,
+        } = self;
+        drop(root);
+        drop(pairs);
+        drop(objects);
+    }
 }
 
 impl Model for Binds {

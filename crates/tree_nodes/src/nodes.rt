@@ -33,12 +33,18 @@ use std::collections::{BTreeMap, BTreeSet};
 use std::marker::Model;
 
 /// The nodes of a tree. A contract sees the finite map from paths to nodes.
-#[derive(Drop)]
 pub struct Nodes {
     alloc: Global,
     entries: BTreeMap<u64, Entry>,
     /// The tree, with that it is the one that the names lead through.
     ghost shown: { Shown entries } by { Shown-prop entries },
+}
+
+impl Drop for Nodes {
+    fn drop(self) {
+        let Nodes { alloc: _, entries } = self;
+        drop(entries);
+    }
 }
 
 impl Model for Nodes {
