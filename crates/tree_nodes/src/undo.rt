@@ -10,7 +10,7 @@ ghost use Rattle.tree_nodes.specs.TableChanges.{IsSame};
 ghost use Rattle.tree_nodes.specs.Edits.{IsWithin};
 ghost use Rattle.tree_nodes.specs.Results.{IsMade, IsEdited, IsMoved};
 ghost use Rattle.tree_nodes.specs.Shown.{IsTableOf};
-ghost use Rattle.tree_nodes.specs.Undo.{IsPutBack, IsMovedBack, StepsBack, TakesBack};
+ghost use Rattle.tree_nodes.specs.Undo.{IsPutBack, IsMovedBack, StepsBack, TakesBack, held_nodes};
 
 use crate::bytes::Bytes;
 use crate::node::Node;
@@ -56,6 +56,17 @@ impl Undo {
     {
         Undo {
             step: Step::Nothing,
+        }
+    }
+
+    /// How many nodes it holds: what the change took away, and neither what stayed nor what moved.
+    pub fn nodes(&self) -> u64
+        ensures { result ≡ held_nodes self.now }
+    {
+        match &self.step {
+            Step::Nothing | Step::Made(_) | Step::Edited(..) => 0,
+            Step::Removed(_) => 1,
+            Step::Moved(change) => u64::from(change.displaced.is_some()),
         }
     }
 }
