@@ -9,7 +9,7 @@ use Rattle.nfs3_types.specs.declared.replies.NfsReply.{NfsReply}
 use Rattle.nfs3_types.specs.declared.replies.Outcome.{Outcome}
 use Rattle.nfs3_types.specs.declared.replies.Outcome.TheVariants as outcomes
 use Rattle.nfs3_msgs.specs.Messages.{arguments, results}
-use Rattle.nfs3_msgs.specs.Told as told
+use Rattle.nfs3_values.specs.Told as told
 use Rattle.history_file.specs.declared.event.Event as owned
 use Rattle.history_file.specs.declared.event.Event.TheVariants as owns
 use Rattle.history_file.specs.Event.{Event, Recording}
