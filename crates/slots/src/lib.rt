@@ -114,7 +114,7 @@ impl<V> Slots<V> {
 
     /// The value of a number.
     pub fn get(&self, number: u64) -> Option<&V>
-        ensures { option_copied result ≡ map.get self.now number }
+        ensures value { option_copied result ≡ map.get self.now number }
     {
         let Some(slot) = self.slots.get(number as usize) else {
             return None;

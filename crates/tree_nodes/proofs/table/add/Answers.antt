@@ -10,4 +10,4 @@ returns-clause-ok c =
     let n = c.set_name.new.entries in
     let name = c.in_ok-from_slice.ensures in
     subst (λ (z : List ℕ). Adds c.args.directory z c.args.node.object c.args.node (child m) (child n) (held m) (held n)) name
-    (added m c.insert.new.self n c.args.node.object _ c.in_ok-key.key.items c.in-Ok.ensures.updates c.in-Ok-set_name.ensures.ok (c.in_ok-key.ensures.items ∙ sym name) c.new.ensures.empty c.requires.new)
+    (added m c.insert.new.self n c.args.node.object _ c.in_ok-key.key.items c.in_ok-insert.ensures.updates c.in-Ok.ensures.ok (c.in_ok-key.ensures.items ∙ sym name) c.new.ensures.empty c.requires.new)
