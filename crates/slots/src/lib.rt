@@ -16,7 +16,7 @@ use std::mem::replace;
 
 /// Values by their numbers, in a vector: a look-up costs the same however many there are. Memory grows with the greatest
 /// number. A contract sees the map from numbers to values.
-#[derive(Debug, Drop)]
+#[derive(Drop)]
 pub struct Slots<V> {
     alloc: Global,
     slots: Vec<Slot<V>>,
@@ -25,7 +25,7 @@ pub struct Slots<V> {
 }
 
 /// The value of a number, if it has one.
-#[derive(Debug, Drop)]
+#[derive(Drop)]
 pub(crate) enum Slot<V> {
     Empty,
     Filled(Box<V>),
