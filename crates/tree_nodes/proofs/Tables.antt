@@ -1,5 +1,5 @@
 -- what a change of one entry makes of the table
-use Rattle.std.proofs.Common.{◌≡◌, ℕ, ◌+◌, ◌⊎◌, inl, inr, Bool, true, false, cond, List, [], ◌∷◌, length, Option, Some, None, Vec, Global, refl, sym, ap, ◌∙◌, arith}
+use Rattle.std.proofs.Common.{◌≡◌, ℕ, ◌+◌, ◌⊎◌, inl, inr, Bool, true, false, cond, List, [], ◌∷◌, length, Option, Some, None, Vec, Global, refl, sym, ap, subst, ◌∙◌, arith}
 use Rattle.std.specs.Prelude.{IsSome, IsTrue, option_and_then, option_map}
 use Rattle.std.proofs.lemmas.Cmp.{tied_itself, nat_list_cmp_total}
 use Rattle.std.specs.declared.cmp.Ordering.{Ordering}
@@ -186,6 +186,16 @@ added m k n o e x put name is empty new = record {
 pub one_more : (m k n : Table) (o : ℕ) (e : Entry) → k ≡ map.insert m o e → held m o ≡ None → map.len n ≡ map.len k → map.len n ≡ map.len m + 1
 one_more m k n o e put new len = len ∙ ap map.len put ∙ len_one_more m o e (nothing_held m o new)
 
+-- what stood still does behind an object that was put
+pub stands_still : (m k : Table) (o a : ℕ) (e : Entry) → k ≡ map.insert m o e → IsSome (held m a) → IsSome (held k a)
+stands_still m k o a e put there = go (same_number a o) where
+  h : Updates o m k (Some e)
+  h = put_in m k o e put
+
+  go : (a ≡ o) ⊎ (a ≡ o → ⊥) → IsSome (held k a)
+  go (inl is) = subst IsSome (sym (ap (held k) is ∙ held_now m k o (Some e) h)) refl
+  go (inr ne) = subst IsSome (sym (held_but m k o (Some e) h a ne)) there
+
 -- an object that was put and taken out again
 pub taken_again : (m k l n : Table) (o : ℕ) (e : Entry) → k ≡ map.insert m o e → IsSame k l → n ≡ map.remove l o → e.names.entries ≡ [] → held m o ≡ None → IsSame m n
 taken_again m k l n o e put same out empty new = record { steps = steps; places = places; len = len } where
@@ -232,6 +242,13 @@ was_cut m k n o e x out name is bare = record {
 pub one_less : (m k n : Table) (o : ℕ) (e : Entry) → k ≡ map.remove m o → entry_at m o ≡ Some e → map.len n ≡ map.len k → map.len n + 1 ≡ map.len m
 one_less m k n o e out was len = ap (λ z. z + 1) (len ∙ ap map.len out) ∙ len_one_less m o e was
 
+-- the directory that a removed object lay in stands
+pub stands_above : (m k : Table) (o : ℕ) (e : Entry) → k ≡ map.remove m o → entry_at m o ≡ Some e → (h : Held) × (held m o ≡ Some h) × (h.0 ≡ o → ⊥) × IsSome (held m h.0) → IsSome (held k e.parent)
+stands_above m k o e out was stands =
+    let same : placed e ≡ stands.0 = same_some (placed e) stands.0 (sym (ap (option_map placed) was) ∙ stands.1) in
+    let up : e.parent ≡ stands.0.0 = ap (λ (z : Held). z.0) same in
+    subst IsSome (sym (held_but m k o None (taken_out m k o out) e.parent (λ s. stands.2 (sym up ∙ s)) ∙ ap (held m) up)) stands.3
+
 -- the first object
 pub opening_alone : (m n : Table) (e : Entry) → m ≡ map.empty → n ≡ map.insert m 0 e → placed e ≡ (0, [], record { object = 0; content = Directory }) → e.names.entries ≡ [] → IsOpening n
 opening_alone m n e empty put place nameless_root = record { root = root; others = beside; bare = bare; len = len } where
@@ -264,18 +281,22 @@ shifted m k l n o b a x y z set place drops is apart = record {
 }
 
 -- an entry with another node
-pub node_set : (m : Table) (o : ℕ) (e : Entry) (node : Node) → entry_at m o ≡ Some e
-    → Sets o node (child m) (child (map.insert m o (record e { node = node }))) (held m) (held (map.insert m o (record e { node = node })))
-node_set m o e node was = record {
-  same = same_steps m o e (record e { node = node }) was (λ x. refl);
-  place = λ g is. held_now m n o (Some (record e { node = node })) h ∙ ap (λ (z : Held). Some (z.0, z.1, node)) (same_some (placed e) g (sym (ap (option_map placed) was) ∙ is));
+pub node_set_by : (m n : Table) (o : ℕ) (e : Entry) (node : Node) → entry_at m o ≡ Some e → n ≡ map.insert m o (record e { node = node }) → Sets o node (child m) (child n) (held m) (held n)
+node_set_by m n o e node was is = record {
+  same = steps_but m n o (Some (record e { node = node })) h (λ x. sym (ap (option_and_then (λ z. named z x)) was));
+  place = λ g at. held_now m n o (Some (record e { node = node })) h ∙ ap (λ (z : Held). Some (z.0, z.1, node)) (same_some (placed e) g (sym (ap (option_map placed) was) ∙ at));
   kept = held_but m n o (Some (record e { node = node })) h;
 } where
-  abbrev n : Table
-  n = map.insert m o (record e { node = node })
+  h : Updates o m n (Some (record e { node = node }))
+  h = put_in m n o (record e { node = node }) is
 
-  h : Updates o m (map.insert m o (record e { node = node })) (Some (record e { node = node }))
-  h = put_in m (map.insert m o (record e { node = node })) o (record e { node = node }) refl
+pub node_set : (m : Table) (o : ℕ) (e : Entry) (node : Node) → entry_at m o ≡ Some e
+    → Sets o node (child m) (child (map.insert m o (record e { node = node }))) (held m) (held (map.insert m o (record e { node = node })))
+node_set m o e node was = node_set_by m (map.insert m o (record e { node = node })) o e node was refl
+
+-- an entry with the node that it had
+pub node_same : (m : Table) (o : ℕ) (e : Entry) (node : Node) → entry_at m o ≡ Some e → node ≡ e.node → IsSame m (map.insert m o (record e { node = node }))
+node_same m o e node was same = same_table m o e (record e { node = node }) was (ap (λ (z : Node). placed (record e { node = z })) same) (λ x. refl)
 
 -- where there are names, one of them leads on
 first_name : (xs : List (Vec ℕ Global × ℕ)) → (length xs ≡ 0 → ⊥) → (x : List ℕ) × (k : ℕ) × (lookup (is_at (query x)) xs ≡ Some k)
