@@ -1,6 +1,6 @@
 -- a change taken back, by the table
-use Rattle.std.proofs.Common.{◌≡◌, ℕ, ◌+◌, ◌==◌, List, [], ◌∷◌, ◌++◌, Option, Some, None, refl, sym, ap, ◌∙◌, subst, arith, append-nil}
-use Rattle.std.specs.Prelude.{IsSome, option_and_then}
+use Rattle.std.proofs.Common.{◌≡◌, ℕ, ◌+◌, List, [], ◌∷◌, ◌++◌, Option, Some, None, refl, sym, ap, ◌∙◌, subst, arith, append-nil}
+use Rattle.std.specs.Prelude.{IsSome}
 use Rattle.std.specs.FinMap as map
 use Rattle.tree_nodes.specs.declared.node.Node.{Node}
 use Rattle.tree_nodes.specs.declared.node.File.{File}
@@ -9,7 +9,7 @@ use Rattle.file_bytes.specs.declared.changes.FileUndo.{FileUndo}
 use Rattle.tree_nodes.specs.declared.table.Entry.{Entry}
 use Rattle.tree_nodes.specs.declared.table.Place.{Place}
 use Rattle.tree_nodes.specs.declared.undo.Move.{Move}
-use Rattle.tree_nodes.specs.Tree.{Names, Tree, entry_of}
+use Rattle.tree_nodes.specs.Tree.{Names, Tree}
 use Rattle.tree_nodes.specs.Files.{file_node}
 use Rattle.file_bytes.specs.Undo.{Restores}
 use Rattle.tree_nodes.specs.Walk.{Held, walk}
@@ -17,7 +17,6 @@ use Rattle.tree_nodes.specs.Changes.{Adds, Cuts, Sets, Shifts}
 use Rattle.tree_nodes.specs.Table.{Table, child, held, placed}
 use Rattle.tree_nodes.specs.Shown.{IsTableOf}
 use Rattle.tree_nodes.specs.Undo.{IsUnmade, IsPutBack, IsEditedBack, GivesBack, IsMovedBack}
-use Rattle.tree_nodes.proofs.Chains.{same_some}
 use Rattle.tree_nodes.proofs.Looking.{reached, held_of, childless}
 use Rattle.tree_nodes.proofs.Walks.{once, one_path, lies_at, parent_held}
 use Rattle.tree_nodes.proofs.Renaming.{Lay}

@@ -1,5 +1,5 @@
 -- from an object to the directory that it lies in, and on to the root
-use Rattle.std.proofs.Common.{◌≡◌, ℕ, ◌+◌, ◌-◌, ◌<◌, ◌==◌, ◌⊎◌, inl, inr, Bool, true, false, List, [], ◌∷◌, ◌++◌, length, take, drop, Option, Some, None, refl, sym, ap, ◌∙◌, subst, arith, eq-eqb, append-nil, append_assoc, length-append}
+use Rattle.std.proofs.Common.{◌≡◌, ℕ, ◌<◌, ◌==◌, ◌⊎◌, inl, inr, true, false, List, [], ◌∷◌, ◌++◌, length, drop, Option, Some, None, refl, sym, ap, ◌∙◌, subst, arith, eq-eqb, append-nil, append_assoc, length-append}
 use Rattle.std.specs.Prelude.{IsSome, option_and_then, option_map}
 use Rattle.std.specs.Option.{option_map_or}
 use Rattle.std.proofs.lemmas.Bool.{eqb-true}
@@ -11,7 +11,7 @@ use Rattle.tree_nodes.specs.Moves.{IsOutside}
 use Rattle.tree_nodes.specs.Place.{object_above}
 use Rattle.tree_nodes.specs.Numbered.{IsNumbered}
 use Rattle.tree_nodes.specs.Sound.{IsSound}
-use Rattle.tree_nodes.proofs.Chains.{chained, mapped, same_some, value_of, isnt, differ, decide}
+use Rattle.tree_nodes.proofs.Chains.{chained, mapped, same_some, value_of, isnt}
 use Rattle.tree_nodes.proofs.Soundness.{ahead_same}
 use Rattle.tree_nodes.proofs.Found.{ended, found_stands, found_passes, some_found, from_front, parts_of}
 use Rattle.tree_nodes.proofs.Beside.{no_longer, from_or_outside}

@@ -1,5 +1,5 @@
 -- a table has as many objects as its tree has paths
-use Rattle.std.proofs.Common.{◌≡◌, ℕ, ◌≤◌, ◌⊎◌, inl, inr, Bool, true, false, cond, T, List, [], ◌∷◌, length, Option, Some, None, refl, sym, ap, ◌∙◌, subst, arith}
+use Rattle.std.proofs.Common.{◌≡◌, ℕ, ◌≤◌, Bool, true, false, cond, T, List, [], ◌∷◌, length, Option, Some, None, refl, sym, ap, ◌∙◌, subst, arith}
 use Rattle.std.specs.Prelude.{suc, IsSome, is_some, ◌||◌, ◌&&◌, option_map}
 use Rattle.std.specs.declared.cmp.Ordering.{Ordering}
 use Rattle.std.specs.declared.cmp.Ordering.TheVariants.{Less, Equal, Greater}
@@ -12,14 +12,13 @@ use Rattle.std.specs.FinMap.Entries as es
 use Rattle.std.proofs.lemmas.Map.Keys.{IsDistinct-cons, IsDistinct-head, IsDistinct-tail}
 use Rattle.std.proofs.lemmas.Map.Entries.{length-keys_of}
 use Rattle.std.proofs.lemmas.Map.Steps.{length-le_from_keys, list_any_congr}
-use Rattle.tree_nodes.specs.declared.node.Node.{Node}
 use Rattle.tree_nodes.specs.declared.table.Entry.{Entry}
 use Rattle.tree_nodes.specs.Tree.{Names, Tree, path_cmp}
 use Rattle.tree_nodes.specs.Walk.{Held, walk, IsTree}
 use Rattle.tree_nodes.specs.Table.{Table, entry_at, child, held, placed}
 use Rattle.tree_nodes.specs.Shown.{Agrees}
 use Rattle.tree_nodes.proofs.Entries.{path_total, path_ties, find_lookup}
-use Rattle.tree_nodes.proofs.Chains.{decide, differ, isnt, same_some, value_of}
+use Rattle.tree_nodes.proofs.Chains.{differ, isnt, same_some, value_of}
 use Rattle.tree_nodes.proofs.Tables.{is_equal, looked_up, entry_held as held_entry}
 use Rattle.tree_nodes.proofs.Walks.{once, one_path, reached_held}
 use Rattle.tree_nodes.proofs.Looking.{shows, stands as node_stands}

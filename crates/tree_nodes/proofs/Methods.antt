@@ -1,5 +1,5 @@
 -- the methods of a tree by its table
-use Rattle.std.proofs.Common.{◌≡◌, ℕ, ◌+◌, ◌<◌, ◌≤◌, ◌==◌, ◌⊎◌, inl, inr, Bool, true, false, List, [], ◌∷◌, ◌++◌, length, Option, Some, None, Result, Ok, Err, refl, sym, ap, ◌∙◌, subst, arith, append-nil}
+use Rattle.std.proofs.Common.{◌≡◌, ℕ, ◌+◌, ◌<◌, ◌≤◌, true, false, List, [], ◌∷◌, ◌++◌, Some, None, Result, Ok, Err, refl, sym, ap, ◌∙◌, subst, arith, append-nil}
 use Rattle.std.specs.Prelude.{IsSome, IfOk, OnOk, OnErr, option_and_then, option_map}
 use Rattle.std.specs.FinMap as map
 use Rattle.tree_nodes.specs.declared.node.Node.{Node}
@@ -9,8 +9,8 @@ use Rattle.tree_nodes.specs.declared.table.Entry.{Entry}
 use Rattle.tree_nodes.specs.declared.table.Edit.{Edit}
 use Rattle.tree_nodes.specs.declared.undo.Undo.{Undo}
 use Rattle.tree_nodes.specs.declared.undo.Step.{Step}
-use Rattle.tree_nodes.specs.declared.undo.Step.TheVariants.{Made, Removed, Edited, Moved}
-use Rattle.tree_nodes.specs.Tree.{Names, Tree, path_cmp, entry_of, is_bare}
+use Rattle.tree_nodes.specs.declared.undo.Step.TheVariants.{Removed}
+use Rattle.tree_nodes.specs.Tree.{Names, Tree, entry_of, is_bare}
 use Rattle.tree_nodes.specs.Files.{node_limit, file_node}
 use Rattle.tree_nodes.specs.Sound.{IsSound}
 use Rattle.tree_nodes.specs.Moved.{is_from, moved}
@@ -24,14 +24,14 @@ use Rattle.tree_nodes.specs.Place.{node_in}
 use Rattle.tree_nodes.specs.Undo.{TakesBack, StepsBack}
 use Rattle.tree_nodes.specs.Results.{IsMade, IsEdited, IsMoved}
 use Rattle.tree_nodes.proofs.Entries.{path_total, path_ties}
-use Rattle.tree_nodes.proofs.Chains.{same_some, differ, value_of}
+use Rattle.tree_nodes.proofs.Chains.{differ, value_of}
 use Rattle.tree_nodes.proofs.Found.{from_front}
 use Rattle.tree_nodes.proofs.Beside.{directory_outside}
 use Rattle.tree_nodes.proofs.Counting.{tree_within, table_within}
-use Rattle.tree_nodes.proofs.Looking.{reached, held_of, entry_is, number_of, childless, fronts_stand}
+use Rattle.tree_nodes.proofs.Looking.{reached, held_of, entry_is, childless, fronts_stand}
 use Rattle.tree_nodes.proofs.Ops.{Shows, put_shows, put_back, take_shows, take_back, set_shows, set_back, not_held}
 use Rattle.tree_nodes.proofs.RenameOps.{rename_shows, rename_back}
-use Rattle.tree_nodes.proofs.Walks.{Lies, lies_at, once, one_path, parent_held, walk_last}
+use Rattle.tree_nodes.proofs.Walks.{lies_at, once, one_path, parent_held, walk_last}
 
 -- ---- outcomes
 

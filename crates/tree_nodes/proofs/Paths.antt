@@ -1,35 +1,26 @@
 -- the paths of objects
-use Rattle.std.proofs.Common.{◌≡◌, ℕ, ◌+◌, ◌<◌, ◌==◌, ◌⊎◌, inl, inr, Bool, true, false, cond, T, List, [], ◌∷◌, ◌++◌, length, get_or, Option, Some, None, refl, sym, ap, ◌∙◌, subst, arith, append-nil, append_assoc, length-append, BTreeMap}
-use Rattle.std.specs.Prelude.{IsSome, All, reverse, option_map, ◌&&◌, map as each}
+use Rattle.std.proofs.Common.{◌≡◌, ℕ, ◌<◌, ◌==◌, ◌⊎◌, inl, inr, Bool, true, false, cond, List, [], ◌∷◌, ◌++◌, length, Option, Some, None, refl, sym, ap, ◌∙◌, subst, arith, append-nil, append_assoc, length-append, BTreeMap}
+use Rattle.std.specs.Prelude.{IsSome, reverse, option_map}
 use Rattle.std.specs.Option.{option_map_or}
-use Rattle.std.specs.Ordering.{nat_cmp, eq_by_cmp, is_eq, is_lt}
-use Rattle.std.specs.declared.cmp.Ordering.{Ordering}
-use Rattle.std.specs.declared.cmp.Ordering.TheVariants.{Less, Equal, Greater}
-use Rattle.std.specs.List.{flat_map, AllByRecursion}
-use Rattle.std.specs.List.Sorted.{IsStrictlySortedBy}
-use Rattle.std.specs.Map.{lookup, keys_of}
+use Rattle.std.specs.Ordering.{nat_cmp, eq_by_cmp, is_eq}
+use Rattle.std.specs.Map.{lookup}
 use Rattle.std.specs.BTreeMap as sorted
 use Rattle.std.specs.BTreeMap.{IsOrdered, UpdatesBy, is_at}
 use Rattle.std.specs.FinMap as map
-use Rattle.std.specs.FinMap.Entries as es
 use Rattle.std.proofs.lemmas.List.{reverse-append}
-use Rattle.std.proofs.lemmas.List.Elements.{All-head, All-tail, All-cons}
 use Rattle.tree_nodes.specs.declared.node.Node.{Node}
 use Rattle.tree_nodes.specs.declared.table.Entry.{Entry}
 use Rattle.tree_nodes.specs.Tree.{Names, Tree, path_cmp, entry_of}
-use Rattle.tree_nodes.specs.Walk.{Steps, Held, Holds, walk, node_of, seen, IsTree}
+use Rattle.tree_nodes.specs.Walk.{Steps, Held, Holds, seen, IsTree}
 use Rattle.tree_nodes.specs.Table.{Table, entry_at, child, held, placed}
-use Rattle.tree_nodes.specs.Paths.{paths_of, LiesIn}
+use Rattle.tree_nodes.specs.Paths.{LiesIn}
 use Rattle.tree_nodes.specs.Numbered.{IsNumbered}
-use Rattle.tree_nodes.specs.Sound.{IsSound}
-use Rattle.tree_nodes.specs.Printed.{entry_text, tree_text, word_text, IsShallow, EntryFits, IsPrintable}
-use Rattle.tree_nodes.proofs.Entries.{path_total, path_ties, entries_sorted, find_lookup}
-use Rattle.tree_nodes.proofs.Chains.{chained, mapped, same_some, value_of}
-use Rattle.tree_nodes.proofs.Soundness.{shallow, same_path}
-use Rattle.tree_nodes.proofs.Found.{tied, found_stands, found_passes, apart}
-use Rattle.tree_nodes.proofs.Walks.{once, one_path, lies_at, reached_held}
+use Rattle.tree_nodes.proofs.Chains.{mapped, same_some, value_of}
+use Rattle.tree_nodes.proofs.Soundness.{same_path}
+use Rattle.tree_nodes.proofs.Found.{found_stands, found_passes, apart}
+use Rattle.tree_nodes.proofs.Walks.{lies_at, reached_held}
 use Rattle.tree_nodes.proofs.Looking.{reached, stands, held_of, entry_is, entry_held}
-use Rattle.tree_nodes.proofs.Climbing.{depth, at_path, entry_there}
+use Rattle.tree_nodes.proofs.Climbing.{depth}
 use Rattle.tree_nodes.proofs.Tables.{is_equal, looked_up, entry_held as held_entry}
 use Rattle.std.proofs.lemmas.Bool.{eqb-true}
 use Rattle.std.proofs.lemmas.Cmp.{tied_itself}

@@ -1,10 +1,9 @@
 -- the table after a rename
-use Rattle.std.proofs.Common.{◌≡◌, ℕ, ◌+◌, ◌⊎◌, inl, inr, Bool, true, false, cond, List, Option, Some, None, refl, sym, ap, ◌∙◌, subst, arith}
-use Rattle.std.specs.Prelude.{IsSome, is_some, option_and_then, option_map, if◌then◌else◌}
+use Rattle.std.proofs.Common.{◌≡◌, ℕ, ◌+◌, ◌⊎◌, inl, inr, List, Option, Some, None, refl, sym, ap, ◌∙◌, arith}
+use Rattle.std.specs.Prelude.{IsSome, option_and_then, option_map}
 use Rattle.std.specs.FinMap as map
 use Rattle.tree_nodes.specs.declared.table.Entry.{Entry}
 use Rattle.tree_nodes.specs.declared.table.Place.{Place}
-use Rattle.tree_nodes.specs.declared.undo.Move.{Move}
 use Rattle.tree_nodes.specs.Walk.{Held}
 use Rattle.tree_nodes.specs.Changes.{Shifts}
 use Rattle.tree_nodes.specs.Table.{Table, entry_at, child, held, placed}

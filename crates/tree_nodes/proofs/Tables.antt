@@ -21,7 +21,7 @@ use Rattle.tree_nodes.specs.Changes.{Adds, Cuts, Sets, Shifts}
 use Rattle.tree_nodes.specs.TableChanges.{IsSame, HasName, HasPlace}
 use Rattle.slots.proofs.SlotLemmas.{len_stays, len_one_more, len_one_less}
 use Rattle.tree_nodes.proofs.Entries.{find_lookup}
-use Rattle.tree_nodes.proofs.Chains.{isnt, differ, same_some}
+use Rattle.tree_nodes.proofs.Chains.{isnt, same_some}
 use Rattle.tree_nodes.proofs.Beside.{same_number}
 
 pub there : {A : Type 0} (o : Option A) (x : A) → o ≡ Some x → IsSome o

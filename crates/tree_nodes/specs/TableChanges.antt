@@ -1,9 +1,8 @@
 -- what a step on the table makes of it
-use Rattle.std.specs.Prelude.{◌≡◌, ℕ, ◌+◌, List, Option, Some, None, option_map}
+use Rattle.std.specs.Prelude.{◌≡◌, ℕ, List, Option, Some}
 use Rattle.std.specs.FinMap as map
-use Rattle.tree_nodes.specs.declared.node.Node.{Node}
 use Rattle.tree_nodes.specs.Walk.{Held}
-use Rattle.tree_nodes.specs.Changes.{SameBut, HeldBut, Adds, Cuts, Sets}
+use Rattle.tree_nodes.specs.Changes.{SameBut, HeldBut}
 use Rattle.tree_nodes.specs.Table.{Table, child, held}
 
 -- each name leads where it led, and each object lies where it lay

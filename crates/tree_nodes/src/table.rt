@@ -121,11 +121,7 @@ pub(crate) fn entry_in<'a>(
 }
 
 /// Whether the name of each of these objects is among others.
-fn are_among(
-    entries: &Slots<Entry>,
-    here: &BTreeMap<Vec<u8>, u64>,
-    names: &BTreeSet<Bytes>,
-) -> bool
+fn are_among(entries: &Slots<Entry>, here: &BTreeMap<Vec<u8>, u64>, names: &BTreeSet<Bytes>) -> bool
     requires { (name : List ℕ) (next : ℕ) → name_in here.now name ≡ Some next → (h : Held) × (held entries.now next ≡ Some h) × (h.1 ≡ name) }
     ensures all { result ≡ true → (name : List ℕ) (next : ℕ) → name_in here.now name ≡ Some next → contains (slice_cmp nat_cmp) names.now name ≡ true }
     ensures missing { result ≡ false → (name : List ℕ) × (next : ℕ) × (name_in here.now name ≡ Some next) × (contains (slice_cmp nat_cmp) names.now name ≡ false) }
@@ -142,11 +138,7 @@ fn are_among(
 }
 
 /// Whether the name of each object in a directory is among these. It looks at one more than there are, at most.
-pub(crate) fn lists_all(
-    entries: &Slots<Entry>,
-    directory: u64,
-    names: &BTreeSet<Bytes>,
-) -> bool
+pub(crate) fn lists_all(entries: &Slots<Entry>, directory: u64, names: &BTreeSet<Bytes>) -> bool
     requires { IsTree (child entries.now) (held entries.now) }
     ensures all { result ≡ true → (name : List ℕ) (next : ℕ) → child entries.now directory name ≡ Some next → contains (slice_cmp nat_cmp) names.now name ≡ true }
     ensures missing { result ≡ false → (name : List ℕ) × (next : ℕ) × (child entries.now directory name ≡ Some next) × (contains (slice_cmp nat_cmp) names.now name ≡ false) }

@@ -134,11 +134,7 @@ pub(crate) fn rename(
 }
 
 /// Puts an object that was taken away back.
-fn put_back(
-    entries: &mut Slots<Entry>,
-    alloc: Global,
-    entry: Entry,
-) -> Result<(), AllocError>
+fn put_back(entries: &mut Slots<Entry>, alloc: Global, entry: Entry) -> Result<(), AllocError>
     requires { (tree : Tree) × (before : Tree) × IsTableOf entries.old tree × IsPutBack entry tree before }
     ensures ok { OnOk result ((tree before : Tree) → IsTableOf entries.old tree → IsPutBack entry tree before → IsTableOf entries.new before) }
     ensures err { OnErr result (IsSame entries.old entries.new) }
@@ -148,11 +144,7 @@ fn put_back(
 }
 
 /// Puts an object where it lay, and back what it took the place of.
-fn move_back(
-    entries: &mut Slots<Entry>,
-    alloc: Global,
-    step: Move,
-) -> Result<(), AllocError>
+fn move_back(entries: &mut Slots<Entry>, alloc: Global, step: Move) -> Result<(), AllocError>
     requires { (tree : Tree) × (before : Tree) × IsTableOf entries.old tree × IsMovedBack step tree before }
     ensures ok { OnOk result ((tree before : Tree) → IsTableOf entries.old tree → IsMovedBack step tree before → IsTableOf entries.new before) }
     ensures err { OnErr result ((tree before : Tree) → IsTableOf entries.old tree → IsMovedBack step tree before → (now : Tree) × IsTableOf entries.new now) }

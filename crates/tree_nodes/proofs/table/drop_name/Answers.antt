@@ -1,4 +1,4 @@
-use Rattle.std.proofs.Common.{Some, None, refl, sym}
+use Rattle.std.proofs.Common.{None, refl, sym}
 use Rattle.tree_nodes.proofs.Tables.{name_set}
 use Rattle.tree_nodes.proofs.table.drop_name.Goals as goal
 

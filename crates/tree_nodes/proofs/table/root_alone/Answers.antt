@@ -1,4 +1,4 @@
-use Rattle.std.proofs.Common.{◌≡◌, List, ℕ, [], ◌∙◌}
+use Rattle.std.proofs.Common.{◌≡◌, [], ◌∙◌}
 use Rattle.tree_nodes.specs.declared.node.Content.TheVariants.{Directory}
 use Rattle.tree_nodes.proofs.Tables.{opening_alone}
 use Rattle.tree_nodes.proofs.table.root_alone.Goals as goal

@@ -1,5 +1,4 @@
-use Rattle.std.proofs.Common.{◌≡◌, ℕ, sym, ap, ◌∙◌, subst, Some}
-use Rattle.tree_nodes.specs.Place.{object_above}
+use Rattle.std.proofs.Common.{ℕ, sym, ap, ◌∙◌, subst, Some}
 use Rattle.tree_nodes.proofs.Climbing.{Climbs, step_up, less_deep, at_front, at_top, no_top}
 use Rattle.tree_nodes.proofs.nodes.Nodes.is_from.Goals as goal
 

@@ -1,7 +1,6 @@
 use Rattle.std.proofs.Common.{rules, ◌≡◌, ℕ, List, [], sym, ap, ◌∙◌, subst}
 use Rattle.std.specs.FinMap as map
 use Rattle.tree_nodes.specs.declared.table.Entry.{Entry}
-use Rattle.tree_nodes.specs.Tree.{Names}
 use Rattle.tree_nodes.specs.Table.{child, held}
 use Rattle.tree_nodes.proofs.Chains.{value_of}
 use Rattle.tree_nodes.proofs.Looking.{is_numbered}
