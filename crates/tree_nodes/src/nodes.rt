@@ -135,10 +135,13 @@ impl Nodes {
         }
     }
 
-    /// Whether an object is the one in front, or lies below it.
+    /// Whether an object is the one in front, or lies below it. Where nothing lies below the front, it takes no walk.
     pub fn is_from(&self, object: u64, front: u64) -> bool
         ensures { (e f : Names × Node) → entry_of self.now object ≡ Some e → entry_of self.now front ≡ Some f → result ≡ is_from e.0 f.0 }
     {
+        if self.is_bare(front) {
+            return object == front;
+        }
         let mut at = object;
         while at != front {
             let Some(above) = self.above(at) else {
