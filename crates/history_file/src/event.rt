@@ -84,19 +84,19 @@ impl Event {
     }
 
     /// The event, with a copy of its message.
-    pub fn from_seen(alloc: Global, seen: SeenEvent<'_>) -> Result<Event, AllocError>
-        ensures { IfOk result (λ event. happened event ≡ seen_event seen) }
+    pub fn from_seen(alloc: Global, seen: &SeenEvent<'_>) -> Result<Event, AllocError>
+        ensures { IfOk result (λ event. happened event ≡ seen_event seen.now) }
     {
         match seen {
-            SeenEvent::Call { lane, message } => {
-                let message = Message::from_slice(alloc, message)?;
-                Ok(Event::Call { lane, message })
-            }
-            SeenEvent::Reply { lane, message } => {
-                let message = Message::from_slice(alloc, message)?;
-                Ok(Event::Reply { lane, message })
-            }
-            SeenEvent::Close { lane } => Ok(Event::Close { lane }),
+            SeenEvent::Call { lane, message } => Ok(Event::Call {
+                lane: *lane,
+                message: Message::from_slice(alloc, *message)?,
+            }),
+            SeenEvent::Reply { lane, message } => Ok(Event::Reply {
+                lane: *lane,
+                message: Message::from_slice(alloc, *message)?,
+            }),
+            SeenEvent::Close { lane } => Ok(Event::Close { lane: *lane }),
             SeenEvent::Crash => Ok(Event::Crash),
         }
     }
@@ -108,7 +108,8 @@ pub fn lend_events(alloc: Global, events: &[Event]) -> Result<Vec<SeenEvent<'_>>
 {
     let mut seen = Vec::with_capacity(alloc, events.len())?;
     for event in events {
-        seen.push(event.as_seen())?;
+        let lent = event.as_seen();
+        seen.push(lent)?;
     }
     Ok(seen)
 }
@@ -119,7 +120,8 @@ pub fn copy_events(alloc: Global, seen: &[SeenEvent<'_>]) -> Result<Vec<Event>, 
 {
     let mut events = Vec::with_capacity(alloc, seen.len())?;
     for event in seen {
-        events.push(Event::from_seen(alloc, *event)?)?;
+        let copy = Event::from_seen(alloc, event)?;
+        events.push(copy)?;
     }
     Ok(events)
 }

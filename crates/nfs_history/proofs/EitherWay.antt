@@ -253,7 +253,7 @@ calls_or_fault n (event ∷ events) read = elim (call_or_fault n event read.0) [
 
 -- ---- a history, or a fault
 
-happened_again : (events : List Event) → all_happened (map owned_of events) ≡ events
+pub happened_again : (events : List Event) → all_happened (map owned_of events) ≡ events
 unfolding owned_of
 happened_again [] = refl
 happened_again (call lane message ∷ events) = ap (λ (es : List Event). call lane message ∷ es) (happened_again events)

@@ -53,9 +53,9 @@ fn followed_calls<'a>(
     events: Vec<SeenEvent<'a>>,
     eras: u64,
 ) -> Result<Vec<SeenCall<'a>>, HistoryFault>
-    requires { eras ≡ eras_from 1 (all_seen events.items) }
-    ensures found { IfOk result (λ v. AreFollowed (all_seen events.items) v.items) }
-    ensures fault { IsErrorOf (FirstFaultOf (all_seen events.items)) result }
+    requires { eras ≡ eras_from 1 (all_seen events.entry.items) }
+    ensures found { IfOk result (λ v. AreFollowed (all_seen events.entry.items) v.items) }
+    ensures fault { IsErrorOf (FirstFaultOf (all_seen events.entry.items)) result }
 {
     if let Some(fault) = first_event_fault(alloc, events.as_slice())? {
         return Err(HistoryFault::from(fault));
@@ -69,9 +69,9 @@ fn known_calls(
     events: Vec<SeenEvent<'_>>,
     eras: u64,
 ) -> Result<Vec<RecordedCall>, HistoryFault>
-    requires { eras ≡ eras_from 1 (all_seen events.items) }
-    ensures found { IfOk result (λ v. AreKnown (all_seen events.items) v.items) }
-    ensures fault { IsErrorOf (FirstFaultOf (all_seen events.items)) result }
+    requires { eras ≡ eras_from 1 (all_seen events.entry.items) }
+    ensures found { IfOk result (λ v. AreKnown (all_seen events.entry.items) v.items) }
+    ensures fault { IsErrorOf (FirstFaultOf (all_seen events.entry.items)) result }
 {
     let calls = followed_calls(alloc, events, eras)?;
     let calls = judged_calls(alloc, calls.as_slice())?;
@@ -85,8 +85,8 @@ impl KnownCalls {
         root: FileHandle,
         events: Vec<SeenEvent<'_>>,
     ) -> Result<KnownCalls, HistoryFault>
-        ensures found { IfOk result (AreCallsOf (record { root = root; events = all_seen events.items })) }
-        ensures fault { IsErrorOf (FirstFaultOf (all_seen events.items)) result }
+        ensures found { IfOk result (AreCallsOf (record { root = root; events = all_seen events.entry.items })) }
+        ensures fault { IsErrorOf (FirstFaultOf (all_seen events.entry.items)) result }
     {
         let eras = count_eras(events.as_slice());
         let calls = known_calls(alloc, events, eras)?;

@@ -26,9 +26,9 @@ pub fn read_calls(alloc: Global, bytes: &[u8]) -> Result<KnownCalls, HistoryFaul
     // The first fault is named, memory aside.
     ensures named { (fault : HistoryFault) → FirstFault bytes.now fault → IsThatOrNoMemory fault result }
 {
-    let recording = read_file(alloc, bytes)?;
-    let root = FileHandle::from_slice(alloc, recording.root)?;
-    KnownCalls::of_events(alloc, root, recording.events)
+    let seen = read_file(alloc, bytes)?;
+    let root = FileHandle::from_slice(alloc, seen.root)?;
+    KnownCalls::of_events(alloc, root, seen.events)
 }
 
 /// The history that a file holds. The first fault is named: those of the file, then those of its events, then
