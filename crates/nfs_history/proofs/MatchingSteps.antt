@@ -117,9 +117,8 @@ pub record AreCountedTo (events : List SeenEvent) (i eras : ℕ) : Type 0 where
   pub others : eras_from eras (all_seen (drop i events)) ≡ eras_from 1 (all_seen events)
   pub few : eras ≤ i + 1
 
-dropped : (events : List SeenEvent) (i : ℕ) (e : SeenEvent) → i < length events → e ≡ get_or events i e → all_seen (drop i events) ≡ seen_event e ∷ all_seen (drop (i + 1) events)
-dropped events i e lt is =
-    ap all_seen (drop-cons events i e lt) ∙ ap (λ n. seen_event (get_or events i e) ∷ all_seen (drop n events)) (sym (add-one i)) ∙ ap (λ x. seen_event x ∷ all_seen (drop (i + 1) events)) (sym is)
+dropped : (events : List SeenEvent) (i : ℕ) (d : SeenEvent) → i < length events → all_seen (drop i events) ≡ seen_event (get_or events i d) ∷ all_seen (drop (i + 1) events)
+dropped events i d lt = ap all_seen (drop-cons events i d lt) ∙ ap (λ n. seen_event (get_or events i d) ∷ all_seen (drop n events)) (sym (add-one i))
 
 one_more : (eras : ℕ) (e : Event) (events : List Event) → is_crash e ≡ true → eras_from eras (e ∷ events) ≡ eras_from (eras + 1) events
 one_more eras (call l m) events crashed = absurd (false≢true crashed)
@@ -127,9 +126,9 @@ one_more eras (reply l m) events crashed = absurd (false≢true crashed)
 one_more eras (close l) events crashed = absurd (false≢true crashed)
 one_more eras crash events crashed = refl
 
-pub crash_counted : (events : List SeenEvent) (i eras : ℕ) (e : SeenEvent) → i < length events → e ≡ get_or events i e → is_crash (seen_event e) ≡ true → AreCountedTo events i eras → AreCountedTo events (i + 1) (eras + 1)
-crash_counted events i eras e lt is crashed so_far = record {
-  others = sym (one_more eras (seen_event e) (all_seen (drop (i + 1) events)) crashed) ∙ ap (eras_from eras) (sym (dropped events i e lt is)) ∙ so_far.others;
+pub crash_counted : (events : List SeenEvent) (i eras : ℕ) (d : SeenEvent) → i < length events → is_crash (seen_event (get_or events i d)) ≡ true → AreCountedTo events i eras → AreCountedTo events (i + 1) (eras + 1)
+crash_counted events i eras d lt crashed so_far = record {
+  others = sym (one_more eras (seen_event (get_or events i d)) (all_seen (drop (i + 1) events)) crashed) ∙ ap (eras_from eras) (sym (dropped events i d lt)) ∙ so_far.others;
   few = omega (arith, so_far.few);
 }
 
@@ -139,9 +138,9 @@ passed_over eras (reply l m) events quiet = refl
 passed_over eras (close l) events quiet = refl
 passed_over eras crash events quiet = absurd (false≢true (sym quiet))
 
-pub other_counted : (events : List SeenEvent) (i eras : ℕ) (e : SeenEvent) → i < length events → e ≡ get_or events i e → is_crash (seen_event e) ≡ false → AreCountedTo events i eras → AreCountedTo events (i + 1) eras
-other_counted events i eras e lt is quiet so_far = record {
-  others = sym (passed_over eras (seen_event e) (all_seen (drop (i + 1) events)) quiet) ∙ ap (eras_from eras) (sym (dropped events i e lt is)) ∙ so_far.others;
+pub other_counted : (events : List SeenEvent) (i eras : ℕ) (d : SeenEvent) → i < length events → is_crash (seen_event (get_or events i d)) ≡ false → AreCountedTo events i eras → AreCountedTo events (i + 1) eras
+other_counted events i eras d lt quiet so_far = record {
+  others = sym (passed_over eras (seen_event (get_or events i d)) (all_seen (drop (i + 1) events)) quiet) ∙ ap (eras_from eras) (sym (dropped events i d lt)) ∙ so_far.others;
   few = omega (arith, so_far.few);
 }
 
