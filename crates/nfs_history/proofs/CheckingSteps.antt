@@ -164,21 +164,19 @@ pub record IsCheckedTo (events : List SeenEvent) (i : ℕ) (known : OpenCalls) :
   pub faults_are : (fault : EventFault) → FirstEventFault (all_seen (take i events)) (all_seen (drop i events)) fault → FirstEventFault [] (all_seen events) fault
   pub knows : Knows known (all_seen (take i events))
 
-one_taken : (events : List SeenEvent) (i : ℕ) (e : SeenEvent) → i < length events → e ≡ get_or events i e → all_seen (take (i + 1) events) ≡ all_seen (take i events) ++ seen_event e ∷ []
-one_taken events i e lt is =
-    ap all_seen (take_more events i e lt) ∙ map_push seen_event (take i events) (get_or events i e) ∙ ap (λ x. all_seen (take i events) ++ seen_event x ∷ []) (sym is)
+one_taken : (events : List SeenEvent) (i : ℕ) (d : SeenEvent) → i < length events → all_seen (take (i + 1) events) ≡ all_seen (take i events) ++ seen_event (get_or events i d) ∷ []
+one_taken events i d lt = ap all_seen (take_more events i d lt) ∙ map_push seen_event (take i events) (get_or events i d)
 
-one_dropped : (events : List SeenEvent) (i : ℕ) (e : SeenEvent) → i < length events → e ≡ get_or events i e → all_seen (drop i events) ≡ seen_event e ∷ all_seen (drop (i + 1) events)
-one_dropped events i e lt is =
-    ap all_seen (drop-cons events i e lt) ∙ ap (λ n. seen_event (get_or events i e) ∷ all_seen (drop n events)) (sym (add-one i)) ∙ ap (λ x. seen_event x ∷ all_seen (drop (i + 1) events)) (sym is)
+one_dropped : (events : List SeenEvent) (i : ℕ) (d : SeenEvent) → i < length events → all_seen (drop i events) ≡ seen_event (get_or events i d) ∷ all_seen (drop (i + 1) events)
+one_dropped events i d lt = ap all_seen (drop-cons events i d lt) ∙ ap (λ n. seen_event (get_or events i d) ∷ all_seen (drop n events)) (sym (add-one i))
 
-pub checked_more : (events : List SeenEvent) (i : ℕ) (e : SeenEvent) (old new : OpenCalls) → i < length events → e ≡ get_or events i e
-    → MayFollow (all_seen (take i events)) (seen_event e)
-    → Knows new (all_seen (take i events) ++ seen_event e ∷ [])
+pub checked_more : (events : List SeenEvent) (i : ℕ) (d : SeenEvent) (old new : OpenCalls) → i < length events
+    → MayFollow (all_seen (take i events)) (seen_event (get_or events i d))
+    → Knows new (all_seen (take i events) ++ seen_event (get_or events i d) ∷ [])
     → IsCheckedTo events i old → IsCheckedTo events (i + 1) new
-checked_more events i e old new lt is follows knows so_far =
-    let taken = one_taken events i e lt is in
-    let dropped = one_dropped events i e lt is in
+checked_more events i d old new lt follows knows so_far =
+    let taken = one_taken events i d lt in
+    let dropped = one_dropped events i d lt in
     record {
       others = λ rest. so_far.others (rw dropped (follows, rw taken at rest));
       faults_are = λ fault rest. so_far.faults_are fault (rw dropped (inr (follows, rw taken at rest)));
@@ -189,12 +187,12 @@ pub all_checked : (events : List SeenEvent) (i : ℕ) (known : OpenCalls) → le
 all_checked events i known le so_far = so_far.others (rw (drop_all i events le) tt)
 
 -- the event behind those that were checked is at fault
-pub first_here : (events : List SeenEvent) (i : ℕ) (e : SeenEvent) (known : OpenCalls) (fault : EventFault) → i < length events → e ≡ get_or events i e
-    → IsAtFault (i + 1) (all_seen (take i events)) (seen_event e) fault
+pub first_here : (events : List SeenEvent) (i : ℕ) (d : SeenEvent) (known : OpenCalls) (fault : EventFault) → i < length events
+    → IsAtFault (i + 1) (all_seen (take i events)) (seen_event (get_or events i d)) fault
     → IsCheckedTo events i known → FirstEventFault [] (all_seen events) fault
-first_here events i e known fault lt is h so_far =
+first_here events i d known fault lt h so_far =
     let number : length (all_seen (take i events)) ≡ i = length-map (take i events) seen_event ∙ length-take-le i events (omega arith) in
-    so_far.faults_are fault (rw (one_dropped events i e lt is) (inl (rw number h)))
+    so_far.faults_are fault (rw (one_dropped events i d lt) (inl (rw number h)))
 
 -- there are no more eras than events, but for the first
 pub era_within : (events : List SeenEvent) (i : ℕ) (known : OpenCalls) → i < length events → IsCheckedTo events i known → known.era ≤ 1 + i

@@ -53,7 +53,7 @@ fn followed_calls<'a>(
     events: Vec<SeenEvent<'a>>,
     eras: u64,
 ) -> Result<Vec<SeenCall<'a>>, HistoryFault>
-    requires { eras ≡ eras_from 1 (all_seen events.entry.items) }
+    requires { eras ≡ eras_from 1 (all_seen events.items) }
     ensures found { IfOk result (λ v. AreFollowed (all_seen events.entry.items) v.items) }
     ensures fault { IsErrorOf (FirstFaultOf (all_seen events.entry.items)) result }
 {
@@ -69,7 +69,7 @@ fn known_calls(
     events: Vec<SeenEvent<'_>>,
     eras: u64,
 ) -> Result<Vec<RecordedCall>, HistoryFault>
-    requires { eras ≡ eras_from 1 (all_seen events.entry.items) }
+    requires { eras ≡ eras_from 1 (all_seen events.items) }
     ensures found { IfOk result (λ v. AreKnown (all_seen events.entry.items) v.items) }
     ensures fault { IsErrorOf (FirstFaultOf (all_seen events.entry.items)) result }
 {
