@@ -13,7 +13,7 @@ use crate::fault::CutFault;
 use crate::places::{bindings_of_plan, calls_of, cut_of, effect_at};
 use crate::stability::Stability;
 use certificate::{Certificate, EraPlan, Place};
-use nfs_history::{History, RecordedCall};
+use nfs_history::{KnownCalls, RecordedCall};
 use std::alloc::{AllocError, Global};
 use tree_handles::Binds;
 
@@ -56,7 +56,7 @@ fn first_short_cut(
 /// Whether each cut keeps the stable places of its era.
 pub fn check_cuts(
     alloc: Global,
-    history: &History,
+    history: &KnownCalls,
     certificate: &Certificate,
 ) -> Result<(), CutFault>
     ensures ok { OnOk result (CutsKeepStable (bindings_of history.now.root certificate.now.binds) history.now.calls certificate.now.eras) }

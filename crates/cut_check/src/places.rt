@@ -6,7 +6,7 @@ ghost use Rattle.cut_check.specs.Places.{bindings_of, answered_at, object_writte
 
 use crate::effect::{Effect, effect_of};
 use certificate::{Bind, Certificate, EraPlan, Place};
-use nfs_history::{History, Meaning, RecordedCall, find_call};
+use nfs_history::{KnownCalls, Meaning, RecordedCall, find_call};
 use nfs3_types::{NfsCall, Outcome};
 use std::alloc::{AllocError, Global};
 use tree_handles::Binds;
@@ -25,7 +25,7 @@ pub fn bindings(alloc: Global, root: &[u8], binds: &[Bind]) -> Result<Binds, All
 /// What the handles of a history name, as a plan has it.
 pub fn bindings_of_plan(
     alloc: Global,
-    history: &History,
+    history: &KnownCalls,
     certificate: &Certificate,
 ) -> Result<Binds, AllocError>
     ensures { IfOk result (λ b. b ≡ bindings_of history.now.root certificate.now.binds) }
@@ -38,7 +38,7 @@ pub fn bindings_of_plan(
 }
 
 /// The calls of a history.
-pub fn calls_of(history: &History) -> &[RecordedCall]
+pub fn calls_of(history: &KnownCalls) -> &[RecordedCall]
     ensures { result.now ≡ history.now.calls }
 {
     history.recorded_calls()

@@ -12,7 +12,7 @@ use crate::effect::{commit_success, write_success};
 use crate::fault::VerifierFault;
 use crate::places::{answered_at, calls_of, cut_of};
 use certificate::{Certificate, EraPlan, Place};
-use nfs_history::{History, RecordedCall};
+use nfs_history::{KnownCalls, RecordedCall};
 use nfs3_types::{NfsCall, Outcome};
 use std::alloc::{AllocError, Global};
 use std::collections::BTreeSet;
@@ -181,7 +181,7 @@ fn first_at_fault(
 /// Whether each era shows one write verifier, and none that an era ahead of it had when it lost a WRITE.
 pub fn check_verifiers(
     alloc: Global,
-    history: &History,
+    history: &KnownCalls,
     certificate: &Certificate,
 ) -> Result<(), VerifierFault>
     ensures ok { OnOk result (VerifiersAgree history.now.calls certificate.now.eras) }

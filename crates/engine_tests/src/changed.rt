@@ -77,31 +77,6 @@ fn a_changed_byte_of_a_history_is_accepted_only_where_it_is_free(
     Ok(())
 }
 
-/// Whether the history, with one bit of a byte flipped, is judged as it should be.
-fn is_flip_judged_well(alloc: Global, history: &mut [u8], at: usize, bit: u8) -> bool {
-    match history.get(at) {
-        Some(byte) => {
-            let flipped = *byte ^ bit;
-            is_judged_well(alloc, history, at, flipped)
-        }
-        None => false,
-    }
-}
-
-#[test]
-fn a_flipped_bit_of_a_history_is_accepted_only_where_it_is_free(
-    rt: HostRuntime,
-) -> Result<(), Fail> {
-    let mut history = hex::decode(rt.alloc(), HISTORY)?;
-    for at in 0..history.len() {
-        for bit in [1, 2, 4, 8, 16, 32, 64, 128] {
-            let well = is_flip_judged_well(rt.alloc(), &mut history, at, bit);
-            assert!(rt; well, "bit {bit} at {at}");
-        }
-    }
-    Ok(())
-}
-
 /// The places where some changed bytes are free, and others not.
 const HALF_FREE: [usize; 10] = [59, 83, 84, 91, 111, 115, 219, 255, 367, 399];
 

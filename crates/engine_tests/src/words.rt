@@ -16,12 +16,6 @@ fn is_told<R: Files + AllocGlobal>(rt: &R, words: &[&str], text: &[u8], status: 
 }
 
 #[test]
-fn without_words_the_bundle_is_judged(rt: HostRuntime) -> Result<(), Fail> {
-    assert!(rt; is_told(&rt, &["nfsbench"], b"yes\n", 0));
-    Ok(())
-}
-
-#[test]
 fn a_file_that_cannot_be_read_is_named(rt: HostRuntime) -> Result<(), Fail> {
     let history = b"refused: unreadable history\n";
     let certificate = b"refused: unreadable certificate\n";
@@ -29,14 +23,6 @@ fn a_file_that_cannot_be_read_is_named(rt: HostRuntime) -> Result<(), Fail> {
         is_told(
             &rt,
             &["nfsbench", "check", "/missing/a", "/missing/b"],
-            history,
-            2
-        )
-    );
-    assert!(rt;
-        is_told(
-            &rt,
-            &["nfsbench", "check", "/missing/a", "/dev/null"],
             history,
             2
         )
@@ -65,40 +51,5 @@ fn a_file_that_cannot_be_read_is_named(rt: HostRuntime) -> Result<(), Fail> {
 fn a_device_is_read_to_its_end(rt: HostRuntime) -> Result<(), Fail> {
     let words = ["nfsbench", "check", "/dev/null", "/dev/null"];
     assert!(rt; is_told(&rt, &words, b"refused: BadMagic\n", 2));
-    Ok(())
-}
-
-/// The status that these words get, where something is written that ends in a line feed, and is neither a
-/// verdict nor a refusal.
-fn parser_status<R: Files + AllocGlobal>(rt: &R, words: &[&str]) -> Option<u8> {
-    let mut input = b"".as_slice();
-    let mut told = Vec::new(rt.alloc());
-    let status = run_words(rt, words, &mut input, &mut told);
-    let text = told.as_slice();
-    let parsers = text.starts_with(b"error: ")
-        || text.starts_with(b"Judges")
-        || text.starts_with(b"nfsbench ");
-    if parsers && text.ends_with(b"\n") && !text.ends_with(b"\n\n") {
-        Some(status)
-    } else {
-        None
-    }
-}
-
-#[test]
-fn a_fault_of_the_command_line_gets_the_parsers_text(rt: HostRuntime) -> Result<(), Fail> {
-    assert_eq!(rt; parser_status(&rt, &["nfsbench", "judge"]), Some(2));
-    assert_eq!(rt; parser_status(&rt, &["nfsbench", "check"]), Some(2));
-    assert_eq!(rt; parser_status(&rt, &["nfsbench", "check", "a"]), Some(2));
-    assert_eq!(rt;
-        parser_status(&rt, &["nfsbench", "check", "a", "b", "c"]),
-        Some(2)
-    );
-    assert_eq!(rt; parser_status(&rt, &["nfsbench", "--help"]), Some(0));
-    assert_eq!(rt;
-        parser_status(&rt, &["nfsbench", "check", "--help"]),
-        Some(0)
-    );
-    assert_eq!(rt; parser_status(&rt, &["nfsbench", "--version"]), Some(0));
     Ok(())
 }

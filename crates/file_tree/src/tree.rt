@@ -2,7 +2,7 @@
 
 ghost use Rattle.std.specs.Prelude.{◌≡◌, OnOk, OnErr, IfOk};
 ghost use Rattle.tree_nodes.specs.Tree.{opening};
-ghost use Rattle.tree_nodes.specs.Undo.{TakesBack};
+ghost use Rattle.tree_nodes.specs.Undo.{TakesBack, held_nodes};
 ghost use Rattle.file_tree.specs.Change.{Change};
 ghost use Rattle.file_tree.specs.Planning.{Does};
 ghost use Rattle.file_tree.specs.Success.{changed, next_tree};
@@ -73,6 +73,15 @@ impl FileTree {
                 name,
             } => self.nodes.rename(object, directory, name),
         }
+    }
+}
+
+impl FileTree {
+    /// How many nodes what takes a step back holds, the files' bytes aside.
+    pub fn undo_nodes(undo: &Undo) -> u64
+        ensures { result ≡ held_nodes undo.now }
+    {
+        undo.nodes()
     }
 }
 

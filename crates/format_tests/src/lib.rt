@@ -1,4 +1,4 @@
-//! Tests of items of XDR, of records in pieces, and of values that are copied and compared.
+//! Tests of growth that is refused, of records in pieces, and of messages that are copied.
 #![tactic(auto)]
 
 #[cfg(test)]

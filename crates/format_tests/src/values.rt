@@ -1,24 +1,11 @@
 //! What the clauses don't say: that the calls succeed with memory.
 
 use nfs3_types::{
-    Answer, Data, DirectoryEntryPlus, DirectoryName, Entries, FileHandle, Held, LinkText, Name,
-    NfsCall, NfsReply, Optional, Outcome, ReadDirPlusSuccess, Verifier,
+    Answer, DirectoryEntryPlus, DirectoryName, Entries, FileHandle, Held, Name, NfsCall, NfsReply,
+    Optional, Outcome, ReadDirPlusSuccess, Verifier,
 };
 use std::alloc::{AllocError, Global};
 use std::test::Fail;
-
-#[test]
-fn bytes_are_kept(rt: HostRuntime) -> Result<(), Fail> {
-    let handle = FileHandle::from_slice(rt.alloc(), &[0xaa])?;
-    assert_eq!(rt; handle.as_slice(), [0xaa].as_slice());
-    let name = Name::from_slice(rt.alloc(), b"a")?;
-    assert_eq!(rt; name.as_slice(), b"a".as_slice());
-    let bytes = Data::from_slice(rt.alloc(), b"abc")?;
-    assert_eq!(rt; bytes.as_slice(), b"abc".as_slice());
-    let target = LinkText::from_slice(rt.alloc(), b"b/c")?;
-    assert_eq!(rt; target.as_slice(), b"b/c".as_slice());
-    Ok(())
-}
 
 // A REMOVE of a name in the directory 00.
 fn remove(alloc: Global, name: &[u8; 1]) -> Result<NfsCall, AllocError> {

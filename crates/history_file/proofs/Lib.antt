@@ -1,3 +1,4 @@
 pub mod EventLoop
 pub mod FileLaws
 pub mod WritingSteps
+pub mod EventLists

@@ -1,4 +1,4 @@
-//! The events of a history file, in one pass. Each message is copied once, into its event.
+//! The events of a history file, in one pass. No message is copied: each stands in the file.
 
 ghost use Rattle.std.specs.Prelude.{◌≡◌, nat_eq, IfOk};
 ghost use Rattle.std.specs.List.{starts_with};
@@ -10,15 +10,15 @@ ghost use Rattle.history_file.specs.declared.fault.FileFault.{FileFault};
 ghost use Rattle.history_file.specs.Event.{Recording};
 ghost use Rattle.history_file.specs.FileFaults.{IsFileFault, IsFineOrNoMemory, IsErrorOf, IsThatOrNoMemory};
 ghost use Rattle.history_file.specs.FileReading.{told, reading_of, file_of, IsAnswer};
-ghost use Rattle.history_file.specs.Owning.{happened, all_happened, recording_value};
+ghost use Rattle.history_file.specs.Owning.{seen_event, all_seen, recording_value};
 
-use crate::event::{Event, Message};
+use crate::event::SeenEvent;
 use crate::fault::FileFault;
 use crate::limits::{EVENT_LIMIT, FILE_LIMIT, ROOT_LIMIT};
 use std::alloc::{AllocError, AllocFailed, Global};
 use xdr_records::{RECORD_LIMIT, Reader, XdrFault};
 
-/// The bytes of an event in memory, but for its message.
+/// The bytes of an event in memory, but for its message, which stands in the file.
 const EVENT_SIZE: usize = 32;
 
 /// The kind word of an event.
@@ -30,11 +30,11 @@ pub enum EventKind {
     Crash,
 }
 
-/// What stands in a history file.
+/// What stands in a history file: its messages and its root handle are those of the file.
 #[derive(Drop)]
 pub struct SeenRecording<'a> {
     pub root: &'a [u8],
-    pub events: Vec<Event>,
+    pub events: Vec<SeenEvent<'a>>,
 }
 
 /// Why an item can't be read, and where it stands.
@@ -122,45 +122,48 @@ fn count(reader: &mut Reader<'_>) -> Result<u32, ItemFault>
 }
 
 #[tactic(auto, unfolding(crate::specs::HistoryFile::message))]
-fn message(alloc: Global, reader: &mut Reader<'_>) -> Result<Message, ItemFault>
-    ensures { Answers told (λ m. m) reader.new result (reading_of message reader.old) }
+fn message<'a>(reader: &mut Reader<'a>) -> Result<&'a [u8], ItemFault>
+    ensures { Answers told (λ m. m.now) reader.new result (reading_of message reader.old) }
 {
-    let bytes = opaque(reader, RECORD_LIMIT as u32)?;
-    Ok(Message::from_slice(alloc, bytes)?)
+    opaque(reader, RECORD_LIMIT as u32)
 }
 
 #[tactic(auto, unfolding(crate::specs::HistoryFile::event))]
-fn one_event(alloc: Global, reader: &mut Reader<'_>, number: u64) -> Result<Event, ItemFault>
-    ensures { Answers told happened reader.new result (reading_of (event number) reader.old) }
+fn one_event<'a>(reader: &mut Reader<'a>, number: u64) -> Result<SeenEvent<'a>, ItemFault>
+    ensures { Answers told seen_event reader.new result (reading_of (event number) reader.old) }
 {
     match kind(reader, number)? {
         EventKind::Call => {
             let lane = word(reader)?;
-            let message = message(alloc, reader)?;
-            Ok(Event::Call { lane, message })
+            let message = message(reader)?;
+            Ok(SeenEvent::Call { lane, message })
         }
         EventKind::Reply => {
             let lane = word(reader)?;
-            let message = message(alloc, reader)?;
-            Ok(Event::Reply { lane, message })
+            let message = message(reader)?;
+            Ok(SeenEvent::Reply { lane, message })
         }
         EventKind::Close => {
             let lane = word(reader)?;
-            Ok(Event::Close { lane })
+            Ok(SeenEvent::Close { lane })
         }
-        EventKind::Crash => Ok(Event::Crash),
+        EventKind::Crash => Ok(SeenEvent::Crash),
     }
 }
 
 /// So many events, numbered from 1. The count is only what the file says: room is made for no more events than
 /// would cost as much as the bytes that are left.
-fn many_events(alloc: Global, reader: &mut Reader<'_>, count: u32) -> Result<Vec<Event>, ItemFault>
-    ensures { Answers told (λ v. all_happened v.items) reader.new result (reading_of (events count 1) reader.old) }
+fn many_events<'a>(
+    alloc: Global,
+    reader: &mut Reader<'a>,
+    count: u32,
+) -> Result<Vec<SeenEvent<'a>>, ItemFault>
+    ensures { Answers told (λ v. all_seen v.items) reader.new result (reading_of (events count 1) reader.old) }
 {
     let room = (reader.left() / EVENT_SIZE).min(count as usize);
     let mut seen = Vec::with_capacity(alloc, room)?;
     for index in 0..count {
-        let event = one_event(alloc, reader, index as u64 + 1)?;
+        let event = one_event(reader, index as u64 + 1)?;
         seen.push(event)?;
     }
     Ok(seen)

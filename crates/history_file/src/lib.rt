@@ -7,7 +7,7 @@ mod file;
 mod limits;
 mod writing;
 
-pub use event::{Event, Message};
+pub use event::{Event, Message, SeenEvent, copy_events, lend_events};
 pub use fault::FileFault;
 pub use file::{SeenRecording, read_file};
 pub use writing::{WriteFault, write_history};

@@ -39,21 +39,6 @@ fn fault_of(answer: Result<History, HistoryFault>) -> Option<HistoryFault> {
     }
 }
 
-#[test]
-fn a_history_is_read(rt: HostRuntime) -> Result<(), Fail> {
-    let history = read_history(rt.alloc(), EXAMPLE)?;
-    assert_eq!(rt; history.root().as_slice(), [0].as_slice());
-    assert_eq!(rt; history.eras(), 1);
-    let spans = [(1, 2), (3, 4), (5, 6)];
-    assert_eq!(rt; history.recorded_calls().len(), spans.len());
-    for (call, (begin, end)) in history.recorded_calls().iter().zip(spans) {
-        assert_eq!(rt; call.begin, begin);
-        assert_eq!(rt; call.end, Some(end));
-        assert!(rt; call.outcome.is_some());
-    }
-    Ok(())
-}
-
 /// The example's call and reply with numbers from `at` on, as an event of lane 1.
 fn call_event(alloc: Global, bytes: &[u8]) -> Result<Event, AllocError> {
     let message = Message::from_slice(alloc, bytes)?;

@@ -3,7 +3,7 @@
 use crate::case::Kind;
 use anyhow::Result;
 use certificate::{read_certificate, write_certificate};
-use history_file::{read_file, write_history};
+use history_file::{copy_events, read_file, write_history};
 use nfs3_msgs::{put_args, put_result, read_args, read_result};
 use rpc_reader::{put_call, put_reply, read_call, read_reply};
 use std::alloc::Global;
@@ -44,7 +44,8 @@ fn rpc_reply_again(alloc: Global, message: &[u8]) -> Result<Vec<u8>> {
 
 fn history_again(alloc: Global, file: &[u8]) -> Result<Vec<u8>> {
     let recording = read_file(alloc, file)?;
-    Ok(write_history(alloc, recording.root, recording.events.as_slice())?)
+    let events = copy_events(alloc, recording.events.as_slice())?;
+    Ok(write_history(alloc, recording.root, events.as_slice())?)
 }
 
 fn certificate_again(alloc: Global, text: &[u8]) -> Result<Vec<u8>> {

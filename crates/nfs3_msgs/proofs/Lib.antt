@@ -1,3 +1,1 @@
 pub mod ReadsBack
-pub mod Bounds
-pub mod EntryList

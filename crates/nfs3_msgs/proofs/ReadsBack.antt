@@ -3,7 +3,7 @@ use Rattle.std.proofs.Common.{◌≡◌, Ok}
 use Rattle.xdr_records.proofs.Laws.{all_again}
 use Rattle.nfs3_types.specs.declared.calls.NfsCall.{NfsCall}
 use Rattle.nfs3_types.specs.declared.replies.NfsReply.{NfsReply}
-use Rattle.nfs3_msgs.specs.Told.{kind_of}
+use Rattle.nfs3_values.specs.Told.{kind_of}
 use Rattle.nfs3_types.specs.Procedures.{procedure_called, procedure_answered}
 use Rattle.nfs3_msgs.specs.Messages.{arguments, results, arguments_of, result_of, arguments_text, result_text}
 use Rattle.nfs3_msgs.specs.Fits.{CallFits, ReplyFits}

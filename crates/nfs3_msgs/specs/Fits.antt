@@ -4,11 +4,11 @@ use Rattle.nfs3_types.specs.declared.calls.NfsCall.{NfsCall}
 use Rattle.nfs3_types.specs.declared.calls.NfsCall.TheVariants as calls
 use Rattle.nfs3_types.specs.declared.replies.NfsReply.{NfsReply}
 use Rattle.nfs3_types.specs.declared.replies.NfsReply.TheVariants as replies
-use Rattle.nfs3_msgs.specs.Attributes.{FileAttributesFit, WccDataFits}
-use Rattle.nfs3_msgs.specs.Calls.{DirectoryNameFits, ReadArgumentsFit, WriteArgumentsFit, SetAttrArgumentsFit, CommitArgumentsFit}
-use Rattle.nfs3_msgs.specs.EntryCalls.{CreateArgumentsFit, MkDirArgumentsFit, SymLinkArgumentsFit, RenameArgumentsFit, ReadDirArgumentsFit, ReadDirPlusArgumentsFit}
-use Rattle.nfs3_msgs.specs.Replies.{AnswerFits, ReadSuccessFits, WriteSuccessFits, CreateSuccessFits, LookupSuccessFits, ReadLinkSuccessFits, RenameWccFits, CommitSuccessFits}
-use Rattle.nfs3_msgs.specs.Listings.{ReadDirSuccessFits, ReadDirPlusSuccessFits}
+use Rattle.nfs3_values.specs.Attributes.{FileAttributesFit, WccDataFits}
+use Rattle.nfs3_values.specs.Calls.{DirectoryNameFits, ReadArgumentsFit, WriteArgumentsFit, SetAttrArgumentsFit, CommitArgumentsFit}
+use Rattle.nfs3_values.specs.EntryCalls.{CreateArgumentsFit, MkDirArgumentsFit, SymLinkArgumentsFit, RenameArgumentsFit, ReadDirArgumentsFit, ReadDirPlusArgumentsFit}
+use Rattle.nfs3_values.specs.Replies.{AnswerFits, ReadSuccessFits, WriteSuccessFits, CreateSuccessFits, LookupSuccessFits, ReadLinkSuccessFits, RenameWccFits, CommitSuccessFits}
+use Rattle.nfs3_values.specs.Listings.{ReadDirSuccessFits, ReadDirPlusSuccessFits}
 
 -- the numbers and lengths of a call are those that the program has
 unfoldable pub CallFits : NfsCall → Type 0

@@ -1,16 +1,3 @@
-pub mod Told
-pub mod Words
-pub mod Bytes
-pub mod Settings
-pub mod Attributes
-pub mod EntryCalls
-pub mod Calls
-pub mod Listings
-pub mod Replies
-pub mod Fits
 pub mod Messages
-pub mod Spelled
-pub mod SpelledCalls
-pub mod SpelledReplies
+pub mod Fits
 pub mod SpelledMessages
-pub mod FaultText

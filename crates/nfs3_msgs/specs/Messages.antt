@@ -10,16 +10,16 @@ use Rattle.nfs3_types.specs.declared.calls.NfsCall.{NfsCall}
 use Rattle.nfs3_types.specs.declared.calls.NfsCall.TheVariants as calls
 use Rattle.nfs3_types.specs.declared.replies.NfsReply.{NfsReply}
 use Rattle.nfs3_types.specs.declared.replies.NfsReply.TheVariants as replies
-use Rattle.nfs3_msgs.specs.declared.fault.Kind.{Kind}
-use Rattle.nfs3_msgs.specs.declared.fault.Kind.TheVariants as kinds
-use Rattle.nfs3_msgs.specs.Told.{kind_of}
+use Rattle.nfs3_values.specs.declared.fault.Kind.{Kind}
+use Rattle.nfs3_values.specs.declared.fault.Kind.TheVariants as kinds
+use Rattle.nfs3_values.specs.Told.{kind_of}
 use Rattle.xdr_records.specs.Texts.{opaque_text, optional_text}
-use Rattle.nfs3_msgs.specs.Bytes.{handle, void, void_text, optional_of}
-use Rattle.nfs3_msgs.specs.Attributes.{file_attributes, file_attributes_text, wcc_data, wcc_data_text}
-use Rattle.nfs3_msgs.specs.Calls.{directory_name, directory_name_text, read_arguments, read_arguments_text, write_arguments, write_arguments_text, set_attr_arguments, set_attr_arguments_text, commit_arguments, commit_arguments_text}
-use Rattle.nfs3_msgs.specs.EntryCalls.{create_arguments, create_arguments_text, mk_dir_arguments, mk_dir_arguments_text, sym_link_arguments, sym_link_arguments_text, rename_arguments, rename_arguments_text, read_dir_arguments, read_dir_arguments_text, read_dir_plus_arguments, read_dir_plus_arguments_text}
-use Rattle.nfs3_msgs.specs.Replies.{answer, answer_text, read_success, read_success_text, write_success, write_success_text, create_success, create_success_text, lookup_success, lookup_success_text, read_link_success, read_link_success_text, rename_wcc, rename_wcc_text, commit_success, commit_success_text}
-use Rattle.nfs3_msgs.specs.Listings.{read_dir_success, read_dir_success_text, read_dir_plus_success, read_dir_plus_success_text}
+use Rattle.nfs3_values.specs.Bytes.{handle, void, void_text, optional_of}
+use Rattle.nfs3_values.specs.Attributes.{file_attributes, file_attributes_text, wcc_data, wcc_data_text}
+use Rattle.nfs3_values.specs.Calls.{directory_name, directory_name_text, read_arguments, read_arguments_text, write_arguments, write_arguments_text, set_attr_arguments, set_attr_arguments_text, commit_arguments, commit_arguments_text}
+use Rattle.nfs3_values.specs.EntryCalls.{create_arguments, create_arguments_text, mk_dir_arguments, mk_dir_arguments_text, sym_link_arguments, sym_link_arguments_text, rename_arguments, rename_arguments_text, read_dir_arguments, read_dir_arguments_text, read_dir_plus_arguments, read_dir_plus_arguments_text}
+use Rattle.nfs3_values.specs.Replies.{answer, answer_text, read_success, read_success_text, write_success, write_success_text, create_success, create_success_text, lookup_success, lookup_success_text, read_link_success, read_link_success_text, rename_wcc, rename_wcc_text, commit_success, commit_success_text}
+use Rattle.nfs3_values.specs.Listings.{read_dir_success, read_dir_success_text, read_dir_plus_success, read_dir_plus_success_text}
 
 -- the arguments of a procedure by its number, RFC 1813, section 3.3
 unfoldable pub arguments : ℕ → Grammar Kind NfsCall

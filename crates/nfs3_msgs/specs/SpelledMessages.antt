@@ -6,18 +6,18 @@ use Rattle.nfs3_types.specs.declared.calls.NfsCall.{NfsCall}
 use Rattle.nfs3_types.specs.declared.calls.NfsCall.TheVariants as calls
 use Rattle.nfs3_types.specs.declared.replies.NfsReply.{NfsReply}
 use Rattle.nfs3_types.specs.declared.replies.NfsReply.TheVariants as replies
-use Rattle.nfs3_msgs.specs.Bytes.{handle, void, void_text, optional_of}
-use Rattle.nfs3_msgs.specs.Attributes.{file_attributes, file_attributes_text, FileAttributesFit, wcc_data, wcc_data_text, WccDataFits}
-use Rattle.nfs3_msgs.specs.Calls.{directory_name, directory_name_text, DirectoryNameFits, read_arguments, read_arguments_text, ReadArgumentsFit, write_arguments, write_arguments_text, WriteArgumentsFit, set_attr_arguments, set_attr_arguments_text, SetAttrArgumentsFit, commit_arguments, commit_arguments_text, CommitArgumentsFit}
-use Rattle.nfs3_msgs.specs.EntryCalls.{create_arguments, create_arguments_text, CreateArgumentsFit, mk_dir_arguments, mk_dir_arguments_text, MkDirArgumentsFit, sym_link_arguments, sym_link_arguments_text, SymLinkArgumentsFit, rename_arguments, rename_arguments_text, RenameArgumentsFit, read_dir_arguments, read_dir_arguments_text, ReadDirArgumentsFit, read_dir_plus_arguments, read_dir_plus_arguments_text, ReadDirPlusArgumentsFit}
-use Rattle.nfs3_msgs.specs.Replies.{answer, answer_text, AnswerFits, read_success, read_success_text, ReadSuccessFits, write_success, write_success_text, WriteSuccessFits, create_success, create_success_text, CreateSuccessFits, lookup_success, lookup_success_text, LookupSuccessFits, read_link_success, read_link_success_text, ReadLinkSuccessFits, rename_wcc, rename_wcc_text, RenameWccFits, commit_success, commit_success_text, CommitSuccessFits}
-use Rattle.nfs3_msgs.specs.Listings.{read_dir_success, read_dir_success_text, ReadDirSuccessFits, read_dir_plus_success, read_dir_plus_success_text, ReadDirPlusSuccessFits}
+use Rattle.nfs3_values.specs.Bytes.{handle, void, void_text, optional_of}
+use Rattle.nfs3_values.specs.Attributes.{file_attributes, file_attributes_text, FileAttributesFit, wcc_data, wcc_data_text, WccDataFits}
+use Rattle.nfs3_values.specs.Calls.{directory_name, directory_name_text, DirectoryNameFits, read_arguments, read_arguments_text, ReadArgumentsFit, write_arguments, write_arguments_text, WriteArgumentsFit, set_attr_arguments, set_attr_arguments_text, SetAttrArgumentsFit, commit_arguments, commit_arguments_text, CommitArgumentsFit}
+use Rattle.nfs3_values.specs.EntryCalls.{create_arguments, create_arguments_text, CreateArgumentsFit, mk_dir_arguments, mk_dir_arguments_text, MkDirArgumentsFit, sym_link_arguments, sym_link_arguments_text, SymLinkArgumentsFit, rename_arguments, rename_arguments_text, RenameArgumentsFit, read_dir_arguments, read_dir_arguments_text, ReadDirArgumentsFit, read_dir_plus_arguments, read_dir_plus_arguments_text, ReadDirPlusArgumentsFit}
+use Rattle.nfs3_values.specs.Replies.{answer, answer_text, AnswerFits, read_success, read_success_text, ReadSuccessFits, write_success, write_success_text, WriteSuccessFits, create_success, create_success_text, CreateSuccessFits, lookup_success, lookup_success_text, LookupSuccessFits, read_link_success, read_link_success_text, ReadLinkSuccessFits, rename_wcc, rename_wcc_text, RenameWccFits, commit_success, commit_success_text, CommitSuccessFits}
+use Rattle.nfs3_values.specs.Listings.{read_dir_success, read_dir_success_text, ReadDirSuccessFits, read_dir_plus_success, read_dir_plus_success_text, ReadDirPlusSuccessFits}
 use Rattle.nfs3_types.specs.Procedures.{procedure_called, procedure_answered}
 use Rattle.nfs3_msgs.specs.Messages.{arguments, results, IsArguments, IsResult, arguments_text, result_text}
 use Rattle.nfs3_msgs.specs.Fits.{CallFits, ReplyFits}
-use Rattle.nfs3_msgs.specs.Spelled.{handle_spelled, file_attributes_spelled, wcc_data_spelled, optional_attributes_spelled, void_spelled}
-use Rattle.nfs3_msgs.specs.SpelledCalls.{directory_name_spelled, read_arguments_spelled, write_arguments_spelled, create_arguments_spelled, set_attr_arguments_spelled, mk_dir_arguments_spelled, sym_link_arguments_spelled, rename_arguments_spelled, read_dir_arguments_spelled, read_dir_plus_arguments_spelled, commit_arguments_spelled}
-use Rattle.nfs3_msgs.specs.SpelledReplies.{answer_spelled, read_success_spelled, write_success_spelled, create_success_spelled, lookup_success_spelled, read_link_success_spelled, rename_wcc_spelled, read_dir_success_spelled, read_dir_plus_success_spelled, commit_success_spelled}
+use Rattle.nfs3_values.specs.Spelled.{handle_spelled, file_attributes_spelled, wcc_data_spelled, optional_attributes_spelled, void_spelled}
+use Rattle.nfs3_values.specs.SpelledCalls.{directory_name_spelled, read_arguments_spelled, write_arguments_spelled, create_arguments_spelled, set_attr_arguments_spelled, mk_dir_arguments_spelled, sym_link_arguments_spelled, rename_arguments_spelled, read_dir_arguments_spelled, read_dir_plus_arguments_spelled, commit_arguments_spelled}
+use Rattle.nfs3_values.specs.SpelledReplies.{answer_spelled, read_success_spelled, write_success_spelled, create_success_spelled, lookup_success_spelled, read_link_success_spelled, rename_wcc_spelled, read_dir_success_spelled, read_dir_plus_success_spelled, commit_success_spelled}
 
 pub call_spelled : (call : NfsCall) → CallFits call → IsArguments (procedure_called call) (arguments_text call) call
 unfolding arguments arguments_text CallFits

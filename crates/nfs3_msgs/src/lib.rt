@@ -2,15 +2,8 @@
 //! fault where they are none, and written in one spelling.
 #![tactic(auto)]
 
-mod attributes;
-mod bytes;
-mod calls;
-mod entries;
-mod fault;
 mod messages;
-mod replies;
-mod value;
 
-pub use fault::{Kind, MessageFault};
 pub use messages::{put_args, put_result, read_args, read_result};
 pub use nfs3_types::{NfsCall, NfsReply, Outcome};
+pub use nfs3_values::{Kind, MessageFault};

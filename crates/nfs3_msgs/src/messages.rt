@@ -6,16 +6,14 @@ ghost use Rattle.xdr_records.specs.Reading.{item_here};
 ghost use Rattle.xdr_records.specs.Items.{end_at};
 ghost use Rattle.nfs3_types.specs.declared.calls.NfsCall.{NfsCall};
 ghost use Rattle.nfs3_types.specs.declared.replies.NfsReply.{NfsReply};
-ghost use Rattle.nfs3_msgs.specs.declared.fault.Kind.{Kind};
-ghost use Rattle.nfs3_msgs.specs.Told.{kind_of, Reads, IsButForMemory};
+ghost use Rattle.nfs3_values.specs.declared.fault.Kind.{Kind};
+ghost use Rattle.nfs3_values.specs.Told.{kind_of, Reads, IsButForMemory};
 ghost use Rattle.nfs3_types.specs.Procedures.{procedure_called, procedure_answered};
 ghost use Rattle.nfs3_msgs.specs.Messages.{arguments, IsArguments, IsArgumentsFault, arguments_of, arguments_text};
 ghost use Rattle.nfs3_msgs.specs.Fits.{CallFits};
 ghost use Rattle.nfs3_msgs.specs.Messages.{results, IsResult, IsResultFault, result_of, result_text};
 ghost use Rattle.nfs3_msgs.specs.Fits.{ReplyFits};
 
-use crate::fault::{Kind, MessageFault};
-use crate::value::{XdrValue, fault_at};
 use nfs3_types::{
     Answer, CommitArguments, CommitSuccess, CreateArguments, CreateSuccess, DirectoryName,
     FileAttributes, FileHandle, Held, LookupSuccess, MkDirArguments, NfsCall, NfsReply, Optional,
@@ -23,6 +21,7 @@ use nfs3_types::{
     ReadLinkSuccess, ReadSuccess, RenameArguments, RenameWcc, SetAttrArguments, SymLinkArguments,
     WccData, WriteArguments, WriteSuccess,
 };
+use nfs3_values::{Kind, MessageFault, XdrValue, fault_at};
 use std::alloc::{AllocError, Global};
 use xdr_records::Reader;
 

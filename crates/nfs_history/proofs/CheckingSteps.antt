@@ -5,8 +5,8 @@ use Rattle.std.specs.HashMap.{get}
 use Rattle.std.specs.HashSet.{contains}
 use Rattle.std.proofs.lemmas.Bool.{eqb-true, eq-eqb, ne_eqb}
 use Rattle.std.proofs.lemmas.List.{length-map, take_more, map_push, drop_all}
-use Rattle.history_file.specs.declared.event.Event as owned
-use Rattle.history_file.specs.Owning.{happened, all_happened}
+use Rattle.history_file.specs.declared.event.SeenEvent.{SeenEvent}
+use Rattle.history_file.specs.Owning.{seen_event, all_seen}
 use Rattle.history_file.specs.Event.{Event}
 use Rattle.history_file.specs.Event.Event.{call, reply, close, crash}
 use Rattle.nfs_history.specs.declared.fault.EventFault.{EventFault}
@@ -159,45 +159,43 @@ knows_crash before old new era same lanes knows = record {
 }
 
 -- the events below i may follow one another, and what they leave open is known
-pub record IsCheckedTo (events : List owned.Event) (i : ℕ) (known : OpenCalls) : Type 0 where
-  pub others : EachMayFollow (all_happened (take i events)) (all_happened (drop i events)) → EachMayFollow [] (all_happened events)
-  pub faults_are : (fault : EventFault) → FirstEventFault (all_happened (take i events)) (all_happened (drop i events)) fault → FirstEventFault [] (all_happened events) fault
-  pub knows : Knows known (all_happened (take i events))
+pub record IsCheckedTo (events : List SeenEvent) (i : ℕ) (known : OpenCalls) : Type 0 where
+  pub others : EachMayFollow (all_seen (take i events)) (all_seen (drop i events)) → EachMayFollow [] (all_seen events)
+  pub faults_are : (fault : EventFault) → FirstEventFault (all_seen (take i events)) (all_seen (drop i events)) fault → FirstEventFault [] (all_seen events) fault
+  pub knows : Knows known (all_seen (take i events))
 
-one_taken : (events : List owned.Event) (i : ℕ) (e : owned.Event) → i < length events → e ≡ get_or events i e → all_happened (take (i + 1) events) ≡ all_happened (take i events) ++ happened e ∷ []
-one_taken events i e lt is =
-    ap all_happened (take_more events i e lt) ∙ map_push happened (take i events) (get_or events i e) ∙ ap (λ x. all_happened (take i events) ++ happened x ∷ []) (sym is)
+one_taken : (events : List SeenEvent) (i : ℕ) (d : SeenEvent) → i < length events → all_seen (take (i + 1) events) ≡ all_seen (take i events) ++ seen_event (get_or events i d) ∷ []
+one_taken events i d lt = ap all_seen (take_more events i d lt) ∙ map_push seen_event (take i events) (get_or events i d)
 
-one_dropped : (events : List owned.Event) (i : ℕ) (e : owned.Event) → i < length events → e ≡ get_or events i e → all_happened (drop i events) ≡ happened e ∷ all_happened (drop (i + 1) events)
-one_dropped events i e lt is =
-    ap all_happened (drop-cons events i e lt) ∙ ap (λ n. happened (get_or events i e) ∷ all_happened (drop n events)) (sym (add-one i)) ∙ ap (λ x. happened x ∷ all_happened (drop (i + 1) events)) (sym is)
+one_dropped : (events : List SeenEvent) (i : ℕ) (d : SeenEvent) → i < length events → all_seen (drop i events) ≡ seen_event (get_or events i d) ∷ all_seen (drop (i + 1) events)
+one_dropped events i d lt = ap all_seen (drop-cons events i d lt) ∙ ap (λ n. seen_event (get_or events i d) ∷ all_seen (drop n events)) (sym (add-one i))
 
-pub checked_more : (events : List owned.Event) (i : ℕ) (e : owned.Event) (old new : OpenCalls) → i < length events → e ≡ get_or events i e
-    → MayFollow (all_happened (take i events)) (happened e)
-    → Knows new (all_happened (take i events) ++ happened e ∷ [])
+pub checked_more : (events : List SeenEvent) (i : ℕ) (d : SeenEvent) (old new : OpenCalls) → i < length events
+    → MayFollow (all_seen (take i events)) (seen_event (get_or events i d))
+    → Knows new (all_seen (take i events) ++ seen_event (get_or events i d) ∷ [])
     → IsCheckedTo events i old → IsCheckedTo events (i + 1) new
-checked_more events i e old new lt is follows knows so_far =
-    let taken = one_taken events i e lt is in
-    let dropped = one_dropped events i e lt is in
+checked_more events i d old new lt follows knows so_far =
+    let taken = one_taken events i d lt in
+    let dropped = one_dropped events i d lt in
     record {
       others = λ rest. so_far.others (rw dropped (follows, rw taken at rest));
       faults_are = λ fault rest. so_far.faults_are fault (rw dropped (inr (follows, rw taken at rest)));
       knows = rw taken knows;
     }
 
-pub all_checked : (events : List owned.Event) (i : ℕ) (known : OpenCalls) → length events ≤ i → IsCheckedTo events i known → EachMayFollow [] (all_happened events)
+pub all_checked : (events : List SeenEvent) (i : ℕ) (known : OpenCalls) → length events ≤ i → IsCheckedTo events i known → EachMayFollow [] (all_seen events)
 all_checked events i known le so_far = so_far.others (rw (drop_all i events le) tt)
 
 -- the event behind those that were checked is at fault
-pub first_here : (events : List owned.Event) (i : ℕ) (e : owned.Event) (known : OpenCalls) (fault : EventFault) → i < length events → e ≡ get_or events i e
-    → IsAtFault (i + 1) (all_happened (take i events)) (happened e) fault
-    → IsCheckedTo events i known → FirstEventFault [] (all_happened events) fault
-first_here events i e known fault lt is h so_far =
-    let number : length (all_happened (take i events)) ≡ i = length-map (take i events) happened ∙ length-take-le i events (omega arith) in
-    so_far.faults_are fault (rw (one_dropped events i e lt is) (inl (rw number h)))
+pub first_here : (events : List SeenEvent) (i : ℕ) (d : SeenEvent) (known : OpenCalls) (fault : EventFault) → i < length events
+    → IsAtFault (i + 1) (all_seen (take i events)) (seen_event (get_or events i d)) fault
+    → IsCheckedTo events i known → FirstEventFault [] (all_seen events) fault
+first_here events i d known fault lt h so_far =
+    let number : length (all_seen (take i events)) ≡ i = length-map (take i events) seen_event ∙ length-take-le i events (omega arith) in
+    so_far.faults_are fault (rw (one_dropped events i d lt) (inl (rw number h)))
 
 -- there are no more eras than events, but for the first
-pub era_within : (events : List owned.Event) (i : ℕ) (known : OpenCalls) → i < length events → IsCheckedTo events i known → known.era ≤ 1 + i
+pub era_within : (events : List SeenEvent) (i : ℕ) (known : OpenCalls) → i < length events → IsCheckedTo events i known → known.era ≤ 1 + i
 era_within events i known lt so_far =
-    let size : length (all_happened (take i events)) ≡ i = length-map (take i events) happened ∙ length-take-le i events (omega arith) in
-    omega (arith, size, so_far.knows.era, eras_few 1 (all_happened (take i events)))
+    let size : length (all_seen (take i events)) ≡ i = length-map (take i events) seen_event ∙ length-take-le i events (omega arith) in
+    omega (arith, size, so_far.knows.era, eras_few 1 (all_seen (take i events)))

@@ -19,9 +19,9 @@ use Rattle.nfs3_types.specs.declared.calls.NfsCall.{NfsCall}
 use Rattle.nfs3_types.specs.declared.replies.NfsReply.{NfsReply}
 use Rattle.nfs3_types.specs.declared.replies.Outcome.{Outcome}
 use Rattle.nfs3_types.specs.declared.replies.Outcome.TheVariants as outcomes
-use Rattle.nfs3_msgs.specs.declared.fault.Kind.{Kind}
+use Rattle.nfs3_values.specs.declared.fault.Kind.{Kind}
 use Rattle.nfs3_msgs.specs.Messages.{arguments, results, arguments_of, result_of, IsArguments}
-use Rattle.nfs3_msgs.specs.Told as told
+use Rattle.nfs3_values.specs.Told as told
 use Rattle.history_file.specs.Event.{Event, Recording}
 use Rattle.history_file.specs.Event.Event.{call, reply, close, crash}
 use Rattle.history_file.specs.HistoryFile.{HistoryFile}
@@ -253,7 +253,7 @@ calls_or_fault n (event ∷ events) read = elim (call_or_fault n event read.0) [
 
 -- ---- a history, or a fault
 
-happened_again : (events : List Event) → all_happened (map owned_of events) ≡ events
+pub happened_again : (events : List Event) → all_happened (map owned_of events) ≡ events
 unfolding owned_of
 happened_again [] = refl
 happened_again (call lane message ∷ events) = ap (λ (es : List Event). call lane message ∷ es) (happened_again events)
@@ -267,8 +267,8 @@ recording_or_fault bytes seen file = elim (events_or_fault [] seen.events) [
   | inl follow ↦ elim (calls_or_fault 1 (calls_of seen.events) (calls_readable 1 1 [] seen.events follow)) [
     | inr first ↦ inr (of_call first.0, inr (seen, file, inr (first.0, follow, first.1, refl)))
     | inl known ↦
-        let history : HistoryValue = record { root = seen.root; eras = eras_from 1 seen.events; calls = known.0; events = map owned_of seen.events } in
-        inl (history, (seen, file, record { follow = follow; root = refl; eras = refl; events = happened_again seen.events; calls = known.1 }))
+        let history : HistoryValue = record { known = record { root = seen.root; eras = eras_from 1 seen.events; calls = known.0 }; events = map owned_of seen.events } in
+        inl (history, (seen, file, record { known = record { follow = follow; root = refl; eras = refl; calls = known.1 }; events = happened_again seen.events }))
   ]
 ]
 

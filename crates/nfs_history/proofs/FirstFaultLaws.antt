@@ -12,11 +12,11 @@ use Rattle.nfs_history.specs.declared.fault.HistoryFault.{HistoryFault}
 use Rattle.nfs_history.specs.declared.fault.HistoryFault.TheVariants as faults
 use Rattle.nfs_history.specs.declared.judging.Stop.{Stop}
 use Rattle.nfs_history.specs.declared.judging.Stop.TheVariants as stops
-use Rattle.nfs_history.specs.HistoryValue.{HistoryValue}
+use Rattle.nfs_history.specs.HistoryValue.{CallsValue, HistoryValue}
 use Rattle.nfs_history.specs.Calls.{ReplyEvent, CallEvent, first_reply, calls_from, calls_of, eras_from, xid_of}
 use Rattle.nfs_history.specs.Standing.{EachMayFollow}
 use Rattle.nfs_history.specs.Effects.{Says}
-use Rattle.nfs_history.specs.History.{IsHistory, IsHistoryFile}
+use Rattle.nfs_history.specs.History.{AreCallsOf, IsCallsFile, IsHistory, IsHistoryFile}
 use Rattle.nfs_history.specs.CallFaults.{FirstCallFault}
 use Rattle.nfs_history.specs.JoinedFaults.{of_file, of_event, of_call}
 use Rattle.nfs_history.specs.FirstFault.{FirstFaultOf, FirstFault}
@@ -52,9 +52,9 @@ calls_readable i era before (crash ∷ events) may = calls_readable (i + 1) (era
 
 -- ---- the first fault of events
 
-pub fault_or_history : (seen : Recording) (fault : HistoryFault) (history : HistoryValue) → FirstFaultOf seen.events fault → IsHistory seen history → ⊥
-fault_or_history seen fault history (inl h) is = first_fault_or_fine [] seen.events h.0 h.1 is.follow
-fault_or_history seen fault history (inr h) is = first_call_fault_or_fine 1 (calls_of seen.events) h.0 h.2 (all_fine (calls_of seen.events) history.calls is.calls)
+pub fault_or_calls : (seen : Recording) (fault : HistoryFault) (known : CallsValue) → FirstFaultOf seen.events fault → AreCallsOf seen known → ⊥
+fault_or_calls seen fault known (inl h) is = first_fault_or_fine [] seen.events h.0 h.1 is.follow
+fault_or_calls seen fault known (inr h) is = first_call_fault_or_fine 1 (calls_of seen.events) h.0 h.2 (all_fine (calls_of seen.events) known.calls is.calls)
 
 one_first_of : (events : List Event) (f g : HistoryFault) → FirstFaultOf events f → FirstFaultOf events g → f ≡ g
 one_first_of events f g (inl x) (inl y) = x.2 ∙ ap of_event (one_first_fault [] events x.0 y.0 x.1 y.1) ∙ sym y.2
@@ -64,11 +64,18 @@ one_first_of events f g (inr x) (inr y) = x.3 ∙ ap of_call (one_first_call_fau
 
 -- ---- the first fault of a file
 
-pub file_fault_or_history : (bytes : List ℕ) (fault : HistoryFault) (history : HistoryValue) → FirstFault bytes fault → IsHistoryFile bytes history → ⊥
-file_fault_or_history bytes fault history (inl h) is = file_fault_or_recording bytes h.0 is.0 h.1 is.1
-file_fault_or_history bytes fault history (inr h) is =
+pub file_fault_or_calls : (bytes : List ℕ) (fault : HistoryFault) (known : CallsValue) → FirstFault bytes fault → IsCallsFile bytes known → ⊥
+file_fault_or_calls bytes fault known (inl h) is = file_fault_or_recording bytes h.0 is.0 h.1 is.1
+file_fault_or_calls bytes fault known (inr h) is =
     let same = one_recording bytes h.0 is.0 h.1 is.1 in
-    fault_or_history is.0 fault history (subst (λ (s : Recording). FirstFaultOf s.events fault) same h.2) is.2
+    fault_or_calls is.0 fault known (subst (λ (s : Recording). FirstFaultOf s.events fault) same h.2) is.2
+
+-- the calls of a history are those of its file
+pub calls_in : (bytes : List ℕ) (history : HistoryValue) → IsHistoryFile bytes history → IsCallsFile bytes history.known
+calls_in bytes history is = (is.0, is.1, is.2.known)
+
+pub file_fault_or_history : (bytes : List ℕ) (fault : HistoryFault) (history : HistoryValue) → FirstFault bytes fault → IsHistoryFile bytes history → ⊥
+file_fault_or_history bytes fault history first is = file_fault_or_calls bytes fault history.known first (calls_in bytes history is)
 
 pub one_first : (bytes : List ℕ) (f g : HistoryFault) → FirstFault bytes f → FirstFault bytes g → f ≡ g
 one_first bytes f g (inl x) (inl y) = x.2 ∙ ap of_file (one_file_fault bytes x.0 y.0 x.1 y.1) ∙ sym y.2
@@ -80,22 +87,26 @@ one_first bytes f g (inr x) (inr y) =
 
 -- ---- what an answer that is right says of others
 
-pub only_memory_of : (bytes : List ℕ) (r : Result HistoryValue HistoryFault) → IsErrorOf (FirstFault bytes) r → (history : HistoryValue) → IsHistoryFile bytes history → IsFineOrNoMemory r
-only_memory_of bytes (Ok x) h history is = tt
-only_memory_of bytes (Err fault) (inl none) history is = none
-only_memory_of bytes (Err fault) (inr first) history is = absurd (file_fault_or_history bytes fault history first is)
+pub only_memory_of : {X : Type 0} → (bytes : List ℕ) (r : Result X HistoryFault) → IsErrorOf (FirstFault bytes) r → (known : CallsValue) → IsCallsFile bytes known → IsFineOrNoMemory r
+only_memory_of bytes (Ok x) h known is = tt
+only_memory_of bytes (Err fault) (inl none) known is = none
+only_memory_of bytes (Err fault) (inr first) known is = absurd (file_fault_or_calls bytes fault known first is)
 
-pub named_of : (bytes : List ℕ) (r : Result HistoryValue HistoryFault) → IfOk r (IsHistoryFile bytes) → IsErrorOf (FirstFault bytes) r → (fault : HistoryFault) → FirstFault bytes fault → IsThatOrNoMemory fault r
-named_of bytes (Ok x) found h fault first = absurd (file_fault_or_history bytes fault x first found)
-named_of bytes (Err other) found (inl none) fault first = inl none
-named_of bytes (Err other) found (inr is) fault first = inr (one_first bytes other fault is first)
+pub named_of : {X : Type 0} → (calls : X → CallsValue) (bytes : List ℕ) (r : Result X HistoryFault) → IfOk r (λ x. IsCallsFile bytes (calls x)) → IsErrorOf (FirstFault bytes) r → (fault : HistoryFault) → FirstFault bytes fault → IsThatOrNoMemory fault r
+named_of calls bytes (Ok x) found h fault first = absurd (file_fault_or_calls bytes fault (calls x) first found)
+named_of calls bytes (Err other) found (inl none) fault first = inl none
+named_of calls bytes (Err other) found (inr is) fault first = inr (one_first bytes other fault is first)
 
 -- what is answered of the recording of a file is answered of the file
-pub found_in : (bytes : List ℕ) (seen : Recording) (r : Result HistoryValue HistoryFault) → HistoryFile bytes seen → IfOk r (IsHistory seen) → IfOk r (IsHistoryFile bytes)
-found_in bytes seen (Ok x) file found = (seen, file, found)
-found_in bytes seen (Err fault) file found = tt
+pub found_in : {X : Type 0} → (IsOf : Recording → X → Type 0) (bytes : List ℕ) (seen : Recording) (r : Result X HistoryFault) → HistoryFile bytes seen → IfOk r (IsOf seen) → IfOk r (λ x. (s : Recording) × HistoryFile bytes s × IsOf s x)
+found_in IsOf bytes seen (Ok x) file found = (seen, file, found)
+found_in IsOf bytes seen (Err fault) file found = tt
 
-pub fault_in : (bytes : List ℕ) (seen : Recording) (r : Result HistoryValue HistoryFault) → HistoryFile bytes seen → IsErrorOf (FirstFaultOf seen.events) r → IsErrorOf (FirstFault bytes) r
+pub calls_found : (seen : Recording) (r : Result HistoryValue HistoryFault) → IfOk r (IsHistory seen) → IfOk r (λ h. AreCallsOf seen h.known)
+calls_found seen (Ok x) found = found.known
+calls_found seen (Err fault) found = tt
+
+pub fault_in : {X : Type 0} → (bytes : List ℕ) (seen : Recording) (r : Result X HistoryFault) → HistoryFile bytes seen → IsErrorOf (FirstFaultOf seen.events) r → IsErrorOf (FirstFault bytes) r
 fault_in bytes seen (Ok x) file h = tt
 fault_in bytes seen (Err fault) file (inl none) = inl none
 fault_in bytes seen (Err fault) file (inr first) = inr (inr (seen, file, first))
@@ -111,20 +122,19 @@ call_stop events calls stops.NoMemory are follow h = inl refl
 call_stop events calls (stops.Fault fault) are follow h = inr (inr (fault, follow, subst (λ cs. FirstCallFault 1 cs fault) are h, refl))
 
 -- what an answer that is right says of others, of events
-pub only_memory_in : (seen : Recording) (fault : HistoryFault) → (fault ≡ faults.NoMemory) ⊎ FirstFaultOf seen.events fault → (history : HistoryValue) → IsHistory seen history → fault ≡ faults.NoMemory
-only_memory_in seen fault (inl none) history is = none
-only_memory_in seen fault (inr first) history is = absurd (fault_or_history seen fault history first is)
+pub only_memory_in : (seen : Recording) (fault : HistoryFault) → (fault ≡ faults.NoMemory) ⊎ FirstFaultOf seen.events fault → (known : CallsValue) → AreCallsOf seen known → fault ≡ faults.NoMemory
+only_memory_in seen fault (inl none) known is = none
+only_memory_in seen fault (inr first) known is = absurd (fault_or_calls seen fault known first is)
 
 pub named_in : (events : List Event) (other fault : HistoryFault) → (other ≡ faults.NoMemory) ⊎ FirstFaultOf events other → FirstFaultOf events fault → (other ≡ faults.NoMemory) ⊎ (other ≡ fault)
 named_in events other fault (inl none) first = inl none
 named_in events other fault (inr is) first = inr (one_first_of events other fault is first)
 
--- what is known of the calls makes the history
-pub known_history : (events : List Event) (h : HistoryValue) → h.eras ≡ eras_from 1 events → all_happened h.events ≡ events → AreKnown events h.calls → IsHistory (record { root = h.root; events = events }) h
-known_history events h eras_are owned known = record {
+-- what is known of each call, of them all
+pub all_known : (events : List Event) (k : CallsValue) → k.eras ≡ eras_from 1 events → AreKnown events k.calls → AreCallsOf (record { root = k.root; events = events }) k
+all_known events k eras_are known = record {
   follow = known.0;
   root = refl;
   eras = eras_are;
-  events = owned;
   calls = known.1;
 }

@@ -1,5 +1,5 @@
 -- Calls are judged one after the other.
-use Rattle.std.proofs.Common.{◌≡◌, inl, inr, ℕ, suc, zero, ◌+◌, ◌<◌, ◌≤◌, List, [], ◌∷◌, ◌++◌, length, take, drop, get_or, map, Err, subst, sym, ap, ◌∙◌, arith, drop-cons, add-one}
+use Rattle.std.proofs.Common.{◌≡◌, inl, inr, ℕ, suc, zero, ◌+◌, ◌<◌, ◌≤◌, List, [], ◌∷◌, ◌++◌, length, take, drop, get_or, map, Err, sym, ap, ◌∙◌, arith, drop-cons, add-one}
 use Rattle.std.proofs.lemmas.List.{take_more, map_push, take_all}
 use Rattle.nfs_history.specs.declared.fault.CallFault.{CallFault}
 use Rattle.nfs_history.specs.declared.judging.Stop.{Stop}
@@ -27,28 +27,24 @@ pub record AreJudgedTo (seen : List SeenCall) (i : ℕ) (calls : List RecordedCa
 one_dropped : (seen : List SeenCall) (i : ℕ) (d : SeenCall) → i < length seen → map seen_call (drop i seen) ≡ seen_call (get_or seen i d) ∷ map seen_call (drop (i + 1) seen)
 one_dropped seen i d lt = ap (map seen_call) (drop-cons seen i d lt) ∙ ap (λ n. seen_call (get_or seen i d) ∷ map seen_call (drop n seen)) (sym (add-one i))
 
-pub judged_more : (seen : List SeenCall) (i : ℕ) (d this : SeenCall) (old new : List RecordedCall) (call : RecordedCall) → i < length seen → this ≡ get_or seen i d → new ≡ old ++ call ∷ [] → IsRecorded (seen_call this) call → AreJudgedTo seen i old → AreJudgedTo seen (i + 1) new
-judged_more seen i d this old new call lt is pushed recorded so_far =
-    let one : IsRecorded (seen_call (get_or seen i d)) call = subst (λ c. IsRecorded (seen_call c) call) is recorded in
+pub judged_more : (seen : List SeenCall) (i : ℕ) (d : SeenCall) (old new : List RecordedCall) (call : RecordedCall) → i < length seen → new ≡ old ++ call ∷ [] → IsRecorded (seen_call (get_or seen i d)) call → AreJudgedTo seen i old → AreJudgedTo seen (i + 1) new
+judged_more seen i d old new call lt pushed recorded so_far =
     let taken : map seen_call (take (i + 1) seen) ≡ map seen_call (take i seen) ++ seen_call (get_or seen i d) ∷ [] = ap (map seen_call) (take_more seen i d lt) ∙ map_push seen_call (take i seen) (get_or seen i d) in
     record {
-      recorded = rw (taken, pushed) (AreRecorded-push (map seen_call (take i seen)) old (seen_call (get_or seen i d)) call so_far.recorded one);
-      faults_are = λ fault rest. so_far.faults_are fault (rw (one_dropped seen i d lt) (inr ((call.meaning, call.outcome, one.means), rest)));
+      recorded = rw (taken, pushed) (AreRecorded-push (map seen_call (take i seen)) old (seen_call (get_or seen i d)) call so_far.recorded recorded);
+      faults_are = λ fault rest. so_far.faults_are fault (rw (one_dropped seen i d lt) (inr ((call.meaning, call.outcome, recorded.means), rest)));
     }
 
-pub stops_here : (seen : List SeenCall) (i : ℕ) (d this : SeenCall) (calls : List RecordedCall) (stop : Stop) → i < length seen → this ≡ get_or seen i d
-    → IsStopFor {X = Unit {0}} (IsFound (i + 1) (seen_call this)) (Err stop) → AreJudgedTo seen i calls → IsStopFor {X = Unit {0}} (FirstCallFault 1 (map seen_call seen)) (Err stop)
-stops_here seen i d this calls stops.NoMemory lt is h so_far = tt
-stops_here seen i d this calls (stops.Fault fault) lt is h so_far =
-    so_far.faults_are fault (rw (one_dropped seen i d lt) (inl (call_fault_found (i + 1) (seen_call (get_or seen i d)) fault (subst (λ c. IsFound (i + 1) (seen_call c) fault) is h))))
+pub stops_here : (seen : List SeenCall) (i : ℕ) (d : SeenCall) (calls : List RecordedCall) (stop : Stop) → i < length seen
+    → IsStopFor {X = Unit {0}} (IsFound (i + 1) (seen_call (get_or seen i d))) (Err stop) → AreJudgedTo seen i calls → IsStopFor {X = Unit {0}} (FirstCallFault 1 (map seen_call seen)) (Err stop)
+stops_here seen i d calls stops.NoMemory lt h so_far = tt
+stops_here seen i d calls (stops.Fault fault) lt h so_far =
+    so_far.faults_are fault (rw (one_dropped seen i d lt) (inl (call_fault_found (i + 1) (seen_call (get_or seen i d)) fault h)))
 
 pub all_judged : (seen : List SeenCall) (i : ℕ) (calls : List RecordedCall) → length seen ≤ i → AreJudgedTo seen i calls → AreRecorded (map seen_call seen) calls
 all_judged seen i calls le so_far = rw (take_all i seen le) at so_far.recorded
 
-readable_at : (seen : List SeenCall) (i : ℕ) (d : SeenCall) → i < length seen → AreReadable (map seen_call seen) → IsReadable (seen_call (get_or seen i d))
+pub readable_at : (seen : List SeenCall) (i : ℕ) (d : SeenCall) → i < length seen → AreReadable (map seen_call seen) → IsReadable (seen_call (get_or seen i d))
 readable_at [] i d lt all = absurd (omega arith)
 readable_at (c ∷ seen) zero d lt all = all.0
 readable_at (c ∷ seen) (suc i) d lt all = readable_at seen i d (omega arith) all.1
-
-pub readable_here : (seen : List SeenCall) (i : ℕ) (d this : SeenCall) → i < length seen → this ≡ get_or seen i d → AreReadable (map seen_call seen) → IsReadable (seen_call this)
-readable_here seen i d this lt is all = subst (λ c. IsReadable (seen_call c)) (sym is) (readable_at seen i d lt all)

@@ -4,9 +4,9 @@ use Rattle.std.specs.HashMap.{get, IsEmpty}
 use Rattle.std.specs.Map.{lookup}
 use Rattle.std.proofs.lemmas.Bool.{false≢true}
 use Rattle.std.proofs.lemmas.List.{reverse-append, take_more, map_push, drop_all}
-use Rattle.history_file.specs.declared.event.Event as owned
-use Rattle.history_file.specs.declared.event.Event.TheVariants as owns
-use Rattle.history_file.specs.Owning.{happened, all_happened}
+use Rattle.history_file.specs.declared.event.SeenEvent.{SeenEvent}
+use Rattle.history_file.specs.declared.event.SeenEvent.TheVariants as sees
+use Rattle.history_file.specs.Owning.{seen_event, all_seen}
 use Rattle.std.specs.declared.hash.FoldHasher.{FoldHasher}
 use Rattle.nfs_history.specs.declared.matching.SeenReply.{SeenReply}
 use Rattle.nfs_history.specs.declared.matching.SeenCall.{SeenCall}
@@ -67,11 +67,11 @@ pub met_close : (k era lane : ℕ) (events : List Event) (table : Table) (calls 
 met_close k era lane events table calls matched = record { calls_are = matched.calls_are; table_is = matched.table_is }
 
 -- the event before the place i, and what stands behind it
-pub one_before : (events : List owned.Event) (i : ℕ) (d e : owned.Event) → 0 < i → i ≤ length events → get_or events (i - 1) d ≡ e → all_happened (drop (i - 1) events) ≡ happened e ∷ all_happened (drop ((i - 1) + 1) events)
+pub one_before : (events : List SeenEvent) (i : ℕ) (d e : SeenEvent) → 0 < i → i ≤ length events → get_or events (i - 1) d ≡ e → all_seen (drop (i - 1) events) ≡ seen_event e ∷ all_seen (drop ((i - 1) + 1) events)
 one_before events i d e some within is =
     let k : ℕ = i - 1 in
     let lt : k < length events = omega arith in
-    ap all_happened (drop-cons events k d lt) ∙ ap (λ x. happened x ∷ all_happened (drop (suc k) events)) is ∙ ap (λ n. happened e ∷ all_happened (drop n events)) (sym (add-one k))
+    ap all_seen (drop-cons events k d lt) ∙ ap (λ x. seen_event x ∷ all_seen (drop (suc k) events)) is ∙ ap (λ n. seen_event e ∷ all_seen (drop n events)) (sym (add-one k))
 
 -- ahead of a crash lies the era before
 pub met_crash : (k era : ℕ) (events : List Event) (table : Table) (calls : List SeenCall) → 0 < era → IsMatched (k + 1) era events table calls → IsMatched k (era - 1) (crash ∷ events) table calls
@@ -83,43 +83,42 @@ met_crash k era events table calls some matched =
     }
 
 -- the place before i, with what is known behind i
-pub behind_it : (events : List owned.Event) (i era : ℕ) (table : Table) (calls : List SeenCall) → 0 < i → IsMatched i era (all_happened (drop i events)) table calls → IsMatched ((i - 1) + 1) era (all_happened (drop ((i - 1) + 1) events)) table calls
+pub behind_it : (events : List SeenEvent) (i era : ℕ) (table : Table) (calls : List SeenCall) → 0 < i → IsMatched i era (all_seen (drop i events)) table calls → IsMatched ((i - 1) + 1) era (all_seen (drop ((i - 1) + 1) events)) table calls
 behind_it events i era table calls some matched =
     let same : i ≡ (i - 1) + 1 = omega arith in
-    subst (λ n. IsMatched n era (all_happened (drop n events)) table calls) same matched
+    subst (λ n. IsMatched n era (all_seen (drop n events)) table calls) same matched
 
 -- the events behind the place i are matched, and those before it end in the era
-pub record IsMatchedTo (events : List owned.Event) (i era : ℕ) (table : Table) (calls : List SeenCall) : Type 0 where
-  pub matched : IsMatched i era (all_happened (drop i events)) table calls
-  pub era_is : era ≡ eras_from 1 (all_happened (take i events))
+pub record IsMatchedTo (events : List SeenEvent) (i era : ℕ) (table : Table) (calls : List SeenCall) : Type 0 where
+  pub matched : IsMatched i era (all_seen (drop i events)) table calls
+  pub era_is : era ≡ eras_from 1 (all_seen (take i events))
 
 -- the events before the place i end in the one before it
-front_is : (events : List owned.Event) (i : ℕ) (d e : owned.Event) → 0 < i → i ≤ length events → get_or events (i - 1) d ≡ e → all_happened (take i events) ≡ all_happened (take (i - 1) events) ++ happened e ∷ []
+front_is : (events : List SeenEvent) (i : ℕ) (d e : SeenEvent) → 0 < i → i ≤ length events → get_or events (i - 1) d ≡ e → all_seen (take i events) ≡ all_seen (take (i - 1) events) ++ seen_event e ∷ []
 front_is events i d e some within is =
     let k : ℕ = i - 1 in
     let next : i ≡ k + 1 = omega arith in
     let lt : k < length events = omega arith in
-    ap (λ n. all_happened (take n events)) next ∙ ap all_happened (take_more events k d lt) ∙ map_push happened (take k events) (get_or events k d)
-    ∙ ap (λ x. all_happened (take k events) ++ happened x ∷ []) is
+    ap (λ n. all_seen (take n events)) next ∙ ap all_seen (take_more events k d lt) ∙ map_push seen_event (take k events) (get_or events k d)
+    ∙ ap (λ x. all_seen (take k events) ++ seen_event x ∷ []) is
 
-pub era_before : (events : List owned.Event) (i : ℕ) (d e : owned.Event) (era : ℕ) → 0 < i → i ≤ length events → get_or events (i - 1) d ≡ e → is_crash (happened e) ≡ false → era ≡ eras_from 1 (all_happened (take i events)) → era ≡ eras_from 1 (all_happened (take (i - 1) events))
+pub era_before : (events : List SeenEvent) (i : ℕ) (d e : SeenEvent) (era : ℕ) → 0 < i → i ≤ length events → get_or events (i - 1) d ≡ e → is_crash (seen_event e) ≡ false → era ≡ eras_from 1 (all_seen (take i events)) → era ≡ eras_from 1 (all_seen (take (i - 1) events))
 era_before events i d e era some within is quiet era_is =
-    era_is ∙ ap (eras_from 1) (front_is events i d e some within is) ∙ eras_quiet 1 (all_happened (take (i - 1) events)) (happened e) quiet
+    era_is ∙ ap (eras_from 1) (front_is events i d e some within is) ∙ eras_quiet 1 (all_seen (take (i - 1) events)) (seen_event e) quiet
 
-pub era_at_crash : (events : List owned.Event) (i : ℕ) (d : owned.Event) (era : ℕ) → 0 < i → i ≤ length events → get_or events (i - 1) d ≡ owns.Crash → era ≡ eras_from 1 (all_happened (take i events)) → era ≡ eras_from 1 (all_happened (take (i - 1) events)) + 1
+pub era_at_crash : (events : List SeenEvent) (i : ℕ) (d : SeenEvent) (era : ℕ) → 0 < i → i ≤ length events → get_or events (i - 1) d ≡ sees.Crash → era ≡ eras_from 1 (all_seen (take i events)) → era ≡ eras_from 1 (all_seen (take (i - 1) events)) + 1
 era_at_crash events i d era some within is era_is =
-    era_is ∙ ap (eras_from 1) (front_is events i d owns.Crash some within is) ∙ eras_crash 1 (all_happened (take (i - 1) events))
+    era_is ∙ ap (eras_from 1) (front_is events i d sees.Crash some within is) ∙ eras_crash 1 (all_seen (take (i - 1) events))
 
 -- ---- eras are counted
 
 -- the crashes among the events below i are counted
-pub record AreCountedTo (events : List owned.Event) (i eras : ℕ) : Type 0 where
-  pub others : eras_from eras (all_happened (drop i events)) ≡ eras_from 1 (all_happened events)
+pub record AreCountedTo (events : List SeenEvent) (i eras : ℕ) : Type 0 where
+  pub others : eras_from eras (all_seen (drop i events)) ≡ eras_from 1 (all_seen events)
   pub few : eras ≤ i + 1
 
-dropped : (events : List owned.Event) (i : ℕ) (e : owned.Event) → i < length events → e ≡ get_or events i e → all_happened (drop i events) ≡ happened e ∷ all_happened (drop (i + 1) events)
-dropped events i e lt is =
-    ap all_happened (drop-cons events i e lt) ∙ ap (λ n. happened (get_or events i e) ∷ all_happened (drop n events)) (sym (add-one i)) ∙ ap (λ x. happened x ∷ all_happened (drop (i + 1) events)) (sym is)
+dropped : (events : List SeenEvent) (i : ℕ) (d : SeenEvent) → i < length events → all_seen (drop i events) ≡ seen_event (get_or events i d) ∷ all_seen (drop (i + 1) events)
+dropped events i d lt = ap all_seen (drop-cons events i d lt) ∙ ap (λ n. seen_event (get_or events i d) ∷ all_seen (drop n events)) (sym (add-one i))
 
 one_more : (eras : ℕ) (e : Event) (events : List Event) → is_crash e ≡ true → eras_from eras (e ∷ events) ≡ eras_from (eras + 1) events
 one_more eras (call l m) events crashed = absurd (false≢true crashed)
@@ -127,9 +126,9 @@ one_more eras (reply l m) events crashed = absurd (false≢true crashed)
 one_more eras (close l) events crashed = absurd (false≢true crashed)
 one_more eras crash events crashed = refl
 
-pub crash_counted : (events : List owned.Event) (i eras : ℕ) (e : owned.Event) → i < length events → e ≡ get_or events i e → is_crash (happened e) ≡ true → AreCountedTo events i eras → AreCountedTo events (i + 1) (eras + 1)
-crash_counted events i eras e lt is crashed so_far = record {
-  others = sym (one_more eras (happened e) (all_happened (drop (i + 1) events)) crashed) ∙ ap (eras_from eras) (sym (dropped events i e lt is)) ∙ so_far.others;
+pub crash_counted : (events : List SeenEvent) (i eras : ℕ) (d : SeenEvent) → i < length events → is_crash (seen_event (get_or events i d)) ≡ true → AreCountedTo events i eras → AreCountedTo events (i + 1) (eras + 1)
+crash_counted events i eras d lt crashed so_far = record {
+  others = sym (one_more eras (seen_event (get_or events i d)) (all_seen (drop (i + 1) events)) crashed) ∙ ap (eras_from eras) (sym (dropped events i d lt)) ∙ so_far.others;
   few = omega (arith, so_far.few);
 }
 
@@ -139,11 +138,11 @@ passed_over eras (reply l m) events quiet = refl
 passed_over eras (close l) events quiet = refl
 passed_over eras crash events quiet = absurd (false≢true (sym quiet))
 
-pub other_counted : (events : List owned.Event) (i eras : ℕ) (e : owned.Event) → i < length events → e ≡ get_or events i e → is_crash (happened e) ≡ false → AreCountedTo events i eras → AreCountedTo events (i + 1) eras
-other_counted events i eras e lt is quiet so_far = record {
-  others = sym (passed_over eras (happened e) (all_happened (drop (i + 1) events)) quiet) ∙ ap (eras_from eras) (sym (dropped events i e lt is)) ∙ so_far.others;
+pub other_counted : (events : List SeenEvent) (i eras : ℕ) (d : SeenEvent) → i < length events → is_crash (seen_event (get_or events i d)) ≡ false → AreCountedTo events i eras → AreCountedTo events (i + 1) eras
+other_counted events i eras d lt quiet so_far = record {
+  others = sym (passed_over eras (seen_event (get_or events i d)) (all_seen (drop (i + 1) events)) quiet) ∙ ap (eras_from eras) (sym (dropped events i d lt)) ∙ so_far.others;
   few = omega (arith, so_far.few);
 }
 
-pub all_counted : (events : List owned.Event) (i eras : ℕ) → length events ≤ i → AreCountedTo events i eras → eras ≡ eras_from 1 (all_happened events)
-all_counted events i eras le so_far = ap (λ es. eras_from eras (all_happened es)) (sym (drop_all i events le)) ∙ so_far.others
+pub all_counted : (events : List SeenEvent) (i eras : ℕ) → length events ≤ i → AreCountedTo events i eras → eras ≡ eras_from 1 (all_seen events)
+all_counted events i eras le so_far = ap (λ es. eras_from eras (all_seen es)) (sym (drop_all i events le)) ∙ so_far.others

@@ -9,7 +9,7 @@ use Rattle.nfs3_types.specs.declared.replies.NfsReply.{NfsReply}
 use Rattle.nfs3_types.specs.declared.replies.Outcome.{Outcome}
 use Rattle.nfs3_types.specs.declared.replies.Outcome.TheVariants as outcomes
 use Rattle.nfs3_msgs.specs.Messages.{arguments, results}
-use Rattle.nfs3_msgs.specs.Told as told
+use Rattle.nfs3_values.specs.Told as told
 use Rattle.history_file.specs.declared.event.Event as owned
 use Rattle.history_file.specs.declared.event.Event.TheVariants as owns
 use Rattle.history_file.specs.Event.{Event, Recording}
@@ -18,10 +18,10 @@ use Rattle.history_file.specs.Owning.{happened, all_happened}
 use Rattle.nfs_history.specs.declared.history.Meaning.{Meaning}
 use Rattle.nfs_history.specs.declared.history.Meaning.TheVariants as meanings
 use Rattle.nfs_history.specs.declared.history.RecordedCall.{RecordedCall}
-use Rattle.nfs_history.specs.HistoryValue.{HistoryValue}
+use Rattle.nfs_history.specs.HistoryValue.{CallsValue, HistoryValue}
 use Rattle.nfs_history.specs.Calls.{CallEvent, calls_of}
 use Rattle.nfs_history.specs.Effects.{results_of, has_no_effect}
-use Rattle.nfs_history.specs.History.{CameOut, IsJudged, IsKnownAs, Means, IsRecorded, AreRecorded, IsHistory, IsHistoryFile}
+use Rattle.nfs_history.specs.History.{CameOut, IsJudged, IsKnownAs, Means, IsRecorded, AreRecorded, AreCallsOf, IsCallsFile, IsHistory, IsHistoryFile}
 use Rattle.nfs_history.proofs.CallFaultLaws.{one_answer}
 use Rattle.nfs_history.proofs.CallFaultTable.{not_left_out}
 use Rattle.history_file.proofs.FileLaws.{one_recording}
@@ -112,18 +112,35 @@ one_sequence es fs same = sym (all_owned_again es) ∙ ap (map owned_of) same �
 
 -- ---- the history of a file
 
-made : List ℕ → ℕ → List RecordedCall → List owned.Event → HistoryValue
-made root eras calls events = record { root = root; eras = eras; calls = calls; events = events }
+made : List ℕ → ℕ → List RecordedCall → CallsValue
+made root eras calls = record { root = root; eras = eras; calls = calls }
 
-same_history : (h g : HistoryValue) → h.root ≡ g.root → h.eras ≡ g.eras → h.calls ≡ g.calls → h.events ≡ g.events → h ≡ g
+same_known : (h g : CallsValue) → h.root ≡ g.root → h.eras ≡ g.eras → h.calls ≡ g.calls → h ≡ g
 unfolding made
-same_history h g root eras calls events =
-    let all : made h.root h.eras h.calls h.events ≡ made g.root g.eras g.calls g.events = rw (root, eras, calls, events) refl in
+same_known h g root eras calls =
+    let all : made h.root h.eras h.calls ≡ made g.root g.eras g.calls = rw (root, eras, calls) refl in
+    all
+
+known_once : (seen : Recording) (h g : CallsValue) → AreCallsOf seen h → AreCallsOf seen g → h ≡ g
+known_once seen h g x y =
+    same_known h g (x.root ∙ sym y.root) (x.eras ∙ sym y.eras) (one_list (calls_of seen.events) h.calls g.calls x.calls y.calls)
+
+held : CallsValue → List owned.Event → HistoryValue
+held known events = record { known = known; events = events }
+
+same_history : (h g : HistoryValue) → h.known ≡ g.known → h.events ≡ g.events → h ≡ g
+unfolding held
+same_history h g known events =
+    let all : held h.known h.events ≡ held g.known g.events = rw (known, events) refl in
     all
 
 one_of_recording : (seen : Recording) (h g : HistoryValue) → IsHistory seen h → IsHistory seen g → h ≡ g
-one_of_recording seen h g x y =
-    same_history h g (x.root ∙ sym y.root) (x.eras ∙ sym y.eras) (one_list (calls_of seen.events) h.calls g.calls x.calls y.calls) (one_sequence h.events g.events (x.events ∙ sym y.events))
+one_of_recording seen h g x y = same_history h g (known_once seen h.known g.known x.known y.known) (one_sequence h.events g.events (x.events ∙ sym y.events))
+
+pub one_calls : (bytes : List ℕ) (h g : CallsValue) → IsCallsFile bytes h → IsCallsFile bytes g → h ≡ g
+one_calls bytes h g x y =
+    let same = one_recording bytes x.0 y.0 x.1 y.1 in
+    known_once y.0 h g (subst (λ (seen : Recording). AreCallsOf seen h) same x.2) y.2
 
 pub one_history : (bytes : List ℕ) (h g : HistoryValue) → IsHistoryFile bytes h → IsHistoryFile bytes g → h ≡ g
 one_history bytes h g x y =

@@ -11,7 +11,7 @@ use Rattle.nfs3_msgs.specs.Messages.{IsArguments, IsResult}
 use Rattle.nfs_history.specs.declared.history.Meaning.{Meaning}
 use Rattle.nfs_history.specs.declared.history.Meaning.TheVariants as meanings
 use Rattle.nfs_history.specs.declared.history.RecordedCall.{RecordedCall}
-use Rattle.nfs_history.specs.HistoryValue.{HistoryValue}
+use Rattle.nfs_history.specs.HistoryValue.{CallsValue, HistoryValue}
 use Rattle.history_file.specs.Event.{Recording}
 use Rattle.history_file.specs.HistoryFile.{HistoryFile}
 use Rattle.nfs_history.specs.Calls.{CallEvent, calls_of, eras_from, xid_of}
@@ -67,17 +67,25 @@ AreRecorded [] (call ∷ calls) = ⊥
 AreRecorded (event ∷ events) [] = ⊥
 AreRecorded (event ∷ events) (call ∷ calls) = IsRecorded event call × AreRecorded events calls
 
+-- what the history of a recording is judged by
+pub record AreCallsOf (seen : Recording) (known : CallsValue) : Type 0 where
+  pub follow : EachMayFollow [] seen.events
+  pub root : known.root ≡ seen.root
+  pub eras : known.eras ≡ eras_from 1 seen.events
+  pub calls : AreRecorded (calls_of seen.events) known.calls
+
 -- the history of a recording
 pub record IsHistory (seen : Recording) (history : HistoryValue) : Type 0 where
-  pub follow : EachMayFollow [] seen.events
-  pub root : history.root ≡ seen.root
-  pub eras : history.eras ≡ eras_from 1 seen.events
+  pub known : AreCallsOf seen history.known
   pub events : all_happened history.events ≡ seen.events
-  pub calls : AreRecorded (calls_of seen.events) history.calls
 
 -- what was recorded, of which a history is made
 abbrev pub recording_of : HistoryValue → Recording
-recording_of history = record { root = history.root; events = all_happened history.events }
+recording_of history = record { root = history.known.root; events = all_happened history.events }
+
+-- the bytes are the file of a history that is judged by these
+abbrev pub IsCallsFile : List ℕ → CallsValue → Type 0
+IsCallsFile bytes known = (seen : Recording) × HistoryFile bytes seen × AreCallsOf seen known
 
 -- the bytes are the file of the history
 abbrev pub IsHistoryFile : List ℕ → HistoryValue → Type 0

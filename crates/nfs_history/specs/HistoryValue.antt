@@ -1,11 +1,14 @@
--- A history as it is seen: the handle of its root directory, its eras, its calls, and what happened, in order (Herlihy and
--- Wing 1990, section 2; eras lie between crashes, Izraelevitz, Mendes and Scott 2016).
+-- A history as it is seen: what it is judged by, which is the handle of its root directory, its eras and its calls, and what
+-- happened, in order (Herlihy and Wing 1990, section 2; eras lie between crashes, Izraelevitz, Mendes and Scott 2016).
 use Rattle.std.specs.Prelude.{ℕ, List}
 use Rattle.history_file.specs.declared.event.Event.{Event}
 use Rattle.nfs_history.specs.declared.history.RecordedCall.{RecordedCall}
 
-pub record HistoryValue : Type 0 where
+pub record CallsValue : Type 0 where
   pub root : List ℕ
   pub eras : ℕ
   pub calls : List RecordedCall
+
+pub record HistoryValue : Type 0 where
+  pub known : CallsValue
   pub events : List Event

@@ -1,6 +1,10 @@
--- What of a history's parts in memory is seen.
-use Rattle.nfs_history.specs.declared.history.History.TheInside.{Inside}
-use Rattle.nfs_history.specs.HistoryValue.{HistoryValue}
+-- What of the parts in memory of a history, and of what it is judged by, is seen.
+use Rattle.nfs_history.specs.declared.history.History.TheInside as history
+use Rattle.nfs_history.specs.declared.knowing.KnownCalls.TheInside as known
+use Rattle.nfs_history.specs.HistoryValue.{CallsValue, HistoryValue}
 
-abbrev pub value_of : Inside → HistoryValue
-value_of parts = record { root = parts.root; eras = parts.eras; calls = parts.calls.items; events = parts.events.items }
+abbrev pub calls_within : known.Inside → CallsValue
+calls_within parts = record { root = parts.root; eras = parts.eras; calls = parts.calls.items }
+
+abbrev pub value_of : history.Inside → HistoryValue
+value_of parts = record { known = parts.known; events = parts.events.items }

@@ -2,12 +2,12 @@
 
 ghost use Rattle.std.specs.Prelude.{◌+◌, ◌<◌, ◌^◌, ◌≡◌, OnOk, IfOk};
 ghost use Rattle.history_file.specs.Event.Event.{call, reply};
-ghost use Rattle.history_file.specs.Owning.{happened, all_happened};
+ghost use Rattle.history_file.specs.Owning.{seen_event, all_seen};
 ghost use Rattle.nfs_history.specs.Checking.{is_known_closed, IsFaultBehind, KnowsOneMore, IsFirstFault};
 
 use crate::fault::EventFault;
 use crate::matching::transaction;
-use history_file::{Event, Message};
+use history_file::SeenEvent;
 use indexmap::{IndexMap, IndexSet};
 use rpc_reader::{read_call, read_reply};
 use std::alloc::{AllocError, Global};
@@ -46,10 +46,9 @@ impl OpenCalls {
     }
 
     /// Why a call may not come next, as event `number`.
-    fn fault_of_call(&self, number: u64, lane: u32, message: &Message) -> Option<EventFault>
+    fn fault_of_call(&self, number: u64, lane: u32, message: &[u8]) -> Option<EventFault>
         ensures { IsFaultBehind self.now number (call lane message.now) result }
     {
-        let message = message.as_slice();
         if self.is_closed(lane) {
             return Some(EventFault::LaneClosed(number));
         }
@@ -63,10 +62,9 @@ impl OpenCalls {
     }
 
     /// Why a reply may not come next, as event `number`.
-    fn fault_of_reply(&self, number: u64, lane: u32, message: &Message) -> Option<EventFault>
+    fn fault_of_reply(&self, number: u64, lane: u32, message: &[u8]) -> Option<EventFault>
         ensures { IsFaultBehind self.now number (reply lane message.now) result }
     {
-        let message = message.as_slice();
         if self.is_closed(lane) {
             return Some(EventFault::LaneClosed(number));
         }
@@ -80,50 +78,51 @@ impl OpenCalls {
     }
 
     /// Why event `number` may not come next.
-    fn fault_of(&self, number: u64, event: &Event) -> Option<EventFault>
-        ensures { IsFaultBehind self.now number (happened event.now) result }
+    fn fault_of(&self, number: u64, event: &SeenEvent<'_>) -> Option<EventFault>
+        ensures { IsFaultBehind self.now number (seen_event event.now) result }
     {
         match event {
-            Event::Call { lane, message } => self.fault_of_call(number, *lane, message),
-            Event::Reply { lane, message } => self.fault_of_reply(number, *lane, message),
-            Event::Close { lane } => {
+            SeenEvent::Call { lane, message } => self.fault_of_call(number, *lane, *message),
+            SeenEvent::Reply { lane, message } => self.fault_of_reply(number, *lane, *message),
+            SeenEvent::Close { lane } => {
                 if self.is_closed(*lane) {
                     return Some(EventFault::LaneClosed(number));
                 }
                 None
             }
-            Event::Crash => None,
+            SeenEvent::Crash => None,
         }
     }
 
     /// Takes in the next event.
-    fn follow(&mut self, event: &Event) -> Result<(), AllocError>
+    fn follow(&mut self, event: &SeenEvent<'_>) -> Result<(), AllocError>
         requires { self.old.era + 1 < 2 ^ 64 }
-        ensures { OnOk result (KnowsOneMore self.old self.new (happened event.now)) }
+        ensures { OnOk result (KnowsOneMore self.old self.new (seen_event event.now)) }
     {
         match event {
-            Event::Call { lane, message } => {
+            SeenEvent::Call { lane, message } => {
                 self.lanes.insert(*lane, LaneUse::InEra(self.era))?;
-                self.unanswered
-                    .insert((*lane, transaction(message.as_slice())))?;
+                self.unanswered.insert((*lane, transaction(*message)))?;
             }
-            Event::Reply { lane, message } => {
+            SeenEvent::Reply { lane, message } => {
                 self.lanes.insert(*lane, LaneUse::InEra(self.era))?;
-                self.unanswered
-                    .swap_remove(&(*lane, transaction(message.as_slice())));
+                self.unanswered.swap_remove(&(*lane, transaction(*message)));
             }
-            Event::Close { lane } => {
+            SeenEvent::Close { lane } => {
                 self.lanes.insert(*lane, LaneUse::Closed)?;
             }
-            Event::Crash => self.era += 1,
+            SeenEvent::Crash => self.era += 1,
         }
         Ok(())
     }
 }
 
 /// The fault of the first event that may not follow those before it, where there is one.
-pub fn first_event_fault(alloc: Global, events: &[Event]) -> Result<Option<EventFault>, AllocError>
-    ensures { IfOk result (IsFirstFault (all_happened events.now)) }
+pub fn first_event_fault(
+    alloc: Global,
+    events: &[SeenEvent<'_>],
+) -> Result<Option<EventFault>, AllocError>
+    ensures { IfOk result (IsFirstFault (all_seen events.now)) }
 {
     let mut calls = OpenCalls {
         unanswered: IndexSet::new(alloc),

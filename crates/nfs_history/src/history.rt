@@ -6,14 +6,13 @@ ghost use Rattle.history_file.specs.Owning.{all_happened};
 ghost use Rattle.nfs_history.specs.declared.fault.HistoryFault.{HistoryFault};
 ghost use Rattle.nfs_history.specs.declared.history.History.{History};
 ghost use Rattle.nfs_history.specs.Precedence.{call_at, begin_of, end_of};
-ghost use Rattle.nfs_history.specs.History.{recording_of, IsHistory};
+ghost use Rattle.nfs_history.specs.History.{recording_of, AreCallsOf, IsHistory};
 ghost use Rattle.nfs_history.specs.FirstFault.{FirstFaultOf};
 ghost use Rattle.nfs_history.specs.Answers.{IsFineOrNoMemory, IsErrorOf, IsThatOrNoMemory};
 
 use crate::fault::HistoryFault;
-use crate::knowing::known_calls;
-use crate::matching::count_eras;
-use history_file::Event;
+use crate::knowing::KnownCalls;
+use history_file::{Event, lend_events};
 use nfs3_types::{FileHandle, NfsCall, Outcome};
 use std::alloc::Global;
 use std::marker::Model;
@@ -60,22 +59,14 @@ impl Drop for RecordedCall {
 
 /// A history without a fault.
 pub struct History {
-    root: FileHandle,
-    eras: u64,
-    calls: Vec<RecordedCall>,
+    known: KnownCalls,
     events: Vec<Event>,
 }
 
 impl Drop for History {
     fn drop(self) {
-        let History {
-            root,
-            eras: _,
-            calls,
-            events,
-        } = self;
-        drop(root);
-        drop(calls);
+        let History { known, events } = self;
+        drop(known);
         drop(events);
     }
 }
@@ -104,6 +95,19 @@ pub fn find_call(calls: &[RecordedCall], number: u64) -> Option<&RecordedCall>
     calls.get(number as usize - 1)
 }
 
+/// What is known of the calls among these events.
+fn calls_among(
+    alloc: Global,
+    root: FileHandle,
+    events: &[Event],
+) -> Result<KnownCalls, HistoryFault>
+    ensures found { IfOk result (AreCallsOf (record { root = root; events = all_happened events.now })) }
+    ensures fault { IsErrorOf (FirstFaultOf (all_happened events.now)) result }
+{
+    let seen = lend_events(alloc, events)?;
+    KnownCalls::of_events(alloc, root, seen)
+}
+
 impl History {
     /// The history of these events. The first fault is named: those of the events, then those of the calls.
     pub fn build(
@@ -120,21 +124,22 @@ impl History {
         ensures named { (fault : HistoryFault) → FirstFaultOf (all_happened events.items) fault
             → IsThatOrNoMemory fault result }
     {
-        let eras = count_eras(events.as_slice());
-        let calls = known_calls(alloc, events.as_slice(), eras)?;
-        Ok(History {
-            root,
-            eras,
-            calls,
-            events,
-        })
+        let known = calls_among(alloc, root, events.as_slice())?;
+        Ok(History { known, events })
+    }
+
+    /// What it is judged by.
+    pub fn known(&self) -> &KnownCalls
+        ensures { result.now ≡ self.now.known }
+    {
+        &self.known
     }
 
     /// The handle of the root directory.
     pub fn root(&self) -> &FileHandle
-        ensures { result.now ≡ self.now.root }
+        ensures { result.now ≡ self.now.known.root }
     {
-        &self.root
+        self.known.root()
     }
 
     /// What happened, in order, numbered from 1.
@@ -148,46 +153,46 @@ impl History {
 
     /// How many eras it has: one more than the server went down.
     pub fn eras(&self) -> u64
-        ensures { result ≡ self.now.eras }
+        ensures { result ≡ self.now.known.eras }
     {
-        self.eras
+        self.known.eras()
     }
 
     /// How many calls it has.
     pub fn calls(&self) -> u64
-        ensures { result ≡ length self.now.calls }
+        ensures { result ≡ length self.now.known.calls }
     {
-        self.calls.len() as u64
+        self.recorded_calls().len() as u64
     }
 
     /// Its calls in the order in which they began: call n is the n-th.
     pub fn recorded_calls(&self) -> &[RecordedCall]
-        ensures { result.now ≡ self.now.calls }
+        ensures { result.now ≡ self.now.known.calls }
     {
-        self.calls.as_slice()
+        self.known.recorded_calls()
     }
 
     /// Call `number`, from 1 on, where there is one.
     pub fn find_call(&self, number: u64) -> Option<&RecordedCall>
-        ensures { option_copied result ≡ call_at self.now.calls number }
+        ensures { option_copied result ≡ call_at self.now.known.calls number }
     {
-        find_call(self.calls.as_slice(), number)
+        find_call(self.recorded_calls(), number)
     }
 
     /// Call `number`, from 1 on.
     pub fn call(&self, number: u64) -> &RecordedCall
         requires from_one { 1 ≤ number }
-        requires known { number ≤ length self.now.calls }
-        ensures { call_at self.now.calls number ≡ Some result.now }
+        requires known { number ≤ length self.now.known.calls }
+        ensures { call_at self.now.known.calls number ≡ Some result.now }
     {
-        &self.calls[number as usize - 1]
+        &self.recorded_calls()[number as usize - 1]
     }
 
     /// The number of the event with which a call began.
     pub fn begin(&self, number: u64) -> u64
         requires from_one { 1 ≤ number }
-        requires known { number ≤ length self.now.calls }
-        ensures { result ≡ begin_of self.now.calls number }
+        requires known { number ≤ length self.now.known.calls }
+        ensures { result ≡ begin_of self.now.known.calls number }
     {
         self.call(number).begin
     }
@@ -195,8 +200,8 @@ impl History {
     /// The number of the event of a call's reply, where one came.
     pub fn end(&self, number: u64) -> Option<u64>
         requires from_one { 1 ≤ number }
-        requires known { number ≤ length self.now.calls }
-        ensures { result ≡ end_of self.now.calls number }
+        requires known { number ≤ length self.now.known.calls }
+        ensures { result ≡ end_of self.now.known.calls number }
     {
         self.call(number).end
     }
@@ -204,8 +209,8 @@ impl History {
     /// The era of a call, from 1 on.
     pub fn era(&self, number: u64) -> u64
         requires from_one { 1 ≤ number }
-        requires known { number ≤ length self.now.calls }
-        ensures { option_map (λ call. call.era) (call_at self.now.calls number) ≡ Some result }
+        requires known { number ≤ length self.now.known.calls }
+        ensures { option_map (λ call. call.era) (call_at self.now.known.calls number) ≡ Some result }
     {
         self.call(number).era
     }
@@ -213,8 +218,8 @@ impl History {
     /// How an answered judged call came out.
     pub fn outcome(&self, number: u64) -> Option<&Outcome>
         requires from_one { 1 ≤ number }
-        requires known { number ≤ length self.now.calls }
-        ensures { option_copied result ≡ option_and_then (λ call. call.outcome) (call_at self.now.calls number) }
+        requires known { number ≤ length self.now.known.calls }
+        ensures { option_copied result ≡ option_and_then (λ call. call.outcome) (call_at self.now.known.calls number) }
     {
         self.call(number).outcome.as_ref()
     }

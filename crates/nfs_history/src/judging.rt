@@ -309,7 +309,7 @@ fn body_of<'a>(answer: &Option<SeenReply<'a>>) -> Option<ReplyBody<'a>>
     let Some(reply) = answer else {
         return None;
     };
-    match read_reply(reply.message.as_slice()) {
+    match read_reply(reply.message) {
         Ok(head) => Some(head.body),
         Err(_) => unreachable!(),
     }
@@ -321,15 +321,14 @@ fn judged_call(alloc: Global, number: u64, seen: &SeenCall<'_>) -> Result<Record
     ensures found { IfOk result (IsRecorded (seen_call seen.now)) }
     ensures fault { IsStopFor (IsFound number (seen_call seen.now)) result }
 {
-    let message = seen.message.as_slice();
-    let Ok(head) = read_call(message) else {
+    let Ok(head) = read_call(seen.message) else {
         unreachable!();
     };
     let body = body_of(&seen.answer);
     let (meaning, outcome) = known_of(alloc, number, &head, &body)?;
     Ok(RecordedCall {
         lane: seen.lane,
-        xid: transaction(message),
+        xid: transaction(seen.message),
         meaning,
         begin: seen.begin,
         end: seen.answer.map(|reply| reply.number),

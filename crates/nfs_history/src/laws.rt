@@ -3,12 +3,20 @@
 ghost use Rattle.std.specs.Prelude.{◌≡◌, ◌⊎◌, ℕ, List};
 ghost use Rattle.nfs_history.specs.declared.fault.HistoryFault.{HistoryFault};
 ghost use Rattle.nfs_history.specs.declared.history.History.{History};
-ghost use Rattle.nfs_history.specs.History.{IsHistoryFile};
+ghost use Rattle.nfs_history.specs.declared.knowing.KnownCalls.{KnownCalls};
+ghost use Rattle.nfs_history.specs.History.{IsCallsFile, IsHistoryFile};
 ghost use Rattle.nfs_history.specs.FirstFault.{FirstFault};
 
 /// What is found of a history that is read of a file holds of every history that the file is said to be of.
 pub fn a_file_has_one_history()
     ensures { (bytes : List ℕ) (h g : History) → IsHistoryFile bytes h → IsHistoryFile bytes g → h ≡ g }
+{}
+
+/// What a file is judged by is of its history: of each that it is said to be of, and there is one.
+pub fn a_file_is_judged_by_its_history()
+    ensures of_each { (bytes : List ℕ) (h : History) → IsHistoryFile bytes h → IsCallsFile bytes h.known }
+    ensures of_one { (bytes : List ℕ) (known : KnownCalls) → IsCallsFile bytes known
+        → (h : History) × IsHistoryFile bytes h × (h.known ≡ known) }
 {}
 
 /// Bytes have one first fault.

@@ -13,7 +13,9 @@ mod reading;
 pub use fault::{CallFault, EventFault, HistoryFault, Which};
 pub use history::{History, Meaning, RecordedCall, find_call};
 pub use history_file::{Event, FileFault, Message, WriteFault, write_history};
+pub use knowing::KnownCalls;
 pub use laws::{
-    a_file_has_one_history, bytes_are_a_history_or_at_fault, bytes_have_one_first_fault,
+    a_file_has_one_history, a_file_is_judged_by_its_history, bytes_are_a_history_or_at_fault,
+    bytes_have_one_first_fault,
 };
-pub use reading::read_history;
+pub use reading::{read_calls, read_history};

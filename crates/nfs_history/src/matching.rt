@@ -4,10 +4,10 @@ ghost use Rattle.std.specs.Prelude.{◌≡◌, IfOk, map};
 ghost use Rattle.nfs_history.specs.Calls.{xid_of, calls_of, eras_from};
 ghost use Rattle.nfs_history.specs.Matching.{seen_call};
 ghost use Rattle.nfs_history.specs.Checking.{is_crash};
-ghost use Rattle.history_file.specs.Owning.{happened, all_happened};
+ghost use Rattle.history_file.specs.Owning.{seen_event, all_seen};
 
 use byteorder::{BigEndian, ByteOrder};
-use history_file::{Event, Message};
+use history_file::SeenEvent;
 use indexmap::IndexMap;
 use std::alloc::{AllocError, Global};
 
@@ -15,14 +15,14 @@ use std::alloc::{AllocError, Global};
 #[derive(Clone, Copy)]
 pub struct SeenReply<'a> {
     pub number: u64,
-    pub message: &'a Message,
+    pub message: &'a [u8],
 }
 
 /// A call, with the number of its event, its era and the reply that answers it.
 #[derive(Clone, Copy)]
 pub struct SeenCall<'a> {
     pub lane: u32,
-    pub message: &'a Message,
+    pub message: &'a [u8],
     pub begin: u64,
     pub era: u64,
     pub answer: Option<SeenReply<'a>>,
@@ -40,15 +40,15 @@ pub fn transaction(message: &[u8]) -> u32
     }
 }
 
-fn is_crash(event: &Event) -> bool
-    ensures { result ≡ is_crash (happened event.now) }
+fn is_crash(event: &SeenEvent<'_>) -> bool
+    ensures { result ≡ is_crash (seen_event event.now) }
 {
-    matches!(event, Event::Crash)
+    matches!(event, SeenEvent::Crash)
 }
 
 /// How many eras the events are of: one more than the server went down.
-pub fn count_eras(events: &[Event]) -> u64
-    ensures { result ≡ eras_from 1 (all_happened events.now) }
+pub fn count_eras(events: &[SeenEvent<'_>]) -> u64
+    ensures { result ≡ eras_from 1 (all_seen events.now) }
 {
     let mut eras = 1;
     for event in events {
@@ -64,35 +64,35 @@ pub fn count_eras(events: &[Event]) -> u64
 /// down by one at each crash.
 pub fn matched_calls<'a>(
     alloc: Global,
-    events: &'a [Event],
+    events: &[SeenEvent<'a>],
     eras: u64,
 ) -> Result<Vec<SeenCall<'a>>, AllocError>
-    requires { eras ≡ eras_from 1 (all_happened events.now) }
-    ensures { IfOk result (λ v. map seen_call v.items ≡ calls_of (all_happened events.now)) }
+    requires { eras ≡ eras_from 1 (all_seen events.now) }
+    ensures { IfOk result (λ v. map seen_call v.items ≡ calls_of (all_seen events.now)) }
 {
     let mut replies: IndexMap<(u32, u32), SeenReply<'a>> = IndexMap::new(alloc);
     let mut calls = Vec::new(alloc);
     let mut era = eras;
     for index in (0..events.len()).rev() {
         let number = index as u64 + 1;
-        match &events[index] {
-            Event::Call { lane, message } => {
-                let xid = transaction(message.as_slice());
-                let answer = replies.get(&(*lane, xid)).copied();
+        match events[index] {
+            SeenEvent::Call { lane, message } => {
+                let xid = transaction(message);
+                let answer = replies.get(&(lane, xid)).copied();
                 calls.push(SeenCall {
-                    lane: *lane,
+                    lane,
                     message,
                     begin: number,
                     era,
                     answer,
                 })?;
             }
-            Event::Reply { lane, message } => {
-                let xid = transaction(message.as_slice());
-                replies.insert((*lane, xid), SeenReply { number, message })?;
+            SeenEvent::Reply { lane, message } => {
+                let xid = transaction(message);
+                replies.insert((lane, xid), SeenReply { number, message })?;
             }
-            Event::Close { .. } => {}
-            Event::Crash => era -= 1,
+            SeenEvent::Close { .. } => {}
+            SeenEvent::Crash => era -= 1,
         }
     }
     calls.reverse();

@@ -3,15 +3,33 @@
 ghost use Rattle.std.specs.Prelude.{IfOk};
 ghost use Rattle.nfs_history.specs.declared.fault.HistoryFault.{HistoryFault};
 ghost use Rattle.nfs_history.specs.declared.history.History.{History};
-ghost use Rattle.nfs_history.specs.History.{IsHistoryFile};
+ghost use Rattle.nfs_history.specs.declared.knowing.KnownCalls.{KnownCalls};
+ghost use Rattle.nfs_history.specs.History.{IsCallsFile, IsHistoryFile};
 ghost use Rattle.nfs_history.specs.FirstFault.{FirstFault};
 ghost use Rattle.nfs_history.specs.Answers.{IsFineOrNoMemory, IsErrorOf, IsThatOrNoMemory};
 
 use crate::fault::HistoryFault;
 use crate::history::History;
-use history_file::read_file;
+use crate::knowing::KnownCalls;
+use history_file::{copy_events, read_file};
 use nfs3_types::FileHandle;
 use std::alloc::Global;
+
+/// What is known of the calls of the history that a file holds. The first fault is named: those of the file, then those
+/// of its events, then those of its calls. No message is copied, and the events are gone when this returns.
+pub fn read_calls(alloc: Global, bytes: &[u8]) -> Result<KnownCalls, HistoryFault>
+    // The bytes are the file of a history whose calls these are.
+    ensures found { IfOk result (IsCallsFile bytes.now) }
+    // The calls of the file of a history are found, memory aside.
+    ensures only { (known : KnownCalls) → IsCallsFile bytes.now known → IsFineOrNoMemory result }
+    ensures fault { IsErrorOf (FirstFault bytes.now) result }
+    // The first fault is named, memory aside.
+    ensures named { (fault : HistoryFault) → FirstFault bytes.now fault → IsThatOrNoMemory fault result }
+{
+    let seen = read_file(alloc, bytes)?;
+    let root = FileHandle::from_slice(alloc, seen.root)?;
+    KnownCalls::of_events(alloc, root, seen.events)
+}
 
 /// The history that a file holds. The first fault is named: those of the file, then those of its events, then
 /// those of its calls. The bytes of messages are copied once, and what the calls and results own.
@@ -25,5 +43,6 @@ pub fn read_history(alloc: Global, bytes: &[u8]) -> Result<History, HistoryFault
 {
     let recording = read_file(alloc, bytes)?;
     let root = FileHandle::from_slice(alloc, recording.root)?;
-    History::build(alloc, root, recording.events)
+    let events = copy_events(alloc, recording.events.as_slice())?;
+    History::build(alloc, root, events)
 }

@@ -10,7 +10,7 @@ ghost use Rattle.order_check.specs.Order.{RespectsOrder, EachEraRespectsOrder, B
 use crate::fault::OrderFault;
 use crate::places::number_at;
 use certificate::{Certificate, Place};
-use nfs_history::{History, RecordedCall, find_call};
+use nfs_history::{KnownCalls, RecordedCall, find_call};
 
 /// When a call began.
 fn begin_of_call(calls: &[RecordedCall], number: u64) -> u64
@@ -72,7 +72,7 @@ fn check_era(calls: &[RecordedCall], places: &[Place]) -> Result<(), OrderFault>
 }
 
 /// Whether the plan respects the order in which the history's calls ended and began.
-pub fn check_order(history: &History, certificate: &Certificate) -> Result<(), OrderFault>
+pub fn check_order(history: &KnownCalls, certificate: &Certificate) -> Result<(), OrderFault>
     ensures ok { OnOk result (EachEraRespectsOrder history.now.calls certificate.now.eras) }
     ensures only { EachEraRespectsOrder history.now.calls certificate.now.eras → IsOk result }
     // The first early place, and of the calls ahead of it in its era the one that began last.

@@ -9,7 +9,7 @@ ghost use Rattle.order_check.specs.FirstFault.{failing, missing_from, bad_cut_fr
 use crate::fault::ShapeFault;
 use crate::places::{OrderedPlace, names_call, serial_order, stands_in_era, stands_right};
 use certificate::{Certificate, EraPlan};
-use nfs_history::{History, Meaning, RecordedCall};
+use nfs_history::{KnownCalls, Meaning, RecordedCall};
 use std::alloc::{AllocError, Global};
 
 /// The first place that names no call.
@@ -123,7 +123,7 @@ fn check_places(
 /// Whether the plan has the shape that the history asks for.
 pub fn check_shape(
     alloc: Global,
-    history: &History,
+    history: &KnownCalls,
     certificate: &Certificate,
 ) -> Result<(), ShapeFault>
     // The first fault.

@@ -1,5 +1,5 @@
 -- the names of a directory's entries among others
-use Rattle.std.proofs.Common.{◌≡◌, ℕ, ◌+◌, ◌==◌, ◌⊎◌, inl, inr, Bool, true, false, List, [], ◌∷◌, ◌++◌, length, drop, Option, Some, None, refl, sym, ap, ◌∙◌, arith, length-append, eq-eqb, get_or}
+use Rattle.std.proofs.Common.{◌≡◌, ℕ, ◌+◌, ◌==◌, Bool, true, false, List, [], ◌∷◌, ◌++◌, length, drop, Some, refl, sym, ap, ◌∙◌, arith, length-append, eq-eqb, get_or}
 use Rattle.std.specs.Prelude.{not, ◌||◌, ◌&&◌, slice_index_or}
 use Rattle.std.specs.List.{list_any, list_all}
 use Rattle.std.proofs.lemmas.Bool.{eqb-true}
@@ -10,9 +10,9 @@ use Rattle.std.specs.FinMap as map
 use Rattle.tree_nodes.specs.declared.node.Node.{Node}
 use Rattle.tree_nodes.specs.Tree.{Names, Tree, entry_of, is_in}
 use Rattle.tree_nodes.specs.Moved.{is_from}
-use Rattle.tree_nodes.specs.Walk.{Steps, Held, Holds, walk, seen, IsTree}
+use Rattle.tree_nodes.specs.Walk.{Steps, Holds, walk, seen, IsTree}
 use Rattle.tree_nodes.specs.Place.{are_among}
-use Rattle.tree_nodes.proofs.Chains.{decide, differ, isnt, both_pass, negated, value_of}
+use Rattle.tree_nodes.proofs.Chains.{differ, isnt, both_pass, negated, value_of}
 use Rattle.tree_nodes.proofs.Found.{parts_of, from_front, found_stands, found_passes, some_found, any_of_found, found_of_any}
 use Rattle.tree_nodes.proofs.Walks.{walk_last}
 use Rattle.tree_nodes.proofs.Looking.{reached, stands, child_stands}

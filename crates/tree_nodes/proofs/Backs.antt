@@ -1,8 +1,6 @@
 -- a change taken back, by the table
-use Rattle.std.proofs.Common.{◌≡◌, ℕ, ◌+◌, ◌==◌, List, [], ◌∷◌, ◌++◌, Option, Some, None, refl, sym, ap, ◌∙◌, subst, arith, append-nil}
-use Rattle.std.specs.Prelude.{IsSome, option_and_then}
-use Rattle.std.specs.Ordering.{nat_cmp}
-use Rattle.std.specs.BTreeMap.{btree_map_len, IsOrdered}
+use Rattle.std.proofs.Common.{◌≡◌, ℕ, ◌+◌, List, [], ◌∷◌, ◌++◌, Option, Some, None, refl, sym, ap, ◌∙◌, subst, arith, append-nil}
+use Rattle.std.specs.Prelude.{IsSome}
 use Rattle.std.specs.FinMap as map
 use Rattle.tree_nodes.specs.declared.node.Node.{Node}
 use Rattle.tree_nodes.specs.declared.node.File.{File}
@@ -11,7 +9,7 @@ use Rattle.file_bytes.specs.declared.changes.FileUndo.{FileUndo}
 use Rattle.tree_nodes.specs.declared.table.Entry.{Entry}
 use Rattle.tree_nodes.specs.declared.table.Place.{Place}
 use Rattle.tree_nodes.specs.declared.undo.Move.{Move}
-use Rattle.tree_nodes.specs.Tree.{Names, Tree, entry_of}
+use Rattle.tree_nodes.specs.Tree.{Names, Tree}
 use Rattle.tree_nodes.specs.Files.{file_node}
 use Rattle.file_bytes.specs.Undo.{Restores}
 use Rattle.tree_nodes.specs.Walk.{Held, walk}
@@ -19,7 +17,6 @@ use Rattle.tree_nodes.specs.Changes.{Adds, Cuts, Sets, Shifts}
 use Rattle.tree_nodes.specs.Table.{Table, child, held, placed}
 use Rattle.tree_nodes.specs.Shown.{IsTableOf}
 use Rattle.tree_nodes.specs.Undo.{IsUnmade, IsPutBack, IsEditedBack, GivesBack, IsMovedBack}
-use Rattle.tree_nodes.proofs.Chains.{same_some}
 use Rattle.tree_nodes.proofs.Looking.{reached, held_of, childless}
 use Rattle.tree_nodes.proofs.Walks.{once, one_path, lies_at, parent_held}
 use Rattle.tree_nodes.proofs.Renaming.{Lay}
@@ -39,7 +36,7 @@ module _ (m : Table) (t : Tree) (good : IsTableOf m t) (before : Tree) where
     pub unmake_bare : (x : List ℕ) → child m o x ≡ None
     unmake_bare = childless t (child m) (held m) good.table.tree good.agrees o back.entry back.stands back.bare
 
-    pub unmake_good : (n : Table) (entry : Entry) → held m o ≡ Some (placed entry) → Cuts entry.parent entry.name o (child m) (child n) (held m) (held n) → btree_map_len n + 1 ≡ btree_map_len m → IsTableOf n before
+    pub unmake_good : (n : Table) (entry : Entry) → held m o ≡ Some (placed entry) → Cuts entry.parent entry.name o (child m) (child n) (held m) (held n) → map.len n + 1 ≡ map.len m → IsTableOf n before
     unmake_good n entry is cuts len = subst (IsTableOf n) (sym back.gives) (cut_good m t good n o entry back.entry back.stands back.isnt_root back.bare is cuts len)
 
   -- ---- an object that was taken away
@@ -51,9 +48,9 @@ module _ (m : Table) (t : Tree) (good : IsTableOf m t) (before : Tree) where
     pub put_back_new : held m entry.node.object ≡ None
     put_back_new = new_where m t good entry.node.object back.new
 
-    pub put_back_good : (n : Table) → Adds entry.parent entry.name entry.node.object entry.node (child m) (child n) (held m) (held n) → btree_map_len n ≡ btree_map_len m + 1 → IsOrdered nat_cmp m → IsTableOf n before
-    put_back_good n adds len ordered = subst (IsTableOf n) (sym back.gives)
-        (put_good m t good n entry.parent entry.name entry.node back.directory back.stands back.free back.new back.room adds len ordered)
+    pub put_back_good : (n : Table) → Adds entry.parent entry.name entry.node.object entry.node (child m) (child n) (held m) (held n) → map.len n ≡ map.len m + 1 → IsTableOf n before
+    put_back_good n adds len = subst (IsTableOf n) (sym back.gives)
+        (put_good m t good n entry.parent entry.name entry.node back.directory back.stands back.free back.new back.room adds len)
 
   -- ---- a file's bytes
 
@@ -66,7 +63,7 @@ module _ (m : Table) (t : Tree) (good : IsTableOf m t) (before : Tree) where
 
     pub restore_good : (n : Table)
         → ((h : Held) (file : File) (bytes : List ℕ) → held m o ≡ Some h → h.2.content ≡ contents.File file → Restores undo file.bytes bytes
-        → Sets o (file_node h.2.object bytes file.verifier) (child m) (child n) (held m) (held n)) → btree_map_len n ≡ btree_map_len m → IsTableOf n before
+        → Sets o (file_node h.2.object bytes file.verifier) (child m) (child n) (held m) (held n)) → map.len n ≡ map.len m → IsTableOf n before
     restore_good n sets len =
         let number = good.table.tree.numbered o lay.0 lay.1 in
         let here = subst (λ (z : ℕ). Sets o (file_node z back.bytes back.file.verifier) (child m) (child n) (held m) (held n)) number
@@ -101,7 +98,7 @@ module _ (m : Table) (t : Tree) (good : IsTableOf m t) (before : Tree) where
     move_back_directory = held_where m t good move.place.parent (there _ back.directory back.stood_in)
 
     pub move_back_good : (k : Table) (place : Place) → Lay m move.object place
-        → Shifts move.object place.parent place.name move.place.parent move.place.name (child m) (child k) (held m) (held k) → btree_map_len k ≡ btree_map_len m → IsTableOf k back.between
+        → Shifts move.object place.parent place.name move.place.parent move.place.name (child m) (child k) (held m) (held k) → map.len k ≡ map.len m → IsTableOf k back.between
     move_back_good k place lay shifts len =
         let is = lay lies_now.0 lies_now.1 in
         let here = subst (λ (z : ℕ × List ℕ). Shifts move.object z.0 z.1 move.place.parent move.place.name (child m) (child k) (held m) (held k)) (λ i. (is.0 i, is.1 i)) shifts in

@@ -1,5 +1,5 @@
 -- a table has as many objects as its tree has paths
-use Rattle.std.proofs.Common.{◌≡◌, ℕ, ◌≤◌, ◌⊎◌, inl, inr, Bool, true, false, cond, T, List, [], ◌∷◌, length, Option, Some, None, refl, sym, ap, ◌∙◌, subst, arith}
+use Rattle.std.proofs.Common.{◌≡◌, ℕ, ◌≤◌, Bool, true, false, cond, T, List, [], ◌∷◌, length, Option, Some, None, refl, sym, ap, ◌∙◌, subst, arith}
 use Rattle.std.specs.Prelude.{suc, IsSome, is_some, ◌||◌, ◌&&◌, option_map}
 use Rattle.std.specs.declared.cmp.Ordering.{Ordering}
 use Rattle.std.specs.declared.cmp.Ordering.TheVariants.{Less, Equal, Greater}
@@ -7,21 +7,19 @@ use Rattle.std.specs.Ordering.{nat_cmp, eq_by_cmp, is_lt, is_eq}
 use Rattle.std.specs.Cmp.{IsEquivalence, nat_cmp_total, eq_by_cmp_equiv}
 use Rattle.std.specs.List.{list_any, AllByRecursion, IsDistinct}
 use Rattle.std.specs.Map.{lookup, keys_of}
-use Rattle.std.specs.BTreeMap.{IsOrdered, btree_map_len}
 use Rattle.std.specs.FinMap as map
 use Rattle.std.specs.FinMap.Entries as es
-use Rattle.std.proofs.lemmas.Map.Keys.{IsDistinct-from_sorted, IsDistinct-cons, IsDistinct-head, IsDistinct-tail}
+use Rattle.std.proofs.lemmas.Map.Keys.{IsDistinct-cons, IsDistinct-head, IsDistinct-tail}
 use Rattle.std.proofs.lemmas.Map.Entries.{length-keys_of}
 use Rattle.std.proofs.lemmas.Map.Steps.{length-le_from_keys, list_any_congr}
-use Rattle.tree_nodes.specs.declared.node.Node.{Node}
 use Rattle.tree_nodes.specs.declared.table.Entry.{Entry}
 use Rattle.tree_nodes.specs.Tree.{Names, Tree, path_cmp}
 use Rattle.tree_nodes.specs.Walk.{Held, walk, IsTree}
 use Rattle.tree_nodes.specs.Table.{Table, entry_at, child, held, placed}
 use Rattle.tree_nodes.specs.Shown.{Agrees}
 use Rattle.tree_nodes.proofs.Entries.{path_total, path_ties, find_lookup}
-use Rattle.tree_nodes.proofs.Chains.{decide, differ, isnt, same_some, value_of}
-use Rattle.tree_nodes.proofs.Tables.{is_equal}
+use Rattle.tree_nodes.proofs.Chains.{differ, isnt, same_some, value_of}
+use Rattle.tree_nodes.proofs.Tables.{is_equal, looked_up, entry_held as held_entry}
 use Rattle.tree_nodes.proofs.Walks.{once, one_path, reached_held}
 use Rattle.tree_nodes.proofs.Looking.{shows, stands as node_stands}
 
@@ -96,9 +94,9 @@ number_ties x y e = map.nat_cmp-IsAntisymmetric x y (is_equal (nat_cmp x y) e)
 tied_paths : (x y : Names) → eq_by_cmp path_cmp x y ≡ true → x ≡ y
 tied_paths x y e = path_ties x y (is_equal (path_cmp x y) e)
 
-below_apart : (x : Names) (xs : List (Names × Node)) → T (es.below_all path_cmp x xs) → AllByRecursion (λ y. eq_by_cmp path_cmp x y ≡ false) (keys_of xs)
-below_apart x [] h = tt
-below_apart x (e ∷ xs) h = (less (path_cmp x e.0) (t_first _ _ h), below_apart x xs (t_second _ _ h)) where
+below_apart : {K X : Type 0} (R : K → K → Ordering) (x : K) (xs : List (K × X)) → T (es.below_all R x xs) → AllByRecursion (λ y. eq_by_cmp R x y ≡ false) (keys_of xs)
+below_apart R x [] h = tt
+below_apart R x (e ∷ xs) h = (less (R x e.0) (t_first _ _ h), below_apart R x xs (t_second _ _ h)) where
   less : (o : Ordering) → T (is_lt o) → is_eq o ≡ false
   less Less h = refl
   less Equal h = absurd h
@@ -112,10 +110,10 @@ below_apart x (e ∷ xs) h = (less (path_cmp x e.0) (t_first _ _ h), below_apart
   t_second true b h = h
   t_second false b h = absurd h
 
-paths_distinct : (xs : List (Names × Node)) → T (es.is_sorted path_cmp xs) → IsDistinct (eq_by_cmp path_cmp) (keys_of xs)
+keys_distinct : {K X : Type 0} (R : K → K → Ordering) (xs : List (K × X)) → T (es.is_sorted R xs) → IsDistinct (eq_by_cmp R) (keys_of xs)
 unfolding IsDistinct
-paths_distinct [] h = tt
-paths_distinct (e ∷ xs) h = (below_apart e.0 xs (t_first _ _ h), paths_distinct xs (t_second _ _ h)) where
+keys_distinct R [] h = tt
+keys_distinct R (e ∷ xs) h = (below_apart R e.0 xs (t_first _ _ h), keys_distinct R xs (t_second _ _ h)) where
   t_first : (a b : Bool) → T (a && b) → T a
   t_first true b h = tt
   t_first false b h = absurd h
@@ -135,12 +133,6 @@ is_there (Some x) h = refl
 entry_held : (m : Table) (o : ℕ) (e : Entry) → entry_at m o ≡ Some e → held m o ≡ Some (placed e)
 entry_held m o e is = ap (λ s. elim s as (λ _. Option Held) [ None ↦ None | Some x ↦ Some (placed x) ]) is
 
-held_entry : (m : Table) (o : ℕ) (h : Held) → held m o ≡ Some h → IsSome (entry_at m o)
-held_entry m o h e = go (entry_at m o) refl where
-  go : (s : Option Entry) → entry_at m o ≡ s → IsSome s
-  go None is = absurd (cc (e, is))
-  go (Some x) is = refl
-
 module _ (m : Table) (t : Tree) (tree : IsTree (child m) (held m)) (agrees : Agrees m t) where
   leads : Names → ℕ → Type 0
   leads p o = walk (child m) 0 p ≡ Some o
@@ -150,27 +142,27 @@ module _ (m : Table) (t : Tree) (tree : IsTree (child m) (held m)) (agrees : Agr
       let h = reached_held (child m) (held m) tree p o is in
       subst IsSome (sym (shows t (child m) (held m) tree agrees p o h.0.2 is (ap (option_map {T = Held} (λ x. x.2)) h.1))) refl
 
-  pub table_within : IsOrdered nat_cmp m → btree_map_len m ≤ map.len t
-  table_within ordered =
-      let bound = at_most (eq_by_cmp_equiv nat_cmp_total) (eq_by_cmp_equiv path_total) tied_paths (λ (o : ℕ) (p : Names). walk (child m) 0 p ≡ Some o) same (keys_of m.entries) (map.entries t)
-      (IsDistinct-from_sorted nat_cmp (keys_of m.entries) ordered) path stands in
-      omega (arith, bound, length-keys_of m.entries, map.len-entries t) where
+  pub table_within : map.len m ≤ map.len t
+  table_within =
+      let bound = at_most (eq_by_cmp_equiv nat_cmp_total) (eq_by_cmp_equiv path_total) tied_paths (λ (o : ℕ) (p : Names). walk (child m) 0 p ≡ Some o) same (keys_of (map.entries m)) (map.entries t)
+      (keys_distinct nat_cmp (map.entries m) (map.entries_sorted m)) path stands in
+      omega (arith, bound, length-keys_of (map.entries m), map.len-entries m, map.len-entries t) where
         same : (a c : ℕ) (p : Names) → walk (child m) 0 p ≡ Some a → walk (child m) 0 p ≡ Some c → eq_by_cmp nat_cmp a c ≡ true
         same a c p e f = ap (eq_by_cmp nat_cmp a) (same_some c a (sym f ∙ e)) ∙ (eq_by_cmp_equiv nat_cmp_total).refl a
 
-        path : (o : ℕ) → list_any (eq_by_cmp nat_cmp o) (keys_of m.entries) ≡ true → (p : Names) × (walk (child m) 0 p ≡ Some o)
+        path : (o : ℕ) → list_any (eq_by_cmp nat_cmp o) (keys_of (map.entries m)) ≡ true → (p : Names) × (walk (child m) 0 p ≡ Some o)
         path o e =
-            let entry = value_of _ (some_is (entry_at m o) (key_of (eq_by_cmp nat_cmp o) m.entries ∙ e)) in
+            let entry = value_of _ (some_is (entry_at m o) (ap is_some (looked_up m o) ∙ key_of (eq_by_cmp nat_cmp o) (map.entries m) ∙ e)) in
             tree.hangs o (subst IsSome (sym (entry_held m o entry.0 entry.1)) refl)
 
-        stands : (o : ℕ) (p : Names) → list_any (eq_by_cmp nat_cmp o) (keys_of m.entries) ≡ true → walk (child m) 0 p ≡ Some o → IsSome (lookup (eq_by_cmp path_cmp p) (map.entries t))
+        stands : (o : ℕ) (p : Names) → list_any (eq_by_cmp nat_cmp o) (keys_of (map.entries m)) ≡ true → walk (child m) 0 p ≡ Some o → IsSome (lookup (eq_by_cmp path_cmp p) (map.entries t))
         stands o p e is = subst IsSome (map.get-entries t p ∙ find_lookup path_cmp p (map.entries t)) (there p o is)
 
-  pub tree_within : map.len t ≤ btree_map_len m
+  pub tree_within : map.len t ≤ map.len m
   tree_within =
-      let bound = at_most (eq_by_cmp_equiv path_total) (eq_by_cmp_equiv nat_cmp_total) number_ties (λ (p : Names) (o : ℕ). walk (child m) 0 p ≡ Some o) same (keys_of (map.entries t)) m.entries
-      (paths_distinct (map.entries t) (map.entries_sorted t)) object stands in
-      omega (arith, bound, length-keys_of (map.entries t), map.len-entries t) where
+      let bound = at_most (eq_by_cmp_equiv path_total) (eq_by_cmp_equiv nat_cmp_total) number_ties (λ (p : Names) (o : ℕ). walk (child m) 0 p ≡ Some o) same (keys_of (map.entries t)) (map.entries m)
+      (keys_distinct path_cmp (map.entries t) (map.entries_sorted t)) object stands in
+      omega (arith, bound, length-keys_of (map.entries t), map.len-entries t, map.len-entries m) where
         same : (p q : Names) (o : ℕ) → walk (child m) 0 p ≡ Some o → walk (child m) 0 q ≡ Some o → eq_by_cmp path_cmp p q ≡ true
         same p q o e f = ap (eq_by_cmp path_cmp p) (sym (one_path (child m) (once (child m) (held m) tree) p q o e f)) ∙ (eq_by_cmp_equiv path_total).refl p
 
@@ -180,5 +172,8 @@ module _ (m : Table) (t : Tree) (tree : IsTree (child m) (held m)) (agrees : Agr
             let node = value_of _ (subst IsSome (sym (map.get-entries t p ∙ find_lookup path_cmp p (map.entries t))) found) in
             (node.0.object, (node_stands t (child m) (held m) tree agrees p node.0 node.1).0)
 
-        stands : (p : Names) (o : ℕ) → list_any (eq_by_cmp path_cmp p) (keys_of (map.entries t)) ≡ true → walk (child m) 0 p ≡ Some o → IsSome (lookup (eq_by_cmp nat_cmp o) m.entries)
-        stands p o e is = let h = reached_held (child m) (held m) tree p o is in held_entry m o h.0 h.1
+        stands : (p : Names) (o : ℕ) → list_any (eq_by_cmp path_cmp p) (keys_of (map.entries t)) ≡ true → walk (child m) 0 p ≡ Some o → IsSome (lookup (eq_by_cmp nat_cmp o) (map.entries m))
+        stands p o e is =
+            let h = reached_held (child m) (held m) tree p o is in
+            let entry = held_entry m o h.0 h.1 in
+            subst IsSome (sym entry.1 ∙ looked_up m o) refl

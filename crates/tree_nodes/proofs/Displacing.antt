@@ -1,12 +1,11 @@
 -- a rename over an object with nothing below it: that object goes, and then the name is free
-use Rattle.std.proofs.Common.{◌≡◌, ℕ, ◌⊎◌, inl, inr, Bool, cond, List, [], ◌∷◌, ◌++◌, Option, Some, None, refl, sym, ap, ◌∙◌, append_assoc, append-nil}
+use Rattle.std.proofs.Common.{◌≡◌, ℕ, ◌⊎◌, inl, inr, cond, List, [], ◌∷◌, ◌++◌, Option, Some, None, refl, sym, ap, ◌∙◌, append_assoc, append-nil}
 use Rattle.std.specs.Prelude.{option_and_then}
 use Rattle.std.specs.Ordering.{eq_by_cmp}
-use Rattle.tree_nodes.specs.declared.node.Node.{Node}
 use Rattle.tree_nodes.specs.Tree.{Names, path_cmp}
 use Rattle.tree_nodes.specs.Walk.{Steps, Held, Holds, walk, seen, IsTree}
-use Rattle.tree_nodes.specs.Moves.{IsOutside, Moves}
-use Rattle.tree_nodes.specs.Changes.{Cuts, Shifts}
+use Rattle.tree_nodes.specs.Moves.{IsOutside}
+use Rattle.tree_nodes.specs.Changes.{Cuts}
 use Rattle.tree_nodes.proofs.Found.{untied}
 use Rattle.tree_nodes.proofs.Walks.{walk_on, walk_last, once, one_path}
 use Rattle.tree_nodes.proofs.Beside.{same_number, same_place}

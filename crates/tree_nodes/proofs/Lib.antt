@@ -9,7 +9,6 @@ pub mod Walks
 pub mod Looking
 pub mod Beside
 pub mod Putting
-pub mod All
 pub mod Taking
 pub mod Setting
 pub mod Shifting

@@ -1,5 +1,5 @@
 -- what stands in a tree, by its steps
-use Rattle.std.proofs.Common.{◌≡◌, ℕ, ◌+◌, ◌-◌, ◌==◌, ◌⊎◌, inl, inr, Bool, true, false, List, [], ◌∷◌, ◌++◌, length, take, Option, Some, None, refl, sym, ap, ◌∙◌, subst, arith, eq-eqb, length-append}
+use Rattle.std.proofs.Common.{◌≡◌, ℕ, ◌+◌, ◌-◌, ◌==◌, ◌⊎◌, inl, inr, true, false, List, [], ◌∷◌, ◌++◌, length, take, Option, Some, None, refl, sym, ap, ◌∙◌, subst, arith, eq-eqb, length-append}
 use Rattle.std.specs.Prelude.{IsSome, option_and_then, option_map}
 use Rattle.std.proofs.lemmas.Bool.{eqb-true}
 use Rattle.std.proofs.Math.Seq.{take-append_seam}
@@ -11,7 +11,7 @@ use Rattle.tree_nodes.specs.Place.{node_in, object_above}
 use Rattle.tree_nodes.specs.Numbered.{IsNumbered}
 use Rattle.tree_nodes.proofs.Chains.{chained, mapped, same_some, value_of, isnt, absent}
 use Rattle.tree_nodes.proofs.Found.{ended, found_stands, found_passes, some_found, bare_below, bare_of_nothing}
-use Rattle.tree_nodes.proofs.Walks.{walk_on, walk_last, Last, last_step, once, one_path, reached_held, no_child}
+use Rattle.tree_nodes.proofs.Walks.{walk_on, walk_last, last_step, once, one_path, reached_held, no_child}
 
 pub parent_join : (p : Names) (x : List ℕ) → parent (p ++ x ∷ []) ≡ p
 parent_join p x = ap (λ n. take n (p ++ x ∷ [])) (one_less (length (p ++ x ∷ [])) (length p) (length-append p (x ∷ []))) ∙ take-append_seam p (x ∷ []) where

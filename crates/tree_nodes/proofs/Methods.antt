@@ -1,8 +1,6 @@
 -- the methods of a tree by its table
-use Rattle.std.proofs.Common.{◌≡◌, ℕ, ◌+◌, ◌<◌, ◌≤◌, ◌==◌, ◌⊎◌, inl, inr, Bool, true, false, List, [], ◌∷◌, ◌++◌, length, Option, Some, None, Result, Ok, Err, refl, sym, ap, ◌∙◌, subst, arith, append-nil}
+use Rattle.std.proofs.Common.{◌≡◌, ℕ, ◌+◌, ◌<◌, ◌≤◌, true, false, List, [], ◌∷◌, ◌++◌, Some, None, Result, Ok, Err, refl, sym, ap, ◌∙◌, subst, arith, append-nil}
 use Rattle.std.specs.Prelude.{IsSome, IfOk, OnOk, OnErr, option_and_then, option_map}
-use Rattle.std.specs.Ordering.{nat_cmp}
-use Rattle.std.specs.BTreeMap.{btree_map_len, IsOrdered}
 use Rattle.std.specs.FinMap as map
 use Rattle.tree_nodes.specs.declared.node.Node.{Node}
 use Rattle.tree_nodes.specs.declared.node.File.{File}
@@ -11,8 +9,8 @@ use Rattle.tree_nodes.specs.declared.table.Entry.{Entry}
 use Rattle.tree_nodes.specs.declared.table.Edit.{Edit}
 use Rattle.tree_nodes.specs.declared.undo.Undo.{Undo}
 use Rattle.tree_nodes.specs.declared.undo.Step.{Step}
-use Rattle.tree_nodes.specs.declared.undo.Step.TheVariants.{Made, Removed, Edited, Moved}
-use Rattle.tree_nodes.specs.Tree.{Names, Tree, path_cmp, entry_of, is_bare}
+use Rattle.tree_nodes.specs.declared.undo.Step.TheVariants.{Removed}
+use Rattle.tree_nodes.specs.Tree.{Names, Tree, entry_of, is_bare}
 use Rattle.tree_nodes.specs.Files.{node_limit, file_node}
 use Rattle.tree_nodes.specs.Sound.{IsSound}
 use Rattle.tree_nodes.specs.Moved.{is_from, moved}
@@ -26,14 +24,14 @@ use Rattle.tree_nodes.specs.Place.{node_in}
 use Rattle.tree_nodes.specs.Undo.{TakesBack, StepsBack}
 use Rattle.tree_nodes.specs.Results.{IsMade, IsEdited, IsMoved}
 use Rattle.tree_nodes.proofs.Entries.{path_total, path_ties}
-use Rattle.tree_nodes.proofs.Chains.{same_some, differ, value_of}
+use Rattle.tree_nodes.proofs.Chains.{differ, value_of}
 use Rattle.tree_nodes.proofs.Found.{from_front}
 use Rattle.tree_nodes.proofs.Beside.{directory_outside}
 use Rattle.tree_nodes.proofs.Counting.{tree_within, table_within}
-use Rattle.tree_nodes.proofs.Looking.{reached, held_of, entry_is, number_of, childless, fronts_stand}
+use Rattle.tree_nodes.proofs.Looking.{reached, held_of, entry_is, childless, fronts_stand}
 use Rattle.tree_nodes.proofs.Ops.{Shows, put_shows, put_back, take_shows, take_back, set_shows, set_back, not_held}
 use Rattle.tree_nodes.proofs.RenameOps.{rename_shows, rename_back}
-use Rattle.tree_nodes.proofs.Walks.{Lies, lies_at, once, one_path, parent_held, walk_last}
+use Rattle.tree_nodes.proofs.Walks.{lies_at, once, one_path, parent_held, walk_last}
 
 -- ---- outcomes
 
@@ -64,8 +62,8 @@ module _ (m : Table) (t : Tree) (good : IsTableOf m t) where
   pub few : map.len t ≤ node_limit
   few = omega (arith, tree_within m t good.table.tree good.agrees, good.table.few)
 
-  pub count : IsOrdered nat_cmp m → btree_map_len m ≡ map.len t
-  count ordered = omega (arith, tree_within m t good.table.tree good.agrees, table_within m t good.table.tree good.agrees ordered)
+  pub count : map.len m ≡ map.len t
+  count = omega (arith, tree_within m t good.table.tree good.agrees, table_within m t good.table.tree good.agrees)
 
   pub sound : IsSound t
   sound = record { small = few; fronts = fronts_stand t (child m) (held m) good.table.tree good.agrees }
@@ -91,15 +89,15 @@ module _ (m : Table) (t : Tree) (good : IsTableOf m t) where
   -- ---- make
 
   pub put_good : (n : Table) (o : ℕ) (name : List ℕ) (node : Node) (e : Names × Node) → entry_of t o ≡ Some e → map.get t (e.0 ++ name ∷ []) ≡ None → entry_of t node.object ≡ None → map.len t < node_limit
-      → Adds o name node.object node (child m) (child n) (held m) (held n) → btree_map_len n ≡ btree_map_len m + 1 → IsOrdered nat_cmp m → IsTableOf n (map.insert t (e.0 ++ name ∷ []) node)
-  put_good n o name node e at free new room adds len ordered =
+      → Adds o name node.object node (child m) (child n) (held m) (held n) → map.len n ≡ map.len m + 1 → IsTableOf n (map.insert t (e.0 ++ name ∷ []) node)
+  put_good n o name node e at free new room adds len =
       let shown = put_shows t (child m) (held m) shows (child n) (held n) o e name node at free (new_where node.object new) adds in
-      record { table = record { tree = shown.tree; few = omega (arith, len, count ordered, room) }; agrees = shown.agrees }
+      record { table = record { tree = shown.tree; few = omega (arith, len, count, room) }; agrees = shown.agrees }
 
   module _ (n : Table) (o : ℕ) (name : List ℕ) (node : Node) (undo : Undo) (e : Names × Node) (at : entry_of t o ≡ Some e) (free : node_in t o name ≡ None) (new : entry_of t node.object ≡ None)
       (room : map.len t < node_limit) (made : IsMade o name node undo m n) where
     pub made_good : IsTableOf n (map.insert t (e.0 ++ name ∷ []) node)
-    made_good = put_good n o name node e at (free_where o e name at free) new room made.adds made.len made.ordered
+    made_good = put_good n o name node e at (free_where o e name at free) new room made.adds made.len
 
     pub made_back : TakesBack undo (map.insert t (e.0 ++ name ∷ []) node) t
     unfolding TakesBack
@@ -124,7 +122,7 @@ module _ (m : Table) (t : Tree) (good : IsTableOf m t) where
   bare_where o there bare x = let e = value_of _ there in childless t (child m) (held m) good.table.tree good.agrees o e.0 e.1 (bare e.0 e.1) x
 
   module _ (n : Table) (o : ℕ) (entry : Entry) (e : Names × Node) (at : entry_of t o ≡ Some e) (apart : o ≡ 0 → ⊥) (bare : is_bare t e.0 ≡ true) (is : held m o ≡ Some (placed entry))
-      (cuts : Cuts entry.parent entry.name o (child m) (child n) (held m) (held n)) (len : btree_map_len n + 1 ≡ btree_map_len m) where
+      (cuts : Cuts entry.parent entry.name o (child m) (child n) (held m) (held n)) (len : map.len n + 1 ≡ map.len m) where
     cut_shows : Shows (child n) (held n) (map.remove t e.0)
     cut_shows = take_shows t (child m) (held m) shows (child n) (held n) o e (placed entry) at is apart bare cuts
 
@@ -137,7 +135,7 @@ module _ (m : Table) (t : Tree) (good : IsTableOf m t) where
 
   -- ---- write and resize
 
-  pub set_good : (n : Table) (o : ℕ) (e : Names × Node) (node : Node) → entry_of t o ≡ Some e → node.object ≡ o → Sets o node (child m) (child n) (held m) (held n) → btree_map_len n ≡ btree_map_len m
+  pub set_good : (n : Table) (o : ℕ) (e : Names × Node) (node : Node) → entry_of t o ≡ Some e → node.object ≡ o → Sets o node (child m) (child n) (held m) (held n) → map.len n ≡ map.len m
       → IsTableOf n (map.insert t e.0 node)
   set_good n o e node at number sets len =
       let shown = set_shows t (child m) (held m) shows (child n) (held n) o e node at number sets in
@@ -232,9 +230,9 @@ undo_clause (Err e) P n u t agrees ok f = ok
 pub taken_back : (n : Table) (u t after : Tree) (undo : Undo) → Agrees n u → Agrees n after → TakesBack undo after t → TakesBack undo u t
 taken_back n u t after undo a b back = subst (λ (z : Tree). TakesBack undo z t) (one_tree n after u b a) back
 
-pub on_ok_all : {T E : Type 0} (r : Result T E) (A B C X : Type 0) → OnOk r A → OnOk r B → OnOk r C → (A → B → C → X) → OnOk r X
-on_ok_all (Ok x) A B C X a b c f = f a b c
-on_ok_all (Err e) A B C X a b c f = a
+pub on_ok_both : {T E : Type 0} (r : Result T E) (A B X : Type 0) → OnOk r A → OnOk r B → (A → B → X) → OnOk r X
+on_ok_both (Ok x) A B X a b f = f a b
+on_ok_both (Err e) A B X a b f = a
 
 pub on_err_always : {T E : Type 0} (r : Result T E) (X : Type 0) → X → OnErr r X
 on_err_always (Ok y) X x = tt

@@ -7,9 +7,8 @@ use Rattle.std.specs.FinMap as map
 use Rattle.std.specs.FinMap.Entries as es
 use Rattle.tree_nodes.specs.declared.node.Node.{Node}
 use Rattle.tree_nodes.specs.Tree.{Names, Tree, path_cmp, same_path as is_same, is_below, is_bare}
-use Rattle.tree_nodes.specs.Moved.{is_from, moved_path, moved_entries, put_all, moved}
+use Rattle.tree_nodes.specs.Moved.{is_from, moved_path, moved_entries, moved}
 use Rattle.tree_nodes.specs.Moves.{IsOutside, Moves}
-use Rattle.tree_nodes.proofs.Entries.{path_total}
 use Rattle.tree_nodes.proofs.Soundness.{same_path, same_names}
 use Rattle.tree_nodes.proofs.Chains.{negated, differ, decide, absent}
 use Rattle.tree_nodes.proofs.Found.{tied, untied, same_lists, parts_of, from_front, behind_front, lies_below, bare_below}

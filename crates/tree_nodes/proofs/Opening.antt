@@ -1,11 +1,10 @@
 -- the opening tree
-use Rattle.std.proofs.Common.{◌≡◌, ℕ, ◌≤◌, ◌⊎◌, inl, inr, Bool, cond, List, [], ◌∷◌, ◌++◌, Option, Some, None, refl, sym, ap, ◌∙◌, arith}
+use Rattle.std.proofs.Common.{◌≡◌, ℕ, ◌⊎◌, inl, inr, List, [], ◌∷◌, Option, Some, None, refl, sym, ap, ◌∙◌, arith}
 use Rattle.std.specs.Prelude.{IsSome, option_and_then, option_map}
-use Rattle.std.specs.Ordering.{eq_by_cmp}
 use Rattle.std.specs.FinMap as map
 use Rattle.tree_nodes.specs.declared.node.Node.{Node}
 use Rattle.tree_nodes.specs.declared.node.Content.TheVariants.{Directory}
-use Rattle.tree_nodes.specs.Tree.{Names, Tree, path_cmp, opening}
+use Rattle.tree_nodes.specs.Tree.{Names, path_cmp, opening}
 use Rattle.tree_nodes.specs.Walk.{Held, walk, node_of, seen, IsTree}
 use Rattle.tree_nodes.specs.Table.{Table, child, held}
 use Rattle.tree_nodes.specs.Shown.{IsTableOf}

@@ -1,6 +1,6 @@
 -- each change of the steps as a change of the tree, with what takes it back
-use Rattle.std.proofs.Common.{◌≡◌, ℕ, ◌+◌, ◌-◌, ◌<◌, ◌≤◌, ◌==◌, zero, suc, ◌⊎◌, inl, inr, Bool, true, false, cond, List, [], ◌∷◌, ◌++◌, Option, Some, None, refl, sym, ap, ◌∙◌, subst, arith, append-nil, append_assoc}
-use Rattle.std.specs.Prelude.{IsSome, is_some, option_and_then, option_map}
+use Rattle.std.proofs.Common.{◌≡◌, ℕ, ◌-◌, ◌<◌, ◌≤◌, ◌==◌, zero, suc, true, cond, List, [], ◌∷◌, ◌++◌, Option, Some, None, refl, sym, ap, ◌∙◌, subst, arith, append-nil}
+use Rattle.std.specs.Prelude.{is_some, option_map}
 use Rattle.std.specs.Ordering.{eq_by_cmp}
 use Rattle.std.specs.FinMap as map
 use Rattle.tree_nodes.specs.declared.node.Node.{Node}
@@ -10,22 +10,21 @@ use Rattle.file_bytes.specs.declared.changes.FileUndo.{FileUndo}
 use Rattle.tree_nodes.specs.declared.table.Entry.{Entry}
 use Rattle.tree_nodes.specs.Tree.{Names, Tree, path_cmp, entry_of, is_bare}
 use Rattle.tree_nodes.specs.Files.{node_limit, file_node}
-use Rattle.tree_nodes.specs.Moved.{is_from, moved}
-use Rattle.tree_nodes.specs.Walk.{Steps, Held, Holds, walk, node_of, seen, IsTree}
+use Rattle.tree_nodes.specs.Walk.{Steps, Held, Holds, walk, seen, IsTree}
 use Rattle.tree_nodes.specs.Moves.{IsOutside, Moves}
 use Rattle.tree_nodes.specs.Changes.{Adds, Cuts, Sets, Shifts}
 use Rattle.file_bytes.specs.Undo.{Restores}
 use Rattle.tree_nodes.specs.Table.{placed}
 use Rattle.tree_nodes.specs.Undo.{IsUnmade, IsPutBack, IsEditedBack}
 use Rattle.tree_nodes.proofs.Entries.{path_total}
-use Rattle.tree_nodes.proofs.Chains.{same_some, differ, absent, value_of}
-use Rattle.tree_nodes.proofs.Found.{tied, found_stands, from_front, bare_below}
-use Rattle.tree_nodes.proofs.Walks.{Lies, lies_at, reached_held, walk_last}
+use Rattle.tree_nodes.proofs.Chains.{same_some, differ}
+use Rattle.tree_nodes.proofs.Found.{tied, found_stands}
+use Rattle.tree_nodes.proofs.Walks.{Lies, lies_at, reached_held}
 use Rattle.tree_nodes.proofs.Putting.{put_seen, put_tree, nothing_in, directory_same}
-use Rattle.tree_nodes.proofs.Taking.{take_seen, take_tree, isnt_root}
+use Rattle.tree_nodes.proofs.Taking.{take_seen, take_tree}
 use Rattle.tree_nodes.proofs.Setting.{set_seen, set_tree}
 use Rattle.tree_nodes.proofs.Shifting.{shift_seen, shift_tree}
-use Rattle.tree_nodes.proofs.Looking.{reached, entry_is, entry_at, entry_held, held_of, no_entry, number_of, bare_if, childless, child_stands}
+use Rattle.tree_nodes.proofs.Looking.{reached, entry_is, entry_at, entry_held, no_entry, number_of, bare_if, childless, child_stands}
 use Rattle.tree_nodes.proofs.Undoing.{undo_put, undo_remove, undo_set, undo_move}
 
 -- the node at each path is the one that the steps lead to

@@ -1,36 +1,27 @@
 -- the paths of objects
-use Rattle.std.proofs.Common.{◌≡◌, ℕ, ◌+◌, ◌<◌, ◌==◌, ◌⊎◌, inl, inr, Bool, true, false, cond, T, List, [], ◌∷◌, ◌++◌, length, get_or, Option, Some, None, refl, sym, ap, ◌∙◌, subst, arith, append-nil, append_assoc, length-append, BTreeMap}
-use Rattle.std.specs.Prelude.{IsSome, All, reverse, option_map, ◌&&◌, map as each}
+use Rattle.std.proofs.Common.{◌≡◌, ℕ, ◌<◌, ◌==◌, ◌⊎◌, inl, inr, Bool, true, false, cond, List, [], ◌∷◌, ◌++◌, length, Option, Some, None, refl, sym, ap, ◌∙◌, subst, arith, append-nil, append_assoc, length-append, BTreeMap}
+use Rattle.std.specs.Prelude.{IsSome, reverse, option_map}
 use Rattle.std.specs.Option.{option_map_or}
-use Rattle.std.specs.Ordering.{nat_cmp, eq_by_cmp, is_eq, is_lt}
-use Rattle.std.specs.declared.cmp.Ordering.{Ordering}
-use Rattle.std.specs.declared.cmp.Ordering.TheVariants.{Less, Equal, Greater}
-use Rattle.std.specs.List.{flat_map, AllByRecursion}
-use Rattle.std.specs.List.Sorted.{IsStrictlySortedBy}
-use Rattle.std.specs.Map.{lookup, keys_of}
+use Rattle.std.specs.Ordering.{nat_cmp, eq_by_cmp, is_eq}
+use Rattle.std.specs.Map.{lookup}
 use Rattle.std.specs.BTreeMap as sorted
 use Rattle.std.specs.BTreeMap.{IsOrdered, UpdatesBy, is_at}
 use Rattle.std.specs.FinMap as map
-use Rattle.std.specs.FinMap.Entries as es
 use Rattle.std.proofs.lemmas.List.{reverse-append}
-use Rattle.std.proofs.lemmas.List.Elements.{All-head, All-tail, All-cons}
 use Rattle.tree_nodes.specs.declared.node.Node.{Node}
 use Rattle.tree_nodes.specs.declared.table.Entry.{Entry}
 use Rattle.tree_nodes.specs.Tree.{Names, Tree, path_cmp, entry_of}
-use Rattle.tree_nodes.specs.Walk.{Steps, Held, Holds, walk, node_of, seen, IsTree}
+use Rattle.tree_nodes.specs.Walk.{Steps, Held, Holds, seen, IsTree}
 use Rattle.tree_nodes.specs.Table.{Table, entry_at, child, held, placed}
-use Rattle.tree_nodes.specs.Paths.{paths_of, LiesIn}
+use Rattle.tree_nodes.specs.Paths.{LiesIn}
 use Rattle.tree_nodes.specs.Numbered.{IsNumbered}
-use Rattle.tree_nodes.specs.Sound.{IsSound}
-use Rattle.tree_nodes.specs.Printed.{entry_text, tree_text, word_text, IsShallow, EntryFits, IsPrintable}
-use Rattle.tree_nodes.proofs.Entries.{path_total, path_ties, entries_sorted, find_lookup}
-use Rattle.tree_nodes.proofs.Chains.{chained, mapped, same_some, value_of}
-use Rattle.tree_nodes.proofs.Soundness.{shallow, same_path}
-use Rattle.tree_nodes.proofs.Found.{tied, found_stands, found_passes, apart}
-use Rattle.tree_nodes.proofs.Walks.{once, one_path, lies_at, reached_held}
+use Rattle.tree_nodes.proofs.Chains.{mapped, same_some, value_of}
+use Rattle.tree_nodes.proofs.Soundness.{same_path}
+use Rattle.tree_nodes.proofs.Found.{found_stands, found_passes, apart}
+use Rattle.tree_nodes.proofs.Walks.{lies_at, reached_held}
 use Rattle.tree_nodes.proofs.Looking.{reached, stands, held_of, entry_is, entry_held}
-use Rattle.tree_nodes.proofs.Climbing.{depth, at_path, entry_there}
-use Rattle.tree_nodes.proofs.Tables.{is_equal}
+use Rattle.tree_nodes.proofs.Climbing.{depth}
+use Rattle.tree_nodes.proofs.Tables.{is_equal, looked_up, entry_held as held_entry}
 use Rattle.std.proofs.lemmas.Bool.{eqb-true}
 use Rattle.std.proofs.lemmas.Cmp.{tied_itself}
 use Rattle.std.specs.Cmp.{nat_cmp_total}
@@ -93,25 +84,20 @@ pub record Collects (t : Tree) (paths : BTreeMap Names ℕ) (left : List (ℕ ×
   pub right : (p : Names) (o : ℕ) → sorted.get path_cmp paths p ≡ Some o → object_at t p ≡ Some o
   pub rest : (p : Names) (o : ℕ) → object_at t p ≡ Some o → (sorted.get path_cmp paths p ≡ Some o) ⊎ IsSome (lookup (is_at (nat_cmp o)) left)
 
-held_entry : (m : Table) (o : ℕ) (h : Held) → held m o ≡ Some h → IsSome (entry_at m o)
-held_entry m o h e = go (entry_at m o) refl where
-  go : (s : Option Entry) → entry_at m o ≡ s → IsSome s
-  go None is = absurd (cc (e, ap (option_map placed) is))
-  go (Some x) is = refl
-
 pub collect_none : (m : Table) (t : Tree) (paths : BTreeMap Names ℕ) → IsTree (child m) (held m) → ((path : Names) → map.get t path ≡ seen (child m) (held m) path) → paths.entries ≡ [] → IsOrdered path_cmp paths
-    → Collects t paths m.entries
+    → Collects t paths (map.entries m)
 collect_none m t paths tree agrees empty ordered = record {
   ordered = ordered;
   keys = λ o there.
-      let e = value_of (entry_at m o) there in
+      let e = value_of (entry_at m o) (subst IsSome (sym (looked_up m o)) there) in
       let at = entry_held t (child m) (held m) tree agrees o (placed e.0) (ap (option_map placed) e.1) in
       subst IsSome (sym at.2) refl;
   right = λ p o e. absurd (cc (e, ap (lookup (is_at (path_cmp p))) empty));
   rest = λ p o at.
       let n = mapped (λ (n : Node). n.object) (map.get t p) o at in
       let h = reached_held (child m) (held m) tree p n.0.object (stands t (child m) (held m) tree agrees p n.0 n.1).0 in
-      inr (held_entry m o h.0 (ap (held m) (sym n.2) ∙ h.1));
+      let entry = held_entry m o h.0 (ap (held m) (sym n.2) ∙ h.1) in
+      inr (subst IsSome (sym entry.1 ∙ looked_up m o) refl);
 }
 
 here_first : (k : ℕ) (e : Entry) (left : List (ℕ × Entry)) → IsSome (lookup (is_at (nat_cmp k)) ((k, e) ∷ left))

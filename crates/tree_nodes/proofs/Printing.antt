@@ -1,14 +1,6 @@
 -- texts put one behind another
-use Rattle.std.proofs.Common.{◌≡◌, ℕ, ◌+◌, ◌<◌, List, [], ◌∷◌, ◌++◌, take, length, get_or, sym, ap, ◌∙◌, append_assoc, arith}
-use Rattle.std.specs.Prelude.{◌^◌, All}
+use Rattle.std.proofs.Common.{◌≡◌, ℕ, ◌+◌, ◌<◌, List, [], ◌∷◌, ◌++◌, take, length, get_or, sym, ap, ◌∙◌, append_assoc}
 use Rattle.std.specs.List.{flat_map}
-use Rattle.std.specs.FinMap as map
-use Rattle.std.specs.BTreeMap.{BTreeMap, IsOrdered}
-use Rattle.std.proofs.lemmas.List.Elements.{All-same}
-use Rattle.tree_nodes.specs.declared.node.Node.{Node}
-use Rattle.tree_nodes.specs.Tree.{Names, path_cmp}
-use Rattle.tree_nodes.specs.Sound.{IsSound}
-use Rattle.tree_nodes.specs.Printed.{word_text, entry_text, tree_text, IsShallow, EntryFits, IsPrintable}
 use Rattle.std.proofs.lemmas.List.{take_more, flat_map_more}
 
 -- one more item of a list by its index

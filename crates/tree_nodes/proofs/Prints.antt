@@ -1,6 +1,6 @@
 -- the entries of a tree by the paths of its objects
-use Rattle.std.proofs.Common.{◌≡◌, ℕ, zero, suc, ◌+◌, ◌<◌, ◌^◌, ◌==◌, ◌⊎◌, inl, inr, Bool, true, false, cond, T, List, [], ◌∷◌, ◌++◌, length, get_or, Option, Some, None, refl, sym, ap, ◌∙◌, subst, arith, append_assoc, append-nil, BTreeMap}
-use Rattle.std.specs.Prelude.{IsSome, All, option_map, ◌&&◌, ◌≤◌}
+use Rattle.std.proofs.Common.{◌≡◌, ℕ, zero, suc, ◌<◌, ◌^◌, Bool, true, false, cond, T, List, [], ◌∷◌, ◌++◌, length, get_or, Some, refl, sym, ap, ◌∙◌, subst, arith, append_assoc, append-nil, BTreeMap}
+use Rattle.std.specs.Prelude.{IsSome, All, option_map, ◌&&◌}
 use Rattle.std.specs.Ordering.{eq_by_cmp, is_eq, is_lt}
 use Rattle.std.specs.declared.cmp.Ordering.{Ordering}
 use Rattle.std.specs.declared.cmp.Ordering.TheVariants.{Less, Equal, Greater}
@@ -18,9 +18,8 @@ use Rattle.tree_nodes.specs.Tree.{Names, Tree, path_cmp, entry_of}
 use Rattle.tree_nodes.specs.Paths.{paths_of}
 use Rattle.tree_nodes.specs.Numbered.{IsNumbered}
 use Rattle.tree_nodes.specs.Sound.{IsSound}
-use Rattle.tree_nodes.specs.Printed.{entry_text, tree_text, word_text, IsShallow, EntryFits, IsPrintable}
+use Rattle.tree_nodes.specs.Printed.{entry_text, IsShallow, EntryFits}
 use Rattle.tree_nodes.proofs.Entries.{path_total, path_ties, entries_sorted, find_lookup}
-use Rattle.tree_nodes.proofs.Chains.{same_some}
 use Rattle.tree_nodes.proofs.Soundness.{shallow}
 use Rattle.tree_nodes.proofs.Found.{untied, apart}
 use Rattle.tree_nodes.proofs.Climbing.{entry_there}

@@ -1,5 +1,5 @@
 -- a rename of the table as a rename of the tree, with what takes it back
-use Rattle.std.proofs.Common.{◌≡◌, ℕ, ◌≤◌, ◌==◌, ◌⊎◌, inl, inr, Bool, true, false, cond, List, [], ◌∷◌, ◌++◌, Option, Some, None, refl, sym, ap, ◌∙◌, subst, append-nil, append_assoc}
+use Rattle.std.proofs.Common.{◌≡◌, ℕ, ◌≤◌, ◌==◌, ◌⊎◌, inl, inr, true, false, List, [], ◌∷◌, ◌++◌, Option, Some, None, refl, sym, ap, ◌∙◌, subst, append-nil, append_assoc}
 use Rattle.std.specs.Prelude.{IsSome, option_and_then, option_map}
 use Rattle.std.specs.FinMap as map
 use Rattle.tree_nodes.specs.declared.node.Node.{Node}
@@ -15,15 +15,15 @@ use Rattle.tree_nodes.specs.Table.{Table, child, held, placed}
 use Rattle.tree_nodes.specs.Renames.{IsRenamed}
 use Rattle.tree_nodes.specs.Undo.{GivesBack, IsMovedBack}
 use Rattle.tree_nodes.proofs.Chains.{mapped, same_some, differ}
-use Rattle.tree_nodes.proofs.Found.{found_stands, from_front, bare_below}
+use Rattle.tree_nodes.proofs.Found.{found_stands, from_front}
 use Rattle.tree_nodes.proofs.Walks.{Lies, lies_at, once, one_path, reached_held, walk_last}
 use Rattle.tree_nodes.proofs.Putting.{none_from}
 use Rattle.tree_nodes.proofs.Shifting.{shift_seen, shift_tree, from_still, directory_apart}
-use Rattle.tree_nodes.proofs.Displacing.{without_name, without_object, name_gone, name_stays, object_gone, object_stays, cuts_it, between_tree, between_same, leads_still, to_still, lies_still, objects_apart, still_outside}
+use Rattle.tree_nodes.proofs.Displacing.{without_name, without_object, name_gone, name_stays, object_gone, object_stays, cuts_it, between_same, leads_still, to_still, lies_still, objects_apart, still_outside}
 use Rattle.tree_nodes.proofs.Beside.{same_number}
 use Rattle.tree_nodes.proofs.Looking.{reached, entry_is, entry_at, held_of, number_of, childless}
 use Rattle.tree_nodes.proofs.MovedLaw.{has_moved, one_move}
-use Rattle.tree_nodes.proofs.Ops.{Shows, IsSeen, free_step, take_shows, take_back}
+use Rattle.tree_nodes.proofs.Ops.{Shows, IsSeen, take_shows, take_back}
 
 none_of : (d : Option Entry) → option_map placed d ≡ None → d ≡ None
 none_of None e = refl

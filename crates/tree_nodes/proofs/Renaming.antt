@@ -1,25 +1,23 @@
 -- the table after a rename
-use Rattle.std.proofs.Common.{◌≡◌, ℕ, ◌+◌, ◌⊎◌, inl, inr, Bool, true, false, cond, List, Option, Some, None, refl, sym, ap, ◌∙◌, subst, arith}
-use Rattle.std.specs.Prelude.{IsSome, is_some, option_and_then, option_map, if◌then◌else◌}
-use Rattle.std.specs.Ordering.{nat_cmp}
-use Rattle.std.specs.BTreeMap.{UpdatesBy, btree_map_len}
+use Rattle.std.proofs.Common.{◌≡◌, ℕ, ◌+◌, ◌⊎◌, inl, inr, List, Option, Some, None, refl, sym, ap, ◌∙◌, arith}
+use Rattle.std.specs.Prelude.{IsSome, option_and_then, option_map}
+use Rattle.std.specs.FinMap as map
 use Rattle.tree_nodes.specs.declared.table.Entry.{Entry}
 use Rattle.tree_nodes.specs.declared.table.Place.{Place}
-use Rattle.tree_nodes.specs.declared.undo.Move.{Move}
 use Rattle.tree_nodes.specs.Walk.{Held}
 use Rattle.tree_nodes.specs.Changes.{Shifts}
 use Rattle.tree_nodes.specs.Table.{Table, entry_at, child, held, placed}
 use Rattle.tree_nodes.specs.Renames.{IsRenamed}
-use Rattle.tree_nodes.proofs.Chains.{same_some}
+use Rattle.tree_nodes.proofs.Chains.{same_some, value_of}
 use Rattle.tree_nodes.proofs.Beside.{same_place}
-use Rattle.tree_nodes.proofs.Tables.{steps_but, held_but, held_now}
+use Rattle.tree_nodes.proofs.Tables.{Updates, taken_out, one_less, entry_held, steps_but, held_but, held_now}
 
 abbrev pub Lay : Table → ℕ → Place → Type 0
 Lay m o place = (h : Held) → held m o ≡ Some h → (place.parent ≡ h.0) × (place.name ≡ h.1)
 
 -- to a name that leads nowhere
 pub renamed_free : (m n : Table) (o a : ℕ) (y : List ℕ) (place : Place) → Lay m o place → Shifts o place.parent place.name a y (child m) (child n) (held m) (held n)
-    → child m a y ≡ None → btree_map_len n ≡ btree_map_len m → IsRenamed o a y (record { object = o; place = place; displaced = None }) m n
+    → child m a y ≡ None → map.len n ≡ map.len m → IsRenamed o a y (record { object = o; place = place; displaced = None }) m n
 renamed_free m n o a y place lay shifts free len = record {
   object_is = refl;
   lay = lay;
@@ -37,9 +35,9 @@ renamed_free m n o a y place lay shifts free len = record {
 -- over an object with no names in it
 pub renamed_over : (m k n : Table) (o a t : ℕ) (y : List ℕ) (place : Place) (displaced : Option Entry) → Lay m o place
     → Shifts o place.parent place.name a y (child m) (child k) (held m) (held k) → child m a y ≡ Some t → ((z : List ℕ) → child m t z ≡ None) → IsSome (held m t) → (t ≡ o → ⊥) → (t ≡ a → ⊥)
-    → UpdatesBy nat_cmp (nat_cmp t) k n None → displaced ≡ entry_at k t → btree_map_len k ≡ btree_map_len m → btree_map_len n + (if is_some displaced then 1 else 0) ≡ btree_map_len k
+    → n ≡ map.remove k t → displaced ≡ entry_at k t → map.len k ≡ map.len m
     → IsRenamed o a y (record { object = o; place = place; displaced = displaced }) m n
-renamed_over m k n o a t y place displaced lay shifts there bare stands isnt_o isnt_a h is same len = record {
+renamed_over m k n o a t y place displaced lay shifts there bare stands isnt_o isnt_a out is same = record {
   object_is = refl;
   lay = lay;
   left = steps place.parent place.name ∙ shifts.left;
@@ -52,6 +50,9 @@ renamed_over m k n o a t y place displaced lay shifts there bare stands isnt_o i
   fewer = λ e at. omega (arith, same, one);
   len = omega (arith, same, one);
 } where
+  h : Updates t k n None
+  h = taken_out k n t out
+
   steps : (e : ℕ) (z : List ℕ) → child n e z ≡ child k e z
   steps = steps_but k n t None h (λ z. sym (go z (same_place t place.parent z place.name) (same_place t a z y))) where
     go : (z : List ℕ) → ((t ≡ place.parent) × (z ≡ place.name)) ⊎ (t ≡ place.parent → z ≡ place.name → ⊥) → ((t ≡ a) × (z ≡ y)) ⊎ (t ≡ a → z ≡ y → ⊥) → child k t z ≡ None
@@ -59,11 +60,8 @@ renamed_over m k n o a t y place displaced lay shifts there bare stands isnt_o i
     go z (inr off) (inl at) = absurd (isnt_a at.0)
     go z (inr off) (inr on) = shifts.others t z off on ∙ bare z
 
-  some_one : (s : Option Entry) → IsSome (option_map placed s) → ◌≡◌ {A = ℕ} (if is_some s then 1 else 0) 1
-  some_one None e = absurd (cc)
-  some_one (Some x) e = refl
-
-  one : btree_map_len n + 1 ≡ btree_map_len k
+  one : map.len n + 1 ≡ map.len k
   one =
-      let here = some_one displaced (subst IsSome (sym (ap (option_map placed) is ∙ shifts.kept t isnt_o)) stands) in
-      ap (λ d. btree_map_len n + d) (sym here) ∙ len
+      let lay = value_of _ stands in
+      let entry = entry_held k t lay.0 (shifts.kept t isnt_o ∙ lay.1) in
+      one_less k n n t entry.0 out entry.1 refl

@@ -1,5 +1,5 @@
 -- a tree with another node where one stands
-use Rattle.std.proofs.Common.{◌≡◌, ℕ, ◌⊎◌, inl, inr, Bool, true, false, cond, List, [], ◌∷◌, ◌++◌, Option, Some, None, refl, sym, ap, ◌∙◌, subst}
+use Rattle.std.proofs.Common.{◌≡◌, ℕ, ◌⊎◌, inl, inr, true, false, cond, List, Option, Some, None, refl, sym, ap, ◌∙◌, subst}
 use Rattle.std.specs.Prelude.{IsSome, option_and_then, option_map}
 use Rattle.std.specs.Ordering.{eq_by_cmp}
 use Rattle.tree_nodes.specs.declared.node.Node.{Node}

@@ -1,14 +1,13 @@
 -- a tree with an object under another name
-use Rattle.std.proofs.Common.{◌≡◌, ℕ, ◌⊎◌, inl, inr, List, [], ◌∷◌, ◌++◌, Option, Some, None, refl, sym, ap, ◌∙◌, subst, append-nil, append_assoc}
+use Rattle.std.proofs.Common.{◌≡◌, ℕ, ◌⊎◌, inl, inr, List, [], ◌∷◌, ◌++◌, Option, Some, None, refl, sym, ap, ◌∙◌, subst, append_assoc}
 use Rattle.std.specs.Prelude.{IsSome, option_and_then, option_map}
-use Rattle.tree_nodes.specs.declared.node.Node.{Node}
 use Rattle.tree_nodes.specs.Tree.{Names}
 use Rattle.tree_nodes.specs.Walk.{Steps, Held, Holds, walk, node_of, seen, IsTree}
 use Rattle.tree_nodes.specs.Moves.{IsOutside, Moves}
 use Rattle.tree_nodes.specs.Changes.{Shifts}
 use Rattle.tree_nodes.proofs.Chains.{same_some}
-use Rattle.tree_nodes.proofs.Walks.{walk_front, walk_on, walk_last, once, one_path, same_walk, reached_held, through}
-use Rattle.tree_nodes.proofs.Beside.{same_number, same_place, no_longer, directory_outside, from_or_outside}
+use Rattle.tree_nodes.proofs.Walks.{walk_on, walk_last, once, one_path, same_walk, reached_held}
+use Rattle.tree_nodes.proofs.Beside.{same_number, same_place, directory_outside, from_or_outside}
 use Rattle.tree_nodes.proofs.Putting.{none_from}
 
 -- the path p, x of the object m, and the free one q, y that it goes to, which isn't from p, x on

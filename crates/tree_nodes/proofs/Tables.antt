@@ -1,23 +1,27 @@
 -- what a change of one entry makes of the table
-use Rattle.std.proofs.Common.{◌≡◌, ℕ, ◌⊎◌, inl, inr, Bool, true, false, cond, List, [], ◌∷◌, length, Option, Some, None, Vec, Global, refl, sym, ap, ◌∙◌}
+use Rattle.std.proofs.Common.{◌≡◌, ℕ, ◌+◌, ◌⊎◌, inl, inr, Bool, true, false, cond, List, [], ◌∷◌, length, Option, Some, None, Vec, Global, refl, sym, ap, subst, ◌∙◌, arith}
 use Rattle.std.specs.Prelude.{IsSome, IsTrue, option_and_then, option_map}
 use Rattle.std.proofs.lemmas.Cmp.{tied_itself, nat_list_cmp_total}
 use Rattle.std.specs.declared.cmp.Ordering.{Ordering}
 use Rattle.std.specs.declared.cmp.Ordering.TheVariants.{Less, Equal, Greater}
 use Rattle.std.specs.Ordering.{nat_cmp, is_eq, eq_by_cmp}
 use Rattle.std.specs.Cmp.Lexicographic.{slice_cmp}
-use Rattle.std.specs.Cmp.{IsTotalOrder, on_total}
+use Rattle.std.specs.Cmp.{IsTotalOrder, on_total, nat_cmp_total}
 use Rattle.std.specs.FinMap as map
 use Rattle.std.specs.Map.{KeepsOthers, IsKeyTest, AreApart, lookup}
 use Rattle.std.specs.BTreeMap as sorted
-use Rattle.std.specs.BTreeMap.{BTreeMap, UpdatesBy, WritesThrough, is_at, btree_map_len}
+use Rattle.std.specs.BTreeMap.{BTreeMap, UpdatesBy, is_at, btree_map_len}
 use Rattle.tree_nodes.specs.declared.node.Node.{Node}
 use Rattle.tree_nodes.specs.declared.table.Entry.{Entry}
-use Rattle.tree_nodes.specs.Table.{Table, entry_at, named, child, placed, held}
+use Rattle.tree_nodes.specs.declared.node.Content.TheVariants.{Directory}
+use Rattle.tree_nodes.specs.Openings.{IsOpening}
+use Rattle.tree_nodes.specs.Table.{Table, entry_at, name_in, named, child, placed, held}
 use Rattle.tree_nodes.specs.Walk.{Held}
 use Rattle.tree_nodes.specs.Changes.{Adds, Cuts, Sets, Shifts}
 use Rattle.tree_nodes.specs.TableChanges.{IsSame, HasName, HasPlace}
-use Rattle.tree_nodes.proofs.Chains.{isnt, differ, same_some}
+use Rattle.slots.proofs.SlotLemmas.{len_stays, len_one_more, len_one_less}
+use Rattle.tree_nodes.proofs.Entries.{find_lookup}
+use Rattle.tree_nodes.proofs.Chains.{isnt, same_some}
 use Rattle.tree_nodes.proofs.Beside.{same_number}
 
 pub there : {A : Type 0} (o : Option A) (x : A) → o ≡ Some x → IsSome o
@@ -54,53 +58,100 @@ others : (a b : Names) (x : List ℕ) (w : Option ℕ) → UpdatesBy by_items (q
 unfolding KeepsOthers
 others a b x w h y ne = h.3 (is_at (query y)) (key_test y) (apart x y ne)
 
-other_number : (o a : ℕ) → (a ≡ o → ⊥) → is_eq (nat_cmp o a) ≡ false
-other_number o a ne = isnt (is_eq (nat_cmp o a)) (λ e. ne (sym (map.nat_cmp-IsAntisymmetric o a (is_equal (nat_cmp o a) e))))
+-- an object has this entry, or none, and each other one has what it had
+pub record Updates (o : ℕ) (m n : Table) (w : Option Entry) : Type 0 where
+  pub here : entry_at n o ≡ w
+  pub kept : (a : ℕ) → (a ≡ o → ⊥) → entry_at n a ≡ entry_at m a
+
+same_key : (o : ℕ) → eq_by_cmp nat_cmp o o ≡ true
+same_key o = ap is_eq (tied_itself nat_cmp_total o)
+
+other_key : (o a : ℕ) → (a ≡ o → ⊥) → eq_by_cmp nat_cmp a o ≡ false
+other_key o a ne = isnt (eq_by_cmp nat_cmp a o) (λ e. ne (map.nat_cmp-IsAntisymmetric a o (is_equal (nat_cmp a o) e)))
+
+pub put_in : (m n : Table) (o : ℕ) (e : Entry) → n ≡ map.insert m o e → Updates o m n (Some e)
+put_in m n o e is = record {
+  here = got o ∙ ap (λ b. cond b (Some e) (entry_at m o)) (same_key o);
+  kept = λ a ne. got a ∙ ap (λ b. cond b (Some e) (entry_at m a)) (other_key o a ne);
+} where
+  got : (a : ℕ) → entry_at n a ≡ cond (eq_by_cmp nat_cmp a o) (Some e) (entry_at m a)
+  got a = ap (λ (z : Table). map.get z a) is ∙ map.get-insert nat_cmp_total m o e a
+
+pub taken_out : (m n : Table) (o : ℕ) → n ≡ map.remove m o → Updates o m n None
+taken_out m n o is = record {
+  here = got o ∙ ap (λ b. cond b None (entry_at m o)) (same_key o);
+  kept = λ a ne. got a ∙ ap (λ b. cond b None (entry_at m a)) (other_key o a ne);
+} where
+  got : (a : ℕ) → entry_at n a ≡ cond (eq_by_cmp nat_cmp a o) None (entry_at m a)
+  got a = ap (λ (z : Table). map.get z a) is ∙ map.get-remove nat_cmp_total m o a
+
+-- a look-up finds what stands in the list of all
+pub looked_up : (m : Table) (o : ℕ) → entry_at m o ≡ lookup (is_at (nat_cmp o)) (map.entries m)
+looked_up m o = map.get-entries m o ∙ find_lookup nat_cmp o (map.entries m)
 
 -- one entry of a table is another
-module _ (m n : Table) (o : ℕ) (e f : Entry) (was : entry_at m o ≡ Some e) (h : UpdatesBy nat_cmp (nat_cmp o) m n (Some f)) where
-  pub entry_apart : (a : ℕ) → (a ≡ o → ⊥) → entry_at n a ≡ entry_at m a
-  entry_apart a ne = h.2 a (other_number o a ne)
+module _ (m : Table) (o : ℕ) (e f : Entry) (was : entry_at m o ≡ Some e) where
+  abbrev n : Table
+  n = map.insert m o f
 
-  pub same_places : placed f ≡ placed e → (a : ℕ) → held n a ≡ held m a
+  now : Updates o m (map.insert m o f) (Some f)
+  now = put_in m (map.insert m o f) o f refl
+
+  pub same_places : placed f ≡ placed e → (a : ℕ) → held (map.insert m o f) a ≡ held m a
   same_places same a = go (same_number a o) where
     go : (a ≡ o) ⊎ (a ≡ o → ⊥) → held n a ≡ held m a
-    go (inl is) = ap (held n) is ∙ ap (option_map placed) h.1 ∙ ap Some same ∙ sym (ap (held m) is ∙ ap (option_map placed) was)
-    go (inr ne) = ap (option_map placed) (entry_apart a ne)
+    go (inl is) = ap (held n) is ∙ ap (option_map placed) now.here ∙ ap Some same ∙ sym (ap (held m) is ∙ ap (option_map placed) was)
+    go (inr ne) = ap (option_map placed) (now.kept a ne)
 
-  pub same_steps : ((x : List ℕ) → named f x ≡ named e x) → (a : ℕ) (x : List ℕ) → child n a x ≡ child m a x
+  pub same_steps : ((x : List ℕ) → named f x ≡ named e x) → (a : ℕ) (x : List ℕ) → child (map.insert m o f) a x ≡ child m a x
   same_steps same a x = go (same_number a o) where
     go : (a ≡ o) ⊎ (a ≡ o → ⊥) → child n a x ≡ child m a x
     go (inl is) =
-        ap (λ z. child n z x) is ∙ ap (option_and_then (λ z. named z x)) h.1 ∙ same x ∙ sym (ap (λ z. child m z x) is ∙ ap (option_and_then (λ z. named z x)) was)
-    go (inr ne) = ap (option_and_then (λ z. named z x)) (entry_apart a ne)
+        ap (λ z. child n z x) is ∙ ap (option_and_then (λ z. named z x)) now.here ∙ same x ∙ sym (ap (λ z. child m z x) is ∙ ap (option_and_then (λ z. named z x)) was)
+    go (inr ne) = ap (option_and_then (λ z. named z x)) (now.kept a ne)
 
-  pub name_set : placed f ≡ placed e → btree_map_len n ≡ btree_map_len m → (x : List ℕ) (w : Option ℕ) → UpdatesBy by_items (query x) e.names f.names w → HasName o x w m n
-  name_set same len x w names = record {
-    here = ap (option_and_then (λ z. named z x)) h.1 ∙ names.1;
+  pub as_many : map.len (map.insert m o f) ≡ map.len m
+  as_many = len_stays m o f e was
+
+  pub same_table : placed f ≡ placed e → ((x : List ℕ) → named f x ≡ named e x) → IsSame m (map.insert m o f)
+  same_table place names = record { steps = same_steps names; places = same_places place; len = as_many }
+
+  pub name_set : placed f ≡ placed e → (x : List ℕ) (w : Option ℕ) → UpdatesBy by_items (query x) e.names f.names w → HasName o x w m (map.insert m o f)
+  name_set same x w names = record {
+    here = ap (option_and_then (λ z. named z x)) now.here ∙ names.1;
     others = λ a y ne. go a y ne (same_number a o);
     places = same_places same;
-    len = len;
+    len = as_many;
   } where
     go : (a : ℕ) (y : List ℕ) → (a ≡ o → y ≡ x → ⊥) → (a ≡ o) ⊎ (a ≡ o → ⊥) → child n a y ≡ child m a y
     go a y ne (inl is) =
-        ap (λ z. child n z y) is ∙ ap (option_and_then (λ z. named z y)) h.1 ∙ others e.names f.names x w names y (ne is)
+        ap (λ z. child n z y) is ∙ ap (option_and_then (λ z. named z y)) now.here ∙ others e.names f.names x w names y (ne is)
         ∙ sym (ap (λ z. child m z y) is ∙ ap (option_and_then (λ z. named z y)) was)
-    go a y ne (inr apart) = ap (option_and_then (λ z. named z y)) (entry_apart a apart)
+    go a y ne (inr apart) = ap (option_and_then (λ z. named z y)) (now.kept a apart)
+
+  pub place_set : f.node ≡ e.node → f.names ≡ e.names → HasPlace o f.parent f.name m (map.insert m o f)
+  place_set node names = record {
+    steps = same_steps (λ x. ap (λ z. name_in z x) names);
+    place = λ h is.
+        ap (option_map placed) now.here
+        ∙ ap (λ (z : Node). Some (f.parent, f.name, z)) (node ∙ ap (λ (z : Held). z.2) (same_some (placed e) h (sym (ap (option_map placed) was) ∙ is)));
+    kept = λ a ne. ap (option_map placed) (now.kept a ne);
+    len = as_many;
+  }
 
 -- what the key has is looked up
-module _ (m n : Table) (o : ℕ) (w : Option Entry) (h : UpdatesBy nat_cmp (nat_cmp o) m n w) where
+module _ (m n : Table) (o : ℕ) (w : Option Entry) (h : Updates o m n w) where
   pub steps_but : ((x : List ℕ) → option_and_then (λ e. named e x) w ≡ child m o x) → (a : ℕ) (x : List ℕ) → child n a x ≡ child m a x
   steps_but same a x = go (same_number a o) where
     go : (a ≡ o) ⊎ (a ≡ o → ⊥) → child n a x ≡ child m a x
-    go (inl is) = ap (λ z. child n z x) is ∙ ap (option_and_then (λ z. named z x)) h.1 ∙ same x ∙ sym (ap (λ z. child m z x) is)
-    go (inr ne) = ap (option_and_then (λ z. named z x)) (h.2 a (other_number o a ne))
+    go (inl is) = ap (λ z. child n z x) is ∙ ap (option_and_then (λ z. named z x)) h.here ∙ same x ∙ sym (ap (λ z. child m z x) is)
+    go (inr ne) = ap (option_and_then (λ z. named z x)) (h.kept a ne)
 
   pub held_but : (a : ℕ) → (a ≡ o → ⊥) → held n a ≡ held m a
-  held_but a ne = ap (option_map placed) (h.2 a (other_number o a ne))
+  held_but a ne = ap (option_map placed) (h.kept a ne)
 
   pub held_now : held n o ≡ option_map placed w
-  held_now = ap (option_map placed) h.1
+  held_now = ap (option_map placed) h.here
 
 nothing_held : (m : Table) (o : ℕ) → held m o ≡ None → entry_at m o ≡ None
 nothing_held m o e = go (entry_at m o) refl where
@@ -108,27 +159,116 @@ nothing_held m o e = go (entry_at m o) refl where
   go None is = refl
   go (Some x) is = absurd (cc (sym e, ap (option_map placed) is))
 
-pub added : (m k n : Table) (o : ℕ) (e : Entry) (x : List ℕ) → UpdatesBy nat_cmp (nat_cmp o) m k (Some e) → HasName e.parent x (Some o) k n → x ≡ e.name
+pub entry_held : (m : Table) (o : ℕ) (h : Held) → held m o ≡ Some h → (e : Entry) × (entry_at m o ≡ Some e)
+entry_held m o h e = go (entry_at m o) refl where
+  go : (s : Option Entry) → entry_at m o ≡ s → (x : Entry) × (entry_at m o ≡ Some x)
+  go None is = absurd (cc (e, ap (option_map placed) is))
+  go (Some x) is = (x, is)
+
+-- no names yet
+nameless : (e : Entry) (x : List ℕ) → e.names.entries ≡ [] → named e x ≡ None
+nameless e x empty = ap (lookup (is_at (query x))) empty
+
+pub added : (m k n : Table) (o : ℕ) (e : Entry) (x : List ℕ) → k ≡ map.insert m o e → HasName e.parent x (Some o) k n → x ≡ e.name
     → e.names.entries ≡ [] → held m o ≡ None → Adds e.parent e.name o e.node (child m) (child n) (held m) (held n)
-added m k n o e x h name is empty new = record {
+added m k n o e x put name is empty new = record {
   here = ap (child n e.parent) (sym is) ∙ name.here;
   others = λ a y ne. name.others a y (λ s t. ne s (t ∙ is)) ∙ steps a y;
   place = name.places o ∙ held_now m k o (Some e) h;
   kept = λ a ne. name.places a ∙ held_but m k o (Some e) h a ne;
 } where
-  steps : (a : ℕ) (y : List ℕ) → child k a y ≡ child m a y
-  steps = steps_but m k o (Some e) h (λ y. ap (lookup (is_at (query y))) empty ∙ sym (ap (option_and_then (λ z. named z y)) (nothing_held m o new)))
+  h : Updates o m k (Some e)
+  h = put_in m k o e put
 
-pub was_cut : (m k n : Table) (o : ℕ) (e : Entry) (x : List ℕ) → UpdatesBy nat_cmp (nat_cmp o) m k None → HasName e.parent x None k n → x ≡ e.name
+  steps : (a : ℕ) (y : List ℕ) → child k a y ≡ child m a y
+  steps = steps_but m k o (Some e) h (λ y. nameless e y empty ∙ sym (ap (option_and_then (λ z. named z y)) (nothing_held m o new)))
+
+pub one_more : (m k n : Table) (o : ℕ) (e : Entry) → k ≡ map.insert m o e → held m o ≡ None → map.len n ≡ map.len k → map.len n ≡ map.len m + 1
+one_more m k n o e put new len = len ∙ ap map.len put ∙ len_one_more m o e (nothing_held m o new)
+
+-- what stood still does behind an object that was put
+pub stands_still : (m k : Table) (o a : ℕ) (e : Entry) → k ≡ map.insert m o e → IsSome (held m a) → IsSome (held k a)
+stands_still m k o a e put there = go (same_number a o) where
+  h : Updates o m k (Some e)
+  h = put_in m k o e put
+
+  go : (a ≡ o) ⊎ (a ≡ o → ⊥) → IsSome (held k a)
+  go (inl is) = subst IsSome (sym (ap (held k) is ∙ held_now m k o (Some e) h)) refl
+  go (inr ne) = subst IsSome (sym (held_but m k o (Some e) h a ne)) there
+
+-- an object that was put and taken out again
+pub taken_again : (m k l n : Table) (o : ℕ) (e : Entry) → k ≡ map.insert m o e → IsSame k l → n ≡ map.remove l o → e.names.entries ≡ [] → held m o ≡ None → IsSame m n
+taken_again m k l n o e put same out empty new = record { steps = steps; places = places; len = len } where
+  h : Updates o m k (Some e)
+  h = put_in m k o e put
+
+  g : Updates o l n None
+  g = taken_out l n o out
+
+  none : entry_at m o ≡ None
+  none = nothing_held m o new
+
+  steps : (a : ℕ) (x : List ℕ) → child n a x ≡ child m a x
+  steps a x = go (same_number a o) where
+    go : (a ≡ o) ⊎ (a ≡ o → ⊥) → child n a x ≡ child m a x
+    go (inl is) = ap (λ z. child n z x) is ∙ ap (option_and_then (λ z. named z x)) g.here ∙ sym (ap (λ z. child m z x) is ∙ ap (option_and_then (λ z. named z x)) none)
+    go (inr ne) = ap (option_and_then (λ z. named z x)) (g.kept a ne) ∙ same.steps a x ∙ ap (option_and_then (λ z. named z x)) (h.kept a ne)
+
+  places : (a : ℕ) → held n a ≡ held m a
+  places a = go (same_number a o) where
+    go : (a ≡ o) ⊎ (a ≡ o → ⊥) → held n a ≡ held m a
+    go (inl is) = ap (held n) is ∙ ap (option_map placed) g.here ∙ sym (ap (held m) is ∙ new)
+    go (inr ne) = ap (option_map placed) (g.kept a ne) ∙ same.places a ∙ ap (option_map placed) (h.kept a ne)
+
+  len : map.len n ≡ map.len m
+  len =
+      let there = entry_held l o (placed e) (same.places o ∙ ap (option_map placed) h.here) in
+      omega (arith, ap map.len put, len_one_more m o e none, same.len, ap (λ (z : Table). map.len z + 1) out, len_one_less l o there.0 there.1)
+
+pub was_cut : (m k n : Table) (o : ℕ) (e : Entry) (x : List ℕ) → k ≡ map.remove m o → HasName e.parent x None k n → x ≡ e.name
     → ((y : List ℕ) → child m o y ≡ None) → Cuts e.parent e.name o (child m) (child n) (held m) (held n)
-was_cut m k n o e x h name is bare = record {
+was_cut m k n o e x out name is bare = record {
   here = ap (child n e.parent) (sym is) ∙ name.here;
   others = λ a y ne. name.others a y (λ s t. ne s (t ∙ is)) ∙ steps a y;
   gone = name.places o ∙ held_now m k o None h;
   kept = λ a ne. name.places a ∙ held_but m k o None h a ne;
 } where
+  h : Updates o m k None
+  h = taken_out m k o out
+
   steps : (a : ℕ) (y : List ℕ) → child k a y ≡ child m a y
   steps = steps_but m k o None h (λ y. sym (bare y))
+
+pub one_less : (m k n : Table) (o : ℕ) (e : Entry) → k ≡ map.remove m o → entry_at m o ≡ Some e → map.len n ≡ map.len k → map.len n + 1 ≡ map.len m
+one_less m k n o e out was len = ap (λ z. z + 1) (len ∙ ap map.len out) ∙ len_one_less m o e was
+
+-- the directory that a removed object lay in stands
+pub stands_above : (m k : Table) (o : ℕ) (e : Entry) → k ≡ map.remove m o → entry_at m o ≡ Some e → (h : Held) × (held m o ≡ Some h) × (h.0 ≡ o → ⊥) × IsSome (held m h.0) → IsSome (held k e.parent)
+stands_above m k o e out was stands =
+    let same : placed e ≡ stands.0 = same_some (placed e) stands.0 (sym (ap (option_map placed) was) ∙ stands.1) in
+    let up : e.parent ≡ stands.0.0 = ap (λ (z : Held). z.0) same in
+    subst IsSome (sym (held_but m k o None (taken_out m k o out) e.parent (λ s. stands.2 (sym up ∙ s)) ∙ ap (held m) up)) stands.3
+
+-- the first object
+pub opening_alone : (m n : Table) (e : Entry) → m ≡ map.empty → n ≡ map.insert m 0 e → placed e ≡ (0, [], record { object = 0; content = Directory }) → e.names.entries ≡ [] → IsOpening n
+opening_alone m n e empty put place nameless_root = record { root = root; others = beside; bare = bare; len = len } where
+  h : Updates 0 m n (Some e)
+  h = put_in m n 0 e put
+
+  none : (a : ℕ) → entry_at m a ≡ None
+  none a = ap (λ (z : Table). map.get z a) empty ∙ map.get-empty nat_cmp a
+
+  root : held n 0 ≡ Some (0, [], record { object = 0; content = Directory })
+  root = held_now m n 0 (Some e) h ∙ ap Some place
+
+  beside : (a : ℕ) → (a ≡ 0 → ⊥) → held n a ≡ None
+  beside a ne = held_but m n 0 (Some e) h a ne ∙ ap (option_map placed) (none a)
+
+  bare : (a : ℕ) (x : List ℕ) → child n a x ≡ None
+  bare a x = steps_but m n 0 (Some e) h (λ y. nameless e y nameless_root ∙ sym (ap (option_and_then (λ z. named z y)) (none 0))) a x ∙ ap (option_and_then (λ z. named z x)) (none a)
+
+  len : map.len n ≡ 1
+  len = omega (arith, ap map.len put, len_one_more m 0 e (none 0), ap map.len empty, map.len-empty nat_cmp Entry)
 
 pub shifted : (m k l n : Table) (o b a : ℕ) (x y z : List ℕ) → HasName a z (Some o) m k → HasPlace o a y k l → HasName b x None l n → z ≡ y
     → (a ≡ b → y ≡ x → ⊥) → Shifts o b x a y (child m) (child n) (held m) (held n)
@@ -141,13 +281,22 @@ shifted m k l n o b a x y z set place drops is apart = record {
 }
 
 -- an entry with another node
-pub node_set : (m n : Table) (o : ℕ) (e : Entry) (node : Node) → entry_at m o ≡ Some e → UpdatesBy nat_cmp (nat_cmp o) m n (Some (record e { node = node }))
-    → Sets o node (child m) (child n) (held m) (held n)
-node_set m n o e node was h = record {
-  same = same_steps m n o e (record e { node = node }) was h (λ x. refl);
-  place = λ g is. held_now m n o (Some (record e { node = node })) h ∙ ap (λ (z : Held). Some (z.0, z.1, node)) (same_some (placed e) g (sym (ap (option_map placed) was) ∙ is));
+pub node_set_by : (m n : Table) (o : ℕ) (e : Entry) (node : Node) → entry_at m o ≡ Some e → n ≡ map.insert m o (record e { node = node }) → Sets o node (child m) (child n) (held m) (held n)
+node_set_by m n o e node was is = record {
+  same = steps_but m n o (Some (record e { node = node })) h (λ x. sym (ap (option_and_then (λ z. named z x)) was));
+  place = λ g at. held_now m n o (Some (record e { node = node })) h ∙ ap (λ (z : Held). Some (z.0, z.1, node)) (same_some (placed e) g (sym (ap (option_map placed) was) ∙ at));
   kept = held_but m n o (Some (record e { node = node })) h;
-}
+} where
+  h : Updates o m n (Some (record e { node = node }))
+  h = put_in m n o (record e { node = node }) is
+
+pub node_set : (m : Table) (o : ℕ) (e : Entry) (node : Node) → entry_at m o ≡ Some e
+    → Sets o node (child m) (child (map.insert m o (record e { node = node }))) (held m) (held (map.insert m o (record e { node = node })))
+node_set m o e node was = node_set_by m (map.insert m o (record e { node = node })) o e node was refl
+
+-- an entry with the node that it had
+pub node_same : (m : Table) (o : ℕ) (e : Entry) (node : Node) → entry_at m o ≡ Some e → node ≡ e.node → IsSame m (map.insert m o (record e { node = node }))
+node_same m o e node was same = same_table m o e (record e { node = node }) was (ap (λ (z : Node). placed (record e { node = z })) same) (λ x. refl)
 
 -- where there are names, one of them leads on
 first_name : (xs : List (Vec ℕ Global × ℕ)) → (length xs ≡ 0 → ⊥) → (x : List ℕ) × (k : ℕ) × (lookup (is_at (query x)) xs ≡ Some k)

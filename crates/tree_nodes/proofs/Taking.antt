@@ -1,15 +1,14 @@
 -- a tree with an object less
-use Rattle.std.proofs.Common.{◌≡◌, ℕ, ◌⊎◌, inl, inr, Bool, cond, List, [], ◌∷◌, ◌++◌, Option, Some, None, refl, sym, ap, ◌∙◌, subst, append-nil}
+use Rattle.std.proofs.Common.{◌≡◌, ℕ, ◌⊎◌, inl, inr, cond, List, [], ◌∷◌, ◌++◌, Option, Some, None, refl, sym, ap, ◌∙◌, subst, append-nil}
 use Rattle.std.specs.Prelude.{IsSome, option_and_then, option_map}
 use Rattle.std.specs.Ordering.{eq_by_cmp}
-use Rattle.tree_nodes.specs.declared.node.Node.{Node}
 use Rattle.tree_nodes.specs.Tree.{Names, path_cmp}
 use Rattle.tree_nodes.specs.Walk.{Steps, Held, Holds, walk, node_of, seen, IsTree}
 use Rattle.tree_nodes.specs.Moves.{IsOutside}
 use Rattle.tree_nodes.specs.Changes.{Cuts}
 use Rattle.tree_nodes.proofs.Chains.{same_some}
 use Rattle.tree_nodes.proofs.Found.{tied, untied}
-use Rattle.tree_nodes.proofs.Walks.{walk_on, walk_last, once, one_path, reached_held}
+use Rattle.tree_nodes.proofs.Walks.{walk_on, walk_last, once, one_path}
 use Rattle.tree_nodes.proofs.Beside.{same_number, same_place, no_longer, beside, from_or_outside}
 use Rattle.tree_nodes.proofs.Putting.{outside_same, directory_same, none_from}
 

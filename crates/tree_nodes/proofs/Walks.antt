@@ -1,10 +1,9 @@
 -- walks by names, from object to object
 use Rattle.std.proofs.Common.{◌≡◌, ℕ, ◌⊎◌, inl, inr, List, [], ◌∷◌, ◌++◌, Option, Some, None, refl, sym, ap, ◌∙◌, subst, append_assoc, append-nil}
-use Rattle.std.specs.Prelude.{IsSome, option_and_then, option_map}
-use Rattle.tree_nodes.specs.declared.node.Node.{Node}
+use Rattle.std.specs.Prelude.{IsSome, option_and_then}
 use Rattle.tree_nodes.specs.Tree.{Names}
-use Rattle.tree_nodes.specs.Walk.{Steps, Held, Holds, walk, node_of, seen, IsTree}
-use Rattle.tree_nodes.proofs.Chains.{chained, mapped, same_some, value_of}
+use Rattle.tree_nodes.specs.Walk.{Steps, Held, Holds, walk, IsTree}
+use Rattle.tree_nodes.proofs.Chains.{chained, same_some}
 use Rattle.tree_nodes.proofs.Found.{ended}
 
 -- ---- one behind another

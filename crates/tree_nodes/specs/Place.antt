@@ -1,5 +1,5 @@
 -- where objects stand in a tree, by their numbers
-use Rattle.std.specs.Prelude.{ℕ, Bool, not, ◌||◌, List, [], ◌∷◌, ◌++◌, length, slice_index_or, Option, Some, None, option_and_then, option_map}
+use Rattle.std.specs.Prelude.{ℕ, Bool, not, ◌||◌, List, [], ◌∷◌, ◌++◌, length, slice_index_or, Option, option_and_then, option_map}
 use Rattle.std.specs.List.{list_all}
 use Rattle.std.specs.Ordering.{nat_cmp}
 use Rattle.std.specs.Cmp.Lexicographic.{slice_cmp}

@@ -1,6 +1,6 @@
 -- a table after a rename
 use Rattle.std.specs.Prelude.{◌≡◌, ◌<◌, ◌≤◌, ℕ, List, Some, None, option_and_then, option_map}
-use Rattle.std.specs.BTreeMap.{btree_map_len}
+use Rattle.std.specs.FinMap as map
 use Rattle.tree_nodes.specs.declared.undo.Move.{Move}
 use Rattle.tree_nodes.specs.Walk.{Held}
 use Rattle.tree_nodes.specs.Table.{Table, child, held, placed}
@@ -17,5 +17,5 @@ pub record IsRenamed (object directory : ℕ) (name : List ℕ) (move : Move) (b
   pub kept : (other : ℕ) → (other ≡ object → ⊥) → (child before directory name ≡ Some other → ⊥) → held after other ≡ held before other
   pub gone : (other : ℕ) → child before directory name ≡ Some other → held after other ≡ None
   pub displaced : option_map placed move.displaced ≡ option_and_then (held before) (child before directory name)
-  pub fewer : (other : ℕ) → child before directory name ≡ Some other → btree_map_len after < btree_map_len before
-  pub len : btree_map_len after ≤ btree_map_len before
+  pub fewer : (other : ℕ) → child before directory name ≡ Some other → map.len after < map.len before
+  pub len : map.len after ≤ map.len before

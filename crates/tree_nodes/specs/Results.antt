@@ -1,7 +1,6 @@
 -- what a change of the table gives, with what takes it back
 use Rattle.std.specs.Prelude.{◌≡◌, ℕ, ◌+◌, List, Some}
-use Rattle.std.specs.Ordering.{nat_cmp}
-use Rattle.std.specs.BTreeMap.{btree_map_len, IsOrdered}
+use Rattle.std.specs.FinMap as map
 use Rattle.tree_nodes.specs.declared.node.Node.{Node}
 use Rattle.tree_nodes.specs.declared.node.File.{File}
 use Rattle.tree_nodes.specs.declared.node.Content.TheVariants as contents
@@ -22,8 +21,7 @@ use Rattle.tree_nodes.specs.Renames.{IsRenamed}
 pub record IsMade (directory : ℕ) (name : List ℕ) (node : Node) (undo : Undo) (before after : Table) : Type 0 where
   pub step : undo.step ≡ Made node.object
   pub adds : Adds directory name node.object node (child before) (child after) (held before) (held after)
-  pub len : btree_map_len after ≡ btree_map_len before + 1
-  pub ordered : IsOrdered nat_cmp before
+  pub len : map.len after ≡ map.len before + 1
 
 -- a file with other bytes
 pub record IsEdited (object : ℕ) (edit : Edit) (undo : Undo) (before after : Table) : Type 0 where
@@ -32,7 +30,7 @@ pub record IsEdited (object : ℕ) (edit : Edit) (undo : Undo) (before after : T
   pub sets : (h : Held) (was : File) → held before object ≡ Some h → h.2.content ≡ contents.File was
       → Sets object (file_node h.2.object (edited edit was.bytes) was.verifier) (child before) (child after) (held before) (held after)
   pub restores : (h : Held) (was : File) → held before object ≡ Some h → h.2.content ≡ contents.File was → Restores file (edited edit was.bytes) was.bytes
-  pub len : btree_map_len after ≡ btree_map_len before
+  pub len : map.len after ≡ map.len before
 
 -- an object under another name
 pub record IsMoved (object directory : ℕ) (name : List ℕ) (undo : Undo) (before after : Table) : Type 0 where

@@ -4,7 +4,6 @@ use Rattle.std.proofs.Common.{sym, ◌∙◌}
 use Rattle.std.specs.Cmp.{IsTotalOrder}
 use Rattle.std.specs.Coded.{Coded-set, coded_option}
 use Rattle.std.proofs.lemmas.Cmp.{nat_list_cmp_total, lists_total}
-use Rattle.std.specs.BTreeMap.{btree_map_len}
 use mathlib.Core.HLevel.{Σ_prop_path, Π_prop}
 use Rattle.std.specs.FinMap as map
 use Rattle.tree_nodes.specs.Tree.{Names, Tree, path_cmp}
@@ -36,7 +35,7 @@ Shown-prop entries a b = Σ_prop_path {A = Tree} {B = λ tree. Agrees entries tr
 -- what every table keeps
 pub record IsTable (entries : Table) : Type 0 where
   pub tree : IsTree (child entries) (held entries)
-  pub few : btree_map_len entries ≤ node_limit
+  pub few : map.len entries ≤ node_limit
 
 -- a table that shows a tree
 pub record IsTableOf (entries : Table) (tree : Tree) : Type 0 where

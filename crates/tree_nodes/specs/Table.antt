@@ -4,16 +4,17 @@ use Rattle.std.specs.declared.vec.Vec.{Vec}
 use Rattle.std.specs.declared.alloc.Global.{Global}
 use Rattle.std.specs.Ordering.{nat_cmp}
 use Rattle.std.specs.Cmp.Lexicographic.{slice_cmp}
+use Rattle.std.specs.FinMap as map
 use Rattle.std.specs.BTreeMap as sorted
 use Rattle.std.specs.BTreeMap.{BTreeMap}
 use Rattle.tree_nodes.specs.declared.table.Entry.{Entry}
 use Rattle.tree_nodes.specs.Walk.{Held}
 
 abbrev pub Table : Type 0
-Table = BTreeMap ℕ Entry
+Table = map.FinMap nat_cmp Entry
 
 abbrev pub entry_at : Table → ℕ → Option Entry
-entry_at entries object = sorted.get nat_cmp entries object
+entry_at entries object = map.get entries object
 
 -- the object of a name
 abbrev pub name_in : BTreeMap (Vec ℕ Global) ℕ → List ℕ → Option ℕ

@@ -69,3 +69,18 @@ StepsBack (Moved move) after before = IsMovedBack move after before
 -- the value takes the tree after a change back to the one before
 unfoldable pub TakesBack : Undo → Tree → Tree → Type 0
 TakesBack undo after before = StepsBack undo.step after before
+
+abbrev pub displaced_nodes : Option Entry → ℕ
+displaced_nodes None = 0
+displaced_nodes (Some entry) = 1
+
+abbrev pub step_nodes : Step → ℕ
+step_nodes Nothing = 0
+step_nodes (Made object) = 0
+step_nodes (Removed entry) = 1
+step_nodes (Edited object undo) = 0
+step_nodes (Moved move) = displaced_nodes move.displaced
+
+-- how many nodes the value of a change holds: what the change took away
+abbrev pub held_nodes : Undo → ℕ
+held_nodes undo = step_nodes undo.step

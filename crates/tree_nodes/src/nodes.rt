@@ -28,6 +28,7 @@ use crate::table::{
     Edit, Entry, cut, entry_in, is_bare, lists_all, node_at, parent_of, place_of, root_alone,
 };
 use crate::undo::{Step, Undo, edit, make, rename, take_back};
+use slots::Slots;
 use std::alloc::{AllocError, Global};
 use std::collections::{BTreeMap, BTreeSet};
 use std::marker::Model;
@@ -35,7 +36,7 @@ use std::marker::Model;
 /// The nodes of a tree. A contract sees the finite map from paths to nodes.
 pub struct Nodes {
     alloc: Global,
-    entries: BTreeMap<u64, Entry>,
+    entries: Slots<Entry>,
     /// The tree, with that it is the one that the names lead through.
     ghost shown: { Shown entries } by { Shown-prop entries },
 }
@@ -134,10 +135,13 @@ impl Nodes {
         }
     }
 
-    /// Whether an object is the one in front, or lies below it.
+    /// Whether an object is the one in front, or lies below it. Where nothing lies below the front, it takes no walk.
     pub fn is_from(&self, object: u64, front: u64) -> bool
         ensures { (e f : Names × Node) → entry_of self.now object ≡ Some e → entry_of self.now front ≡ Some f → result ≡ is_from e.0 f.0 }
     {
+        if self.is_bare(front) {
+            return object == front;
+        }
         let mut at = object;
         while at != front {
             let Some(above) = self.above(at) else {
@@ -266,8 +270,8 @@ impl Nodes {
     {
         let mut paths = BTreeMap::new(self.alloc);
         for (object, _) in self.entries.iter() {
-            let path = self.path(*object)?;
-            let Ok(_) = paths.insert(path, *object) else {
+            let path = self.path(object)?;
+            let Ok(_) = paths.insert(path, object) else {
                 return Err(AllocError);
             };
         }

@@ -2,7 +2,7 @@
 
 ghost use Rattle.std.specs.Prelude.{true, false, option_and_then, ◌≡◌, ◌+◌, ◌<◌, ◌^◌, ℕ, List, length, IsSome, IfOk, OnOk, OnErr, Some, None};
 ghost use Rattle.std.specs.Ordering.{nat_cmp};
-ghost use Rattle.std.specs.BTreeMap.{btree_map_len, IsOrdered};
+ghost use Rattle.std.specs.FinMap as map;
 ghost use Rattle.tree_nodes.specs.declared.node.File.{File};
 ghost use Rattle.tree_nodes.specs.declared.node.Content.TheVariants as contents;
 ghost use Rattle.tree_nodes.specs.Files.{file_node};
@@ -20,6 +20,7 @@ ghost use Rattle.tree_nodes.specs.TableChanges.{IsSame, HasName, HasPlace};
 use crate::bytes::Bytes;
 use crate::node::{Content, File, Node};
 use file_bytes::FileUndo;
+use slots::Slots;
 use std::alloc::{AllocError, Global};
 use std::collections::{BTreeMap, BTreeSet};
 use std::mem::replace;
@@ -37,7 +38,7 @@ pub(crate) struct Entry {
 }
 
 /// The root alone, a directory, object 0.
-pub(crate) fn root_alone(alloc: Global) -> Result<BTreeMap<u64, Entry>, AllocError>
+pub(crate) fn root_alone(alloc: Global) -> Result<Slots<Entry>, AllocError>
     ensures { IfOk result IsOpening }
 {
     let root = Entry {
@@ -49,59 +50,57 @@ pub(crate) fn root_alone(alloc: Global) -> Result<BTreeMap<u64, Entry>, AllocErr
         },
         names: BTreeMap::new(alloc),
     };
-    let mut entries = BTreeMap::new(alloc);
-    let Ok(_) = entries.insert(0, root) else {
-        return Err(AllocError);
-    };
+    let mut entries = Slots::new(alloc);
+    entries.insert(0, root)?;
     Ok(entries)
 }
 
 /// The node of an object.
-pub(crate) fn node_at(entries: &BTreeMap<u64, Entry>, object: u64) -> Option<&Node>
+pub(crate) fn node_at(entries: &Slots<Entry>, object: u64) -> Option<&Node>
     ensures { option_copied result ≡ node_of (held entries.now) object }
 {
-    let Some(entry) = entries.get(&object) else {
+    let Some(entry) = entries.get(object) else {
         return None;
     };
     Some(&entry.node)
 }
 
 /// The object of the directory that an object lies in.
-pub(crate) fn parent_of(entries: &BTreeMap<u64, Entry>, object: u64) -> Option<u64>
+pub(crate) fn parent_of(entries: &Slots<Entry>, object: u64) -> Option<u64>
     ensures { result ≡ option_map (λ h. h.0) (held entries.now object) }
 {
-    let Some(entry) = entries.get(&object) else {
+    let Some(entry) = entries.get(object) else {
         return None;
     };
     Some(entry.parent)
 }
 
 /// The object of the directory that an object lies in, and its name there.
-pub(crate) fn place_of(entries: &BTreeMap<u64, Entry>, object: u64) -> Option<(u64, &Bytes)>
+pub(crate) fn place_of(entries: &Slots<Entry>, object: u64) -> Option<(u64, &Bytes)>
     ensures { option_map {U = ℕ × List ℕ} (λ place. (place.0, place.1.now)) result ≡ option_map (λ h. (h.0, h.1)) (held entries.now object) }
 {
-    let Some(entry) = entries.get(&object) else {
+    let Some(entry) = entries.get(object) else {
         return None;
     };
     Some((entry.parent, &entry.name))
 }
 
 /// Whether no name leads on from an object.
-pub(crate) fn is_bare(entries: &BTreeMap<u64, Entry>, object: u64) -> bool
+pub(crate) fn is_bare(entries: &Slots<Entry>, object: u64) -> bool
     ensures bare { result ≡ true → (name : List ℕ) → child entries.now object name ≡ None }
     ensures other { result ≡ false → (name : List ℕ) × (next : ℕ) × (child entries.now object name ≡ Some next) }
 {
-    let Some(entry) = entries.get(&object) else {
+    let Some(entry) = entries.get(object) else {
         return true;
     };
     entry.names.is_empty()
 }
 
 /// The object of a name in a directory.
-pub(crate) fn child(entries: &BTreeMap<u64, Entry>, directory: u64, name: &[u8]) -> Option<u64>
+pub(crate) fn child(entries: &Slots<Entry>, directory: u64, name: &[u8]) -> Option<u64>
     ensures { result ≡ child entries.now directory name.now }
 {
-    let Some(entry) = entries.get(&directory) else {
+    let Some(entry) = entries.get(directory) else {
         return None;
     };
     entry.names.get(name).copied()
@@ -109,7 +108,7 @@ pub(crate) fn child(entries: &BTreeMap<u64, Entry>, directory: u64, name: &[u8])
 
 /// The node of a name in a directory.
 pub(crate) fn entry_in<'a>(
-    entries: &'a BTreeMap<u64, Entry>,
+    entries: &'a Slots<Entry>,
     directory: u64,
     name: &[u8],
 ) -> Option<&'a Node>
@@ -122,17 +121,13 @@ pub(crate) fn entry_in<'a>(
 }
 
 /// Whether the name of each of these objects is among others.
-fn are_among(
-    entries: &BTreeMap<u64, Entry>,
-    here: &BTreeMap<Vec<u8>, u64>,
-    names: &BTreeSet<Bytes>,
-) -> bool
+fn are_among(entries: &Slots<Entry>, here: &BTreeMap<Vec<u8>, u64>, names: &BTreeSet<Bytes>) -> bool
     requires { (name : List ℕ) (next : ℕ) → name_in here.now name ≡ Some next → (h : Held) × (held entries.now next ≡ Some h) × (h.1 ≡ name) }
     ensures all { result ≡ true → (name : List ℕ) (next : ℕ) → name_in here.now name ≡ Some next → contains (slice_cmp nat_cmp) names.now name ≡ true }
     ensures missing { result ≡ false → (name : List ℕ) × (next : ℕ) × (name_in here.now name ≡ Some next) × (contains (slice_cmp nat_cmp) names.now name ≡ false) }
 {
     for (_, object) in here.iter() {
-        let Some(listed) = entries.get(object) else {
+        let Some(listed) = entries.get(*object) else {
             unreachable!()
         };
         if !names.contains(&listed.name) {
@@ -143,16 +138,12 @@ fn are_among(
 }
 
 /// Whether the name of each object in a directory is among these. It looks at one more than there are, at most.
-pub(crate) fn lists_all(
-    entries: &BTreeMap<u64, Entry>,
-    directory: u64,
-    names: &BTreeSet<Bytes>,
-) -> bool
+pub(crate) fn lists_all(entries: &Slots<Entry>, directory: u64, names: &BTreeSet<Bytes>) -> bool
     requires { IsTree (child entries.now) (held entries.now) }
     ensures all { result ≡ true → (name : List ℕ) (next : ℕ) → child entries.now directory name ≡ Some next → contains (slice_cmp nat_cmp) names.now name ≡ true }
     ensures missing { result ≡ false → (name : List ℕ) × (next : ℕ) × (child entries.now directory name ≡ Some next) × (contains (slice_cmp nat_cmp) names.now name ≡ false) }
 {
-    let Some(entry) = entries.get(&directory) else {
+    let Some(entry) = entries.get(directory) else {
         return true;
     };
     are_among(entries, &entry.names, names)
@@ -160,7 +151,7 @@ pub(crate) fn lists_all(
 
 /// Has a name in a directory lead to an object.
 fn set_name(
-    entries: &mut BTreeMap<u64, Entry>,
+    entries: &mut Slots<Entry>,
     directory: u64,
     name: Vec<u8>,
     object: u64,
@@ -170,7 +161,7 @@ fn set_name(
     ensures err { OnErr result (IsSame entries.old entries.new) }
     ensures absent { OnErr result (child entries.old directory name.items ≡ None) }
 {
-    let Some(entry) = entries.get_mut(&directory) else {
+    let Some(entry) = entries.get_mut(directory) else {
         unreachable!()
     };
     let Ok(_) = entry.names.insert(name, object) else {
@@ -180,11 +171,11 @@ fn set_name(
 }
 
 /// Takes a name out of a directory.
-fn drop_name(entries: &mut BTreeMap<u64, Entry>, directory: u64, name: &[u8])
+fn drop_name(entries: &mut Slots<Entry>, directory: u64, name: &[u8])
     requires { IsSome (held entries.old directory) }
     ensures { HasName directory name.now None entries.old entries.new }
 {
-    let Some(entry) = entries.get_mut(&directory) else {
+    let Some(entry) = entries.get_mut(directory) else {
         unreachable!()
     };
     entry.names.remove(name);
@@ -198,12 +189,12 @@ pub(crate) struct Place {
 }
 
 /// Notes that an object lies elsewhere, and gives where it lay.
-fn set_place(entries: &mut BTreeMap<u64, Entry>, object: u64, place: Place) -> Place
+fn set_place(entries: &mut Slots<Entry>, object: u64, place: Place) -> Place
     requires { IsSome (held entries.old object) }
     ensures after { HasPlace object place.parent place.name entries.old entries.new }
     ensures before { (h : Held) → held entries.old object ≡ Some h → (result.parent ≡ h.0) × (result.name ≡ h.1) }
 {
-    let Some(entry) = entries.get_mut(&object) else {
+    let Some(entry) = entries.get_mut(object) else {
         unreachable!()
     };
     let parent = replace(&mut entry.parent, place.parent);
@@ -213,7 +204,7 @@ fn set_place(entries: &mut BTreeMap<u64, Entry>, object: u64, place: Place) -> P
 
 /// Puts an object that isn't there under a name of a directory.
 pub(crate) fn add(
-    entries: &mut BTreeMap<u64, Entry>,
+    entries: &mut Slots<Entry>,
     alloc: Global,
     directory: u64,
     name: &[u8],
@@ -223,8 +214,7 @@ pub(crate) fn add(
     requires new { held entries.old node.object ≡ None }
     requires short { length name.now < 2 ^ 32 }
     ensures ok { OnOk result (Adds directory name.now node.object node (child entries.old) (child entries.new) (held entries.old) (held entries.new)) }
-    ensures len { OnOk result (btree_map_len entries.new ≡ btree_map_len entries.old + 1) }
-    ensures ordered { OnOk result (IsOrdered nat_cmp entries.old) }
+    ensures len { OnOk result (map.len entries.new ≡ map.len entries.old + 1) }
     ensures err { OnErr result (IsSame entries.old entries.new) }
 {
     let object = node.object;
@@ -235,25 +225,23 @@ pub(crate) fn add(
         node,
         names: BTreeMap::new(alloc),
     };
-    let Ok(_) = entries.insert(object, entry) else {
-        return Err(AllocError);
-    };
+    entries.insert(object, entry)?;
     let Ok(()) = set_name(entries, directory, key, object) else {
-        entries.remove(&object);
+        entries.remove(object);
         return Err(AllocError);
     };
     Ok(())
 }
 
 /// Takes an object with no names in it out, and gives it.
-pub(crate) fn cut(entries: &mut BTreeMap<u64, Entry>, object: u64) -> Entry
+pub(crate) fn cut(entries: &mut Slots<Entry>, object: u64) -> Entry
     requires stands { (h : Held) × (held entries.old object ≡ Some h) × (h.0 ≡ object → ⊥) × IsSome (held entries.old h.0) }
     requires bare { (name : List ℕ) → child entries.old object name ≡ None }
     ensures entry { held entries.old object ≡ Some (placed result) }
     ensures ok { Cuts result.parent result.name object (child entries.old) (child entries.new) (held entries.old) (held entries.new) }
-    ensures len { btree_map_len entries.new + 1 ≡ btree_map_len entries.old }
+    ensures len { map.len entries.new + 1 ≡ map.len entries.old }
 {
-    let Some(entry) = entries.remove(&object) else {
+    let Some(entry) = entries.remove(object) else {
         unreachable!()
     };
     drop_name(entries, entry.parent, entry.name.as_slice());
@@ -262,7 +250,7 @@ pub(crate) fn cut(entries: &mut BTreeMap<u64, Entry>, object: u64) -> Entry
 
 /// Puts an object under another name, and gives where it lay. What lay there loses its name, but stays in the table.
 pub(crate) fn shift(
-    entries: &mut BTreeMap<u64, Entry>,
+    entries: &mut Slots<Entry>,
     alloc: Global,
     object: u64,
     place: Place,
@@ -271,7 +259,7 @@ pub(crate) fn shift(
     requires directory { IsSome (held entries.old place.parent) }
     ensures before { IfOk result (λ before. (h : Held) → held entries.old object ≡ Some h → (before.parent ≡ h.0) × (before.name ≡ h.1)) }
     ensures ok { IfOk result (λ before. Shifts object before.parent before.name place.parent place.name (child entries.old) (child entries.new) (held entries.old) (held entries.new)) }
-    ensures len { btree_map_len entries.new ≡ btree_map_len entries.old }
+    ensures len { map.len entries.new ≡ map.len entries.old }
     ensures err { OnErr result (IsSame entries.old entries.new) }
 {
     let key = Vec::from_slice(alloc, place.name.as_slice())?;
@@ -318,7 +306,7 @@ fn edit_content(content: &mut Content, edit: Edit<'_>) -> Result<FileUndo, Alloc
 
 /// Changes the bytes of a file that stands.
 pub(crate) fn edit_bytes(
-    entries: &mut BTreeMap<u64, Entry>,
+    entries: &mut Slots<Entry>,
     object: u64,
     edit: Edit<'_>,
 ) -> Result<FileUndo, AllocError>
@@ -328,10 +316,10 @@ pub(crate) fn edit_bytes(
         → Sets object (file_node h.2.object (edited edit.entry file.bytes) file.verifier) (child entries.old) (child entries.new) (held entries.old) (held entries.new)) }
     ensures undo { IfOk result (λ undo. (h : Held) (file : File) → held entries.old object ≡ Some h → h.2.content ≡ contents.File file
         → Restores undo (edited edit.entry file.bytes) file.bytes) }
-    ensures len { btree_map_len entries.new ≡ btree_map_len entries.old }
+    ensures len { map.len entries.new ≡ map.len entries.old }
     ensures err { OnErr result (IsSame entries.old entries.new) }
 {
-    let Some(entry) = entries.get_mut(&object) else {
+    let Some(entry) = entries.get_mut(object) else {
         unreachable!()
     };
     edit_content(&mut entry.node.content, edit)
@@ -361,17 +349,17 @@ fn restore_content(content: &mut Content, undo: FileUndo) -> Result<(), AllocErr
 
 /// Takes a change of the bytes of a file that stands back.
 pub(crate) fn restore_bytes(
-    entries: &mut BTreeMap<u64, Entry>,
+    entries: &mut Slots<Entry>,
     object: u64,
     undo: FileUndo,
 ) -> Result<(), AllocError>
     requires { (h : Held) × (file : File) × (before : List ℕ) × (held entries.old object ≡ Some h) × (h.2.content ≡ contents.File file) × Restores undo file.bytes before }
     ensures ok { OnOk result ((h : Held) (file : File) (before : List ℕ) → held entries.old object ≡ Some h → h.2.content ≡ contents.File file → Restores undo file.bytes before
         → Sets object (file_node h.2.object before file.verifier) (child entries.old) (child entries.new) (held entries.old) (held entries.new)) }
-    ensures len { btree_map_len entries.new ≡ btree_map_len entries.old }
+    ensures len { map.len entries.new ≡ map.len entries.old }
     ensures err { OnErr result (IsSame entries.old entries.new) }
 {
-    let Some(entry) = entries.get_mut(&object) else {
+    let Some(entry) = entries.get_mut(object) else {
         unreachable!()
     };
     restore_content(&mut entry.node.content, undo)

@@ -10,14 +10,14 @@ ghost use Rattle.tree_nodes.specs.TableChanges.{IsSame};
 ghost use Rattle.tree_nodes.specs.Edits.{IsWithin};
 ghost use Rattle.tree_nodes.specs.Results.{IsMade, IsEdited, IsMoved};
 ghost use Rattle.tree_nodes.specs.Shown.{IsTableOf};
-ghost use Rattle.tree_nodes.specs.Undo.{IsPutBack, IsMovedBack, StepsBack, TakesBack};
+ghost use Rattle.tree_nodes.specs.Undo.{IsPutBack, IsMovedBack, StepsBack, TakesBack, held_nodes};
 
 use crate::bytes::Bytes;
 use crate::node::Node;
 use crate::table::{Edit, Entry, Place, add, child, cut, edit_bytes, restore_bytes, shift};
 use file_bytes::FileUndo;
+use slots::Slots;
 use std::alloc::{AllocError, Global};
-use std::collections::BTreeMap;
 
 /// What one change took away or put, in the place of a copy of the tree.
 #[derive(Drop)]
@@ -58,11 +58,22 @@ impl Undo {
             step: Step::Nothing,
         }
     }
+
+    /// How many nodes it holds: what the change took away, and neither what stayed nor what moved.
+    pub fn nodes(&self) -> u64
+        ensures { result ≡ held_nodes self.now }
+    {
+        match &self.step {
+            Step::Nothing | Step::Made(_) | Step::Edited(..) => 0,
+            Step::Removed(_) => 1,
+            Step::Moved(change) => u64::from(change.displaced.is_some()),
+        }
+    }
 }
 
 /// Puts an object that isn't there under a name of a directory.
 pub(crate) fn make(
-    entries: &mut BTreeMap<u64, Entry>,
+    entries: &mut Slots<Entry>,
     alloc: Global,
     directory: u64,
     name: &[u8],
@@ -83,7 +94,7 @@ pub(crate) fn make(
 
 /// Changes the bytes of a file that stands.
 pub(crate) fn edit(
-    entries: &mut BTreeMap<u64, Entry>,
+    entries: &mut Slots<Entry>,
     object: u64,
     edit: Edit<'_>,
 ) -> Result<Undo, AllocError>
@@ -100,7 +111,7 @@ pub(crate) fn edit(
 
 /// Puts an object under another name. What lay there goes.
 pub(crate) fn rename(
-    entries: &mut BTreeMap<u64, Entry>,
+    entries: &mut Slots<Entry>,
     alloc: Global,
     object: u64,
     directory: u64,
@@ -121,7 +132,7 @@ pub(crate) fn rename(
     let target = child(entries, directory, name);
     let place = shift(entries, alloc, object, place)?;
     let displaced = match target {
-        Some(target) => entries.remove(&target),
+        Some(target) => entries.remove(target),
         None => None,
     };
     Ok(Undo {
@@ -134,11 +145,7 @@ pub(crate) fn rename(
 }
 
 /// Puts an object that was taken away back.
-fn put_back(
-    entries: &mut BTreeMap<u64, Entry>,
-    alloc: Global,
-    entry: Entry,
-) -> Result<(), AllocError>
+fn put_back(entries: &mut Slots<Entry>, alloc: Global, entry: Entry) -> Result<(), AllocError>
     requires { (tree : Tree) × (before : Tree) × IsTableOf entries.old tree × IsPutBack entry tree before }
     ensures ok { OnOk result ((tree before : Tree) → IsTableOf entries.old tree → IsPutBack entry tree before → IsTableOf entries.new before) }
     ensures err { OnErr result (IsSame entries.old entries.new) }
@@ -148,11 +155,7 @@ fn put_back(
 }
 
 /// Puts an object where it lay, and back what it took the place of.
-fn move_back(
-    entries: &mut BTreeMap<u64, Entry>,
-    alloc: Global,
-    step: Move,
-) -> Result<(), AllocError>
+fn move_back(entries: &mut Slots<Entry>, alloc: Global, step: Move) -> Result<(), AllocError>
     requires { (tree : Tree) × (before : Tree) × IsTableOf entries.old tree × IsMovedBack step tree before }
     ensures ok { OnOk result ((tree before : Tree) → IsTableOf entries.old tree → IsMovedBack step tree before → IsTableOf entries.new before) }
     ensures err { OnErr result ((tree before : Tree) → IsTableOf entries.old tree → IsMovedBack step tree before → (now : Tree) × IsTableOf entries.new now) }
@@ -166,7 +169,7 @@ fn move_back(
 
 /// Takes a change back. Where memory runs out, a part of it may be.
 pub(crate) fn take_back(
-    entries: &mut BTreeMap<u64, Entry>,
+    entries: &mut Slots<Entry>,
     alloc: Global,
     step: Step,
 ) -> Result<(), AllocError>

@@ -7,7 +7,7 @@ use Rattle.std.proofs.lemmas.List.Elements.{filter_map-append}
 use Rattle.nfs3_types.specs.declared.calls.NfsCall.{NfsCall}
 use Rattle.nfs3_types.specs.declared.replies.Outcome.{Outcome}
 use Rattle.nfs_history.specs.declared.history.RecordedCall.{RecordedCall}
-use Rattle.nfs_history.specs.declared.history.History.{History}
+use Rattle.nfs_history.specs.declared.knowing.KnownCalls.{KnownCalls}
 use Rattle.certificate.specs.declared.plan.Certificate.{Certificate}
 use Rattle.certificate.specs.declared.plan.EraPlan.{EraPlan}
 use Rattle.certificate.specs.Plan.{cut_of}
@@ -29,7 +29,7 @@ kept_ahead calls [] = refl
 kept_ahead calls (era ∷ ahead) =
     (λ i. kept (step_at calls) (cut_of era) era.places i ++ kept_ahead calls ahead i) ∙ sym (filter_map-append (step_at calls) (left_of era) (flat_map left_of ahead))
 
-seen_runs : (history : History) (plan : Certificate) (ahead behind : List EraPlan) (era : EraPlan) → IsWitness history plan → plan.eras ≡ ahead ++ era ∷ behind
+seen_runs : (history : KnownCalls) (plan : Certificate) (ahead behind : List EraPlan) (era : EraPlan) → IsWitness history plan → plan.eras ≡ ahead ++ era ∷ behind
     → IsSome (state_after (next_of history plan) opening (steps_of history.calls (order_seen ahead era)))
 seen_runs history plan ahead behind era witness eras =
     let runs = witness.runs (map (era_of history.calls) ahead) (map (era_of history.calls) behind) (era_of history.calls era)

@@ -16,7 +16,7 @@ use Rattle.nfs3_types.specs.declared.replies.NfsReply.TheVariants as replies
 use Rattle.nfs3_types.specs.declared.replies.Outcome.TheVariants.{Received}
 use Rattle.nfs_history.specs.declared.history.Meaning.TheVariants.{Judged}
 use Rattle.nfs_history.specs.declared.history.RecordedCall.{RecordedCall}
-use Rattle.nfs_history.specs.declared.history.History.{History}
+use Rattle.nfs_history.specs.declared.knowing.KnownCalls.{KnownCalls}
 use Rattle.certificate.specs.declared.plan.Certificate.{Certificate}
 use Rattle.certificate.specs.declared.plan.EraPlan.{EraPlan}
 use Rattle.certificate.specs.declared.plan.Place.TheVariants.{Answered}
@@ -73,8 +73,8 @@ recorded =
     ∷ answered 5 2 (calls.Write (write_at 0 Unstable (98 ∷ []) 1)) (wrote 1 Unstable 8)
     ∷ answered 6 3 (calls.Read read) (replies.Read (Done given)) ∷ []
 
-abbrev pub history : History
-history = record { root = 0 ∷ []; eras = 3; calls = recorded; events = [] }
+abbrev pub history : KnownCalls
+history = record { root = 0 ∷ []; eras = 3; calls = recorded }
 
 -- each crash took the UNSTABLE WRITE of its era
 abbrev pub first_era : EraPlan
@@ -90,8 +90,8 @@ abbrev pub plan : Certificate
 plan = record { binds = record { handle = 1 ∷ []; object = 1 } ∷ []; eras = first_era ∷ second_era ∷ last_era ∷ [] }
 
 -- the first two of these calls, where no crash follows
-abbrev pub quiet_history : History
-quiet_history = record { root = 0 ∷ []; eras = 1; calls = take 2 recorded; events = [] }
+abbrev pub quiet_history : KnownCalls
+quiet_history = record { root = 0 ∷ []; eras = 1; calls = take 2 recorded }
 
 abbrev pub quiet_plan : Certificate
 quiet_plan = record { binds = plan.binds; eras = record { places = Answered 1 ∷ Answered 2 ∷ []; cut = None } ∷ [] }

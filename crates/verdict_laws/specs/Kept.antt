@@ -11,7 +11,7 @@ use Rattle.nfs3_types.specs.declared.replies.ReadSuccess.{ReadSuccess}
 use Rattle.nfs3_types.specs.declared.replies.WriteSuccess.{WriteSuccess}
 use Rattle.nfs3_types.specs.declared.replies.NfsReply.TheVariants as replies
 use Rattle.nfs3_types.specs.declared.replies.Outcome.TheVariants.{Received}
-use Rattle.nfs_history.specs.declared.history.History.{History}
+use Rattle.nfs_history.specs.declared.knowing.KnownCalls.{KnownCalls}
 use Rattle.certificate.specs.declared.plan.Certificate.{Certificate}
 use Rattle.certificate.specs.declared.plan.EraPlan.{EraPlan}
 use Rattle.certificate.specs.declared.plan.Place.{Place}
@@ -32,7 +32,7 @@ order_seen ahead era = flat_map left_of ahead ++ era.places
 -- a WRITE that was answered DATA_SYNC or FILE_SYNC is left by the crash that ended its era
 abbrev pub SyncedIsLeft : Type 0
 SyncedIsLeft =
-    (history : History) (plan : Certificate) (ahead behind : List EraPlan) (era next : EraPlan) (first more : List Place) (place : Place) (write : WriteArguments) (success : WriteSuccess)
+    (history : KnownCalls) (plan : Certificate) (ahead behind : List EraPlan) (era next : EraPlan) (first more : List Place) (place : Place) (write : WriteArguments) (success : WriteSuccess)
     → IsWitness history plan → plan.eras ≡ ahead ++ era ∷ next ∷ behind → era.places ≡ first ++ place ∷ more
     → answered_at history.calls place ≡ Some (calls.Write write, Received (replies.Write (Done success))) → success.level ≢ Unstable
     → (kept : List Place) × (left_of era ≡ first ++ place ∷ kept)
@@ -40,6 +40,6 @@ SyncedIsLeft =
 -- of these places a READ gives each byte that a WRITE ahead of it wrote, unless a place in between wrote over it
 abbrev pub WhatWasKept : Type 0
 WhatWasKept =
-    (history : History) (plan : Certificate) (ahead behind : List EraPlan) (era : EraPlan) (write : WriteArguments) (read : ReadArguments) (answer : ReadSuccess) (byte : ℕ)
+    (history : KnownCalls) (plan : Certificate) (ahead behind : List EraPlan) (era : EraPlan) (write : WriteArguments) (read : ReadArguments) (answer : ReadSuccess) (byte : ℕ)
     → IsWitness history plan → plan.eras ≡ ahead ++ era ∷ behind
     → ReadsLater (bindings_of history.root plan.binds) (steps_of history.calls (order_seen ahead era)) write read answer byte → GivesByte write read answer byte

@@ -1,7 +1,7 @@
 //! What survives a crash.
 
 ghost use Rattle.std.specs.Prelude.{◌≡◌, ◌≢◌, ◌≤◌, ◌<◌, ℕ, List, Some, IsTrue, length};
-ghost use Rattle.nfs_history.specs.declared.history.History.{History};
+ghost use Rattle.nfs_history.specs.declared.knowing.KnownCalls.{KnownCalls};
 ghost use Rattle.certificate.specs.declared.plan.Certificate.{Certificate};
 ghost use Rattle.certificate.specs.declared.plan.EraPlan.{EraPlan};
 ghost use Rattle.certificate.specs.Plan.{cut_of};
@@ -13,7 +13,7 @@ ghost use Rattle.verdict_laws.specs.Kept.{SyncedIsLeft, WhatWasKept};
 
 /// A crash takes no stable place away: the position of each one, from 1 on, is within its era's cut.
 pub fn stable_places_are_kept()
-    ensures { (history : History) (plan : Certificate) (e position : ℕ) (era : EraPlan)
+    ensures { (history : KnownCalls) (plan : Certificate) (e position : ℕ) (era : EraPlan)
         → IsWitness history plan → era_at plan.eras e ≡ Some era → e < length plan.eras
         → IsStableAt (effects_of (bindings_of history.root plan.binds) history.calls era.places) position
         → position ≤ cut_of era }
@@ -30,7 +30,7 @@ pub fn what_was_kept_is_read()
 
 /// Two eras that each lost a WRITE of at least one byte never show the same write verifier.
 pub fn lost_writes_show_different_verifiers()
-    ensures { (history : History) (plan : Certificate) (e f one other : ℕ) (era later : EraPlan)
+    ensures { (history : KnownCalls) (plan : Certificate) (e f one other : ℕ) (era later : EraPlan)
         → IsWitness history plan → e ≢ f → era_at plan.eras e ≡ Some era → era_at plan.eras f ≡ Some later
         → IsTrue (loses_write history.calls era) → IsTrue (loses_write history.calls later)
         → Shows history.calls era.places one → Shows history.calls later.places other → one ≢ other }

@@ -1,12 +1,12 @@
 -- A history and a plan have at most one verdict, and so have two texts.
 use Rattle.std.proofs.Common.{◌≡◌, ◌⊎◌, inl, inr, ℕ, List, Option, Some, None, refl, sym, ap, subst, ◌∙◌}
 use Rattle.std.proofs.lemmas.Option.{none-some, same_Some}
-use Rattle.nfs_history.specs.declared.history.History.{History}
+use Rattle.nfs_history.specs.declared.knowing.KnownCalls.{KnownCalls}
 use Rattle.nfs_history.specs.declared.fault.HistoryFault.{HistoryFault}
-use Rattle.nfs_history.specs.History.{IsHistoryFile}
+use Rattle.nfs_history.specs.History.{IsCallsFile}
 use Rattle.nfs_history.specs.FirstFault.{FirstFault}
-use Rattle.nfs_history.proofs.OneHistory.{one_history}
-use Rattle.nfs_history.proofs.FirstFaultLaws.{file_fault_or_history, one_first}
+use Rattle.nfs_history.proofs.OneHistory.{one_calls}
+use Rattle.nfs_history.proofs.FirstFaultLaws.{file_fault_or_calls, one_first}
 use Rattle.certificate.specs.declared.plan.Certificate.{Certificate}
 use Rattle.certificate.specs.declared.reading.TextFault.{TextFault}
 use Rattle.certificate.specs.declared.reading.TextFault.TheVariants.{BadLine, NoMemory}
@@ -40,7 +40,7 @@ use Rattle.witness_check.proofs.OneCut.{cuts_or_short, one_short_cut}
 same_no : (f g : Fault) → No f ≡ No g → f ≡ g
 same_no f g e = cc
 
-module _ (history : History) (plan : Certificate) where
+module _ (history : KnownCalls) (plan : Certificate) where
   -- of each kind a plan has one first fault, or the property
 
   one_shape : (f g : Fault) → IsShapeFault history plan f → IsShapeFault history plan g → f ≡ g
@@ -118,11 +118,11 @@ module _ (history : History) (plan : Certificate) where
 
 -- the history and the plan of two texts are one
 module _ (history_file certificate_text : List ℕ) where
-  moved_fault : (h g : History) (p q : Certificate) (f : Fault) → IsHistoryFile history_file h → IsHistoryFile history_file g → CertificateText certificate_text p → CertificateText certificate_text q
+  moved_fault : (h g : KnownCalls) (p q : Certificate) (f : Fault) → IsCallsFile history_file h → IsCallsFile history_file g → CertificateText certificate_text p → CertificateText certificate_text q
       → IsPlanFault h p f → IsPlanFault g q f
   moved_fault h g p q f fh fg tp tq x =
       subst (λ (plan : Certificate). IsPlanFault g plan f) (certificate_same p q certificate_text tp tq)
-      (subst (λ (history : History). IsPlanFault history p f) (one_history history_file h g fh fg) x)
+      (subst (λ (history : KnownCalls). IsPlanFault history p f) (one_calls history_file h g fh fg) x)
 
   accepted_or_refuted : (f : Fault) → AreAccepted history_file certificate_text → AreRefuted history_file certificate_text f → ⊥
   accepted_or_refuted f x y = no_fault x.history x.plan f x.witness (moved_fault y.history x.history y.plan x.plan f y.file x.file y.text x.text y.first)
@@ -132,7 +132,7 @@ module _ (history_file certificate_text : List ℕ) where
   no_text p NoMemory text bad = bad
 
   bad_text_file : (t : TextFault) (f : HistoryFault) → IsBadText history_file certificate_text t → FirstFault history_file f → ⊥
-  bad_text_file (BadLine k) f bad first = file_fault_or_history history_file f bad.0 first bad.1
+  bad_text_file (BadLine k) f bad first = file_fault_or_calls history_file f bad.0 first bad.1
   bad_text_file NoMemory f bad first = bad
 
   one_bad_text : (t u : TextFault) → IsBadText history_file certificate_text t → IsBadText history_file certificate_text u → t ≡ u
@@ -143,15 +143,15 @@ module _ (history_file certificate_text : List ℕ) where
   pub one_file_verdict : (v w : FileVerdict) → IsFileVerdict history_file certificate_text v → IsFileVerdict history_file certificate_text w → v ≡ w
   one_file_verdict told_of_files.Yes told_of_files.Yes x y = refl
   one_file_verdict told_of_files.Yes (told_of_files.No g) x y = absurd (accepted_or_refuted g x y)
-  one_file_verdict told_of_files.Yes (told_of_files.BadHistory g) x y = absurd (file_fault_or_history history_file g x.history y x.file)
+  one_file_verdict told_of_files.Yes (told_of_files.BadHistory g) x y = absurd (file_fault_or_calls history_file g x.history y x.file)
   one_file_verdict told_of_files.Yes (told_of_files.BadText u) x y = absurd (no_text x.plan u x.text y)
   one_file_verdict (told_of_files.No f) told_of_files.Yes x y = absurd (accepted_or_refuted f y x)
   one_file_verdict (told_of_files.No f) (told_of_files.No g) x y =
       ap (λ (z : Fault). told_of_files.No z) (one_fault y.history y.plan f g (moved_fault x.history y.history x.plan y.plan f x.file y.file x.text y.text x.first) y.first)
-  one_file_verdict (told_of_files.No f) (told_of_files.BadHistory g) x y = absurd (file_fault_or_history history_file g x.history y x.file)
+  one_file_verdict (told_of_files.No f) (told_of_files.BadHistory g) x y = absurd (file_fault_or_calls history_file g x.history y x.file)
   one_file_verdict (told_of_files.No f) (told_of_files.BadText u) x y = absurd (no_text x.plan u x.text y)
-  one_file_verdict (told_of_files.BadHistory f) told_of_files.Yes x y = absurd (file_fault_or_history history_file f y.history x y.file)
-  one_file_verdict (told_of_files.BadHistory f) (told_of_files.No g) x y = absurd (file_fault_or_history history_file f y.history x y.file)
+  one_file_verdict (told_of_files.BadHistory f) told_of_files.Yes x y = absurd (file_fault_or_calls history_file f y.history x y.file)
+  one_file_verdict (told_of_files.BadHistory f) (told_of_files.No g) x y = absurd (file_fault_or_calls history_file f y.history x y.file)
   one_file_verdict (told_of_files.BadHistory f) (told_of_files.BadHistory g) x y = ap (λ (z : HistoryFault). told_of_files.BadHistory z) (one_first history_file f g x y)
   one_file_verdict (told_of_files.BadHistory f) (told_of_files.BadText u) x y = absurd (bad_text_file u f y x)
   one_file_verdict (told_of_files.BadText t) told_of_files.Yes x y = absurd (no_text y.plan t y.text x)

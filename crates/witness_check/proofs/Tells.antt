@@ -1,6 +1,6 @@
 -- What the checks behind the shape and the order tell of a plan.
 use Rattle.std.proofs.Common.{◌≡◌, ◌⊎◌, inl, inr, ℕ, Result, Ok, Err, refl, ap, ◌∙◌}
-use Rattle.nfs_history.specs.declared.history.History.{History}
+use Rattle.nfs_history.specs.declared.knowing.KnownCalls.{KnownCalls}
 use Rattle.certificate.specs.declared.plan.Certificate.{Certificate}
 use Rattle.cut_check.specs.declared.fault.CutFault.{CutFault}
 use Rattle.cut_check.specs.declared.fault.CutFault.TheVariants as cuts
@@ -15,7 +15,7 @@ use Rattle.witness_check.specs.Faults.{of_run, of_cut}
 use Rattle.witness_check.specs.Verdict.{Ordered, Ran}
 use Rattle.witness_check.specs.Told.{TellsFault}
 
-module _ (history : History) (plan : Certificate) where
+module _ (history : KnownCalls) (plan : Certificate) where
   pub tells_run : (r : Result (Unit {0}) RunFault) (fault : RunFault) → r ≡ Err fault → Ordered history plan
       → ((n : ℕ) → r ≡ Err (runs.Illegal n) → IsFirstIllegalInEras (next_of history plan) opening (eras_of history plan) n) → TellsFault history plan (of_run fault)
   tells_run r (runs.Illegal n) was ordered illegal = inr (inr (inl (ordered, (n, illegal n was, refl))))

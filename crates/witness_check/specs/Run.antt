@@ -8,7 +8,7 @@ use Rattle.nfs3_types.specs.declared.replies.Outcome.TheVariants as outcomes
 use Rattle.nfs_history.specs.declared.history.Meaning.{Meaning}
 use Rattle.nfs_history.specs.declared.history.Meaning.TheVariants as meanings
 use Rattle.nfs_history.specs.declared.history.RecordedCall.{RecordedCall}
-use Rattle.nfs_history.specs.declared.history.History.{History}
+use Rattle.nfs_history.specs.declared.knowing.KnownCalls.{KnownCalls}
 use Rattle.nfs_history.specs.Precedence.{call_at}
 use Rattle.certificate.specs.declared.plan.Place.{Place}
 use Rattle.certificate.specs.declared.plan.Place.TheVariants.{Answered, Taken}
@@ -43,13 +43,13 @@ steps_of calls places = filter_map (step_at calls) places
 abbrev pub era_of : List RecordedCall → EraPlan → Era NfsCall Outcome
 era_of calls era = record { steps = steps_of calls era.places; kept = length (steps_of calls (take (cut_of era) era.places)) }
 
-abbrev pub eras_of : History → Certificate → List (Era NfsCall Outcome)
+abbrev pub eras_of : KnownCalls → Certificate → List (Era NfsCall Outcome)
 eras_of history plan = map (era_of history.calls) plan.eras
 
 -- what a call does to the tree, where it can have come out so
-abbrev pub next_of : History → Certificate → Tree → ℕ → NfsCall → Outcome → Option Tree
+abbrev pub next_of : KnownCalls → Certificate → Tree → ℕ → NfsCall → Outcome → Option Tree
 next_of history plan = next_tree (bindings_of history.root plan.binds)
 
 -- every era of the plan runs, from the tree that the places kept ahead of it lead to
-abbrev pub Runs : History → Certificate → Type 0
+abbrev pub Runs : KnownCalls → Certificate → Type 0
 Runs history plan = EveryEraRuns (next_of history plan) opening (eras_of history plan)

@@ -1,11 +1,11 @@
 -- What the function that goes over a plan's checks says to the prover.
-use Rattle.nfs_history.specs.declared.history.History.{History}
+use Rattle.nfs_history.specs.declared.knowing.KnownCalls.{KnownCalls}
 use Rattle.certificate.specs.declared.plan.Certificate.{Certificate}
 use Rattle.witness_check.specs.declared.fault.CheckFault.{CheckFault}
 use Rattle.witness_check.specs.declared.fault.CheckFault.TheVariants.{No, NoMemory}
 use Rattle.witness_check.specs.Verdict.{IsPlanFault}
 
 -- a fault that is told is the plan's first one; want of memory tells nothing
-abbrev pub TellsFault : History → Certificate → CheckFault → Type 0
+abbrev pub TellsFault : KnownCalls → Certificate → CheckFault → Type 0
 TellsFault history plan (No fault) = IsPlanFault history plan fault
 TellsFault history plan NoMemory = Unit {0}

@@ -3,8 +3,8 @@
 -- project's own).
 use Rattle.std.specs.Prelude.{◌≡◌, ◌⊎◌, ℕ, List, Some}
 use Rattle.nfs_history.specs.declared.fault.HistoryFault.{HistoryFault}
-use Rattle.nfs_history.specs.declared.history.History.{History}
-use Rattle.nfs_history.specs.History.{IsHistoryFile}
+use Rattle.nfs_history.specs.declared.knowing.KnownCalls.{KnownCalls}
+use Rattle.nfs_history.specs.History.{IsCallsFile}
 use Rattle.nfs_history.specs.FirstFault.{FirstFault}
 use Rattle.certificate.specs.declared.plan.Certificate.{Certificate}
 use Rattle.certificate.specs.declared.reading.TextFault.{TextFault}
@@ -33,7 +33,7 @@ use Rattle.witness_check.specs.Faults.{of_shape, of_order}
 use Rattle.witness_check.specs.Run.{eras_of, next_of, Runs}
 use Rattle.witness_check.specs.Witness.{IsWitness, AreAccepted}
 
-module _ (history : History) (plan : Certificate) where
+module _ (history : KnownCalls) (plan : Certificate) where
   abbrev pub IsShapeFault : Fault → Type 0
   IsShapeFault fault = (found : ShapeFault) × (shape_fault history.eras history.calls plan.eras ≡ Some found) × (of_shape found ≡ No fault)
 
@@ -72,15 +72,15 @@ module _ (history : History) (plan : Certificate) where
 
 -- the texts are a history's file and a certificate's text, and the plan has this first fault
 pub record AreRefuted (history_file certificate_text : List ℕ) (fault : Fault) : Type 0 where
-  pub history : History
+  pub history : KnownCalls
   pub plan : Certificate
-  pub file : IsHistoryFile history_file history
+  pub file : IsCallsFile history_file history
   pub text : CertificateText certificate_text plan
   pub first : IsPlanFault history plan fault
 
 -- the first text is a history's file, and the second no certificate's text, for this first line
 abbrev pub IsBadText : List ℕ → List ℕ → TextFault → Type 0
-IsBadText history_file certificate_text (BadLine k) = (history : History) × IsHistoryFile history_file history × IsBadLine certificate_text k
+IsBadText history_file certificate_text (BadLine k) = (history : KnownCalls) × IsCallsFile history_file history × IsBadLine certificate_text k
 IsBadText history_file certificate_text NoMemory = ⊥
 
 -- the verdict on two texts

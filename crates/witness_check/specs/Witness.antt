@@ -2,8 +2,8 @@
 -- Mendes and Scott 2016, section 4) with one serial order for the whole history, of which a crash loses the end of an era
 -- (Herlihy and Wing 1990, section 2.2, for what a serial order has to keep to).
 use Rattle.std.specs.Prelude.{ℕ, List}
-use Rattle.nfs_history.specs.declared.history.History.{History}
-use Rattle.nfs_history.specs.History.{IsHistoryFile}
+use Rattle.nfs_history.specs.declared.knowing.KnownCalls.{KnownCalls}
+use Rattle.nfs_history.specs.History.{IsCallsFile}
 use Rattle.certificate.specs.declared.plan.Certificate.{Certificate}
 use Rattle.certificate.specs.CertificateText.{CertificateText}
 use Rattle.order_check.specs.Shape.{HasShape}
@@ -13,7 +13,7 @@ use Rattle.cut_check.specs.Cut.{CutsKeepStable}
 use Rattle.cut_check.specs.Verifier.{VerifiersAgree}
 use Rattle.witness_check.specs.Run.{Runs}
 
-pub record IsWitness (history : History) (plan : Certificate) : Type 0 where
+pub record IsWitness (history : KnownCalls) (plan : Certificate) : Type 0 where
   -- the plan has the history's shape: each answered judged call has its place, and no call another
   pub shape : HasShape history.eras history.calls plan.eras
   -- it puts no call ahead of one that had ended before it began
@@ -27,8 +27,8 @@ pub record IsWitness (history : History) (plan : Certificate) : Type 0 where
 
 -- the first text is the file of a history, which has the certificate that the second text spells as a witness
 pub record AreAccepted (history_file certificate_text : List ℕ) : Type 0 where
-  pub history : History
+  pub history : KnownCalls
   pub plan : Certificate
-  pub file : IsHistoryFile history_file history
+  pub file : IsCallsFile history_file history
   pub text : CertificateText certificate_text plan
   pub witness : IsWitness history plan

@@ -1,7 +1,7 @@
 //! What verdicts are. The functions do nothing: each one's contract is a law.
 
 ghost use Rattle.std.specs.Prelude.{◌≡◌, ℕ, List};
-ghost use Rattle.nfs_history.specs.declared.history.History.{History};
+ghost use Rattle.nfs_history.specs.declared.knowing.KnownCalls.{KnownCalls};
 ghost use Rattle.certificate.specs.declared.plan.Certificate.{Certificate};
 ghost use Rattle.witness_check.specs.declared.verdict.Verdict.{Verdict};
 ghost use Rattle.witness_check.specs.declared.verdict.FileVerdict.{FileVerdict};
@@ -9,7 +9,7 @@ ghost use Rattle.witness_check.specs.Verdict.{IsVerdict, IsFileVerdict};
 
 /// A history and a plan have at most one verdict: a witness has no fault, and no plan has two first faults.
 pub fn a_plan_has_one_verdict()
-    ensures { (history : History) (plan : Certificate) (one other : Verdict)
+    ensures { (history : KnownCalls) (plan : Certificate) (one other : Verdict)
         → IsVerdict history plan one → IsVerdict history plan other → one ≡ other }
 {}
 

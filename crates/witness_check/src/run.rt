@@ -15,7 +15,7 @@ ghost use Rattle.witness_check.specs.Running.{taken_outcome, found_step, Stands,
 use certificate::{Certificate, EraPlan, Place};
 use cut_check::bindings_of_plan;
 use file_tree::FileTree;
-use nfs_history::{History, Meaning, RecordedCall, find_call};
+use nfs_history::{KnownCalls, Meaning, RecordedCall, find_call};
 use nfs3_types::{NfsCall, Outcome};
 use replay_law::{Replay, RunFault, StepFault};
 use std::alloc::Global;
@@ -212,7 +212,7 @@ fn run_plans(
 }
 
 /// Whether every era of a plan runs.
-pub fn run_plan(alloc: Global, history: &History, plan: &Certificate) -> Result<(), RunFault>
+pub fn run_plan(alloc: Global, history: &KnownCalls, plan: &Certificate) -> Result<(), RunFault>
     ensures ok { OnOk result (Runs history.now plan.now) }
     ensures illegal { (number : ℕ) → result ≡ Err (RunFault.Illegal number)
         → IsFirstIllegalInEras (next_of history.now plan.now) opening (eras_of history.now plan.now) number }

@@ -12,7 +12,7 @@ use crate::fault::{CheckFault, Fault};
 use crate::run::run_plan;
 use certificate::{Certificate, TextFault, read_certificate};
 use cut_check::{check_cuts, check_verifiers};
-use nfs_history::{History, HistoryFault, read_history};
+use nfs_history::{History, HistoryFault, KnownCalls, read_calls};
 use order_check::{check_order, check_shape};
 use std::alloc::{AllocError, Global};
 
@@ -41,7 +41,7 @@ pub enum FileVerdict {
 /// The shape, then the order, the run, the cuts and the write verifiers.
 fn check_parts(
     alloc: Global,
-    history: &History,
+    history: &KnownCalls,
     certificate: &Certificate,
 ) -> Result<(), CheckFault>
     ensures ok { OnOk result (IsWitness history.now certificate.now) }
@@ -55,16 +55,13 @@ fn check_parts(
     Ok(())
 }
 
-/// Whether the certificate is a witness of the history, or else its first fault.
-pub fn check(
+/// Whether the certificate is a witness, or else its first fault; that no other answer is right is said at `check`.
+fn verdict_of(
     alloc: Global,
-    history: &History,
+    history: &KnownCalls,
     certificate: &Certificate,
 ) -> Result<Verdict, AllocError>
-    // The answer is the verdict on the two.
-    ensures verdict { IfOk result (IsVerdict history.now certificate.now) }
-    // The verdict on the two is the answer, memory aside.
-    ensures only { (verdict : Verdict) → IsVerdict history.now certificate.now verdict → IfOk result (λ given. given ≡ verdict) }
+    ensures { IfOk result (IsVerdict history.now certificate.now) }
 {
     match check_parts(alloc, history, certificate) {
         Ok(()) => Ok(Verdict::Yes),
@@ -73,11 +70,25 @@ pub fn check(
     }
 }
 
+/// Whether the certificate is a witness of the history, or else its first fault.
+pub fn check(
+    alloc: Global,
+    history: &History,
+    certificate: &Certificate,
+) -> Result<Verdict, AllocError>
+    // The answer is the verdict on the two.
+    ensures verdict { IfOk result (IsVerdict history.now.known certificate.now) }
+    // The verdict on the two is the answer, memory aside.
+    ensures only { (verdict : Verdict) → IsVerdict history.now.known certificate.now verdict → IfOk result (λ given. given ≡ verdict) }
+{
+    verdict_of(alloc, history.known(), certificate)
+}
+
 /// The verdict on two texts; that no other is right is said at `check_files`.
 fn verdict_on(alloc: Global, history: &[u8], certificate: &[u8]) -> Result<FileVerdict, AllocError>
     ensures { IfOk result (IsFileVerdict history.now certificate.now) }
 {
-    let history = match read_history(alloc, history) {
+    let history = match read_calls(alloc, history) {
         Ok(history) => history,
         Err(HistoryFault::NoMemory) => return Err(AllocError),
         Err(fault) => return Ok(FileVerdict::BadHistory(fault)),
@@ -87,7 +98,7 @@ fn verdict_on(alloc: Global, history: &[u8], certificate: &[u8]) -> Result<FileV
         Err(TextFault::NoMemory) => return Err(AllocError),
         Err(fault) => return Ok(FileVerdict::BadText(fault)),
     };
-    match check(alloc, &history, &certificate)? {
+    match verdict_of(alloc, &history, &certificate)? {
         Verdict::Yes => Ok(FileVerdict::Yes),
         Verdict::No(fault) => Ok(FileVerdict::No(fault)),
     }

@@ -1,7 +1,7 @@
 use Rattle.std.proofs.Common.{refl}
 use Rattle.xdr_records.proofs.Answering.{answered_found, answered_only, answered_fault, answered_fails}
-use Rattle.nfs3_msgs.specs.declared.fault.MessageFault.TheVariants as faults
-use Rattle.nfs3_msgs.specs.Told.{kind_of, told}
+use Rattle.nfs3_values.specs.declared.fault.MessageFault.TheVariants as faults
+use Rattle.nfs3_values.specs.Told.{kind_of, told}
 use Rattle.nfs3_msgs.specs.Messages.{results}
 use Rattle.nfs3_msgs.proofs.messages.read_result.Goals as goal
 

@@ -1,12 +1,12 @@
 use Rattle.std.proofs.Common.{take, arith}
-use Rattle.history_file.specs.Owning.{all_happened}
+use Rattle.history_file.specs.Owning.{all_seen}
 use Rattle.nfs_history.proofs.CheckingSteps.{checked_more, first_here, all_checked, era_within}
 use Rattle.nfs_history.proofs.checking.first_event_fault.Goals as goal
 
 pub returns-in-Some : goal.returns-in-Some
 returns-in-Some c =
     let i = c.loop-index.index in
-    first_here c.args.events.now i c.index-events-index.result c.loop-index.calls c.in-Some.fault c.loop-index-test.true c.index-events-index.is (c.in-Some.ensures (all_happened (take i c.args.events.now)) c.loop-index.invariant.knows) c.loop-index.invariant
+    first_here c.args.events.now i _ c.loop-index.calls c.in-Some.fault c.loop-index-test.true (c.in-Some.ensures (all_seen (take i c.args.events.now)) c.loop-index.invariant.knows) c.loop-index.invariant
 
 pub follow-requires : goal.follow-requires
 follow-requires c = omega (arith, era_within c.args.events.now c.loop-index.index c.loop-index.calls c.loop-index-test.true c.loop-index.invariant)
@@ -15,9 +15,9 @@ pub loop-index-preserved : goal.loop-index-preserved
 loop-index-preserved c =
     let i = c.loop-index.index in
     let events = c.args.events.now in
-    let before = all_happened (take i events) in
+    let before = all_seen (take i events) in
     let may = c.in_default.ensures before c.loop-index.invariant.knows in
-    checked_more events i c.index-events-index.result c.loop-index.calls c.follow.new.self c.loop-index-test.true c.index-events-index.is may (c.in_ok-follow.ensures before c.loop-index.invariant.knows may) c.loop-index.invariant
+    checked_more events i _ c.loop-index.calls c.follow.new.self c.loop-index-test.true may (c.in_ok-follow.ensures before c.loop-index.invariant.knows may) c.loop-index.invariant
 
 pub returns : goal.returns
 returns c = all_checked c.args.events.now c.loop-index.index c.loop-index.calls c.loop-index-test.false c.loop-index.invariant

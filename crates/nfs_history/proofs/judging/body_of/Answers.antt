@@ -6,4 +6,4 @@ use Rattle.nfs_history.proofs.judging.body_of.Goals as goal
 pub unreachable-requires : goal.unreachable-requires
 unreachable-requires c =
     let said = subst (λ answer. Says (option_map seen_reply answer) c.requires.0) c.in-Some.is c.requires.1 in
-    c.in-Err.ensures.only said.0 (rw c.as_slice.ensures said.1)
+    c.in-Err.ensures.only said.0 said.1

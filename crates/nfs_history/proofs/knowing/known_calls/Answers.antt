@@ -1,36 +1,25 @@
-use Rattle.std.proofs.Common.{◌≡◌, inr, inl, [], map, ap, subst, ◌∙◌}
+use Rattle.std.proofs.Common.{[], map, ap, subst, ◌∙◌}
 use Rattle.std.proofs.lemmas.Result.{err_from_is_err_and}
-use Rattle.history_file.specs.Owning.{all_happened}
-use Rattle.nfs_history.specs.Calls.{calls_of}
-use Rattle.nfs_history.specs.Checking.{IsFirstFault}
+use Rattle.history_file.specs.Owning.{all_seen}
 use Rattle.nfs_history.specs.History.{AreRecorded}
 use Rattle.nfs_history.specs.Matching.{seen_call}
 use Rattle.nfs_history.proofs.FirstFaultLaws.{calls_readable, call_stop}
 use Rattle.nfs_history.proofs.knowing.known_calls.Goals as goal
 
-pub returns-in-Some-clause-fault : goal.returns-in-Some-clause-fault
-returns-in-Some-clause-fault c =
-    let first = subst (IsFirstFault (all_happened c.args.events.now)) c.in-Some.is c.in_ok-fault.ensures in
-    inr (inl (c.in-Some.fault, first, c.from.ensures))
-
 pub judged_calls-requires : goal.judged_calls-requires
 judged_calls-requires c =
-    let events = all_happened c.args.events.now in
-    let are : map seen_call c.as_slice.result.now ≡ calls_of events = ap (map seen_call) c.as_slice.ensures.value ∙ c.in_ok-calls.ensures in
-    let follow = subst (IsFirstFault events) c.in_default.is c.in_ok-fault.ensures in
-    rw are (calls_readable 1 1 [] events follow)
+    let events = all_seen c.args.events.items in
+    let are = ap (map seen_call) c.as_slice.ensures.value ∙ c.in_ok-calls.ensures.found.1 in
+    rw are (calls_readable 1 1 [] events c.in_ok-calls.ensures.found.0)
 
 pub returns-in_err-calls-2-clause-fault : goal.returns-in_err-calls-2-clause-fault
 returns-in_err-calls-2-clause-fault c =
-    let events = all_happened c.args.events.now in
-    let are : map seen_call c.as_slice.result.now ≡ calls_of events = ap (map seen_call) c.as_slice.ensures.value ∙ c.in_ok-calls.ensures in
-    let follow = subst (IsFirstFault events) c.in_default.is c.in_ok-fault.ensures in
+    let events = all_seen c.args.events.items in
+    let are = ap (map seen_call) c.as_slice.ensures.value ∙ c.in_ok-calls.ensures.found.1 in
     let p = err_from_is_err_and c.from_residual-in_err-calls-2.result c.from_residual-in_err-calls-2.ensures.1 in
-    rw (p.1, p.2) (call_stop events (map seen_call c.as_slice.result.now) c.in_err-calls-2.field-0.0 are follow c.in_err-calls-2.ensures.fault)
+    rw (p.1, p.2) (call_stop events (map seen_call c.as_slice.result.now) c.in_err-calls-2.field-0.0 are c.in_ok-calls.ensures.found.0 c.in_err-calls-2.ensures.fault)
 
 pub returns-clause-found : goal.returns-clause-found
 returns-clause-found c =
-    let events = all_happened c.args.events.now in
-    let are : map seen_call c.as_slice.result.now ≡ calls_of events = ap (map seen_call) c.as_slice.ensures.value ∙ c.in_ok-calls.ensures in
-    let follow = subst (IsFirstFault events) c.in_default.is c.in_ok-fault.ensures in
-    (follow, subst (λ cs. AreRecorded cs c.in_ok-calls-2.calls.items) are c.in_ok-calls-2.ensures.found)
+    let are = ap (map seen_call) c.as_slice.ensures.value ∙ c.in_ok-calls.ensures.found.1 in
+    (c.in_ok-calls.ensures.found.0, subst (λ cs. AreRecorded cs c.in_ok-calls-2.calls.items) are c.in_ok-calls-2.ensures.found)

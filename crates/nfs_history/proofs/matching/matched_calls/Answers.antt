@@ -1,10 +1,10 @@
 use Rattle.std.proofs.Common.{◌≡◌, ◌+◌, ◌-◌, [], length, drop, take, ap, ◌∙◌, arith, refl, map, sym}
 use Rattle.std.specs.HashMap.{get}
 use Rattle.std.proofs.lemmas.List.{drop_all, take_all}
-use Rattle.history_file.specs.declared.event.Event.TheVariants as owns
-use Rattle.nfs_history.specs.Calls.{xid_of, calls_from, eras_from}
+use Rattle.history_file.specs.declared.event.SeenEvent.TheVariants as sees
+use Rattle.nfs_history.specs.Calls.{calls_from, eras_from}
 use Rattle.nfs_history.specs.Matching.{seen_call, same_key}
-use Rattle.history_file.specs.Owning.{all_happened}
+use Rattle.history_file.specs.Owning.{all_seen}
 use Rattle.nfs_history.proofs.MatchingSteps.{none_met, met_call, met_reply, met_close, met_crash, one_before, behind_it, era_before, era_at_crash}
 use Rattle.nfs_history.proofs.matching.matched_calls.Goals as goal
 
@@ -20,7 +20,7 @@ loop-index-init c =
 
 pub overflow_sub-era : goal.overflow_sub-era
 overflow_sub-era c =
-    omega (arith, era_at_crash c.args.events.now c.loop-index.index c.index-events-index.result c.loop-index.era (omega arith) (omega arith) (sym c.index-events-index.is ∙ c.in-Crash.is) c.loop-index.invariant.era_is)
+    omega (arith, era_at_crash c.args.events.now c.loop-index.index _ c.loop-index.era (omega arith) (omega arith) c.in-Crash.is c.loop-index.invariant.era_is)
 
 pub loop-index-preserved-in-Continue-1 : goal.loop-index-preserved-in-Continue-1
 loop-index-preserved-in-Continue-1 c =
@@ -28,13 +28,13 @@ loop-index-preserved-in-Continue-1 c =
     let events = c.args.events.now in
     let era = c.loop-index.era in
     let matched = behind_it events i era c.loop-index.replies c.loop-index.calls.items (omega arith) c.loop-index.invariant.matched in
-    let same = sym c.index-events-index.is ∙ c.in-Call.is in
-    let this = owns.Call c.in-Call.lane c.in-Call.message in
-    let is = one_before events i c.index-events-index.result this (omega arith) (omega arith) same in
+    let same = c.in-Call.is in
+    let this = sees.Call c.in-Call.lane c.in-Call.message in
+    let is = one_before events i _ this (omega arith) (omega arith) same in
     record {
-      matched = rw (is, c.in_ok-push-in-Call.ensures.items) (met_call (i - 1) era (all_happened (drop ((i - 1) + 1) events)) c.loop-index.replies c.loop-index.calls.items _ refl refl
-          (c.copied-answer.ensures ∙ c.get.ensures.value ∙ ap (λ x. get same_key c.loop-index.replies (c.in-Call.lane, x)) (c.transaction-xid.ensures ∙ ap xid_of c.as_slice.ensures)) matched);
-      era_is = era_before events i c.index-events-index.result this era (omega arith) (omega arith) same refl c.loop-index.invariant.era_is;
+      matched = rw (is, c.in_ok-push-in-Call.ensures.items) (met_call (i - 1) era (all_seen (drop ((i - 1) + 1) events)) c.loop-index.replies c.loop-index.calls.items _ refl refl
+          (c.copied-answer.ensures ∙ c.get.ensures.value ∙ ap (λ x. get same_key c.loop-index.replies (c.in-Call.lane, x)) c.transaction-xid.ensures) matched);
+      era_is = era_before events i _ this era (omega arith) (omega arith) same refl c.loop-index.invariant.era_is;
     }
 
 pub loop-index-preserved-in_ok-insert-in-Reply : goal.loop-index-preserved-in_ok-insert-in-Reply
@@ -43,12 +43,12 @@ loop-index-preserved-in_ok-insert-in-Reply c =
     let events = c.args.events.now in
     let era = c.loop-index.era in
     let matched = behind_it events i era c.loop-index.replies c.loop-index.calls.items (omega arith) c.loop-index.invariant.matched in
-    let same = sym c.index-events-index.is ∙ c.in-Reply.is in
-    let this = owns.Reply c.in-Reply.lane c.in-Reply.message in
-    let is = one_before events i c.index-events-index.result this (omega arith) (omega arith) same in
+    let same = c.in-Reply.is in
+    let this = sees.Reply c.in-Reply.lane c.in-Reply.message in
+    let is = one_before events i _ this (omega arith) (omega arith) same in
     record {
-      matched = rw is (met_reply (i - 1) era (all_happened (drop ((i - 1) + 1) events)) c.loop-index.replies c.insert.new.self c.loop-index.calls.items c.in-Reply.lane _ _ c.in_ok-insert-in-Reply.ensures.updates.0 (c.transaction-xid-in-Reply.ensures ∙ ap xid_of c.as_slice-in-Reply.ensures) refl matched);
-      era_is = era_before events i c.index-events-index.result this era (omega arith) (omega arith) same refl c.loop-index.invariant.era_is;
+      matched = rw is (met_reply (i - 1) era (all_seen (drop ((i - 1) + 1) events)) c.loop-index.replies c.insert.new.self c.loop-index.calls.items c.in-Reply.lane _ _ c.in_ok-insert-in-Reply.ensures.updates.0 c.transaction-xid-in-Reply.ensures refl matched);
+      era_is = era_before events i _ this era (omega arith) (omega arith) same refl c.loop-index.invariant.era_is;
     }
 
 pub loop-index-preserved-in-Close : goal.loop-index-preserved-in-Close
@@ -57,12 +57,12 @@ loop-index-preserved-in-Close c =
     let events = c.args.events.now in
     let era = c.loop-index.era in
     let matched = behind_it events i era c.loop-index.replies c.loop-index.calls.items (omega arith) c.loop-index.invariant.matched in
-    let same = sym c.index-events-index.is ∙ c.in-Close.is in
-    let this = owns.Close c.in-Close.lane in
-    let is = one_before events i c.index-events-index.result this (omega arith) (omega arith) same in
+    let same = c.in-Close.is in
+    let this = sees.Close c.in-Close.lane in
+    let is = one_before events i _ this (omega arith) (omega arith) same in
     record {
-      matched = rw is (met_close (i - 1) era c.in-Close.lane (all_happened (drop ((i - 1) + 1) events)) c.loop-index.replies c.loop-index.calls.items matched);
-      era_is = era_before events i c.index-events-index.result this era (omega arith) (omega arith) same refl c.loop-index.invariant.era_is;
+      matched = rw is (met_close (i - 1) era c.in-Close.lane (all_seen (drop ((i - 1) + 1) events)) c.loop-index.replies c.loop-index.calls.items matched);
+      era_is = era_before events i _ this era (omega arith) (omega arith) same refl c.loop-index.invariant.era_is;
     }
 
 pub loop-index-preserved : goal.loop-index-preserved
@@ -71,11 +71,11 @@ loop-index-preserved c =
     let events = c.args.events.now in
     let era = c.loop-index.era in
     let matched = behind_it events i era c.loop-index.replies c.loop-index.calls.items (omega arith) c.loop-index.invariant.matched in
-    let same = sym c.index-events-index.is ∙ c.in-Crash.is in
-    let is = one_before events i c.index-events-index.result owns.Crash (omega arith) (omega arith) same in
-    let one_less : era ≡ eras_from 1 (all_happened (take (i - 1) events)) + 1 = era_at_crash events i c.index-events-index.result era (omega arith) (omega arith) same c.loop-index.invariant.era_is in
+    let same = c.in-Crash.is in
+    let is = one_before events i _ sees.Crash (omega arith) (omega arith) same in
+    let one_less : era ≡ eras_from 1 (all_seen (take (i - 1) events)) + 1 = era_at_crash events i _ era (omega arith) (omega arith) same c.loop-index.invariant.era_is in
     record {
-      matched = rw is (met_crash (i - 1) era (all_happened (drop ((i - 1) + 1) events)) c.loop-index.replies c.loop-index.calls.items (omega (arith, one_less)) matched);
+      matched = rw is (met_crash (i - 1) era (all_seen (drop ((i - 1) + 1) events)) c.loop-index.replies c.loop-index.calls.items (omega (arith, one_less)) matched);
       era_is = omega (arith, one_less);
     }
 
@@ -83,4 +83,4 @@ pub returns : goal.returns
 returns c =
     let none : c.loop-index.index ≡ 0 = omega arith in
     let at_front = rw none at c.loop-index.invariant in
-    ap (map seen_call) c.reverse.ensures.items ∙ at_front.matched.calls_are ∙ ap (λ n. calls_from 1 n (all_happened c.args.events.now)) at_front.era_is
+    ap (map seen_call) c.reverse.ensures.items ∙ at_front.matched.calls_are ∙ ap (λ n. calls_from 1 n (all_seen c.args.events.now)) at_front.era_is

@@ -1,7 +1,7 @@
 use Rattle.std.proofs.Common.{ℕ, List, ◌∙◌, sym, subst}
 use Rattle.tree_nodes.specs.Changes.{Adds}
 use Rattle.tree_nodes.specs.Table.{child, held}
-use Rattle.tree_nodes.proofs.Tables.{added}
+use Rattle.tree_nodes.proofs.Tables.{added, one_more, stands_still, taken_again}
 use Rattle.tree_nodes.proofs.table.add.Goals as goal
 
 pub returns-clause-ok : goal.returns-clause-ok
@@ -10,4 +10,15 @@ returns-clause-ok c =
     let n = c.set_name.new.entries in
     let name = c.in_ok-from_slice.ensures in
     subst (λ (z : List ℕ). Adds c.args.directory z c.args.node.object c.args.node (child m) (child n) (held m) (held n)) name
-    (added m c.insert.new.self n c.args.node.object _ c.in_ok-key.key.items c.in-Ok.ensures.updates c.in-Ok-set_name.ensures.ok (c.in_ok-key.ensures.items ∙ sym name) c.new.ensures.empty c.requires.new)
+    (added m c.insert.new.self n c.args.node.object _ c.in_ok-key.key.items c.in_ok-insert.ensures.updates c.in-Ok.ensures.ok (c.in_ok-key.ensures.items ∙ sym name) c.new.ensures.empty c.requires.new)
+
+pub set_name-requires : goal.set_name-requires
+set_name-requires c = stands_still c.args.entries.now c.insert.new.self c.args.node.object c.args.directory _ c.in_ok-insert.ensures.updates c.requires.stands
+
+pub returns-in_default-clause-err : goal.returns-in_default-clause-err
+returns-in_default-clause-err c =
+    taken_again c.args.entries.now c.insert.new.self c.set_name.new.entries c.remove.new.self c.args.node.object _ c.in_ok-insert.ensures.updates c.in_default.ensures.err c.remove.ensures.updates
+    c.new.ensures.empty c.requires.new
+
+pub returns-clause-len : goal.returns-clause-len
+returns-clause-len c = one_more c.args.entries.now c.insert.new.self c.set_name.new.entries c.args.node.object _ c.in_ok-insert.ensures.updates c.requires.new c.in-Ok.ensures.ok.len

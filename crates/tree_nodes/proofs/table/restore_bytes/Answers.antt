@@ -1,14 +1,14 @@
-use Rattle.std.proofs.Common.{◌≡◌, ℕ, sym, ap, ◌∙◌, subst}
+use Rattle.std.proofs.Common.{◌≡◌, sym, ap, ◌∙◌, subst}
 use Rattle.std.specs.Prelude.{option_map}
-use Rattle.std.proofs.lemmas.Result.{on_ok_weaker}
+use Rattle.std.proofs.lemmas.Result.{on_ok_weaker, on_err_weaker}
 use Rattle.tree_nodes.specs.declared.node.Node.{Node}
-use Rattle.tree_nodes.specs.declared.node.Content.{Content}
+use Rattle.std.specs.FinMap as map
 use Rattle.tree_nodes.specs.Walk.{Held}
 use Rattle.tree_nodes.specs.Changes.{Sets}
 use Rattle.tree_nodes.specs.Files.{file_node}
 use Rattle.tree_nodes.specs.Table.{Table, child, held, placed}
 use Rattle.tree_nodes.proofs.Chains.{same_some}
-use Rattle.tree_nodes.proofs.Tables.{there, node_set}
+use Rattle.tree_nodes.proofs.Tables.{as_many, node_set, node_same}
 use Rattle.tree_nodes.proofs.table.restore_bytes.Goals as goal
 
 pub returns-clause-ok : goal.returns-clause-ok
@@ -17,10 +17,21 @@ returns-clause-ok c =
     let entry = c.in-Some.entry.now in
     let was = sym c.in-Some.ensures.value in
     let new : Node = record { object = entry.node.object; content = c.restore_content.new.content } in
-    let n : Table = c.get_mut.follows.lender (record { parent = entry.parent; name = entry.name; node = new; names = entry.names }) in
-    let writes = c.get_mut.follows.holds (record { parent = entry.parent; name = entry.name; node = new; names = entry.names }) in
+    let n : Table = map.insert m c.args.object (record entry { node = new }) in
     on_ok_weaker c.restore_content.result (λ restored h file before is holds restores.
     let same : placed entry ≡ h = same_some (placed entry) h (sym (ap (option_map placed) was) ∙ is) in
     let content = restored file before (ap (λ (z : Held). z.2.content) same ∙ holds) restores in
     let node : new ≡ file_node h.2.object before file.verifier = λ i. record { object = (same i).2.object; content = content i } in
-    subst (λ (z : Node). Sets c.args.object z (child m) (child n) (held m) (held n)) node (node_set m n c.args.object entry new was (writes.3 (there _ _ was)))) c.restore_content.ensures.ok
+    subst (λ (z : Node). Sets c.args.object z (child m) (child n) (held m) (held n)) node (node_set m c.args.object entry new was)) c.restore_content.ensures.ok
+
+pub returns-clause-len : goal.returns-clause-len
+returns-clause-len c =
+    let entry = c.in-Some.entry.now in
+    let new : Node = record { object = entry.node.object; content = c.restore_content.new.content } in
+    as_many c.args.entries.now c.args.object entry (record entry { node = new }) (sym c.in-Some.ensures.value)
+
+pub returns-clause-err : goal.returns-clause-err
+returns-clause-err c =
+    let entry = c.in-Some.entry.now in
+    let new : Node = record { object = entry.node.object; content = c.restore_content.new.content } in
+    on_err_weaker c.restore_content.result (λ same. node_same c.args.entries.now c.args.object entry new (sym c.in-Some.ensures.value) (λ i. record { object = entry.node.object; content = same i })) c.restore_content.ensures.err

@@ -1,7 +1,6 @@
-use Rattle.std.proofs.Common.{◌≡◌, sym, subst}
+use Rattle.std.proofs.Common.{sym, subst}
 use Rattle.std.proofs.lemmas.Result.{on_ok_weaker, on_err_weaker}
 use Rattle.tree_nodes.specs.declared.table.Entry.{Entry}
-use Rattle.tree_nodes.specs.Tree.{Tree}
 use Rattle.tree_nodes.specs.Undo.{IsPutBack}
 use Rattle.tree_nodes.proofs.Backs.{move_back_stands, move_back_directory, move_back_good, nothing_displaced, displaced_back}
 use Rattle.tree_nodes.proofs.Methods.{unchanged, on_err_always}

@@ -2,7 +2,7 @@ use Rattle.std.proofs.Common.{ℕ, List, subst}
 use Rattle.tree_nodes.specs.Changes.{Adds}
 use Rattle.tree_nodes.specs.Table.{child, held}
 use Rattle.tree_nodes.proofs.Backs.{put_back_stands, put_back_new, put_back_good}
-use Rattle.tree_nodes.proofs.Methods.{on_ok_all}
+use Rattle.tree_nodes.proofs.Methods.{on_ok_both}
 use Rattle.tree_nodes.proofs.undo.put_back.Goals as goal
 
 pub add-requires-clause-stands : goal.add-requires-clause-stands
@@ -16,6 +16,6 @@ returns-clause-ok c =
     let m = c.args.entries.now in
     let n = c.add.new.entries in
     let entry = c.args.entry in
-    on_ok_all c.add.result _ _ _ _ c.add.ensures.ok c.add.ensures.len c.add.ensures.ordered (λ adds len ordered tree before good back.
+    on_ok_both c.add.result _ _ _ c.add.ensures.ok c.add.ensures.len (λ adds len tree before good back.
     put_back_good m tree good before entry back n
-    (subst (λ (z : List ℕ). Adds entry.parent z entry.node.object entry.node (child m) (child n) (held m) (held n)) c.as_slice.ensures.value adds) len ordered)
+    (subst (λ (z : List ℕ). Adds entry.parent z entry.node.object entry.node (child m) (child n) (held m) (held n)) c.as_slice.ensures.value adds) len)

@@ -1,4 +1,4 @@
-use Rattle.std.proofs.Common.{◌≡◌, ℕ, List, Option, Some, None, refl, sym, ◌∙◌, subst}
+use Rattle.std.proofs.Common.{◌≡◌, ℕ, List, Option, None, refl, sym, ◌∙◌, subst}
 use Rattle.tree_nodes.specs.declared.table.Entry.{Entry}
 use Rattle.tree_nodes.specs.declared.undo.Move.{Move}
 use Rattle.tree_nodes.specs.Changes.{Shifts}
@@ -31,7 +31,7 @@ returns-clause-ok c =
             step = refl;
             renamed = whole w.remove-displaced.result w.remove-displaced.new.self w.displaced-is w.entries-is
                 (renamed_over m k w.remove-displaced.new.self o a w.in-Some.target name place w.remove-displaced.result c.in_ok-place.ensures.before shifts there
-                (λ z. c.requires.bare w.in-Some.target z there) known.0 known.1 known.2 gone.updates gone.value c.in_ok-place.ensures.len gone.len);
+                (λ z. c.requires.bare w.in-Some.target z there) known.0 known.1 known.2 gone.updates gone.value c.in_ok-place.ensures.len);
           }
       | in-None w ↦ record {
         move = move;

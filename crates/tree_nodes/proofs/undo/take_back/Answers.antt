@@ -1,12 +1,8 @@
-use Rattle.std.proofs.Common.{◌≡◌, sym, subst}
+use Rattle.std.proofs.Common.{subst}
 use Rattle.std.proofs.lemmas.Result.{on_ok_weaker, on_err_weaker}
 use Rattle.tree_nodes.specs.declared.undo.Step.{Step}
-use Rattle.tree_nodes.specs.declared.undo.Move.{Move}
-use Rattle.tree_nodes.specs.declared.table.Entry.{Entry}
-use Rattle.file_bytes.specs.declared.changes.FileUndo.{FileUndo}
-use Rattle.tree_nodes.specs.Tree.{Tree}
 use Rattle.tree_nodes.specs.Shown.{IsTableOf}
-use Rattle.tree_nodes.specs.Undo.{IsUnmade, IsPutBack, IsEditedBack, IsMovedBack, StepsBack}
+use Rattle.tree_nodes.specs.Undo.{StepsBack}
 use Rattle.tree_nodes.proofs.Backs.{unmake_stands, unmake_bare, unmake_good, restore_file, restore_good}
 use Rattle.tree_nodes.proofs.Methods.{unchanged}
 use Rattle.tree_nodes.proofs.undo.take_back.Goals as goal

@@ -1,5 +1,5 @@
 use Rattle.std.proofs.Common.{◌≡◌, List, [], ◌∷◌, length, map, refl, ap, subst, ◌∙◌, arith}
-use Rattle.nfs_history.specs.declared.history.History.{History}
+use Rattle.nfs_history.specs.declared.knowing.KnownCalls.{KnownCalls}
 use Rattle.certificate.specs.declared.plan.Certificate.{Certificate}
 use Rattle.certificate.specs.declared.plan.EraPlan.{EraPlan}
 use Rattle.order_check.specs.Order.{EachEraRespectsOrder}
@@ -14,7 +14,7 @@ alone [] one = absurd (omega arith)
 alone (era ∷ []) one = (era, refl)
 alone (era ∷ next ∷ eras) one = absurd (omega arith)
 
-linear : (history : History) (plan : Certificate) (era : EraPlan) → IsWitness history plan → plan.eras ≡ era ∷ [] → IsLinearization history plan era.places
+linear : (history : KnownCalls) (plan : Certificate) (era : EraPlan) → IsWitness history plan → plan.eras ≡ era ∷ [] → IsLinearization history plan era.places
 linear history plan era witness is = record {
   order = (subst (EachEraRespectsOrder history.calls) is witness.order).0;
   runs = witness.runs [] [] (era_of history.calls era) (ap (map (era_of history.calls)) is);

@@ -1,10 +1,17 @@
-use Rattle.witness_check.specs.declared.verdict.Verdict.TheVariants as told
+use Rattle.std.proofs.Common.{◌≡◌, Result, Ok, Err, IfOk}
+use Rattle.std.specs.declared.alloc.AllocError.{AllocError}
+use Rattle.nfs_history.specs.declared.knowing.KnownCalls.{KnownCalls}
+use Rattle.certificate.specs.declared.plan.Certificate.{Certificate}
+use Rattle.witness_check.specs.declared.verdict.Verdict.{Verdict}
+use Rattle.witness_check.specs.Verdict.{IsVerdict}
 use Rattle.witness_check.proofs.OneVerdict.{one_verdict}
 use Rattle.witness_check.proofs.verdict.check.Goals as goal
 
-pub returns-in-Ok-clause-only : goal.returns-in-Ok-clause-only
-returns-in-Ok-clause-only c = λ verdict is. one_verdict c.args.history.now c.args.certificate.now told.Yes verdict c.in-Ok.ensures.ok is
+-- an answer that is the verdict is the only one
+the_only : (history : KnownCalls) (plan : Certificate) (r : Result Verdict AllocError) → IfOk r (IsVerdict history plan) → (verdict : Verdict)
+    → IsVerdict history plan verdict → IfOk r (λ given. given ≡ verdict)
+the_only history plan (Ok given) is verdict other = one_verdict history plan given verdict is other
+the_only history plan (Err none) is verdict other = tt
 
-pub returns-in-Err-No-clause-only : goal.returns-in-Err-No-clause-only
-returns-in-Err-No-clause-only c = λ verdict is.
-    one_verdict c.args.history.now c.args.certificate.now (told.No c.in-Err-No.fault) verdict (rw c.in-Err-No.field-0-is at c.in-Err-No.ensures.fault) is
+pub returns-clause-only : goal.returns-clause-only
+returns-clause-only c = the_only c.args.history.now.known c.args.certificate.now c.verdict_of.result (rw c.known.ensures at c.verdict_of.ensures)

@@ -11,20 +11,20 @@ returns-then-is_closed c = λ before knows.
 
 pub returns-then-is_err : goal.returns-then-is_err
 returns-then-is_err c = λ before knows.
-    let none = none_read (IsCall c.as_slice-message.result.now) _ c.read_call.result (sym c.is_err.ensures.value ∙ c.if-is_err.true) c.read_call.ensures.only in
+    let none = none_read (IsCall c.args.message.now) _ c.read_call.result (sym c.is_err.ensures.value ∙ c.if-is_err.true) c.read_call.ensures.only in
     let open_lane = open_is c.args.lane before (sym (knows.closed c.args.lane) ∙ sym c.is_closed.ensures ∙ c.if-is_closed.false) in
-    rw (sym c.as_slice-message.ensures) (inr (inl (open_lane, none, refl)))
+    inr (inl (open_lane, none, refl))
 
 pub returns-then-contains : goal.returns-then-contains
 returns-then-contains c = λ before knows.
-    let value = read_value call_value (IsCall c.as_slice-message.result.now) c.read_call.result (sym c.is_err.ensures.value ∙ c.if-is_err.false) c.read_call.ensures.found in
+    let value = read_value call_value (IsCall c.args.message.now) c.read_call.result (sym c.is_err.ensures.value ∙ c.if-is_err.false) c.read_call.ensures.found in
     let known = sym (knows.unanswered c.args.lane c.transaction.result) ∙ sym c.contains.ensures ∙ c.if-contains.true in
     let open_lane = open_is c.args.lane before (sym (knows.closed c.args.lane) ∙ sym c.is_closed.ensures ∙ c.if-is_closed.false) in
-    rw (sym c.as_slice-message.ensures) (inr (inr (open_lane, value, rw c.transaction.ensures at known, refl)))
+    inr (inr (open_lane, value, rw c.transaction.ensures at known, refl))
 
 pub returns : goal.returns
 returns c = λ before knows.
-    let value = read_value call_value (IsCall c.as_slice-message.result.now) c.read_call.result (sym c.is_err.ensures.value ∙ c.if-is_err.false) c.read_call.ensures.found in
+    let value = read_value call_value (IsCall c.args.message.now) c.read_call.result (sym c.is_err.ensures.value ∙ c.if-is_err.false) c.read_call.ensures.found in
     let known = sym (knows.unanswered c.args.lane c.transaction.result) ∙ sym c.contains.ensures ∙ c.if-contains.false in
     let open_lane = open_is c.args.lane before (sym (knows.closed c.args.lane) ∙ sym c.is_closed.ensures ∙ c.if-is_closed.false) in
-    rw (sym c.as_slice-message.ensures) (open_lane, value, rw c.transaction.ensures at known)
+    (open_lane, value, rw c.transaction.ensures at known)

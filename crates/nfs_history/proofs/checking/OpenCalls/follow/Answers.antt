@@ -1,7 +1,6 @@
 use Rattle.std.proofs.Common.{◌+◌, true, false, cond, refl, ap, ◌∙◌}
 use Rattle.std.specs.HashSet.{contains}
 use Rattle.nfs_history.specs.declared.checking.OpenCalls.{OpenCalls}
-use Rattle.nfs_history.specs.Calls.{xid_of}
 use Rattle.nfs_history.specs.Matching.{same_key}
 use Rattle.nfs_history.proofs.CheckingSteps.{knows_call, knows_reply, knows_close, knows_crash}
 use Rattle.nfs_history.proofs.checking.OpenCalls.follow.Goals as goal
@@ -12,8 +11,8 @@ returns-in_ok-insert-in-Call-2 c = λ before knows may.
     let lane = c.in-Call.lane in
     let new : OpenCalls = record { unanswered = c.insert-in-Call.new.self; lanes = c.insert.new.self; era = old.era } in
     let follows = rw c.in-Call.is at may in
-    rw c.in-Call.is (knows_call before old new lane c.in-Call.message refl c.in_ok-insert-in-Call.ensures.updates.0
-    (λ q. c.in_ok-insert-in-Call-2.ensures.updates.0 q ∙ ap (λ x. cond (same_key (lane, x) q) true (contains same_key old.unanswered q)) (c.transaction.ensures ∙ ap xid_of c.as_slice.ensures))
+    rw c.in-Call.is (knows_call before old new lane c.in-Call.message.now refl c.in_ok-insert-in-Call.ensures.updates.0
+    (λ q. c.in_ok-insert-in-Call-2.ensures.updates.0 q ∙ ap (λ x. cond (same_key (lane, x) q) true (contains same_key old.unanswered q)) c.transaction.ensures)
     knows follows)
 
 pub returns-in_ok-insert-in-Reply : goal.returns-in_ok-insert-in-Reply
@@ -22,8 +21,8 @@ returns-in_ok-insert-in-Reply c = λ before knows may.
     let lane = c.in-Reply.lane in
     let new : OpenCalls = record { unanswered = c.swap_remove.new.self; lanes = c.insert-in-Reply.new.self; era = old.era } in
     let follows = rw c.in-Reply.is at may in
-    rw c.in-Reply.is (knows_reply before old new lane c.in-Reply.message refl c.in_ok-insert-in-Reply.ensures.updates.0
-    (λ q. c.swap_remove.ensures.updates.0 q ∙ ap (λ x. cond (same_key (lane, x) q) false (contains same_key old.unanswered q)) (c.transaction-in-Reply.ensures ∙ ap xid_of c.as_slice-in-Reply.ensures))
+    rw c.in-Reply.is (knows_reply before old new lane c.in-Reply.message.now refl c.in_ok-insert-in-Reply.ensures.updates.0
+    (λ q. c.swap_remove.ensures.updates.0 q ∙ ap (λ x. cond (same_key (lane, x) q) false (contains same_key old.unanswered q)) c.transaction-in-Reply.ensures)
     knows follows)
 
 pub returns-in_ok-insert-in-Close : goal.returns-in_ok-insert-in-Close

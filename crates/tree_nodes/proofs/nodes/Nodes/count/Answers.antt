@@ -7,7 +7,7 @@ use Rattle.tree_nodes.proofs.nodes.Nodes.count.Goals as goal
 pub returns-clause-value : goal.returns-clause-value
 returns-clause-value c =
     let good = good_at c.self.inside.entries c.self.inside.shown c.args.self.now c.self.view_is c.self.invariant in
-    c.len.ensures.len ∙ count c.self.inside.entries c.args.self.now good c.len.ensures.ordered
+    c.len.ensures ∙ count c.self.inside.entries c.args.self.now good
 
 pub returns-clause-sound : goal.returns-clause-sound
 returns-clause-sound c =

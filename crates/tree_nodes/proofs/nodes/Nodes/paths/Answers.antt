@@ -1,6 +1,6 @@
 use Rattle.std.proofs.Common.{rules, ◌≡◌, ℕ, List, [], sym, ap, ◌∙◌, subst}
+use Rattle.std.specs.FinMap as map
 use Rattle.tree_nodes.specs.declared.table.Entry.{Entry}
-use Rattle.tree_nodes.specs.Tree.{Names}
 use Rattle.tree_nodes.specs.Table.{child, held}
 use Rattle.tree_nodes.proofs.Chains.{value_of}
 use Rattle.tree_nodes.proofs.Looking.{is_numbered}
@@ -12,7 +12,7 @@ pub loop-object-init : goal.loop-object-init
 loop-object-init c =
     let m = c.self.inside.entries in
     let good = good_at m c.self.inside.shown c.args.self.now c.self.view_is c.self.invariant in
-    let is : c.into_iter-object-iterator.result ≡ m.entries = search rules in
+    let is : c.into_iter-object-iterator.result ≡ map.entries m = search rules in
     subst (λ (z : List (ℕ × Entry)). Collects c.args.self.now c.new-paths.result z) (sym is)
     (collect_none m c.args.self.now c.new-paths.result good.table.tree good.agrees c.new-paths.ensures.empty c.new-paths.ensures.ordered)
 
@@ -27,7 +27,7 @@ loop-object-preserved c =
     let m = c.self.inside.entries in
     let t = c.args.self.now in
     let good = good_at m c.self.inside.shown t c.self.view_is c.self.invariant in
-    let object = c.in-Some.object.now in
+    let object = c.in-Some.object in
     let entry = c.in-Some.field-0-1.now in
     let collects = subst (λ (z : List (ℕ × Entry)). Collects t c.loop-object.paths z) c.in-Some.ensures.steps c.loop-object.invariant in
     let e = value_of _ (collect_key t c.loop-object.paths object entry c.next.new.self collects) in

@@ -1,10 +1,10 @@
-use Rattle.std.proofs.Common.{rules, ◌≡◌, ℕ, List, [], ◌++◌, Some, sym, ap, ◌∙◌, subst}
+use Rattle.std.proofs.Common.{rules, ◌≡◌, ℕ, List, [], ◌++◌, ap, ◌∙◌, subst}
 use Rattle.std.specs.Prelude.{option_map}
 use Rattle.tree_nodes.specs.declared.node.Node.{Node}
 use Rattle.tree_nodes.specs.Tree.{Names}
 use Rattle.tree_nodes.specs.Printed.{entry_text, EntryFits}
 use Rattle.tree_nodes.proofs.Chains.{same_some}
-use Rattle.tree_nodes.proofs.Prints.{Prints, First, print_none, print_first, print_all}
+use Rattle.tree_nodes.proofs.Prints.{Prints, print_none, print_first, print_all}
 use Rattle.tree_nodes.proofs.nodes.Nodes.put_entries.Goals as goal
 
 pub loop-path-init : goal.loop-path-init

@@ -1,8 +1,6 @@
-use Rattle.std.proofs.Common.{◌≡◌, sym, ap}
 use Rattle.std.proofs.lemmas.Result.{on_ok_weaker}
-use Rattle.tree_nodes.specs.Tree.{Tree}
-use Rattle.tree_nodes.specs.Shown.{Shown, IsTable, IsTableOf}
-use Rattle.tree_nodes.specs.Undo.{TakesBack, StepsBack}
+use Rattle.tree_nodes.specs.Shown.{Shown}
+use Rattle.tree_nodes.specs.Undo.{TakesBack}
 use Rattle.tree_nodes.proofs.Methods.{good_at, by_both, one_tree}
 use Rattle.tree_nodes.proofs.nodes.Nodes.undo.Goals as goal
 

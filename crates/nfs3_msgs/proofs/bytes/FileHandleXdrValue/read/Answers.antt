@@ -1,5 +1,0 @@
-use Rattle.nfs3_msgs.proofs.Bounds.{opaque_bound}
-use Rattle.nfs3_msgs.proofs.bytes.FileHandleXdrValue.read.Goals as goal
-
-pub from_slice-requires : goal.from_slice-requires
-from_slice-requires c = opaque_bound 64 c.args.reader.now c.opaque.new.self c.in-Ok.bytes.now c.in-Ok.ensures

@@ -1,0 +1,13 @@
+pub mod Told
+pub mod Words
+pub mod Bytes
+pub mod Settings
+pub mod Attributes
+pub mod EntryCalls
+pub mod Calls
+pub mod Listings
+pub mod Replies
+pub mod Spelled
+pub mod SpelledCalls
+pub mod SpelledReplies
+pub mod FaultText
