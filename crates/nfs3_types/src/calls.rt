@@ -143,7 +143,7 @@ pub enum NfsCall {
     Commit(CommitArguments),
 }
 
-// One call where a message goes, in the crates above too.
+// Written out, it is proved here alone; a derived one is proved in each crate that drops a message.
 impl Drop for NfsCall {
     fn drop(self) {
         match self {

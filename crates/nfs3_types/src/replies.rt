@@ -191,7 +191,7 @@ pub enum NfsReply {
     Commit(Answer<CommitSuccess, WccData>),
 }
 
-// One call where a message goes, in the crates above too.
+// Written out, it is proved here alone; a derived one is proved in each crate that drops a message.
 impl Drop for NfsReply {
     fn drop(self) {
         match self {
