@@ -1,11 +1,11 @@
 #!/usr/bin/env python3
-"""Writes what two programs are run on, cases by their names, and the answers that they have to give.
+"""Writes what a program is run on, cases by their names, and the answers that it has to give.
 
-make_cases.py FOLDER        of the folder of the crates: stdin and stdout of judged_cases and of message_cases
+make_cases.py FOLDER        stdin and stdout of FOLDER, that is of crates/stored_cases
 
-Of `judged_cases` a case is a history and a certificate, of `message_cases` a text of a format. The answers stand beside the
-cases in `cases/`, as RFC 1813, RFC 5531, docs/PROFILE.md and docs/FORMATS.md have them. None is taken from a program. The
-histories of `cases/recorded.txt` are whole files in hex, which no code of `cases/` has made.
+A case is a history and a certificate, or a text of a format. The answers stand beside the cases in `cases/`, as RFC 1813,
+RFC 5531, docs/PROFILE.md and docs/FORMATS.md have them. None is taken from a program. The histories of `cases/recorded.txt`
+are whole files in hex, which no code of `cases/` has made.
 """
 import sys
 
@@ -24,8 +24,7 @@ def collected(*parts):
 
 def main():
     folder = sys.argv[1]
-    collected(looks, changes, failures, faults, orders, cuts, bundles, recorded).write(folder + "/judged_cases")
-    collected(messages).write(folder + "/message_cases")
+    collected(looks, changes, failures, faults, orders, cuts, bundles, recorded, messages).write(folder)
 
 
 main()

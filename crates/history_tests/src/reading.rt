@@ -1,4 +1,4 @@
-//! What a history shows of a file and of events. Each fault of a file is a case of `judged_cases`.
+//! What a history shows of a file and of events. Each fault of a file is a case of `stored_cases`.
 
 use nfs_history::{Event, History, HistoryFault, Meaning, Message, read_history};
 use nfs3_types::FileHandle;
