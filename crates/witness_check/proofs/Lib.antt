@@ -1,4 +1,5 @@
 pub mod Steps
 pub mod OneCut
 pub mod OneVerdict
+pub mod OnlyVerdict
 pub mod Tells

@@ -1,7 +1,10 @@
 //! The verdict on a history and a certificate.
 
-ghost use Rattle.std.specs.Prelude.{◌≡◌, IfOk, IfErr, OnOk};
+ghost use Rattle.std.specs.Prelude.{◌≡◌, ℕ, List, IfOk, IfErr, OnOk};
 ghost use Rattle.nfs_history.specs.declared.fault.HistoryFault.{HistoryFault};
+ghost use Rattle.nfs_history.specs.Answers.{IsErrorOf};
+ghost use Rattle.nfs_history.specs.FirstFault.{FirstFault};
+ghost use Rattle.nfs_history.specs.History.{IsCallsFile};
 ghost use Rattle.witness_check.specs.Witness.{IsWitness};
 ghost use Rattle.witness_check.specs.Verdict.{IsVerdict, IsFileVerdict};
 ghost use Rattle.witness_check.specs.Told.{TellsFault};
@@ -84,11 +87,16 @@ pub fn check(
     verdict_of(alloc, history.known(), certificate)
 }
 
-/// The verdict on two texts; that no other is right is said at `check_files`.
-fn verdict_on(alloc: Global, history: &[u8], certificate: &[u8]) -> Result<FileVerdict, AllocError>
-    ensures { IfOk result (IsFileVerdict history.now certificate.now) }
+/// The verdict on a file, of which this was read, and a text; that no other is right is said at `check_files`.
+fn verdict_on(
+    alloc: Global,
+    read: Result<KnownCalls, HistoryFault>,
+    certificate: &[u8],
+) -> Result<FileVerdict, AllocError>
+    ensures { (file : List ℕ) → IfOk read (IsCallsFile file) → IsErrorOf (FirstFault file) read
+        → IfOk result (IsFileVerdict file certificate.now) }
 {
-    let history = match read_calls(alloc, history) {
+    let history = match read {
         Ok(history) => history,
         Err(HistoryFault::NoMemory) => return Err(AllocError),
         Err(fault) => return Ok(FileVerdict::BadHistory(fault)),
@@ -116,5 +124,23 @@ pub fn check_files(
     ensures only { (verdict : FileVerdict) → IsFileVerdict history.now certificate.now verdict
         → IfOk result (λ given. given ≡ verdict) }
 {
-    verdict_on(alloc, history, certificate)
+    verdict_on(alloc, read_calls(alloc, history), certificate)
+}
+
+/// As `check_files`, of a history that is let go once its calls are read: so its bytes and what a run holds never stand
+/// beside one another.
+pub fn check_owned_files(
+    alloc: Global,
+    history: Vec<u8>,
+    certificate: &[u8],
+) -> Result<FileVerdict, AllocError>
+    // The answer is the verdict on the two texts.
+    ensures verdict { IfOk result (IsFileVerdict history.items certificate.now) }
+    // The verdict on the two texts is the answer, memory aside.
+    ensures only { (verdict : FileVerdict) → IsFileVerdict history.items certificate.now verdict
+        → IfOk result (λ given. given ≡ verdict) }
+{
+    let read = read_calls(alloc, history.as_slice());
+    drop(history);
+    verdict_on(alloc, read, certificate)
 }

@@ -1,15 +1,6 @@
-use Rattle.std.proofs.Common.{◌≡◌, List, ℕ, Result, Ok, Err, IfOk}
-use Rattle.std.specs.declared.alloc.AllocError.{AllocError}
-use Rattle.witness_check.specs.declared.verdict.FileVerdict.{FileVerdict}
-use Rattle.witness_check.specs.Verdict.{IsFileVerdict}
-use Rattle.witness_check.proofs.OneVerdict.{one_file_verdict}
+use Rattle.witness_check.proofs.OnlyVerdict.{the_only}
 use Rattle.witness_check.proofs.verdict.check_files.Goals as goal
 
--- an answer that is the verdict is the only one
-the_only : (history certificate : List ℕ) (r : Result FileVerdict AllocError) → IfOk r (IsFileVerdict history certificate) → (verdict : FileVerdict)
-    → IsFileVerdict history certificate verdict → IfOk r (λ given. given ≡ verdict)
-the_only history certificate (Ok given) is verdict other = one_file_verdict history certificate given verdict is other
-the_only history certificate (Err none) is verdict other = tt
-
 pub returns-clause-only : goal.returns-clause-only
-returns-clause-only c = the_only c.args.history.now c.args.certificate.now c.verdict_on.result c.verdict_on.ensures
+returns-clause-only c =
+    the_only c.args.history.now c.args.certificate.now c.verdict_on.result (c.verdict_on.ensures c.args.history.now c.read_calls.ensures.found c.read_calls.ensures.fault)

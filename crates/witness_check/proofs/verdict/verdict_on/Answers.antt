@@ -9,5 +9,6 @@ left (inr q) none = q
 
 pub returns-in-Err : goal.returns-in-Err
 returns-in-Err c =
+    λ file found at.
     let another : c.in-Err.fault ≢ faults.NoMemory = search rules in
-    left c.in-Err.ensures.fault another
+    left (rw c.in-Err.is at at) another
