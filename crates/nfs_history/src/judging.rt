@@ -1,6 +1,6 @@
 //! What each call of a history was, and how it came out.
 
-ghost use Rattle.std.specs.Prelude.{◌≡◌, map, true, false, IfOk, IfErr, Option, Some, None, option_map};
+ghost use Rattle.std.specs.Prelude.{◌≡◌, map, reverse, true, false, IfOk, IfErr, Option, Some, None, option_map};
 ghost use Rattle.rpc_reader.specs.Values.{Body};
 ghost use Rattle.rpc_reader.specs.Views.{call_value, body_value};
 ghost use Rattle.nfs3_msgs.specs.Messages.{IsArguments};
@@ -337,16 +337,35 @@ fn judged_call(alloc: Global, number: u64, seen: &SeenCall<'_>) -> Result<Record
     })
 }
 
-/// What is known of each call.
-pub fn judged_calls(alloc: Global, seen: &[SeenCall<'_>]) -> Result<Vec<RecordedCall>, Stop>
-    requires { AreReadable (map seen_call seen.now) }
-    ensures found { IfOk result (λ v. AreRecorded (map seen_call seen.now) v.items) }
-    ensures fault { IsStopFor (FirstCallFault 1 (map seen_call seen.now)) result }
+/// How many calls are let go at a time.
+const PIECE: usize = 4_096;
+
+/// Gives back the memory behind a list, once a piece.
+fn give_back(list: &mut Vec<SeenCall<'_>>)
+    ensures { list.new.items ≡ list.old.items }
 {
-    let mut calls = Vec::with_capacity(alloc, seen.len())?;
-    for (index, call) in seen.iter().enumerate() {
-        let call = judged_call(alloc, index as u64 + 1, call)?;
+    if list.len() % PIECE == 0 {
+        list.shrink_to_fit();
+    }
+}
+
+/// What is known of each call of a list that begins with the last one. The list is let go piece by piece, so that it never
+/// stands whole beside what is known.
+pub fn judged_calls(alloc: Global, seen: Vec<SeenCall<'_>>) -> Result<Vec<RecordedCall>, Stop>
+    requires { AreReadable (map seen_call (reverse seen.items)) }
+    ensures found { IfOk result (λ v. AreRecorded (map seen_call (reverse seen.entry.items)) v.items) }
+    ensures fault { IsStopFor (FirstCallFault 1 (map seen_call (reverse seen.entry.items))) result }
+{
+    let count = seen.len();
+    let mut left = seen;
+    let mut calls = Vec::with_capacity(alloc, count)?;
+    for index in 0..count {
+        let Some(next) = left.pop() else {
+            unreachable!();
+        };
+        let call = judged_call(alloc, index as u64 + 1, &next)?;
         calls.push(call)?;
+        give_back(&mut left);
     }
     Ok(calls)
 }

@@ -1,8 +1,8 @@
 //! What is known of the calls of a recording, or its first fault.
 
-ghost use Rattle.std.specs.Prelude.{◌≡◌, map, IfOk};
+ghost use Rattle.std.specs.Prelude.{◌≡◌, reverse, IfOk};
 ghost use Rattle.history_file.specs.Owning.{all_seen};
-ghost use Rattle.nfs_history.specs.Calls.{calls_of, eras_from};
+ghost use Rattle.nfs_history.specs.Calls.{eras_from};
 ghost use Rattle.nfs_history.specs.Answers.{IsErrorOf};
 ghost use Rattle.nfs_history.specs.FirstFault.{FirstFaultOf};
 ghost use Rattle.nfs_history.specs.History.{AreCallsOf};
@@ -47,14 +47,14 @@ impl Model for KnownCalls {
     ghost view = { calls_within };
 }
 
-/// The calls among events of so many eras, where they may follow one another. The events are let go.
+/// The calls among events of so many eras, the last one first, where they may follow one another. The events are let go.
 fn followed_calls<'a>(
     alloc: Global,
     events: Vec<SeenEvent<'a>>,
     eras: u64,
 ) -> Result<Vec<SeenCall<'a>>, HistoryFault>
     requires { eras ≡ eras_from 1 (all_seen events.items) }
-    ensures found { IfOk result (λ v. AreFollowed (all_seen events.entry.items) v.items) }
+    ensures found { IfOk result (λ v. AreFollowed (all_seen events.entry.items) (reverse v.items)) }
     ensures fault { IsErrorOf (FirstFaultOf (all_seen events.entry.items)) result }
 {
     if let Some(fault) = first_event_fault(alloc, events.as_slice())? {
@@ -74,7 +74,7 @@ fn known_calls(
     ensures fault { IsErrorOf (FirstFaultOf (all_seen events.entry.items)) result }
 {
     let calls = followed_calls(alloc, events, eras)?;
-    let calls = judged_calls(alloc, calls.as_slice())?;
+    let calls = judged_calls(alloc, calls)?;
     Ok(calls)
 }
 

@@ -1,6 +1,6 @@
 //! Calls and the replies that answer them.
 
-ghost use Rattle.std.specs.Prelude.{◌≡◌, IfOk, map};
+ghost use Rattle.std.specs.Prelude.{◌≡◌, IfOk, map, reverse};
 ghost use Rattle.nfs_history.specs.Calls.{xid_of, calls_of, eras_from};
 ghost use Rattle.nfs_history.specs.Matching.{seen_call};
 ghost use Rattle.nfs_history.specs.Checking.{is_crash};
@@ -59,16 +59,16 @@ pub fn count_eras(events: &[SeenEvent<'_>]) -> u64
     eras
 }
 
-/// The calls among the events of so many eras, in order, each with the first reply behind it on its lane that has its
-/// transaction number. It goes from the last event to the first, so that a call finds its reply met; the era goes
-/// down by one at each crash.
+/// The calls among the events of so many eras, the last one first, each with the first reply behind it on its lane that has
+/// its transaction number. It goes from the last event to the first, so that a call finds its reply met; the era goes down
+/// by one at each crash.
 pub fn matched_calls<'a>(
     alloc: Global,
     events: &[SeenEvent<'a>],
     eras: u64,
 ) -> Result<Vec<SeenCall<'a>>, AllocError>
     requires { eras ≡ eras_from 1 (all_seen events.now) }
-    ensures { IfOk result (λ v. map seen_call v.items ≡ calls_of (all_seen events.now)) }
+    ensures { IfOk result (λ v. map seen_call (reverse v.items) ≡ calls_of (all_seen events.now)) }
 {
     let mut replies: IndexMap<(u32, u32), SeenReply<'a>> = IndexMap::new(alloc);
     let mut calls = Vec::new(alloc);
@@ -95,6 +95,5 @@ pub fn matched_calls<'a>(
             SeenEvent::Crash => era -= 1,
         }
     }
-    calls.reverse();
     Ok(calls)
 }

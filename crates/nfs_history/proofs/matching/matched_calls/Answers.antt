@@ -83,4 +83,4 @@ pub returns : goal.returns
 returns c =
     let none : c.loop-index.index ≡ 0 = omega arith in
     let at_front = rw none at c.loop-index.invariant in
-    ap (map seen_call) c.reverse.ensures.items ∙ at_front.matched.calls_are ∙ ap (λ n. calls_from 1 n (all_seen c.args.events.now)) at_front.era_is
+    at_front.matched.calls_are ∙ ap (λ n. calls_from 1 n (all_seen c.args.events.now)) at_front.era_is
