@@ -3,8 +3,8 @@
 ghost use Rattle.std.specs.Prelude.{◌≡◌, ℕ, List, [], ◌∷◌, ◌++◌, map, IfOk, OnOk, OnErr};
 ghost use Rattle.tree_handles.specs.Binding.{object_of, GivesFirst};
 
+use indexmap::IndexMap;
 use std::alloc::{AllocError, Global};
-use std::collections::BTreeMap;
 use std::marker::Model;
 
 /// A handle with the object that it names.
@@ -20,7 +20,7 @@ pub struct Binds {
     root: Vec<u8>,
     pairs: Vec<Pair>,
     /// The object of each handle's first pair.
-    objects: BTreeMap<Vec<u8>, u64>,
+    objects: IndexMap<Vec<u8>, u64>,
 }
 
 impl Drop for Binds {
@@ -51,7 +51,7 @@ impl Model for Binds {
 /// Gives a handle its object, unless it has one.
 fn note(
     alloc: Global,
-    objects: &mut BTreeMap<Vec<u8>, u64>,
+    objects: &mut IndexMap<Vec<u8>, u64>,
     handle: &[u8],
     object: u64,
 ) -> Result<(), AllocError>
@@ -88,7 +88,7 @@ impl Binds {
             alloc,
             root: Vec::from_slice(alloc, root)?,
             pairs: Vec::new(alloc),
-            objects: BTreeMap::new(alloc),
+            objects: IndexMap::new(alloc),
         })
     }
 
