@@ -1,3 +1,4 @@
 pub mod Lookups
 pub mod Standing
 pub mod Paths
+pub mod Walks

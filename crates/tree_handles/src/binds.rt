@@ -3,24 +3,19 @@
 ghost use Rattle.std.specs.Prelude.{◌≡◌, ℕ, List, [], ◌∷◌, ◌++◌, map, IfOk, OnOk, OnErr};
 ghost use Rattle.tree_handles.specs.Binding.{object_of, GivesFirst};
 
+use crate::pairs::Pairs;
+use indexmap::IndexMap;
 use std::alloc::{AllocError, Global};
-use std::collections::BTreeMap;
 use std::marker::Model;
-
-/// A handle with the object that it names.
-#[derive(Drop)]
-struct Pair {
-    handle: Vec<u8>,
-    object: u64,
-}
 
 /// The root's handle, and the objects of other handles.
 pub struct Binds {
     alloc: Global,
     root: Vec<u8>,
-    pairs: Vec<Pair>,
     /// The object of each handle's first pair.
-    objects: BTreeMap<Vec<u8>, u64>,
+    objects: IndexMap<Vec<u8>, u64>,
+    /// All pairs, also the later ones of a handle, for contracts.
+    pairs: Pairs,
 }
 
 impl Drop for Binds {
@@ -28,30 +23,29 @@ impl Drop for Binds {
         let Binds {
             alloc: _,
             root,
-            pairs,
             objects,
+            pairs,
         } = self;
         drop(root);
-        drop(pairs);
         drop(objects);
+        drop(pairs);
     }
 }
 
 impl Model for Binds {
-    ghost use Rattle.std.specs.Prelude.{map};
     ghost use Rattle.tree_handles.specs.Binding.{Bindings, GivesFirst};
 
     ghost Value = { Bindings };
 
-    ghost view = { λ b. record { root = b.root.items; pairs = map (λ p. (p.handle.items, p.object)) b.pairs.items } };
+    ghost view = { λ b. record { root = b.root.items; pairs = b.pairs.all } };
 
-    ghost invariant = { λ b. GivesFirst b.objects.entries (λ key. key.items) (map (λ p. (p.handle.items, p.object)) b.pairs.items) };
+    ghost invariant = { λ b. GivesFirst b.objects.entries (λ key. key.items) b.pairs.all };
 }
 
 /// Gives a handle its object, unless it has one.
 fn note(
     alloc: Global,
-    objects: &mut BTreeMap<Vec<u8>, u64>,
+    objects: &mut IndexMap<Vec<u8>, u64>,
     handle: &[u8],
     object: u64,
 ) -> Result<(), AllocError>
@@ -87,8 +81,8 @@ impl Binds {
         Ok(Binds {
             alloc,
             root: Vec::from_slice(alloc, root)?,
-            pairs: Vec::new(alloc),
-            objects: BTreeMap::new(alloc),
+            objects: IndexMap::new(alloc),
+            pairs: Pairs::new(),
         })
     }
 
@@ -97,14 +91,8 @@ impl Binds {
         ensures ok { OnOk result (self.new ≡ record self.old { pairs = self.old.pairs ++ (handle.now, object) ∷ [] }) }
         ensures err { OnErr result (self.new ≡ self.old) }
     {
-        let copy = Vec::from_slice(self.alloc, handle)?;
-        self.pairs.reserve(1)?;
         note(self.alloc, &mut self.objects, handle, object)?;
-        let pair = Pair {
-            handle: copy,
-            object,
-        };
-        self.pairs.push(pair).unwrap();
+        self.pairs = self.pairs.then(handle, object);
         Ok(())
     }
 

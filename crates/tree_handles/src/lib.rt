@@ -5,6 +5,7 @@ mod binds;
 mod entry;
 mod kind;
 mod live;
+mod pairs;
 
 pub use binds::Binds;
 pub use entry::{entry_at, is_dot, is_plain, is_two_dots, named};

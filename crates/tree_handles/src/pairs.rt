@@ -1,0 +1,33 @@
+//! The handles that were bound so far, which contracts speak of and no code keeps.
+
+ghost use Rattle.std.specs.Prelude.{◌≡◌, ℕ, List, [], ◌∷◌, ◌++◌};
+ghost use base.Fml.{ftrue};
+
+use std::marker::Model;
+
+/// Each handle that was bound, with its object, in order. They stand in proofs alone and take no memory: what
+/// they have to do with the objects that are kept is the invariant of `Binds`.
+#[derive(Drop)]
+pub(crate) struct Pairs {
+    pub(crate) ghost all: { List (List ℕ × ℕ) },
+}
+
+impl Model for Pairs {
+    ghost also_owns = { λ _. ftrue };
+}
+
+impl Pairs {
+    /// None so far.
+    pub(crate) fn new() -> Pairs
+        ensures { result.all ≡ [] }
+    {
+        Pairs {}
+    }
+
+    /// These, with one more behind them.
+    pub(crate) fn then(&self, _handle: &[u8], _object: u64) -> Pairs
+        ensures { result.all ≡ self.now.all ++ (_handle.now, _object) ∷ [] }
+    {
+        Pairs {}
+    }
+}
