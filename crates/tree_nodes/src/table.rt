@@ -20,9 +20,10 @@ ghost use Rattle.tree_nodes.specs.TableChanges.{IsSame, HasName, HasPlace};
 use crate::bytes::Bytes;
 use crate::node::{Content, File, Node};
 use file_bytes::FileUndo;
+use names::Names;
 use slots::Slots;
 use std::alloc::{AllocError, Global};
-use std::collections::{BTreeMap, BTreeSet};
+use std::collections::BTreeSet;
 use std::mem::replace;
 
 /// An object with its place.
@@ -34,7 +35,7 @@ pub(crate) struct Entry {
     pub(crate) name: Bytes,
     pub(crate) node: Node,
     /// The objects of the names in it.
-    pub(crate) names: BTreeMap<Vec<u8>, u64>,
+    pub(crate) names: Names,
 }
 
 /// The root alone, a directory, object 0.
@@ -48,7 +49,7 @@ pub(crate) fn root_alone(alloc: Global) -> Result<Slots<Entry>, AllocError>
             object: 0,
             content: Content::Directory,
         },
-        names: BTreeMap::new(alloc),
+        names: Names::new(alloc),
     };
     let mut entries = Slots::new(alloc);
     entries.insert(0, root)?;
@@ -103,7 +104,7 @@ pub(crate) fn child(entries: &Slots<Entry>, directory: u64, name: &[u8]) -> Opti
     let Some(entry) = entries.get(directory) else {
         return None;
     };
-    entry.names.get(name).copied()
+    entry.names.get(name)
 }
 
 /// The node of a name in a directory.
@@ -121,13 +122,13 @@ pub(crate) fn entry_in<'a>(
 }
 
 /// Whether the name of each of these objects is among others.
-fn are_among(entries: &Slots<Entry>, here: &BTreeMap<Vec<u8>, u64>, names: &BTreeSet<Bytes>) -> bool
+fn are_among(entries: &Slots<Entry>, here: &Names, names: &BTreeSet<Bytes>) -> bool
     requires { (name : List ℕ) (next : ℕ) → name_in here.now name ≡ Some next → (h : Held) × (held entries.now next ≡ Some h) × (h.1 ≡ name) }
     ensures all { result ≡ true → (name : List ℕ) (next : ℕ) → name_in here.now name ≡ Some next → contains (slice_cmp nat_cmp) names.now name ≡ true }
     ensures missing { result ≡ false → (name : List ℕ) × (next : ℕ) × (name_in here.now name ≡ Some next) × (contains (slice_cmp nat_cmp) names.now name ≡ false) }
 {
     for (_, object) in here.iter() {
-        let Some(listed) = entries.get(*object) else {
+        let Some(listed) = entries.get(object) else {
             unreachable!()
         };
         if !names.contains(&listed.name) {
@@ -164,10 +165,7 @@ fn set_name(
     let Some(entry) = entries.get_mut(directory) else {
         unreachable!()
     };
-    let Ok(_) = entry.names.insert(name, object) else {
-        return Err(AllocError);
-    };
-    Ok(())
+    entry.names.insert(name, object)
 }
 
 /// Takes a name out of a directory.
@@ -223,7 +221,7 @@ pub(crate) fn add(
         parent: directory,
         name: Bytes::from_slice(alloc, name)?,
         node,
-        names: BTreeMap::new(alloc),
+        names: Names::new(alloc),
     };
     entries.insert(object, entry)?;
     let Ok(()) = set_name(entries, directory, key, object) else {

@@ -6,4 +6,4 @@ use Rattle.tree_nodes.proofs.table.root_alone.Goals as goal
 pub returns : goal.returns
 returns c =
     let name : c.from_vec.result ≡ [] = c.from_vec.ensures ∙ c.new.ensures.items in
-    opening_alone c.new-entries.result c.insert.new.self _ c.new-entries.ensures c.in_ok-insert.ensures.updates (λ i. (0, name i, record { object = 0; content = Directory })) c.new-2.ensures.empty
+    opening_alone c.new-entries.result c.insert.new.self _ c.new-entries.ensures c.in_ok-insert.ensures.updates (λ i. (0, name i, record { object = 0; content = Directory })) c.new-2.ensures
