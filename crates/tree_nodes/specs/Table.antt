@@ -17,13 +17,13 @@ abbrev pub name_in : Objects → List ℕ → Option ℕ
 name_in names name = map.get names name
 
 abbrev pub named : Entry → List ℕ → Option ℕ
-named entry name = name_in entry.names name
+named entry name = name_in entry.body.value.names name
 
 abbrev pub child : Table → ℕ → List ℕ → Option ℕ
 child entries object name = option_and_then (λ entry. named entry name) (entry_at entries object)
 
 abbrev pub placed : Entry → Held
-placed entry = (entry.parent, entry.name, entry.node)
+placed entry = (entry.parent, entry.body.value.name, entry.body.value.node)
 
 abbrev pub held : Table → ℕ → Option Held
 held entries object = option_map placed (entry_at entries object)
