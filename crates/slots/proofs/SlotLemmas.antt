@@ -65,19 +65,19 @@ module _ {V : Type 0} where
   none_before q n [] lt = refl
   none_before q n (Empty ∷ xs) lt = none_before q (n + 1) xs (omega arith)
   none_before q n (Filled b ∷ xs) lt =
-      ap (λ t. cond t (Some b.value) (es.find nat_cmp q (entries_from (n + 1) xs))) (other q n (λ e. omega arith)) ∙ none_before q (n + 1) xs (omega arith)
+      ap (λ t. cond t (Some b) (es.find nat_cmp q (entries_from (n + 1) xs))) (other q n (λ e. omega arith)) ∙ none_before q (n + 1) xs (omega arith)
 
   -- a number has the value of its slot
   find_from : (n k : ℕ) (xs : List (Slot V)) → es.find nat_cmp (n + k) (entries_from n xs) ≡ value_of (get_or xs k Empty)
   find_from n k [] = refl
   find_from n zero (Empty ∷ xs) = none_before (n + 0) (n + 1) xs (omega arith)
-  find_from n zero (Filled b ∷ xs) = ap (λ t. cond t (Some b.value) (es.find nat_cmp (n + 0) (entries_from (n + 1) xs))) (same (n + 0) n (omega arith))
+  find_from n zero (Filled b ∷ xs) = ap (λ t. cond t (Some b) (es.find nat_cmp (n + 0) (entries_from (n + 1) xs))) (same (n + 0) n (omega arith))
   find_from n (suc k) (Empty ∷ xs) =
       let shift : n + suc k ≡ n + 1 + k = omega arith in
       ap (λ q. es.find nat_cmp q (entries_from (n + 1) xs)) shift ∙ find_from (n + 1) k xs
   find_from n (suc k) (Filled b ∷ xs) =
       let shift : n + suc k ≡ n + 1 + k = omega arith in
-      ap (λ t. cond t (Some b.value) (es.find nat_cmp (n + suc k) (entries_from (n + 1) xs))) (other (n + suc k) n (λ e. omega arith))
+      ap (λ t. cond t (Some b) (es.find nat_cmp (n + suc k) (entries_from (n + 1) xs))) (other (n + suc k) n (λ e. omega arith))
       ∙ ap (λ q. es.find nat_cmp q (entries_from (n + 1) xs)) shift ∙ find_from (n + 1) k xs
 
   all_above : (m n : ℕ) (xs : List (Slot V)) → m < n → T (es.below_all nat_cmp m (entries_from n xs))
@@ -141,7 +141,7 @@ module _ {V : Type 0} where
   entries_from-push : (n : ℕ) (xs : List (Slot V)) → entries_from n (xs ++ Empty ∷ []) ≡ entries_from n xs
   entries_from-push n [] = refl
   entries_from-push n (Empty ∷ xs) = entries_from-push (n + 1) xs
-  entries_from-push n (Filled b ∷ xs) = ap (λ z. (n, b.value) ∷ z) (entries_from-push (n + 1) xs)
+  entries_from-push n (Filled b ∷ xs) = ap (λ z. (n, b) ∷ z) (entries_from-push (n + 1) xs)
 
   pub map_of-push : (xs : List (Slot V)) → map_of (xs ++ Empty ∷ []) ≡ map_of xs
   map_of-push xs = ap map.from_sorted (entries_from-push 0 xs)

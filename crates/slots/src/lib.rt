@@ -15,10 +15,9 @@ use std::marker::Model;
 use std::mem::replace;
 
 /// Values by their numbers, in a vector: a look-up costs the same however many there are. Memory grows with the greatest
-/// number. A contract sees the map from numbers to values.
+/// number, by the room of a value for each, so a large value belongs in a box. A contract sees the map from numbers to values.
 #[derive(Drop)]
 pub struct Slots<V> {
-    alloc: Global,
     slots: Vec<Slot<V>>,
     /// How many slots have a value.
     filled: usize,
@@ -28,7 +27,7 @@ pub struct Slots<V> {
 #[derive(Drop)]
 pub(crate) enum Slot<V> {
     Empty,
-    Filled(Box<V>),
+    Filled(V),
 }
 
 impl<V> Model for Slots<V> {
@@ -55,7 +54,7 @@ impl<V> Slot<V> {
         ensures { option_copied result ≡ value_of self.now }
     {
         match self {
-            Slot::Filled(value) => Some(value.as_ref()),
+            Slot::Filled(value) => Some(value),
             Slot::Empty => None,
         }
     }
@@ -66,7 +65,7 @@ impl<V> Slot<V> {
         ensures value { value_of self.old ≡ Some result.now }
     {
         match self {
-            Slot::Filled(value) => value.as_mut(),
+            Slot::Filled(value) => value,
             Slot::Empty => unreachable!(),
         }
     }
@@ -75,7 +74,7 @@ impl<V> Slot<V> {
         ensures { result ≡ value_of self }
     {
         match self {
-            Slot::Filled(value) => Some(Box::into_inner(value)),
+            Slot::Filled(value) => Some(value),
             Slot::Empty => None,
         }
     }
@@ -89,7 +88,6 @@ impl<V> Slots<V> {
         ensures { result ≡ map.empty }
     {
         Slots {
-            alloc,
             slots: Vec::new(alloc),
             filled: 0,
         }
@@ -151,7 +149,6 @@ impl<V> Slots<V> {
         ensures updates { OnOk result (self.new ≡ map.insert self.old number value) }
         ensures err { OnErr result (self.new ≡ self.old) }
     {
-        let value = Box::new(self.alloc, value)?;
         let index = number as usize;
         reach(&mut self.slots, index)?;
         let old = replace(&mut self.slots[index], Slot::Filled(value)).into_value();

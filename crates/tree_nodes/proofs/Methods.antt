@@ -122,7 +122,7 @@ module _ (m : Table) (t : Tree) (good : IsTableOf m t) where
   bare_where o there bare x = let e = value_of _ there in childless t (child m) (held m) good.table.tree good.agrees o e.0 e.1 (bare e.0 e.1) x
 
   module _ (n : Table) (o : ℕ) (entry : Entry) (e : Names × Node) (at : entry_of t o ≡ Some e) (apart : o ≡ 0 → ⊥) (bare : is_bare t e.0 ≡ true) (is : held m o ≡ Some (placed entry))
-      (cuts : Cuts entry.parent entry.name o (child m) (child n) (held m) (held n)) (len : map.len n + 1 ≡ map.len m) where
+      (cuts : Cuts entry.parent entry.body.value.name o (child m) (child n) (held m) (held n)) (len : map.len n + 1 ≡ map.len m) where
     cut_shows : Shows (child n) (held n) (map.remove t e.0)
     cut_shows = take_shows t (child m) (held m) shows (child n) (held n) o e (placed entry) at is apart bare cuts
 

@@ -1,18 +1,22 @@
 -- what a change of one entry makes of the table
-use Rattle.std.proofs.Common.{◌≡◌, ℕ, ◌+◌, ◌⊎◌, inl, inr, Bool, true, false, cond, List, [], ◌∷◌, length, Option, Some, None, Vec, Global, refl, sym, ap, subst, ◌∙◌, arith}
+use Rattle.std.proofs.Common.{◌≡◌, ℕ, ◌+◌, ◌⊎◌, inl, inr, Bool, true, false, cond, List, [], ◌∷◌, length, Option, Some, None, refl, sym, ap, subst, ◌∙◌, arith}
 use Rattle.std.specs.Prelude.{IsSome, IsTrue, option_and_then, option_map}
 use Rattle.std.proofs.lemmas.Cmp.{tied_itself, nat_list_cmp_total}
 use Rattle.std.specs.declared.cmp.Ordering.{Ordering}
 use Rattle.std.specs.declared.cmp.Ordering.TheVariants.{Less, Equal, Greater}
 use Rattle.std.specs.Ordering.{nat_cmp, is_eq, eq_by_cmp}
 use Rattle.std.specs.Cmp.Lexicographic.{slice_cmp}
-use Rattle.std.specs.Cmp.{IsTotalOrder, on_total, nat_cmp_total}
+use Rattle.std.specs.Cmp.{nat_cmp_total}
 use Rattle.std.specs.FinMap as map
-use Rattle.std.specs.Map.{KeepsOthers, IsKeyTest, AreApart, lookup}
-use Rattle.std.specs.BTreeMap as sorted
-use Rattle.std.specs.BTreeMap.{BTreeMap, UpdatesBy, is_at, btree_map_len}
+use Rattle.std.specs.Box.{with_value}
+use Rattle.std.specs.FinMap.Entries as es
+use Rattle.names.specs.Names.{Objects, name_cmp}
+use Rattle.std.specs.Map.{lookup}
+use Rattle.std.specs.BTreeMap.{is_at}
 use Rattle.tree_nodes.specs.declared.node.Node.{Node}
 use Rattle.tree_nodes.specs.declared.table.Entry.{Entry}
+use Rattle.tree_nodes.specs.declared.table.Body.{Body}
+use Rattle.tree_nodes.specs.declared.node.Content.{Content}
 use Rattle.tree_nodes.specs.declared.node.Content.TheVariants.{Directory}
 use Rattle.tree_nodes.specs.Openings.{IsOpening}
 use Rattle.tree_nodes.specs.Table.{Table, entry_at, name_in, named, child, placed, held}
@@ -33,30 +37,45 @@ is_equal Less e = absurd (cc)
 is_equal Equal e = refl
 is_equal Greater e = absurd (cc)
 
-abbrev pub Names : Type 0
-Names = BTreeMap (Vec ℕ Global) ℕ
-
-abbrev pub by_items : Vec ℕ Global → Vec ℕ Global → Ordering
-by_items a b = slice_cmp nat_cmp a.items b.items
-
-pub items_total : IsTotalOrder by_items
-items_total = on_total (λ (v : Vec ℕ Global). v.items) nat_list_cmp_total
-
-abbrev pub query : List ℕ → Vec ℕ Global → Ordering
-query x key = slice_cmp nat_cmp x key.items
-
 pub tie : (x y : List ℕ) → is_eq (slice_cmp nat_cmp x y) ≡ true → x ≡ y
 tie x y e = map.slice_cmp-IsAntisymmetric map.nat_cmp-IsAntisymmetric x y (is_equal (slice_cmp nat_cmp x y) e)
 
-key_test : (y : List ℕ) → IsKeyTest (eq_by_cmp by_items) (is_at (query y))
-key_test y = λ a b e. ap (λ z. is_eq (slice_cmp nat_cmp z b.items)) (tie y a.items e)
+-- an entry with another node, and with other names
+abbrev pub with_node : Entry → Node → Entry
+with_node e node = record e { body = with_value e.body (record e.body.value { node = node }) }
 
-apart : (x y : List ℕ) → (y ≡ x → ⊥) → AreApart (is_at (query x)) (is_at (query y))
-apart x y ne = λ k e. isnt (is_at (query y) k) (λ f. ne (tie y k.items f ∙ sym (tie x k.items e)))
+abbrev pub with_names : Entry → Body → Objects → Entry
+with_names e body names = record e { body = with_value e.body (record body { names = names }) }
 
-others : (a b : Names) (x : List ℕ) (w : Option ℕ) → UpdatesBy by_items (query x) a b w → (y : List ℕ) → (y ≡ x → ⊥) → sorted.get_by (query y) b ≡ sorted.get_by (query y) a
-unfolding KeepsOthers
-others a b x w h y ne = h.3 (is_at (query y)) (key_test y) (apart x y ne)
+abbrev pub with_content : Entry → Body → Content → Entry
+with_content e body content = record e { body = with_value e.body (record body { node = record { object = body.node.object; content = content } }) }
+
+-- a name has this object, or none, and each other one has what it had
+pub record NameSet (a b : Objects) (x : List ℕ) (w : Option ℕ) : Type 0 where
+  pub here : name_in b x ≡ w
+  pub others : (y : List ℕ) → (y ≡ x → ⊥) → name_in b y ≡ name_in a y
+
+same_name : (x : List ℕ) → eq_by_cmp name_cmp x x ≡ true
+same_name x = ap is_eq (tied_itself nat_list_cmp_total x)
+
+other_name : (x y : List ℕ) → (y ≡ x → ⊥) → eq_by_cmp name_cmp y x ≡ false
+other_name x y ne = isnt (eq_by_cmp name_cmp y x) (λ e. ne (tie y x e))
+
+pub name_put : (a b : Objects) (x : List ℕ) (o : ℕ) → b ≡ map.insert a x o → NameSet a b x (Some o)
+name_put a b x o is = record {
+  here = got x ∙ ap (λ t. cond t (Some o) (name_in a x)) (same_name x);
+  others = λ y ne. got y ∙ ap (λ t. cond t (Some o) (name_in a y)) (other_name x y ne);
+} where
+  got : (y : List ℕ) → name_in b y ≡ cond (eq_by_cmp name_cmp y x) (Some o) (name_in a y)
+  got y = ap (λ (z : Objects). map.get z y) is ∙ map.get-insert nat_list_cmp_total a x o y
+
+pub name_gone : (a b : Objects) (x : List ℕ) → b ≡ map.remove a x → NameSet a b x None
+name_gone a b x is = record {
+  here = got x ∙ ap (λ t. cond t None (name_in a x)) (same_name x);
+  others = λ y ne. got y ∙ ap (λ t. cond t None (name_in a y)) (other_name x y ne);
+} where
+  got : (y : List ℕ) → name_in b y ≡ cond (eq_by_cmp name_cmp y x) None (name_in a y)
+  got y = ap (λ (z : Objects). map.get z y) is ∙ map.get-remove nat_list_cmp_total a x y
 
 -- an object has this entry, or none, and each other one has what it had
 pub record Updates (o : ℕ) (m n : Table) (w : Option Entry) : Type 0 where
@@ -116,25 +135,25 @@ module _ (m : Table) (o : ℕ) (e f : Entry) (was : entry_at m o ≡ Some e) whe
   pub same_table : placed f ≡ placed e → ((x : List ℕ) → named f x ≡ named e x) → IsSame m (map.insert m o f)
   same_table place names = record { steps = same_steps names; places = same_places place; len = as_many }
 
-  pub name_set : placed f ≡ placed e → (x : List ℕ) (w : Option ℕ) → UpdatesBy by_items (query x) e.names f.names w → HasName o x w m (map.insert m o f)
+  pub name_set : placed f ≡ placed e → (x : List ℕ) (w : Option ℕ) → NameSet e.body.value.names f.body.value.names x w → HasName o x w m (map.insert m o f)
   name_set same x w names = record {
-    here = ap (option_and_then (λ z. named z x)) now.here ∙ names.1;
+    here = ap (option_and_then (λ z. named z x)) now.here ∙ names.here;
     others = λ a y ne. go a y ne (same_number a o);
     places = same_places same;
     len = as_many;
   } where
     go : (a : ℕ) (y : List ℕ) → (a ≡ o → y ≡ x → ⊥) → (a ≡ o) ⊎ (a ≡ o → ⊥) → child n a y ≡ child m a y
     go a y ne (inl is) =
-        ap (λ z. child n z y) is ∙ ap (option_and_then (λ z. named z y)) now.here ∙ others e.names f.names x w names y (ne is)
+        ap (λ z. child n z y) is ∙ ap (option_and_then (λ z. named z y)) now.here ∙ names.others y (ne is)
         ∙ sym (ap (λ z. child m z y) is ∙ ap (option_and_then (λ z. named z y)) was)
     go a y ne (inr apart) = ap (option_and_then (λ z. named z y)) (now.kept a apart)
 
-  pub place_set : f.node ≡ e.node → f.names ≡ e.names → HasPlace o f.parent f.name m (map.insert m o f)
+  pub place_set : f.body.value.node ≡ e.body.value.node → f.body.value.names ≡ e.body.value.names → HasPlace o f.parent f.body.value.name m (map.insert m o f)
   place_set node names = record {
     steps = same_steps (λ x. ap (λ z. name_in z x) names);
     place = λ h is.
         ap (option_map placed) now.here
-        ∙ ap (λ (z : Node). Some (f.parent, f.name, z)) (node ∙ ap (λ (z : Held). z.2) (same_some (placed e) h (sym (ap (option_map placed) was) ∙ is)));
+        ∙ ap (λ (z : Node). Some (f.parent, f.body.value.name, z)) (node ∙ ap (λ (z : Held). z.2) (same_some (placed e) h (sym (ap (option_map placed) was) ∙ is)));
     kept = λ a ne. ap (option_map placed) (now.kept a ne);
     len = as_many;
   }
@@ -166,11 +185,11 @@ entry_held m o h e = go (entry_at m o) refl where
   go (Some x) is = (x, is)
 
 -- no names yet
-nameless : (e : Entry) (x : List ℕ) → e.names.entries ≡ [] → named e x ≡ None
-nameless e x empty = ap (lookup (is_at (query x))) empty
+nameless : (e : Entry) (x : List ℕ) → e.body.value.names ≡ map.empty → named e x ≡ None
+nameless e x empty = ap (λ (z : Objects). map.get z x) empty ∙ map.get-empty name_cmp x
 
-pub added : (m k n : Table) (o : ℕ) (e : Entry) (x : List ℕ) → k ≡ map.insert m o e → HasName e.parent x (Some o) k n → x ≡ e.name
-    → e.names.entries ≡ [] → held m o ≡ None → Adds e.parent e.name o e.node (child m) (child n) (held m) (held n)
+pub added : (m k n : Table) (o : ℕ) (e : Entry) (x : List ℕ) → k ≡ map.insert m o e → HasName e.parent x (Some o) k n → x ≡ e.body.value.name
+    → e.body.value.names ≡ map.empty → held m o ≡ None → Adds e.parent e.body.value.name o e.body.value.node (child m) (child n) (held m) (held n)
 added m k n o e x put name is empty new = record {
   here = ap (child n e.parent) (sym is) ∙ name.here;
   others = λ a y ne. name.others a y (λ s t. ne s (t ∙ is)) ∙ steps a y;
@@ -197,7 +216,7 @@ stands_still m k o a e put there = go (same_number a o) where
   go (inr ne) = subst IsSome (sym (held_but m k o (Some e) h a ne)) there
 
 -- an object that was put and taken out again
-pub taken_again : (m k l n : Table) (o : ℕ) (e : Entry) → k ≡ map.insert m o e → IsSame k l → n ≡ map.remove l o → e.names.entries ≡ [] → held m o ≡ None → IsSame m n
+pub taken_again : (m k l n : Table) (o : ℕ) (e : Entry) → k ≡ map.insert m o e → IsSame k l → n ≡ map.remove l o → e.body.value.names ≡ map.empty → held m o ≡ None → IsSame m n
 taken_again m k l n o e put same out empty new = record { steps = steps; places = places; len = len } where
   h : Updates o m k (Some e)
   h = put_in m k o e put
@@ -225,8 +244,8 @@ taken_again m k l n o e put same out empty new = record { steps = steps; places 
       let there = entry_held l o (placed e) (same.places o ∙ ap (option_map placed) h.here) in
       omega (arith, ap map.len put, len_one_more m o e none, same.len, ap (λ (z : Table). map.len z + 1) out, len_one_less l o there.0 there.1)
 
-pub was_cut : (m k n : Table) (o : ℕ) (e : Entry) (x : List ℕ) → k ≡ map.remove m o → HasName e.parent x None k n → x ≡ e.name
-    → ((y : List ℕ) → child m o y ≡ None) → Cuts e.parent e.name o (child m) (child n) (held m) (held n)
+pub was_cut : (m k n : Table) (o : ℕ) (e : Entry) (x : List ℕ) → k ≡ map.remove m o → HasName e.parent x None k n → x ≡ e.body.value.name
+    → ((y : List ℕ) → child m o y ≡ None) → Cuts e.parent e.body.value.name o (child m) (child n) (held m) (held n)
 was_cut m k n o e x out name is bare = record {
   here = ap (child n e.parent) (sym is) ∙ name.here;
   others = λ a y ne. name.others a y (λ s t. ne s (t ∙ is)) ∙ steps a y;
@@ -250,7 +269,7 @@ stands_above m k o e out was stands =
     subst IsSome (sym (held_but m k o None (taken_out m k o out) e.parent (λ s. stands.2 (sym up ∙ s)) ∙ ap (held m) up)) stands.3
 
 -- the first object
-pub opening_alone : (m n : Table) (e : Entry) → m ≡ map.empty → n ≡ map.insert m 0 e → placed e ≡ (0, [], record { object = 0; content = Directory }) → e.names.entries ≡ [] → IsOpening n
+pub opening_alone : (m n : Table) (e : Entry) → m ≡ map.empty → n ≡ map.insert m 0 e → placed e ≡ (0, [], record { object = 0; content = Directory }) → e.body.value.names ≡ map.empty → IsOpening n
 opening_alone m n e empty put place nameless_root = record { root = root; others = beside; bare = bare; len = len } where
   h : Updates 0 m n (Some e)
   h = put_in m n 0 e put
@@ -281,31 +300,64 @@ shifted m k l n o b a x y z set place drops is apart = record {
 }
 
 -- an entry with another node
-pub node_set_by : (m n : Table) (o : ℕ) (e : Entry) (node : Node) → entry_at m o ≡ Some e → n ≡ map.insert m o (record e { node = node }) → Sets o node (child m) (child n) (held m) (held n)
+pub node_set_by : (m n : Table) (o : ℕ) (e : Entry) (node : Node) → entry_at m o ≡ Some e → n ≡ map.insert m o (with_node e node) → Sets o node (child m) (child n) (held m) (held n)
 node_set_by m n o e node was is = record {
-  same = steps_but m n o (Some (record e { node = node })) h (λ x. sym (ap (option_and_then (λ z. named z x)) was));
-  place = λ g at. held_now m n o (Some (record e { node = node })) h ∙ ap (λ (z : Held). Some (z.0, z.1, node)) (same_some (placed e) g (sym (ap (option_map placed) was) ∙ at));
-  kept = held_but m n o (Some (record e { node = node })) h;
+  same = steps_but m n o (Some (with_node e node)) h (λ x. sym (ap (option_and_then (λ z. named z x)) was));
+  place = λ g at. held_now m n o (Some (with_node e node)) h ∙ ap (λ (z : Held). Some (z.0, z.1, node)) (same_some (placed e) g (sym (ap (option_map placed) was) ∙ at));
+  kept = held_but m n o (Some (with_node e node)) h;
 } where
-  h : Updates o m n (Some (record e { node = node }))
-  h = put_in m n o (record e { node = node }) is
+  h : Updates o m n (Some (with_node e node))
+  h = put_in m n o (with_node e node) is
 
 pub node_set : (m : Table) (o : ℕ) (e : Entry) (node : Node) → entry_at m o ≡ Some e
-    → Sets o node (child m) (child (map.insert m o (record e { node = node }))) (held m) (held (map.insert m o (record e { node = node })))
-node_set m o e node was = node_set_by m (map.insert m o (record e { node = node })) o e node was refl
+    → Sets o node (child m) (child (map.insert m o (with_node e node))) (held m) (held (map.insert m o (with_node e node)))
+node_set m o e node was = node_set_by m (map.insert m o (with_node e node)) o e node was refl
 
 -- an entry with the node that it had
-pub node_same : (m : Table) (o : ℕ) (e : Entry) (node : Node) → entry_at m o ≡ Some e → node ≡ e.node → IsSame m (map.insert m o (record e { node = node }))
-node_same m o e node was same = same_table m o e (record e { node = node }) was (ap (λ (z : Node). placed (record e { node = z })) same) (λ x. refl)
+pub node_same : (m : Table) (o : ℕ) (e : Entry) (node : Node) → entry_at m o ≡ Some e → node ≡ e.body.value.node → IsSame m (map.insert m o (with_node e node))
+node_same m o e node was same = same_table m o e (with_node e node) was (ap (λ (z : Node). placed (with_node e z)) same) (λ x. refl)
 
 -- where there are names, one of them leads on
-first_name : (xs : List (Vec ℕ Global × ℕ)) → (length xs ≡ 0 → ⊥) → (x : List ℕ) × (k : ℕ) × (lookup (is_at (query x)) xs ≡ Some k)
+first_name : (xs : List (List ℕ × ℕ)) → (length xs ≡ 0 → ⊥) → (x : List ℕ) × (k : ℕ) × (es.find name_cmp x xs ≡ Some k)
 first_name [] h = absurd (h refl)
-first_name (e ∷ xs) h = (e.0.items, e.1, ap (λ r. cond (is_eq r) (Some e.1) (lookup (is_at (query e.0.items)) xs)) (tied_itself nat_list_cmp_total e.0.items))
+first_name (e ∷ xs) h = (e.0, e.1, ap (λ r. cond (is_eq r) (Some e.1) (es.find name_cmp e.0 xs)) (tied_itself nat_list_cmp_total e.0))
 
-pub leads_on : (m : Table) (o : ℕ) (e : Entry) → entry_at m o ≡ Some e → (btree_map_len e.names ≡ 0 → ⊥) → (x : List ℕ) × (k : ℕ) × (child m o x ≡ Some k)
-leads_on m o e was h = let first = first_name e.names.entries h in (first.0, first.1, ap (option_and_then (λ z. named z first.0)) was ∙ first.2)
+pub leads_on : (m : Table) (o : ℕ) (e : Entry) → entry_at m o ≡ Some e → (map.len e.body.value.names ≡ 0 → ⊥) → (x : List ℕ) × (k : ℕ) × (child m o x ≡ Some k)
+leads_on m o e was h =
+    let first = first_name (map.entries e.body.value.names) (λ none. h (map.len-entries e.body.value.names ∙ none)) in
+    (first.0, first.1, ap (option_and_then (λ z. named z first.0)) was ∙ map.get-entries e.body.value.names first.0 ∙ first.2)
+
+pub leads_nowhere : (m : Table) (o : ℕ) (e : Entry) → entry_at m o ≡ Some e → map.len e.body.value.names ≡ 0 → (x : List ℕ) → child m o x ≡ None
+leads_nowhere m o e was none x = ap (option_and_then (λ z. named z x)) was ∙ nameless e x (map.empty_of_len e.body.value.names none)
 
 pub isnt_true : (b : Bool) → b ≡ false → IsTrue b → ⊥
 isnt_true true e h = absurd (cc)
 isnt_true false e h = absurd (cc)
+
+-- the body of an entry, lent with what it is, has other content
+module _ (m : Table) (o : ℕ) (e : Entry) (body : Body) (was : entry_at m o ≡ Some e) (lent : body ≡ e.body.value) where
+  pub content_set : (content : Content) (node : Node) → record { object = e.body.value.node.object; content = content } ≡ node
+      → Sets o node (child m) (child (map.insert m o (with_content e body content))) (held m) (held (map.insert m o (with_content e body content)))
+  content_set content node is =
+      subst (λ (z : Body). Sets o node (child m) (child (map.insert m o (with_content e z content))) (held m) (held (map.insert m o (with_content e z content)))) (sym lent)
+      (subst (λ (z : Node). Sets o z (child m) (child (map.insert m o (with_content e e.body.value content))) (held m) (held (map.insert m o (with_content e e.body.value content)))) is
+      (node_set m o e (record { object = e.body.value.node.object; content = content }) was))
+
+  pub content_len : (content : Content) → map.len (map.insert m o (with_content e body content)) ≡ map.len m
+  content_len content = as_many m o e (with_content e body content) was
+
+  pub content_same : (content : Content) → content ≡ body.node.content → IsSame m (map.insert m o (with_content e body content))
+  content_same content same = same_table m o e (with_content e body content) was
+      (ap (λ (z : Content). placed (with_content e body z)) same ∙ ap (λ (z : Body). (e.parent, z.name, z.node)) lent)
+      (λ x. ap (λ (z : Body). name_in z.names x) lent)
+
+  pub names_same : (names : Objects) → names ≡ body.names → IsSame m (map.insert m o (with_names e body names))
+  names_same names same = same_table m o e (with_names e body names) was (ap (λ (z : Body). (e.parent, z.name, z.node)) lent) (λ x. ap (λ (z : Objects). name_in z x) same ∙ ap (λ (z : Body). name_in z.names x) lent)
+
+  pub names_put : (names : Objects) (x : List ℕ) (k : ℕ) → names ≡ map.insert body.names x k → HasName o x (Some k) m (map.insert m o (with_names e body names))
+  names_put names x k is = name_set m o e (with_names e body names) was (ap (λ (z : Body). (e.parent, z.name, z.node)) lent) x (Some k)
+      (name_put e.body.value.names names x k (is ∙ ap (λ (z : Body). map.insert z.names x k) lent))
+
+  pub names_gone : (names : Objects) (x : List ℕ) → names ≡ map.remove body.names x → HasName o x None m (map.insert m o (with_names e body names))
+  names_gone names x is = name_set m o e (with_names e body names) was (ap (λ (z : Body). (e.parent, z.name, z.node)) lent) x None
+      (name_gone e.body.value.names names x (is ∙ ap (λ (z : Body). map.remove z.names x) lent))

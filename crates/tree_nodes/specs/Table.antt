@@ -1,12 +1,8 @@
 -- the table of the objects
 use Rattle.std.specs.Prelude.{ℕ, List, Option, option_and_then, option_map}
-use Rattle.std.specs.declared.vec.Vec.{Vec}
-use Rattle.std.specs.declared.alloc.Global.{Global}
 use Rattle.std.specs.Ordering.{nat_cmp}
-use Rattle.std.specs.Cmp.Lexicographic.{slice_cmp}
 use Rattle.std.specs.FinMap as map
-use Rattle.std.specs.BTreeMap as sorted
-use Rattle.std.specs.BTreeMap.{BTreeMap}
+use Rattle.names.specs.Names.{Objects}
 use Rattle.tree_nodes.specs.declared.table.Entry.{Entry}
 use Rattle.tree_nodes.specs.Walk.{Held}
 
@@ -17,17 +13,17 @@ abbrev pub entry_at : Table → ℕ → Option Entry
 entry_at entries object = map.get entries object
 
 -- the object of a name
-abbrev pub name_in : BTreeMap (Vec ℕ Global) ℕ → List ℕ → Option ℕ
-name_in names name = sorted.get_by (λ key. slice_cmp nat_cmp name key.items) names
+abbrev pub name_in : Objects → List ℕ → Option ℕ
+name_in names name = map.get names name
 
 abbrev pub named : Entry → List ℕ → Option ℕ
-named entry name = name_in entry.names name
+named entry name = name_in entry.body.value.names name
 
 abbrev pub child : Table → ℕ → List ℕ → Option ℕ
 child entries object name = option_and_then (λ entry. named entry name) (entry_at entries object)
 
 abbrev pub placed : Entry → Held
-placed entry = (entry.parent, entry.name, entry.node)
+placed entry = (entry.parent, entry.body.value.name, entry.body.value.node)
 
 abbrev pub held : Table → ℕ → Option Held
 held entries object = option_map placed (entry_at entries object)

@@ -20,38 +20,46 @@ ghost use Rattle.tree_nodes.specs.TableChanges.{IsSame, HasName, HasPlace};
 use crate::bytes::Bytes;
 use crate::node::{Content, File, Node};
 use file_bytes::FileUndo;
+use names::Names;
 use slots::Slots;
 use std::alloc::{AllocError, Global};
-use std::collections::{BTreeMap, BTreeSet};
+use std::collections::BTreeSet;
 use std::mem::replace;
 
-/// An object with its place.
+/// An object with its place. A walk to the root reads nothing else of it than its directory's number, so this stands outside
+/// the box.
 #[derive(Drop)]
 pub(crate) struct Entry {
     /// The object of the directory that it lies in; the root's is its own.
     pub(crate) parent: u64,
-    /// Its name there.
+    pub(crate) body: Box<Body>,
+}
+
+/// What else there is of an object.
+#[derive(Drop)]
+pub(crate) struct Body {
+    /// Its name in its directory.
     pub(crate) name: Bytes,
     pub(crate) node: Node,
     /// The objects of the names in it.
-    pub(crate) names: BTreeMap<Vec<u8>, u64>,
+    pub(crate) names: Names,
 }
 
 /// The root alone, a directory, object 0.
 pub(crate) fn root_alone(alloc: Global) -> Result<Slots<Entry>, AllocError>
     ensures { IfOk result IsOpening }
 {
-    let root = Entry {
-        parent: 0,
+    let root = Body {
         name: Bytes::from_vec(Vec::new(alloc)),
         node: Node {
             object: 0,
             content: Content::Directory,
         },
-        names: BTreeMap::new(alloc),
+        names: Names::new(alloc),
     };
+    let body = Box::new(alloc, root)?;
     let mut entries = Slots::new(alloc);
-    entries.insert(0, root)?;
+    entries.insert(0, Entry { parent: 0, body })?;
     Ok(entries)
 }
 
@@ -62,7 +70,7 @@ pub(crate) fn node_at(entries: &Slots<Entry>, object: u64) -> Option<&Node>
     let Some(entry) = entries.get(object) else {
         return None;
     };
-    Some(&entry.node)
+    Some(&entry.body.node)
 }
 
 /// The object of the directory that an object lies in.
@@ -82,7 +90,7 @@ pub(crate) fn place_of(entries: &Slots<Entry>, object: u64) -> Option<(u64, &Byt
     let Some(entry) = entries.get(object) else {
         return None;
     };
-    Some((entry.parent, &entry.name))
+    Some((entry.parent, &entry.body.name))
 }
 
 /// Whether no name leads on from an object.
@@ -93,7 +101,7 @@ pub(crate) fn is_bare(entries: &Slots<Entry>, object: u64) -> bool
     let Some(entry) = entries.get(object) else {
         return true;
     };
-    entry.names.is_empty()
+    entry.body.names.is_empty()
 }
 
 /// The object of a name in a directory.
@@ -103,7 +111,7 @@ pub(crate) fn child(entries: &Slots<Entry>, directory: u64, name: &[u8]) -> Opti
     let Some(entry) = entries.get(directory) else {
         return None;
     };
-    entry.names.get(name).copied()
+    entry.body.names.get(name)
 }
 
 /// The node of a name in a directory.
@@ -121,16 +129,16 @@ pub(crate) fn entry_in<'a>(
 }
 
 /// Whether the name of each of these objects is among others.
-fn are_among(entries: &Slots<Entry>, here: &BTreeMap<Vec<u8>, u64>, names: &BTreeSet<Bytes>) -> bool
+fn are_among(entries: &Slots<Entry>, here: &Names, names: &BTreeSet<Bytes>) -> bool
     requires { (name : List ℕ) (next : ℕ) → name_in here.now name ≡ Some next → (h : Held) × (held entries.now next ≡ Some h) × (h.1 ≡ name) }
     ensures all { result ≡ true → (name : List ℕ) (next : ℕ) → name_in here.now name ≡ Some next → contains (slice_cmp nat_cmp) names.now name ≡ true }
     ensures missing { result ≡ false → (name : List ℕ) × (next : ℕ) × (name_in here.now name ≡ Some next) × (contains (slice_cmp nat_cmp) names.now name ≡ false) }
 {
     for (_, object) in here.iter() {
-        let Some(listed) = entries.get(*object) else {
+        let Some(listed) = entries.get(object) else {
             unreachable!()
         };
-        if !names.contains(&listed.name) {
+        if !names.contains(&listed.body.name) {
             return false;
         }
     }
@@ -146,7 +154,7 @@ pub(crate) fn lists_all(entries: &Slots<Entry>, directory: u64, names: &BTreeSet
     let Some(entry) = entries.get(directory) else {
         return true;
     };
-    are_among(entries, &entry.names, names)
+    are_among(entries, &entry.body.names, names)
 }
 
 /// Has a name in a directory lead to an object.
@@ -164,10 +172,8 @@ fn set_name(
     let Some(entry) = entries.get_mut(directory) else {
         unreachable!()
     };
-    let Ok(_) = entry.names.insert(name, object) else {
-        return Err(AllocError);
-    };
-    Ok(())
+    let body = entry.body.as_mut();
+    body.names.insert(name, object)
 }
 
 /// Takes a name out of a directory.
@@ -178,7 +184,8 @@ fn drop_name(entries: &mut Slots<Entry>, directory: u64, name: &[u8])
     let Some(entry) = entries.get_mut(directory) else {
         unreachable!()
     };
-    entry.names.remove(name);
+    let body = entry.body.as_mut();
+    body.names.remove(name);
 }
 
 /// Where an object lies.
@@ -198,7 +205,8 @@ fn set_place(entries: &mut Slots<Entry>, object: u64, place: Place) -> Place
         unreachable!()
     };
     let parent = replace(&mut entry.parent, place.parent);
-    let name = replace(&mut entry.name, place.name);
+    let body = entry.body.as_mut();
+    let name = replace(&mut body.name, place.name);
     Place { parent, name }
 }
 
@@ -219,11 +227,14 @@ pub(crate) fn add(
 {
     let object = node.object;
     let key = Vec::from_slice(alloc, name)?;
-    let entry = Entry {
-        parent: directory,
+    let body = Body {
         name: Bytes::from_slice(alloc, name)?,
         node,
-        names: BTreeMap::new(alloc),
+        names: Names::new(alloc),
+    };
+    let entry = Entry {
+        parent: directory,
+        body: Box::new(alloc, body)?,
     };
     entries.insert(object, entry)?;
     let Ok(()) = set_name(entries, directory, key, object) else {
@@ -238,13 +249,13 @@ pub(crate) fn cut(entries: &mut Slots<Entry>, object: u64) -> Entry
     requires stands { (h : Held) × (held entries.old object ≡ Some h) × (h.0 ≡ object → ⊥) × IsSome (held entries.old h.0) }
     requires bare { (name : List ℕ) → child entries.old object name ≡ None }
     ensures entry { held entries.old object ≡ Some (placed result) }
-    ensures ok { Cuts result.parent result.name object (child entries.old) (child entries.new) (held entries.old) (held entries.new) }
+    ensures ok { Cuts result.parent result.body.value.name object (child entries.old) (child entries.new) (held entries.old) (held entries.new) }
     ensures len { map.len entries.new + 1 ≡ map.len entries.old }
 {
     let Some(entry) = entries.remove(object) else {
         unreachable!()
     };
-    drop_name(entries, entry.parent, entry.name.as_slice());
+    drop_name(entries, entry.parent, entry.body.name.as_slice());
     entry
 }
 
@@ -322,7 +333,8 @@ pub(crate) fn edit_bytes(
     let Some(entry) = entries.get_mut(object) else {
         unreachable!()
     };
-    edit_content(&mut entry.node.content, edit)
+    let body = entry.body.as_mut();
+    edit_content(&mut body.node.content, edit)
 }
 
 /// Takes a change of a file's bytes back.
@@ -362,5 +374,6 @@ pub(crate) fn restore_bytes(
     let Some(entry) = entries.get_mut(object) else {
         unreachable!()
     };
-    restore_content(&mut entry.node.content, undo)
+    let body = entry.body.as_mut();
+    restore_content(&mut body.node.content, undo)
 }

@@ -150,8 +150,9 @@ fn put_back(entries: &mut Slots<Entry>, alloc: Global, entry: Entry) -> Result<(
     ensures ok { OnOk result ((tree before : Tree) → IsTableOf entries.old tree → IsPutBack entry tree before → IsTableOf entries.new before) }
     ensures err { OnErr result (IsSame entries.old entries.new) }
 {
-    let name = entry.name;
-    add(entries, alloc, entry.parent, name.as_slice(), entry.node)
+    let body = Box::into_inner(entry.body);
+    let name = body.name;
+    add(entries, alloc, entry.parent, name.as_slice(), body.node)
 }
 
 /// Puts an object where it lay, and back what it took the place of.

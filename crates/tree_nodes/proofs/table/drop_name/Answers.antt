@@ -1,7 +1,7 @@
-use Rattle.std.proofs.Common.{None, refl, sym}
-use Rattle.tree_nodes.proofs.Tables.{name_set}
+use Rattle.std.proofs.Common.{sym}
+use Rattle.tree_nodes.proofs.Tables.{names_gone}
 use Rattle.tree_nodes.proofs.table.drop_name.Goals as goal
 
 pub returns : goal.returns
 returns c =
-    name_set c.args.entries.now c.args.directory c.in-Some.entry.now _ (sym c.in-Some.ensures.value) refl c.args.name.now None c.remove.ensures.updates
+    names_gone c.args.entries.now c.args.directory c.in-Some.entry.now c.as_mut-body.result.now (sym c.in-Some.ensures.value) c.as_mut-body.ensures.value c.remove.new.self c.args.name.now c.remove.ensures

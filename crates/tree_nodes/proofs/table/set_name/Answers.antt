@@ -1,14 +1,12 @@
-use Rattle.std.proofs.Common.{Some, refl, sym, ap}
-use Rattle.std.specs.Map.{lookup}
-use Rattle.std.specs.BTreeMap.{is_at}
-use Rattle.tree_nodes.proofs.Tables.{query, name_set, same_table}
+use Rattle.std.proofs.Common.{sym}
+use Rattle.std.proofs.lemmas.Result.{on_ok_weaker, on_err_weaker}
+use Rattle.tree_nodes.proofs.Tables.{names_put, names_same}
 use Rattle.tree_nodes.proofs.table.set_name.Goals as goal
 
 pub returns-clause-ok : goal.returns-clause-ok
-returns-clause-ok c =
-    name_set c.args.entries.now c.args.directory c.in-Some.entry.now _ (sym c.in-Some.ensures.value) refl c.args.name.items (Some c.args.object) c.in-Ok.ensures.updates
+returns-clause-ok c = on_ok_weaker c.insert.result (names_put c.args.entries.now c.args.directory c.in-Some.entry.now c.as_mut-body.result.now (sym c.in-Some.ensures.value) c.as_mut-body.ensures.value
+    c.insert.new.self c.args.name.items c.args.object) c.insert.ensures.updates
 
-pub returns-in_default-insert-clause-err : goal.returns-in_default-insert-clause-err
-returns-in_default-insert-clause-err c =
-    let entry = c.in-Some.entry.now in
-    same_table c.args.entries.now c.args.directory entry (record entry { names = c.insert.new.self }) (sym c.in-Some.ensures.value) refl (λ x. ap (lookup (is_at (query x))) c.in_default-insert.ensures.err)
+pub returns-clause-err : goal.returns-clause-err
+returns-clause-err c = on_err_weaker c.insert.result (names_same c.args.entries.now c.args.directory c.in-Some.entry.now c.as_mut-body.result.now (sym c.in-Some.ensures.value) c.as_mut-body.ensures.value
+    c.insert.new.self) c.insert.ensures.err

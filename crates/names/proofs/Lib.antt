@@ -1,0 +1,4 @@
+pub mod Orders
+pub mod FewLemmas
+pub mod ManyLemmas
+pub mod Maps

@@ -1,0 +1,13 @@
+use Rattle.std.proofs.Common.{length, sym, ap, ◌∙◌, arith}
+use Rattle.std.specs.Prelude.{◌==◌}
+use Rattle.std.proofs.lemmas.Bool.Decides.{nat_tests}
+use Rattle.names.specs.Names.{pairs_of}
+use Rattle.names.proofs.FewLemmas.{length-listed}
+use Rattle.names.proofs.ManyLemmas.{length-entered}
+use Rattle.names.proofs.Store.is_empty.Goals as goal
+
+pub returns-in-Few : goal.returns-in-Few
+returns-in-Few c = c.is_empty.ensures ∙ ap (λ n. n == 0) (c.in-Few.few.ok.0 ∙ sym (length-listed c.in-Few.few.items)) ∙ ap (λ s. length (pairs_of s) == 0) (sym c.in-Few.is)
+
+pub returns-in-Many : goal.returns-in-Many
+returns-in-Many c = rw (c.in-Many.is, length-entered c.in-Many.many.entries) (grind (arith, nat_tests, c.is_empty-in-Many.ensures))

@@ -1,0 +1,62 @@
+//! A few names, sorted in a vector.
+
+ghost use Rattle.std.specs.Prelude.{◌≡◌, None, IfOk, IfErr, OnOk, OnErr};
+ghost use Rattle.std.specs.FinMap.Entries.{find, put};
+ghost use Rattle.names.specs.Names.{name_cmp, listed};
+ghost use Rattle.names.specs.Places.{IsInOrder, IsAt, IsGap, without};
+
+use std::alloc::AllocError;
+
+/// A name with its object.
+#[derive(Drop)]
+pub(crate) struct Named {
+    pub(crate) name: Vec<u8>,
+    pub(crate) object: u64,
+}
+
+/// The index of a name, or the one where it belongs.
+fn search(few: &[Named], name: &[u8]) -> Result<usize, usize>
+    requires { IsInOrder (listed few.now) }
+    ensures found { IfOk result (IsAt few.now name.now) }
+    ensures absent { IfErr result (IsGap few.now name.now) }
+{
+    few.binary_search_by(|named| named.name.as_slice().cmp(name))
+}
+
+/// The object of a name.
+pub(crate) fn object_of(few: &[Named], name: &[u8]) -> Option<u64>
+    requires { IsInOrder (listed few.now) }
+    ensures { result ≡ find name_cmp name.now (listed few.now) }
+{
+    match search(few, name) {
+        Ok(index) => Some(few[index].object),
+        Err(_) => None,
+    }
+}
+
+/// Gives a name an object.
+pub(crate) fn put(few: &mut Vec<Named>, name: Vec<u8>, object: u64) -> Result<(), AllocError>
+    requires { IsInOrder (listed few.old.items) }
+    ensures ok { OnOk result (listed few.new.items ≡ put name_cmp name.items object (listed few.old.items)) }
+    ensures absent { OnErr result (find name_cmp name.items (listed few.old.items) ≡ None) }
+    ensures err { OnErr result (few.new.items ≡ few.old.items) }
+{
+    match search(few.as_slice(), name.as_slice()) {
+        Ok(index) => few[index].object = object,
+        Err(index) => {
+            few.reserve_exact(1)?;
+            few.insert(index, Named { name, object })?;
+        }
+    }
+    Ok(())
+}
+
+/// Takes a name out, if it is there.
+pub(crate) fn remove(few: &mut Vec<Named>, name: &[u8])
+    requires { IsInOrder (listed few.old.items) }
+    ensures { listed few.new.items ≡ without name.now (listed few.old.items) }
+{
+    if let Ok(index) = search(few.as_slice(), name) {
+        few.remove(index);
+    }
+}
