@@ -1,0 +1,4 @@
+pub mod NotedEvents
+pub mod Fronts
+pub mod Forwarding
+pub mod RoomLeft
