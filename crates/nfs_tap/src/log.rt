@@ -65,7 +65,7 @@ impl TapLog {
         let left = left_behind(self.left, &event);
         self.events.reserve(1)?;
         self.known.follow(seen)?;
-        self.events.push(event)?;
+        self.events.push(event).unwrap();
         self.left = left;
         Ok(())
     }
