@@ -1,3 +1,4 @@
+pub mod Kept
 pub mod NotedEvents
 pub mod Fronts
 pub mod Forwarding
