@@ -43,13 +43,17 @@ stops_ahead end held records anywhere = record {
   anywhere = anywhere;
 }
 
--- a refusal of the log may come anywhere
+-- want of memory may come anywhere
+pub no_memory_anywhere : IsAnywhere ends.NoMemory
+no_memory_anywhere = (λ same. cc, λ rest. tt)
+
+-- and a refusal of the log
 pub anywhere_refused : (fault : NoteFault) → IsAnywhere (end_of fault)
-anywhere_refused faults.LaneClosed = λ rest. tt
-anywhere_refused faults.BadRpc = λ rest. tt
-anywhere_refused faults.XidInUse = λ rest. tt
-anywhere_refused faults.NoSuchCall = λ rest. tt
-anywhere_refused faults.NoMemory = λ rest. tt
+anywhere_refused faults.LaneClosed = (λ same. cc, λ rest. tt)
+anywhere_refused faults.BadRpc = (λ same. cc, λ rest. tt)
+anywhere_refused faults.XidInUse = (λ same. cc, λ rest. tt)
+anywhere_refused faults.NoSuchCall = (λ same. cc, λ rest. tt)
+anywhere_refused faults.NoMemory = no_memory_anywhere
 
 -- a write of the record failed
 pub stops_within : (held held' : Option (List ℕ)) (content text : List ℕ) → text ≡ record_text content → AppendsFront held held' text → Stops ends.WriteFault held held' (content ∷ [])
@@ -64,7 +68,7 @@ stops_within held held' content text is f = record {
     parts = append-nil (record_text content) ∙ sym is ∙ sym (take-append-drop f.0 text);
     whole = λ other. absurd (other refl);
   };
-  anywhere = λ rest. tt;
+  anywhere = (λ same. cc, λ rest. tt);
 }
 
 -- ---- the records that wait
@@ -195,7 +199,7 @@ stopped_in r end held held' old piece new fed s =
           front = first.front;
           parts = cut.parts ∙ ap (λ l. l ++ some.0) first.parts ∙ append_assoc first.front first.back some.0;
           whole = first.first;
-          left = s.anywhere (first.back ++ some.0);
+          left = s.anywhere.1 (first.back ++ some.0);
         };
         sent = s.sent;
       },
@@ -237,6 +241,13 @@ pub no_memory_for : {X : Type 0} (held held' : Option (List ℕ)) (old : Feed) (
 no_memory_for {X = X} held held' old piece now fed wrote =
     let some = fed_cut {X = X} (Err feed_faults.NoMemory) old piece now fed in
     (frames now.waiting, wrote, record { records = now.waiting; rest = some.0; cut = some.1; sent = all_written ends.NoMemory (frames now.waiting) })
+
+-- none of these is the stream's end
+pub too_long_unended : ends.RecordTooLong ≢ ends.End
+too_long_unended same = cc
+
+pub no_memory_unended : ends.NoMemory ≢ ends.End
+no_memory_unended same = cc
 
 -- ---- the whole stream
 

@@ -1,5 +1,6 @@
 -- What a writer holds grows piece by piece.
 use Rattle.std.proofs.Common.{◌≡◌, ℕ, ◌+◌, ◌≤◌, List, [], ◌++◌, ◌-◌, length, take, drop, Option, Some, None, refl, sym, ap, subst, ◌∙◌, arith, append_assoc, append-nil, take-add, take_all, length-drop}
+use Rattle.std.proofs.lemmas.List.{take-append-le}
 use Rattle.std.specs.Io.KnownBytes.{Appends, Consumes, Keeps}
 
 -- nothing
@@ -34,8 +35,14 @@ goes_on old mid new bytes n m le bound before piece =
     let wrote : Appends mid new (take m (drop n bytes)) = subst (λ (l : List ℕ). Appends mid new (take m l)) left piece in
     (omega (arith, within, le, length-drop n bytes), one_more old mid new bytes n m before wrote)
 
-
 -- ---- what a reader has left
+
+-- a piece of the buffer, once it is written back
+pub piece_read : (buffer behind : List ℕ) (size count : ℕ) → length buffer ≡ size → take count (take size (buffer ++ behind)) ≡ take count buffer
+piece_read buffer behind size count is =
+    let fits : size ≤ length buffer = omega arith in
+    let front : take size (buffer ++ behind) ≡ take size buffer = rw take-append-le in
+    ap (λ (l : List ℕ). take count l) (front ∙ take_all size buffer (omega arith))
 
 pub none_consumed : (left : Option (List ℕ)) → Consumes left left []
 none_consumed None = tt

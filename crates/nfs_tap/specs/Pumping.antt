@@ -24,9 +24,9 @@ Behind ends.End rest = IsUnfinished rest
 Behind ends.RecordTooLong rest = IsTooLong rest
 Behind end rest = Unit {0}
 
--- a pump may end so behind any record
+-- a pump may end so behind any record: the stream's end isn't such an end
 abbrev pub IsAnywhere : PumpEnd → Type 0
-IsAnywhere end = (rest : List ℕ) → Behind end rest
+IsAnywhere end = (end ≢ ends.End) × ((rest : List ℕ) → Behind end rest)
 
 -- what was written of a text: all of it, but where a write failed
 pub record IsWritten (end : PumpEnd) (text written : List ℕ) : Type 0 where

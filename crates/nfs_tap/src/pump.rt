@@ -1,6 +1,6 @@
 //! The pumps: each has the records of one way of a connection noted, and forwards them.
 
-ghost use Rattle.std.specs.Prelude.{◌≡◌, ◌≤◌, ◌++◌, ◌∷◌, ℕ, List, [], length, OnOk, OnErr, IfOk, IfErr, vec_len};
+ghost use Rattle.std.specs.Prelude.{◌≡◌, ◌≢◌, ◌≤◌, ◌++◌, ◌∷◌, ℕ, List, [], length, OnOk, OnErr, IfOk, IfErr, vec_len};
 ghost use Rattle.std.specs.Io.KnownBytes.{Appends, IsAtEnd};
 ghost use Rattle.xdr_records.specs.Record.{IsUnfinished, IsCut, record_text, record_limit};
 ghost use Rattle.nfs_tap.specs.Noting.{with_event};
@@ -119,6 +119,13 @@ fn note_record(log: &mut TapLog, way: Way, lane: u32, content: &[u8]) -> Result<
     Ok(())
 }
 
+/// Has a record noted by the log that is shared.
+fn note_shared<R: Wait>(rt: &R, tap: Tap<'_>, content: &[u8]) -> Result<(), PumpEnd>
+    ensures { IfErr result IsAnywhere }
+{
+    note_record(&mut tap.log.lock(rt), tap.way, tap.lane, content)
+}
+
 /// Has a record noted, and then writes it as one fragment.
 fn forward<R: Wait, W: Write>(
     rt: &R,
@@ -132,7 +139,7 @@ fn forward<R: Wait, W: Write>(
     ensures err { IfErr result (λ end. Stops end (W.contents writer.old) (W.contents writer.new) (content.now ∷ [])) }
 {
     let text = frame(alloc, content)?;
-    note_record(&mut tap.log.lock(rt), tap.way, tap.lane, content)?;
+    note_shared(rt, tap, content)?;
     match write_whole(writer, text.as_slice()) {
         Ok(()) => Ok(()),
         Err(_) => Err(PumpEnd::WriteFault),
@@ -172,13 +179,16 @@ fn pass_on<R: Wait, W: Write>(
         × Appends (W.contents writer.old) (W.contents writer.new) (frames records))) }
     ensures err { IfErr result (λ end. (written : List ℕ) × Appends (W.contents writer.old) (W.contents writer.new) written
         × IsForwarded end (feed.old.rest ++ piece.now) written) }
+    ensures unended { IfErr result (λ end. end ≢ PumpEnd.End) }
 {
     let fed = feed.feed(piece);
     forward_waiting(rt, alloc, tap, writer, feed)?;
     match fed {
         Ok(()) => Ok(()),
-        Err(FeedFault::RecordTooLong) => Err(PumpEnd::RecordTooLong),
-        Err(FeedFault::NoMemory) => Err(PumpEnd::NoMemory),
+        Err(fault) => match fault {
+            FeedFault::RecordTooLong => Err(PumpEnd::RecordTooLong),
+            FeedFault::NoMemory => Err(PumpEnd::NoMemory),
+        },
     }
 }
 
