@@ -1,17 +1,15 @@
 -- Records that are forwarded one after the other.
-use Rattle.std.proofs.Common.{◌≡◌, ◌≢◌, inl, inr, ℕ, ◌+◌, ◌≤◌, true, false, List, [], ◌∷◌, ◌++◌, length, take, drop, Option, Some, None, Result, Ok, Err, OnOk, IsErrOf, refl, sym, ap, subst, ◌∙◌, arith, append_assoc, append-nil, take-append-drop}
+use Rattle.std.proofs.Common.{◌≡◌, ℕ, ◌≤◌, false, List, [], ◌∷◌, ◌++◌, length, take, drop, Option, Result, Ok, Err, OnOk, IsErrOf, refl, sym, ap, subst, ◌∙◌, append_assoc, append-nil, take-append-drop}
 use Rattle.std.specs.Io.KnownBytes.{Appends, Consumes}
 use Rattle.xdr_records.specs.declared.fault.FeedFault.{FeedFault}
 use Rattle.xdr_records.specs.declared.fault.FeedFault.TheVariants as feed_faults
 use Rattle.xdr_records.specs.Record.{AreRecords, IsUnfinished, IsTooLong, IsCut, record_text, record_limit}
 use Rattle.xdr_records.specs.Feed.{Feed, fresh, Grows, Breaks, TakesFirst}
 use Rattle.xdr_records.proofs.Cutting.{unfinished_none, cut_join}
-use Rattle.nfs_tap.specs.declared.fault.NoteFault.{NoteFault}
-use Rattle.nfs_tap.specs.declared.fault.NoteFault.TheVariants as faults
 use Rattle.nfs_tap.specs.declared.pump.PumpEnd.{PumpEnd}
 use Rattle.nfs_tap.specs.declared.pump.PumpEnd.TheVariants as ends
-use Rattle.nfs_tap.specs.Pumping.{frames, Behind, IsAnywhere, IsWritten, IsForwarded, Pumps, end_of, AreWithinLimit, IsIdle, IsEmptied, Stops, AppendsFront}
-use Rattle.nfs_tap.proofs.Fronts.{none_appended, both_appended, none_consumed, both_consumed, unread}
+use Rattle.nfs_tap.specs.Pumping.{frames, Behind, IsAnywhere, IsWritten, IsForwarded, Pumps, AreWithinLimit, IsIdle, Stops, AppendsFront}
+use Rattle.nfs_tap.proofs.Fronts.{none_appended, both_appended, none_consumed, both_consumed}
 
 frames-append : (xs ys : List (List ℕ)) → frames (xs ++ ys) ≡ frames xs ++ frames ys
 frames-append [] ys = refl
@@ -47,14 +45,6 @@ stops_ahead end held records anywhere = record {
 pub no_memory_anywhere : IsAnywhere ends.NoMemory
 no_memory_anywhere = (λ same. cc, λ rest. tt)
 
--- and a refusal of the log
-pub anywhere_refused : (fault : NoteFault) → IsAnywhere (end_of fault)
-anywhere_refused faults.LaneClosed = (λ same. cc, λ rest. tt)
-anywhere_refused faults.BadRpc = (λ same. cc, λ rest. tt)
-anywhere_refused faults.XidInUse = (λ same. cc, λ rest. tt)
-anywhere_refused faults.NoSuchCall = (λ same. cc, λ rest. tt)
-anywhere_refused faults.NoMemory = no_memory_anywhere
-
 -- a write of the record failed
 pub stops_within : (held held' : Option (List ℕ)) (content text : List ℕ) → text ≡ record_text content → AppendsFront held held' text → Stops ends.WriteFault held held' (content ∷ [])
 stops_within held held' content text is f = record {
@@ -82,14 +72,8 @@ pub record HasForwarded (held held' : Option (List ℕ)) (old new : Feed) : Type
   pub broken : new.broken ≡ old.broken
   pub within : AreWithinLimit new.waiting
 
-pub none_forwarded : (held : Option (List ℕ)) (feed : Feed) → AreWithinLimit feed.waiting → HasForwarded held held feed feed
-none_forwarded held feed within = record { done = []; parts = refl; appended = none_appended held; rest = refl; broken = refl; within = within }
-
 first_within : (waiting : List (List ℕ)) (content : List ℕ) (others : List (List ℕ)) → waiting ≡ content ∷ others → AreWithinLimit waiting → (length content ≤ record_limit) × AreWithinLimit others
 first_within waiting content others is within = subst AreWithinLimit is within
-
-pub next_within : (held mid : Option (List ℕ)) (old now new : Feed) (content : List ℕ) → HasForwarded held mid old now → TakesFirst now content new → length content ≤ record_limit
-next_within held mid old now new content so_far t = (first_within now.waiting content new.waiting t.waiting so_far.within).0
 
 pub one_forwarded : (held mid held' : Option (List ℕ)) (old now new : Feed) (content : List ℕ) → HasForwarded held mid old now → TakesFirst now content new → Appends mid held' (record_text content)
     → HasForwarded held held' old new
@@ -119,18 +103,6 @@ stops_later end held mid held' old now new content so_far t s =
       anywhere = s.anywhere;
     }
 
-pub all_forwarded : (held held' : Option (List ℕ)) (old now new : Feed) → HasForwarded held held' old now → (now.waiting ≡ []) × (new ≡ now) → Appends held held' (frames old.waiting) × IsEmptied old new
-all_forwarded held held' old now new so_far none =
-    let all : old.waiting ≡ so_far.done = so_far.parts ∙ ap (λ (xs : List (List ℕ)). so_far.done ++ xs) none.0 ∙ append-nil so_far.done in
-    (
-      subst (λ (xs : List (List ℕ)). Appends held held' (frames xs)) (sym all) so_far.appended,
-      record {
-        waiting = ap (λ (f : Feed). f.waiting) none.1 ∙ none.0;
-        rest = ap (λ (f : Feed). f.rest) none.1 ∙ so_far.rest;
-        broken = ap (λ (f : Feed). f.broken) none.1 ∙ so_far.broken;
-      },
-    )
-
 -- ---- a piece of the stream
 
 -- whatever stands behind
@@ -143,6 +115,11 @@ pub record HasFed {X : Type 0} (r : Result X FeedFault) (old : Feed) (piece : Li
   pub ok : OnOk r (Grows old piece new)
   pub too_long : IsErrOf r feed_faults.RecordTooLong → Breaks old piece new
   pub no_memory : IsErrOf r feed_faults.NoMemory → new ≡ old
+
+-- from the clauses of a feed
+pub has_fed : {X : Type 0} (r : Result X FeedFault) (old : Feed) (piece : List ℕ) (new : Feed) → IsIdle old → OnOk r (Grows old piece new)
+    → (IsErrOf r feed_faults.RecordTooLong → old.broken ≡ false → Breaks old piece new) → (IsErrOf r feed_faults.NoMemory → (old.broken ≡ false) × (new ≡ old)) → HasFed r old piece new
+has_fed r old piece new idle ok too_long no_memory = record { idle = idle; ok = ok; too_long = λ e. too_long e idle.1; no_memory = λ e. (no_memory e).1 }
 
 -- the records that wait stand in the piece
 fed_cut : {X : Type 0} (r : Result X FeedFault) (old : Feed) (piece : List ℕ) (new : Feed) → HasFed r old piece new → (rest : List ℕ) × IsCut (λ _. Unit {0}) (old.rest ++ piece) new.waiting rest
@@ -205,49 +182,11 @@ stopped_in r end held held' old piece new fed s =
       },
     )
 
--- the records of a piece are forwarded
-pub passed_on : {X : Type 0} (x : X) (held held' : Option (List ℕ)) (old : Feed) (piece : List ℕ) (now new : Feed) → HasFed (Ok x) old piece now → Appends held held' (frames now.waiting) → IsEmptied now new
-    → IsIdle new × ((records : List (List ℕ)) × IsCut IsUnfinished (old.rest ++ piece) records new.rest × Appends held held' (frames records))
-passed_on x held held' old piece now new fed wrote emptied =
-    let g = fed.ok in
-    let all : now.waiting ≡ g.records = g.waiting ∙ ap (λ (xs : List (List ℕ)). xs ++ g.records) fed.idle.0 in
-    (
-      (emptied.waiting, emptied.broken ∙ g.still),
-      (
-        g.records,
-        subst (λ (rest : List ℕ). IsCut IsUnfinished (old.rest ++ piece) g.records rest) (sym emptied.rest) g.cut,
-        subst (λ (xs : List (List ℕ)). Appends held held' (frames xs)) all wrote,
-      ),
-    )
-
-pub too_long_behind : {X : Type 0} (held held' : Option (List ℕ)) (old : Feed) (piece : List ℕ) (now : Feed) → HasFed {X = X} (Err feed_faults.RecordTooLong) old piece now → Appends held held' (frames now.waiting)
-    → (written : List ℕ) × Appends held held' written × IsForwarded ends.RecordTooLong (old.rest ++ piece) written
-too_long_behind held held' old piece now fed wrote =
-    let b = fed.too_long refl in
-    let all : now.waiting ≡ b.records = ap (λ (f : Feed). f.waiting) b.now ∙ ap (λ (xs : List (List ℕ)). xs ++ b.records) fed.idle.0 in
-    (
-      frames now.waiting,
-      wrote,
-      record {
-        records = now.waiting;
-        rest = b.stop;
-        cut = subst (λ (xs : List (List ℕ)). IsCut IsTooLong (old.rest ++ piece) xs b.stop) (sym all) b.cut;
-        sent = all_written ends.RecordTooLong (frames now.waiting);
-      },
-    )
-
 pub no_memory_for : {X : Type 0} (held held' : Option (List ℕ)) (old : Feed) (piece : List ℕ) (now : Feed) → HasFed {X = X} (Err feed_faults.NoMemory) old piece now → Appends held held' (frames now.waiting)
     → (written : List ℕ) × Appends held held' written × IsForwarded ends.NoMemory (old.rest ++ piece) written
 no_memory_for {X = X} held held' old piece now fed wrote =
     let some = fed_cut {X = X} (Err feed_faults.NoMemory) old piece now fed in
     (frames now.waiting, wrote, record { records = now.waiting; rest = some.0; cut = some.1; sent = all_written ends.NoMemory (frames now.waiting) })
-
--- none of these is the stream's end
-pub too_long_unended : ends.RecordTooLong ≢ ends.End
-too_long_unended same = cc
-
-pub no_memory_unended : ends.NoMemory ≢ ends.End
-no_memory_unended same = cc
 
 -- ---- the whole stream
 

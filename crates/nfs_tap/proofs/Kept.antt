@@ -1,5 +1,5 @@
 -- A log of which an event is noted, or refused, and what it knows from then on.
-use Rattle.std.proofs.Common.{◌≡◌, ℕ, ◌+◌, ◌-◌, ◌≤◌, Bool, true, if◌then◌else◌, List, [], ◌∷◌, ◌++◌, length, Result, Ok, Err, Option, Some, None, refl, sym, ap, subst, ◌∙◌, arith}
+use Rattle.std.proofs.Common.{◌≡◌, ℕ, ◌+◌, ◌-◌, ◌≤◌, Bool, true, if◌then◌else◌, List, [], ◌∷◌, ◌++◌, length, Ok, Err, Some, refl, sym, ap, subst, ◌∙◌, arith}
 use Rattle.std.proofs.lemmas.List.{length-map, map_push}
 use Rattle.history_file.specs.declared.event.Event as owned
 use Rattle.history_file.specs.Owning.{happened, all_happened}
@@ -8,7 +8,7 @@ use Rattle.history_file.specs.Limits.{file_limit}
 use Rattle.history_file.specs.Writing.{event_text, file_text}
 use Rattle.nfs_history.specs.declared.checking.OpenCalls.{OpenCalls}
 use Rattle.nfs_history.specs.declared.fault.EventFault.{EventFault}
-use Rattle.nfs_history.specs.Checking.{Knows, IsFaultBehind, KnowsOneMore, KnowsAsMuch}
+use Rattle.nfs_history.specs.Checking.{Knows, IsFaultBehind, KnowsOneMore}
 use Rattle.nfs_history.specs.Standing.{MayFollow, EachMayFollow}
 use Rattle.nfs_history.specs.EventFaults.{IsAtFault}
 use Rattle.nfs_history.proofs.Lanes.{eras_few}
@@ -44,13 +44,6 @@ kept_more root events events' e seen old new left left' more is kept may knows t
           ∙ ap (λ (es : List Event). file_limit - length (file_text root es)) (sym all);
     }
 
--- where a growth was refused
-pub kept_still : (root : List ℕ) (events events' : List owned.Event) (old new : OpenCalls) (left : ℕ) → events' ≡ events → IsKept (log_of root events) old left → KnowsAsMuch old new
-    → IsKept (log_of root events') new left
-kept_still root events events' old new left same kept knows =
-    subst (λ (es : List owned.Event). IsKept (log_of root es) new left) (sym same)
-    (record { follow = kept.follow; knows = knows (all_happened events) kept.knows; bytes = kept.bytes })
-
 -- there are no more eras than events, but for the first
 pub era_within : (root : List ℕ) (events : List owned.Event) (known : OpenCalls) (left : ℕ) → IsKept (log_of root events) known left → known.era ≤ 1 + length events
 era_within root events known left kept =
@@ -75,3 +68,7 @@ refused_here root events known left number seen old fault named view kept is beh
     subst (λ n. IsAtFault n (all_happened events) seen fault) count (behind (all_happened events) kept.knows) in
     let so : Notes {X = Unit {0}} log seen (Err named) log = subst (λ (f : NoteFault). Notes {X = Unit {0}} log seen (Err f) log) (sym name) (refused_so log log seen fault at refl) in
     subst (λ (l : Recording). Notes {X = Unit {0}} l seen (Err named) l) view so
+
+pub unchanged_here : (root : List ℕ) (events events' : List owned.Event) (seen : Event) (old : Recording) → log_of root events ≡ old → events' ≡ events
+    → Notes {X = Unit {0}} old seen (Err faults.NoMemory) (log_of root events')
+unchanged_here root events events' seen old view same = out_of_memory old (log_of root events') seen (ap (log_of root) same ∙ view)

@@ -1,8 +1,5 @@
 -- An event that is noted, or refused.
-use Rattle.std.proofs.Common.{◌≡◌, inl, inr, ℕ, ◌+◌, List, [], ◌∷◌, ◌++◌, length, Result, Ok, Err, refl, sym, ap, subst, ◌∙◌, append_assoc, append-nil}
-use Rattle.std.proofs.lemmas.List.{length-map, map_push}
-use Rattle.history_file.specs.declared.event.Event as owned
-use Rattle.history_file.specs.Owning.{happened, all_happened}
+use Rattle.std.proofs.Common.{◌≡◌, inl, inr, ◌+◌, List, [], ◌∷◌, ◌++◌, length, Ok, Err, refl, sym, ap, subst, ◌∙◌, append_assoc, append-nil}
 use Rattle.history_file.specs.Event.{Event, Recording}
 use Rattle.nfs_history.specs.declared.fault.EventFault.{EventFault}
 use Rattle.nfs_history.specs.Standing.{MayFollow, EachMayFollow}
@@ -18,11 +15,6 @@ pub follow_push : (before events : List Event) (e : Event) → EachMayFollow bef
 follow_push before [] e all may = (subst (λ (b : List Event). MayFollow b e) (append-nil before) may, tt)
 follow_push before (f ∷ events) e all may =
     (all.0, follow_push (before ++ f ∷ []) events e all.1 (subst (λ (b : List Event). MayFollow b e) (sym (append_assoc before (f ∷ []) events)) may))
-
--- the log that holds one event more
-pub pushed : (root : List ℕ) (events : List owned.Event) (e : owned.Event)
-    → (let new : Recording = record { root = root; events = all_happened (events ++ e ∷ []) } in new) ≡ with_event (record { root = root; events = all_happened events }) (happened e)
-pushed root events e = ap (λ (es : List Event). let log : Recording = record { root = root; events = es } in log) (map_push happened events e)
 
 -- ---- what may follow, and what is at fault
 

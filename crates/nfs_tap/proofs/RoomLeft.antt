@@ -1,5 +1,5 @@
 -- How many bytes the events of a log take in a file.
-use Rattle.std.proofs.Common.{◌≡◌, ℕ, ◌+◌, ◌-◌, ◌≤◌, List, [], ◌∷◌, ◌++◌, length, refl, sym, ap, ◌∙◌, arith, length-append}
+use Rattle.std.proofs.Common.{◌≡◌, ℕ, ◌+◌, ◌-◌, List, [], ◌∷◌, ◌++◌, length, refl, arith, length-append}
 use Rattle.xdr_records.specs.Items.{padded}
 use Rattle.xdr_records.specs.Texts.{word_text, opaque_text}
 use Rattle.xdr_records.proofs.Written.{length-word_text, length-opaque_text}

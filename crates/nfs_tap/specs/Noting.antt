@@ -1,6 +1,6 @@
 -- What becomes of a recorder's log where an event is noted. Which events may follow others, and the fault of one that may not, is said of
 -- histories (`nfs_history`, Standing and EventFaults).
-use Rattle.std.specs.Prelude.{◌≡◌, ◌⊎◌, ℕ, ◌+◌, List, [], ◌∷◌, ◌++◌, length, Result, Ok, Err, OnOk, OnErr, IfErr, IsOk}
+use Rattle.std.specs.Prelude.{◌≡◌, ◌⊎◌, ◌+◌, List, [], ◌∷◌, ◌++◌, length, Result, Ok, Err, OnOk, OnErr, IfErr}
 use Rattle.history_file.specs.Event.{Event, Recording}
 use Rattle.nfs_history.specs.declared.fault.EventFault.{EventFault}
 use Rattle.nfs_history.specs.declared.fault.EventFault.TheVariants as event

@@ -1,5 +1,5 @@
 -- What a pump forwards of a stream: its whole records from the front, each as one fragment (RFC 5531, section 11).
-use Rattle.std.specs.Prelude.{◌≡◌, ◌≢◌, ◌⊎◌, ℕ, ◌≤◌, true, false, List, [], ◌∷◌, ◌++◌, length, take, Option}
+use Rattle.std.specs.Prelude.{◌≡◌, ◌≢◌, ℕ, ◌≤◌, false, List, [], ◌∷◌, ◌++◌, length, take, Option}
 use Rattle.std.specs.Io.KnownBytes.{Consumes, Appends}
 use Rattle.xdr_records.specs.Record.{IsUnfinished, IsTooLong, IsCut, record_text, record_limit}
 use Rattle.xdr_records.specs.Feed.{Feed}
