@@ -58,16 +58,27 @@ fn room_is_kept_for_closes(rt: HostRuntime) -> Result<(), Fail> {
     Ok(())
 }
 
-/// Notes a call, once more where a growth was refused, and fails where the log wasn't left as it was.
-fn note_call_again(log: &mut TapLog, lane: u32) -> Result<(), Fail> {
-    let count = log.events().len();
-    if let Err(NoteFault::NoMemory) = log.note_call(lane, CALL) {
-        if log.events().len() != count {
-            return Err(Fail::from("the log grew"));
-        }
-        log.note_call(lane, CALL)?;
+/// Notes an event of a lane: a call, the reply to it, the lane's close, or a crash.
+fn note_kind(log: &mut TapLog, kind: u32, lane: u32) -> Result<(), NoteFault> {
+    match kind {
+        0 => log.note_call(lane, CALL),
+        1 => log.note_reply(lane, REPLY),
+        2 => log.note_close(lane),
+        _ => log.note_crash(),
     }
-    Ok(())
+}
+
+/// Notes an event, once more where a growth was refused, and fails where the log wasn't left as it was.
+fn note_again(log: &mut TapLog, kind: u32, lane: u32) -> Result<(), Fail> {
+    let count = log.events().len();
+    match note_kind(log, kind, lane) {
+        Err(NoteFault::NoMemory) => {}
+        noted => return Ok(noted?),
+    }
+    if log.events().len() != count {
+        return Err(Fail::from("the log grew"));
+    }
+    Ok(note_kind(log, kind, lane)?)
 }
 
 // It passes as well where any one allocation is refused, as by `rt try --test --fail-alloc N`.
@@ -77,10 +88,15 @@ fn a_refused_growth_leaves_the_log(rt: HostRuntime) -> Result<(), Fail> {
         Ok(log) => log,
         Err(AllocError) => new_log(rt.alloc())?,
     };
-    for lane in 0..20 {
-        note_call_again(&mut log, lane)?;
+    for lane in 0..6 {
+        for kind in 0..4 {
+            note_again(&mut log, kind, lane)?;
+        }
     }
-    assert_eq!(rt; log.events().len(), 20);
+    for lane in 6..26 {
+        note_again(&mut log, 0, lane)?;
+    }
+    assert_eq!(rt; log.events().len(), 44);
     assert_eq!(rt; log.note_call(7, CALL).err(), Some(NoteFault::XidInUse));
     Ok(())
 }
