@@ -165,8 +165,7 @@ pub stopped_in : {X : Type 0} (r : Result X FeedFault) (end : PumpEnd) (held hel
 stopped_in r end held held' old piece new fed s =
     let some = fed_cut r old piece new fed in
     let cut = some.1 in
-    let first = split s.front s.behind cut.front (subst (λ (xs : List (List ℕ)). AreRecords xs cut.front) s.parts cut.whole) in
-    (
+    let first = split s.front s.behind cut.front (subst (λ (xs : List (List ℕ)). AreRecords xs cut.front) s.parts cut.whole) in (
       s.written,
       s.appended,
       record {

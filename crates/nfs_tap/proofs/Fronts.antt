@@ -37,12 +37,12 @@ goes_on old mid new bytes n m le bound before piece =
 
 -- ---- what a reader has left
 
--- a piece of the buffer, once it is written back
-pub piece_read : (buffer behind : List ℕ) (size count : ℕ) → length buffer ≡ size → take count (take size (buffer ++ behind)) ≡ take count buffer
-piece_read buffer behind size count is =
-    let fits : size ≤ length buffer = omega arith in
-    let front : take size (buffer ++ behind) ≡ take size buffer = rw take-append-le in
-    ap (λ (l : List ℕ). take count l) (front ∙ take_all size buffer (omega arith))
+-- a piece of the buffer, once what was read is written back
+pub piece_read : (read old buffer : List ℕ) (size count : ℕ) → length read ≡ size → buffer ≡ take size (read ++ drop (length read) old) → take count buffer ≡ take count read
+piece_read read old buffer size count is back =
+    let fits : size ≤ length read = omega arith in
+    let front : take size (read ++ drop (length read) old) ≡ take size read = rw take-append-le in
+    ap (λ (l : List ℕ). take count l) (back ∙ front ∙ take_all size read (omega arith))
 
 pub none_consumed : (left : Option (List ℕ)) → Consumes left left []
 none_consumed None = tt

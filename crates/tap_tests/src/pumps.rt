@@ -64,7 +64,13 @@ fn a_stream_without_end_is_bounded(rt: HostRuntime) -> Result<(), Fail> {
 
 #[test]
 fn what_came_ahead_of_a_failed_read_is_forwarded(rt: HostRuntime) -> Result<(), Fail> {
-    assert_calls(&rt, &mut Failing(CALL_FRAME), PumpEnd::ReadFault, 1, CALL_FRAME)
+    assert_calls(
+        &rt,
+        &mut Failing(CALL_FRAME),
+        PumpEnd::ReadFault,
+        1,
+        CALL_FRAME,
+    )
 }
 
 #[test]

@@ -1,4 +1,4 @@
-use Rattle.std.proofs.Common.{◌≡◌, ℕ, List, length, take, drop, sym, ap, subst, ◌∙◌, arith, rules}
+use Rattle.std.proofs.Common.{◌≡◌, length, take, sym, subst, arith, rules}
 use Rattle.std.specs.Io.KnownBytes.{Consumes, Keeps}
 use Rattle.xdr_records.specs.Feed.{fresh}
 use Rattle.nfs_tap.specs.declared.pump.PumpEnd.TheVariants as ends
@@ -29,7 +29,7 @@ returns-in-Err-pass_on-clause-forwarded g c =
     let held' = g.W.Write.contents c.pass_on.new.writer in
     let count = c.in-Ok-read.count in
     let size : length c.read.new.buf ≡ c.loop-read.buffer.len = omega (arith, c.read.auto.buf, c.as_mut_slice.ensures.len) in
-    let same : take count c.deref.result.now ≡ take count c.read.new.buf = ap (λ (l : List ℕ). take count l) c.deref.ensures.value ∙ piece_read c.read.new.buf (drop (length c.read.new.buf) c.loop-read.buffer.items) c.loop-read.buffer.len count size in
+    let same : take count c.deref.result.now ≡ take count c.read.new.buf = piece_read c.read.new.buf c.loop-read.buffer.items c.deref.result.now c.loop-read.buffer.len count size c.deref.ensures.value in
     let gave : Consumes mid left' (take count c.deref.result.now) = subst (Consumes mid left') (sym same) c.in-Ok-read.ensures.bytes.0 in
     pumps_within c.in-Err-pass_on.end left mid left' held between held' c.loop-read.feed (take count c.deref.result.now) c.loop-read.invariant.pumped gave c.in-Err-pass_on.ensures.err
 
@@ -42,15 +42,15 @@ loop-read-preserved g c =
     let between = g.W.Write.contents c.loop-read.writer in
     elim c.match-read.branch [
       | in-Ok-read+in-Ok-pass_on w ↦
-        let held' = g.W.Write.contents w.pass_on.new.writer in
-        let count = w.in-Ok-read.count in
-        let size : length c.read.new.buf ≡ c.loop-read.buffer.len = omega (arith, c.read.auto.buf, c.as_mut_slice.ensures.len) in
-        let same : take count w.deref.result.now ≡ take count c.read.new.buf = ap (λ (l : List ℕ). take count l) w.deref.ensures.value ∙ piece_read c.read.new.buf (drop (length c.read.new.buf) c.loop-read.buffer.items) c.loop-read.buffer.len count size in
-        let gave : Consumes mid left' (take count w.deref.result.now) = subst (Consumes mid left') (sym same) w.in-Ok-read.ensures.bytes.0 in
-        let more = pumped_more left mid left' held between held' c.loop-read.feed w.pass_on.new.feed (take count w.deref.result.now) c.loop-read.invariant.pumped gave w.in-Ok-pass_on.ensures.ok in
-        record { room = c.loop-read.invariant.room; pumped = rw (w.writer-is, w.feed-is) more }
+          let held' = g.W.Write.contents w.pass_on.new.writer in
+          let count = w.in-Ok-read.count in
+          let size : length c.read.new.buf ≡ c.loop-read.buffer.len = omega (arith, c.read.auto.buf, c.as_mut_slice.ensures.len) in
+          let same : take count w.deref.result.now ≡ take count c.read.new.buf = piece_read c.read.new.buf c.loop-read.buffer.items w.deref.result.now c.loop-read.buffer.len count size w.deref.ensures.value in
+          let gave : Consumes mid left' (take count w.deref.result.now) = subst (Consumes mid left') (sym same) w.in-Ok-read.ensures.bytes.0 in
+          let more = pumped_more left mid left' held between held' c.loop-read.feed w.pass_on.new.feed (take count w.deref.result.now) c.loop-read.invariant.pumped gave w.in-Ok-pass_on.ensures.ok in
+          record { room = c.loop-read.invariant.room; pumped = rw (w.writer-is, w.feed-is) more }
       | in-Err+then-eq w ↦
-        let keeps : Keeps mid left' = search rules in
-        let still = pumped_still left mid left' held between c.loop-read.feed c.loop-read.invariant.pumped (λ bytes consumed. unread left mid left' bytes consumed keeps) in
-        record { room = c.loop-read.invariant.room; pumped = rw (w.writer-is, w.feed-is) still }
+          let keeps : Keeps mid left' = search rules in
+          let still = pumped_still left mid left' held between c.loop-read.feed c.loop-read.invariant.pumped (λ bytes consumed. unread left mid left' bytes consumed keeps) in
+          record { room = c.loop-read.invariant.room; pumped = rw (w.writer-is, w.feed-is) still }
     ]
