@@ -43,7 +43,7 @@ stops_ahead end held records anywhere = record {
 
 -- want of memory may come anywhere
 pub no_memory_anywhere : IsAnywhere ends.NoMemory
-no_memory_anywhere = (λ same. cc, λ rest. tt)
+no_memory_anywhere = (λ same. cc, tt, λ rest. tt)
 
 -- a write of the record failed
 pub stops_within : (held held' : Option (List ℕ)) (content text : List ℕ) → text ≡ record_text content → AppendsFront held held' text → Stops ends.WriteFault held held' (content ∷ [])
@@ -58,7 +58,7 @@ stops_within held held' content text is f = record {
     parts = append-nil (record_text content) ∙ sym is ∙ sym (take-append-drop f.0 text);
     whole = λ other. absurd (other refl);
   };
-  anywhere = (λ same. cc, λ rest. tt);
+  anywhere = (λ same. cc, tt, λ rest. tt);
 }
 
 -- ---- the records that wait
@@ -175,7 +175,7 @@ stopped_in r end held held' old piece new fed s =
           front = first.front;
           parts = cut.parts ∙ ap (λ l. l ++ some.0) first.parts ∙ append_assoc first.front first.back some.0;
           whole = first.first;
-          left = s.anywhere.1 (first.back ++ some.0);
+          left = s.anywhere.2 (first.back ++ some.0);
         };
         sent = s.sent;
       },

@@ -24,9 +24,10 @@ Behind ends.End rest = IsUnfinished rest
 Behind ends.RecordTooLong rest = IsTooLong rest
 Behind end rest = Unit {0}
 
--- a pump may end so behind any record: the stream's end isn't such an end
-abbrev pub IsAnywhere : PumpEnd → Type 0
-IsAnywhere end = (end ≢ ends.End) × ((rest : List ℕ) → Behind end rest)
+-- want of memory isn't told as a refusal of the log
+abbrev pub IsNamed : PumpEnd → Type 0
+IsNamed (ends.LogFault faults.NoMemory) = ⊥
+IsNamed end = Unit {0}
 
 -- what was written of a text: all of it, but where a write failed
 pub record IsWritten (end : PumpEnd) (text written : List ℕ) : Type 0 where
@@ -50,6 +51,10 @@ pub record Pumps (end : PumpEnd) (left left' held held' : Option (List ℕ)) : T
   pub forwarded : IsForwarded end read written
 
 -- ---- what the private functions say to the prover
+
+-- a pump may end so behind any record: the stream's end isn't such an end
+abbrev pub IsAnywhere : PumpEnd → Type 0
+IsAnywhere end = (end ≢ ends.End) × IsNamed end × ((rest : List ℕ) → Behind end rest)
 
 -- a writer's bytes grow by a front of these, the whole of them perhaps
 abbrev pub AppendsFront : Option (List ℕ) → Option (List ℕ) → List ℕ → Type 0

@@ -4,7 +4,7 @@ ghost use Rattle.std.specs.Prelude.{◌≡◌, ◌≢◌, ◌≤◌, ◌++◌, �
 ghost use Rattle.std.specs.Io.KnownBytes.{Appends, IsAtEnd};
 ghost use Rattle.xdr_records.specs.Record.{IsUnfinished, IsCut, record_text, record_limit};
 ghost use Rattle.nfs_tap.specs.Noting.{with_event};
-ghost use Rattle.nfs_tap.specs.Pumping.{frames, event_of, IsAnywhere, AreWithinLimit, IsIdle, IsForwarded, IsEmptied, Stops, Pumps};
+ghost use Rattle.nfs_tap.specs.Pumping.{frames, event_of, IsAnywhere, IsNamed, AreWithinLimit, IsIdle, IsForwarded, IsEmptied, Stops, Pumps};
 
 use crate::fault::NoteFault;
 use crate::log::TapLog;
@@ -180,6 +180,7 @@ fn pass_on<R: Wait, W: Write>(
     ensures err { IfErr result (λ end. (written : List ℕ) × Appends (W.contents writer.old) (W.contents writer.new) written
         × IsForwarded end (feed.old.rest ++ piece.now) written) }
     ensures unended { IfErr result (λ end. end ≢ PumpEnd.End) }
+    ensures named { IfErr result IsNamed }
 {
     let fed = feed.feed(piece);
     forward_waiting(rt, alloc, tap, writer, feed)?;
@@ -208,6 +209,7 @@ fn pump<R: Wait, I: Read, W: Write>(
     writer: &mut W,
 ) -> PumpEnd
     ensures ended { result ≡ PumpEnd.End → IsAtEnd (I.remaining reader.new) }
+    ensures named { IsNamed result }
     ensures forwarded { Pumps result (I.remaining reader.old) (I.remaining reader.new) (W.contents writer.old) (W.contents writer.new) }
 {
     let mut buffer = match empty_buffer(alloc, READ_SIZE) {
@@ -240,6 +242,7 @@ pub fn pump_calls<R: Wait, I: Read, W: Write>(
     log: &Mutex<TapLog>,
 ) -> PumpEnd
     ensures ended { result ≡ PumpEnd.End → IsAtEnd (I.remaining reader.new) }
+    ensures named { IsNamed result }
     ensures forwarded { Pumps result (I.remaining reader.old) (I.remaining reader.new) (W.contents writer.old) (W.contents writer.new) }
 {
     let way = Way::Calls;
@@ -256,6 +259,7 @@ pub fn pump_replies<R: Wait, I: Read, W: Write>(
     log: &Mutex<TapLog>,
 ) -> PumpEnd
     ensures ended { result ≡ PumpEnd.End → IsAtEnd (I.remaining reader.new) }
+    ensures named { IsNamed result }
     ensures forwarded { Pumps result (I.remaining reader.old) (I.remaining reader.new) (W.contents writer.old) (W.contents writer.new) }
 {
     let way = Way::Replies;
