@@ -73,6 +73,10 @@ IsFaultBehind known i e fault = (before : List Event) → Knows known before →
 abbrev pub KnowsOneMore : OpenCalls → OpenCalls → Event → Type 0
 KnowsOneMore old new e = (before : List Event) → Knows old before → MayFollow before e → Knows new (before ++ e ∷ [])
 
+-- where a growth was refused, the one is known where the other was
+abbrev pub KnowsAsMuch : OpenCalls → OpenCalls → Type 0
+KnowsAsMuch old new = (before : List Event) → Knows old before → Knows new before
+
 -- the first fault of the events, or none where each may follow
 abbrev pub IsFirstFault : List Event → Option EventFault → Type 0
 IsFirstFault events (Some fault) = FirstEventFault [] events fault

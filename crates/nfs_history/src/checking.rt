@@ -1,9 +1,9 @@
 //! Whether the events of a recording may follow one another.
 
-ghost use Rattle.std.specs.Prelude.{◌+◌, ◌<◌, ◌^◌, ◌≡◌, OnOk, IfOk};
+ghost use Rattle.std.specs.Prelude.{◌+◌, ◌<◌, ◌^◌, ◌≡◌, [], OnOk, OnErr, IfOk};
 ghost use Rattle.history_file.specs.Event.Event.{call, reply};
 ghost use Rattle.history_file.specs.Owning.{seen_event, all_seen};
-ghost use Rattle.nfs_history.specs.Checking.{is_known_closed, IsFaultBehind, KnowsOneMore, IsFirstFault};
+ghost use Rattle.nfs_history.specs.Checking.{is_known_closed, Knows, IsFaultBehind, KnowsOneMore, KnowsAsMuch, IsFirstFault};
 
 use crate::fault::EventFault;
 use crate::matching::transaction;
@@ -26,14 +26,25 @@ pub enum LaneUse {
 pub struct OpenCalls {
     /// The calls that are unanswered, each by its lane and transaction number. Those of an era that has ended stay:
     /// their lanes are closed.
-    pub unanswered: IndexSet<(u32, u32)>,
+    unanswered: IndexSet<(u32, u32)>,
     /// The lanes with an event.
-    pub lanes: IndexMap<u32, LaneUse>,
+    lanes: IndexMap<u32, LaneUse>,
     /// The era, from 1 on.
-    pub era: u64,
+    era: u64,
 }
 
 impl OpenCalls {
+    /// Ahead of the first event.
+    pub fn new(alloc: Global) -> OpenCalls
+        ensures { Knows result [] }
+    {
+        OpenCalls {
+            unanswered: IndexSet::new(alloc),
+            lanes: IndexMap::new(alloc),
+            era: 1,
+        }
+    }
+
     /// Whether a lane is closed: by its close, or since it was last used in an era that has ended.
     fn is_closed(&self, lane: u32) -> bool
         ensures { result ≡ is_known_closed self.now lane }
@@ -78,7 +89,7 @@ impl OpenCalls {
     }
 
     /// Why event `number` may not come next.
-    fn fault_of(&self, number: u64, event: &SeenEvent<'_>) -> Option<EventFault>
+    pub fn fault_of(&self, number: u64, event: &SeenEvent<'_>) -> Option<EventFault>
         ensures { IsFaultBehind self.now number (seen_event event.now) result }
     {
         match event {
@@ -95,12 +106,14 @@ impl OpenCalls {
     }
 
     /// Takes in the next event.
-    fn follow(&mut self, event: &SeenEvent<'_>) -> Result<(), AllocError>
+    pub fn follow(&mut self, event: &SeenEvent<'_>) -> Result<(), AllocError>
         requires { self.old.era + 1 < 2 ^ 64 }
-        ensures { OnOk result (KnowsOneMore self.old self.new (seen_event event.now)) }
+        ensures ok { OnOk result (KnowsOneMore self.old self.new (seen_event event.now)) }
+        ensures err { OnErr result (KnowsAsMuch self.old self.new) }
     {
         match event {
             SeenEvent::Call { lane, message } => {
+                self.unanswered.reserve(1)?;
                 self.lanes.insert(*lane, LaneUse::InEra(self.era))?;
                 self.unanswered.insert((*lane, transaction(*message)))?;
             }
@@ -124,11 +137,7 @@ pub fn first_event_fault(
 ) -> Result<Option<EventFault>, AllocError>
     ensures { IfOk result (IsFirstFault (all_seen events.now)) }
 {
-    let mut calls = OpenCalls {
-        unanswered: IndexSet::new(alloc),
-        lanes: IndexMap::new(alloc),
-        era: 1,
-    };
+    let mut calls = OpenCalls::new(alloc);
     for (index, event) in events.iter().enumerate() {
         if let Some(fault) = calls.fault_of(index as u64 + 1, event) {
             return Ok(Some(fault));

@@ -17,7 +17,7 @@ loop-index-preserved c =
     let events = c.args.events.now in
     let before = all_seen (take i events) in
     let may = c.in_default.ensures before c.loop-index.invariant.knows in
-    checked_more events i _ c.loop-index.calls c.follow.new.self c.loop-index-test.true may (c.in_ok-follow.ensures before c.loop-index.invariant.knows may) c.loop-index.invariant
+    checked_more events i _ c.loop-index.calls c.follow.new.self c.loop-index-test.true may (c.in_ok-follow.ensures.ok before c.loop-index.invariant.knows may) c.loop-index.invariant
 
 pub returns : goal.returns
 returns c = all_checked c.args.events.now c.loop-index.index c.loop-index.calls c.loop-index-test.false c.loop-index.invariant

@@ -1,0 +1,5 @@
+pub mod FaultText
+pub mod Noting
+pub mod Room
+pub mod Keeping
+pub mod Pumping

@@ -1,0 +1,12 @@
+//! A recorder of the calls and replies that pass between clients and a server, and the pumps that forward them.
+#![tactic(auto)]
+
+mod fault;
+mod log;
+mod pump;
+mod room;
+mod writing;
+
+pub use fault::NoteFault;
+pub use log::TapLog;
+pub use pump::{PumpEnd, pump_calls, pump_replies};
