@@ -3,7 +3,7 @@
 
 mod listing;
 mod look;
-mod names;
+mod name_set;
 mod read;
 
 pub use listing::{listed, listed_plus};

@@ -6,7 +6,7 @@ ghost use Rattle.tree_nodes.specs.Place.{path_of};
 ghost use Rattle.tree_handles.specs.Standing.{place_of};
 ghost use Rattle.tree_reads.specs.Listing.{may_be_listed, is_listing, listed, has_its_handle, listed_plus};
 
-use crate::names::Names;
+use crate::name_set::Names;
 use nfs3_types::{
     Answer, DirectoryEntry, DirectoryEntryPlus, NfsReply, ReadDirArguments, ReadDirPlusArguments,
 };

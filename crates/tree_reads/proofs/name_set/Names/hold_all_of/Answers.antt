@@ -2,7 +2,7 @@ use Rattle.std.proofs.Common.{sym, ap, ◌∙◌}
 use Rattle.tree_reads.specs.Listing.{are_all_listed}
 use Rattle.tree_handles.proofs.Standing.{stands_at}
 use Rattle.tree_reads.proofs.Standing.{whole}
-use Rattle.tree_reads.proofs.names.Names.hold_all_of.Goals as goal
+use Rattle.tree_reads.proofs.name_set.Names.hold_all_of.Goals as goal
 
 pub returns : goal.returns
 returns c =

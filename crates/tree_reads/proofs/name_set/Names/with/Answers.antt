@@ -3,8 +3,8 @@ use Rattle.std.specs.Prelude.{not, ◌&&◌}
 use Rattle.tree_reads.specs.Listing.{is_among, are_distinct}
 use Rattle.tree_reads.specs.Held.{HasNames}
 use Rattle.tree_reads.proofs.Distinct.{has_more, distinct_more}
-use Rattle.tree_reads.proofs.names.Names.with.Goals as goal
-use Rattle.tree_reads.proofs.names.Names.with.Goals.{then-no_repeat, else-no_repeat}
+use Rattle.tree_reads.proofs.name_set.Names.with.Goals as goal
+use Rattle.tree_reads.proofs.name_set.Names.with.Goals.{then-no_repeat, else-no_repeat}
 
 pub invariant_of-result : goal.invariant_of-result
 invariant_of-result c =
