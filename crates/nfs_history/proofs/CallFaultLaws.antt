@@ -50,7 +50,7 @@ known_kept : (n : ℕ) (head : CallValue) (body : Option Body) (meaning : Meanin
 known_kept n head body (meanings.Judged call) outcome known = none_anyway (has_no_effect head body) (effect_fault n head (results_of body)) (judged_kept n head body call outcome known)
 known_kept n head body meanings.Unjudged outcome known = rw known.0 refl
 
-call_fault_or_fine : (n : ℕ) (event : CallEvent) (fault : CallFault) → IsCallFault n event fault → IsFine event → ⊥
+pub call_fault_or_fine : (n : ℕ) (event : CallEvent) (fault : CallFault) → IsCallFault n event fault → IsFine event → ⊥
 call_fault_or_fine n event fault (head, body, is_call, says, effect, of) fine =
     let is = found_of n head body fault effect of in
     let means = fine.2 in

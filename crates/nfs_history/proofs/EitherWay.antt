@@ -54,15 +54,15 @@ use Rattle.nfs_history.proofs.OneHistory.{owned_of}
 -- ---- a message is a call, or a reply, or none
 
 -- what stands in front of a message is read
-call_again : (message : List ℕ) (value : CallValue) (is : IsCall message value) → kind_reading kind_of call_head (whole message) ≡ Ok (call_start value, left_at (0 + length is.front) is.back)
+pub call_again : (message : List ℕ) (value : CallValue) (is : IsCall message value) → kind_reading kind_of call_head (whole message) ≡ Ok (call_start value, left_at (0 + length is.front) is.back)
 call_again message value is =
     let s : Stands (λ head. Spells call_head head (call_start value)) (whole message) (left_at (0 + length is.front) is.back) = record { front = is.front; parts = is.parts; at = refl; item = is.first } in
     kind_again kind_of call_head (call_start value) (whole message) (left_at (0 + length is.front) is.back) s
 
-reply_start : ReplyValue → Status → ReplyStart
+unfoldable pub reply_start : ReplyValue → Status → ReplyStart
 reply_start value status = record { xid = value.xid; status = status }
 
-reply_again : (message : List ℕ) (value : ReplyValue) (is : IsReply message value) → kind_reading kind_of reply_head (whole message) ≡ Ok (reply_start value is.0, left_at (0 + length is.1.front) is.1.back)
+pub reply_again : (message : List ℕ) (value : ReplyValue) (is : IsReply message value) → kind_reading kind_of reply_head (whole message) ≡ Ok (reply_start value is.0, left_at (0 + length is.1.front) is.1.back)
 unfolding reply_start
 reply_again message value is =
     let s : Stands (λ head. Spells reply_head head (reply_start value is.0)) (whole message) (left_at (0 + length is.1.front) is.1.back) = record { front = is.1.front; parts = is.1.parts; at = refl; item = is.1.first } in

@@ -10,3 +10,4 @@ pub mod FirstFaultLaws
 pub mod HistoryLaws
 pub mod OneHistory
 pub mod EitherWay
+pub mod Rereading

@@ -35,7 +35,7 @@ one_outcome procedure (Some bytes) a b x y =
     x.2 ∙ ap (λ (answer : NfsReply). Some (outcomes.Received answer)) (one_value told.kind_of (results procedure) bytes x.0 y.0 x.1 y.1) ∙ sym y.2
 
 -- a judged call may have an effect
-has_effect : (head : CallValue) (body : Option Body) (asked : NfsCall) (outcome : Option Outcome) → IsJudged head body asked outcome → has_no_effect head body ≡ false
+pub has_effect : (head : CallValue) (body : Option Body) (asked : NfsCall) (outcome : Option Outcome) → IsJudged head body asked outcome → has_no_effect head body ≡ false
 has_effect head body asked outcome judged =
     let nfs = judged.of_nfs in
     let inside = not_left_out head.procedure nfs.procedure in
@@ -68,7 +68,7 @@ one_meaning event m n a b x y =
 called : ℕ → ℕ → Meaning → ℕ → Option ℕ → ℕ → Option Outcome → RecordedCall
 called lane xid meaning begin «end» era outcome = record { lane = lane; xid = xid; meaning = meaning; begin = begin; «end» = «end»; era = era; outcome = outcome }
 
-same_call : (c d : RecordedCall) → c.lane ≡ d.lane → c.xid ≡ d.xid → c.meaning ≡ d.meaning → c.begin ≡ d.begin → c.«end» ≡ d.«end» → c.era ≡ d.era → c.outcome ≡ d.outcome → c ≡ d
+pub same_call : (c d : RecordedCall) → c.lane ≡ d.lane → c.xid ≡ d.xid → c.meaning ≡ d.meaning → c.begin ≡ d.begin → c.«end» ≡ d.«end» → c.era ≡ d.era → c.outcome ≡ d.outcome → c ≡ d
 unfolding called
 same_call c d lane xid meaning begin «end» era outcome =
     let all : called c.lane c.xid c.meaning c.begin c.«end» c.era c.outcome ≡ called d.lane d.xid d.meaning d.begin d.«end» d.era d.outcome = rw (lane, xid, meaning, begin, «end», era, outcome) refl in
@@ -121,7 +121,7 @@ same_known h g root eras calls =
     let all : made h.root h.eras h.calls ≡ made g.root g.eras g.calls = rw (root, eras, calls) refl in
     all
 
-known_once : (seen : Recording) (h g : CallsValue) → AreCallsOf seen h → AreCallsOf seen g → h ≡ g
+pub known_once : (seen : Recording) (h g : CallsValue) → AreCallsOf seen h → AreCallsOf seen g → h ≡ g
 known_once seen h g x y =
     same_known h g (x.root ∙ sym y.root) (x.eras ∙ sym y.eras) (one_list (calls_of seen.events) h.calls g.calls x.calls y.calls)
 

@@ -14,4 +14,5 @@ pub mod FirstFault
 pub mod Answers
 pub mod Checking
 pub mod Judging
+pub mod Reread
 pub mod FaultText

@@ -14,7 +14,7 @@ use crate::fault::HistoryFault;
 use crate::knowing::KnownCalls;
 use history_file::{Event, lend_events};
 use nfs3_types::{FileHandle, NfsCall, Outcome};
-use std::alloc::Global;
+use std::alloc::{AllocError, Global};
 use std::marker::Model;
 
 /// What a call was.
@@ -41,6 +41,36 @@ pub struct RecordedCall {
     pub outcome: Option<Outcome>,
 }
 
+/// What a call is for a plan. Procedures are numbered as in RFC 1813, section 3.3.
+#[derive(Clone, Copy)]
+pub enum CallKind {
+    /// It has no effect and no place in the serial order.
+    Unjudged,
+    /// A judged call of this procedure, to which no reply came.
+    Unanswered(u32),
+    /// A judged call of this procedure, with its outcome.
+    Answered(u32),
+}
+
+impl RecordedCall {
+    ghost use Rattle.std.specs.Prelude.{◌≡◌};
+    ghost use Rattle.nfs_history.specs.Reread.{call_kind};
+
+    /// What it is for a plan.
+    pub fn kind(&self) -> CallKind
+        ensures { result ≡ call_kind self.now }
+    {
+        let Meaning::Judged(call) = &self.meaning else {
+            return CallKind::Unjudged;
+        };
+        if self.outcome.is_some() {
+            CallKind::Answered(call.procedure())
+        } else {
+            CallKind::Unanswered(call.procedure())
+        }
+    }
+}
+
 impl Drop for RecordedCall {
     fn drop(self) {
         let RecordedCall {
@@ -57,9 +87,38 @@ impl Drop for RecordedCall {
     }
 }
 
+/// What a history is judged by, with its calls as they were read.
+struct ReadCalls {
+    root: FileHandle,
+    eras: u64,
+    calls: Vec<RecordedCall>,
+}
+
+impl Drop for ReadCalls {
+    fn drop(self) {
+        let ReadCalls {
+            root,
+            eras: _,
+            calls,
+        } = self;
+        drop(root);
+        drop(calls);
+    }
+}
+
+impl Model for ReadCalls {
+    ghost use Rattle.nfs_history.specs.HistoryValue.{CallsValue};
+
+    ghost Value = { CallsValue };
+
+    ghost use Rattle.nfs_history.specs.Inside.{calls_within};
+
+    ghost view = { calls_within };
+}
+
 /// A history without a fault.
 pub struct History {
-    known: KnownCalls,
+    known: ReadCalls,
     events: Vec<Event>,
 }
 
@@ -86,7 +145,7 @@ impl Model for History {
 }
 
 /// Call n of a history's calls, from 1 on.
-pub fn find_call(calls: &[RecordedCall], number: u64) -> Option<&RecordedCall>
+fn find_call(calls: &[RecordedCall], number: u64) -> Option<&RecordedCall>
     ensures { option_copied result ≡ call_at calls.now number }
 {
     if number == 0 {
@@ -100,12 +159,40 @@ fn calls_among(
     alloc: Global,
     root: FileHandle,
     events: &[Event],
-) -> Result<KnownCalls, HistoryFault>
+) -> Result<KnownCalls<'_>, HistoryFault>
     ensures found { IfOk result (AreCallsOf (record { root = root; events = all_happened events.now })) }
     ensures fault { IsErrorOf (FirstFaultOf (all_happened events.now)) result }
 {
     let seen = lend_events(alloc, events)?;
     KnownCalls::of_events(alloc, root, seen)
+}
+
+/// The calls, each read from its messages.
+fn all_calls(alloc: Global, known: &KnownCalls<'_>) -> Result<Vec<RecordedCall>, AllocError>
+    ensures { IfOk result (λ v. v.items ≡ known.now.calls) }
+{
+    let count = known.count();
+    let mut calls = Vec::with_capacity(alloc, count)?;
+    for index in 0..count {
+        let Some(call) = known.call(alloc, index as u64 + 1)? else {
+            unreachable!();
+        };
+        calls.push(call)?;
+    }
+    Ok(calls)
+}
+
+/// The calls among these events, read.
+fn read_among(alloc: Global, root: FileHandle, events: &[Event]) -> Result<ReadCalls, HistoryFault>
+    ensures found { IfOk result (AreCallsOf (record { root = root; events = all_happened events.now })) }
+    ensures fault { IsErrorOf (FirstFaultOf (all_happened events.now)) result }
+{
+    let known = calls_among(alloc, root, events)?;
+    Ok(ReadCalls {
+        root: known.root().clone()?,
+        eras: known.eras(),
+        calls: all_calls(alloc, &known)?,
+    })
 }
 
 impl History {
@@ -124,22 +211,26 @@ impl History {
         ensures named { (fault : HistoryFault) → FirstFaultOf (all_happened events.items) fault
             → IsThatOrNoMemory fault result }
     {
-        let known = calls_among(alloc, root, events.as_slice())?;
+        let known = read_among(alloc, root, events.as_slice())?;
         Ok(History { known, events })
     }
 
-    /// What it is judged by.
-    pub fn known(&self) -> &KnownCalls
-        ensures { result.now ≡ self.now.known }
+    /// What it is judged by: its events are read again. They have no fault, so memory alone can be wanting.
+    pub fn lend_calls(&self, alloc: Global) -> Result<KnownCalls<'_>, AllocError>
+        ensures { IfOk result (λ known. known ≡ self.now.known) }
     {
-        &self.known
+        let root = self.root().clone()?;
+        match calls_among(alloc, root, self.events()) {
+            Ok(known) => Ok(known),
+            Err(_) => Err(AllocError),
+        }
     }
 
     /// The handle of the root directory.
     pub fn root(&self) -> &FileHandle
         ensures { result.now ≡ self.now.known.root }
     {
-        self.known.root()
+        &self.known.root
     }
 
     /// What happened, in order, numbered from 1.
@@ -155,7 +246,7 @@ impl History {
     pub fn eras(&self) -> u64
         ensures { result ≡ self.now.known.eras }
     {
-        self.known.eras()
+        self.known.eras
     }
 
     /// How many calls it has.
@@ -169,7 +260,7 @@ impl History {
     pub fn recorded_calls(&self) -> &[RecordedCall]
         ensures { result.now ≡ self.now.known.calls }
     {
-        self.known.recorded_calls()
+        self.known.calls.as_slice()
     }
 
     /// Call `number`, from 1 on, where there is one.

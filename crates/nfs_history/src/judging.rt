@@ -1,18 +1,19 @@
 //! What each call of a history was, and how it came out.
 
-ghost use Rattle.std.specs.Prelude.{◌≡◌, map, reverse, true, false, IfOk, IfErr, Option, Some, None, option_map};
+ghost use Rattle.std.specs.Prelude.{◌≡◌, map, true, false, IfOk, IfErr, Option, Some, None, option_map};
 ghost use Rattle.rpc_reader.specs.Values.{Body};
 ghost use Rattle.rpc_reader.specs.Views.{call_value, body_value};
 ghost use Rattle.nfs3_msgs.specs.Messages.{IsArguments};
 ghost use Rattle.nfs_history.specs.Matching.{seen_call, seen_reply, bytes_of};
 ghost use Rattle.nfs_history.specs.Effects.{Says, was_refused, results_of, has_failed_status, is_judged, has_no_effect};
-ghost use Rattle.nfs_history.specs.History.{CameOut, IsKnownAs, IsRecorded, AreRecorded};
+ghost use Rattle.nfs_history.specs.History.{CameOut, IsKnownAs, IsRecorded};
 ghost use Rattle.nfs_history.specs.Outside.{asked_size, failed, too_far, outside};
 ghost use Rattle.nfs_history.specs.CallFaults.{which_left_out, FirstCallFault};
 ghost use Rattle.nfs_history.specs.Judging.{left_out, outside_fault, result_fault, judged_fault, fault_of, IsFound, IsReadable, AreReadable, IsStopFor};
+ghost use Rattle.nfs_history.specs.Reread.{known_call, IsReadAs, AreReadTo};
 
 use crate::fault::{CallFault, HistoryFault, Which};
-use crate::history::{Meaning, RecordedCall};
+use crate::history::{CallKind, Meaning, RecordedCall};
 use crate::matching::{SeenCall, SeenReply, transaction};
 use byteorder::{BigEndian, ByteOrder};
 use nfs3_msgs::{MessageFault, read_args, read_result};
@@ -331,41 +332,44 @@ fn judged_call(alloc: Global, number: u64, seen: &SeenCall<'_>) -> Result<Record
         xid: transaction(seen.message),
         meaning,
         begin: seen.begin,
-        end: seen.answer.map(|reply| reply.number),
+        end: seen.end(),
         era: seen.era,
         outcome,
     })
 }
 
-/// How many calls are let go at a time.
-const PIECE: usize = 4_096;
-
-/// Gives back the memory behind a list, once a piece.
-fn give_back(list: &mut Vec<SeenCall<'_>>)
-    ensures { list.new.items ≡ list.old.items }
+/// What call `number` is for a plan, where it has no fault.
+fn checked_kind(alloc: Global, number: u64, seen: &SeenCall<'_>) -> Result<CallKind, Stop>
+    requires { IsReadable (seen_call seen.now) }
+    ensures found { IfOk result (IsReadAs (seen_call seen.now)) }
+    ensures fault { IsStopFor (IsFound number (seen_call seen.now)) result }
 {
-    if list.len() % PIECE == 0 {
-        list.shrink_to_fit();
-    }
+    let call = judged_call(alloc, number, seen)?;
+    Ok(call.kind())
 }
 
-/// What is known of each call of a list that begins with the last one. The list is let go piece by piece, so that it never
-/// stands whole beside what is known.
-pub fn judged_calls(alloc: Global, seen: Vec<SeenCall<'_>>) -> Result<Vec<RecordedCall>, Stop>
-    requires { AreReadable (map seen_call (reverse seen.items)) }
-    ensures found { IfOk result (λ v. AreRecorded (map seen_call (reverse seen.entry.items)) v.items) }
-    ensures fault { IsStopFor (FirstCallFault 1 (map seen_call (reverse seen.entry.items))) result }
+/// What each call of a list is for a plan, where none has a fault.
+pub fn kinds_of(alloc: Global, seen: &[SeenCall<'_>]) -> Result<Vec<CallKind>, Stop>
+    requires { AreReadable (map seen_call seen.now) }
+    ensures found { IfOk result (λ v. AreReadTo (map seen_call seen.now) v.items) }
+    ensures fault { IsStopFor (FirstCallFault 1 (map seen_call seen.now)) result }
 {
-    let count = seen.len();
-    let mut left = seen;
-    let mut calls = Vec::with_capacity(alloc, count)?;
-    for index in 0..count {
-        let Some(next) = left.pop() else {
-            unreachable!();
-        };
-        let call = judged_call(alloc, index as u64 + 1, &next)?;
-        calls.push(call)?;
-        give_back(&mut left);
+    let mut kinds = Vec::with_capacity(alloc, seen.len())?;
+    for (index, next) in seen.iter().enumerate() {
+        let kind = checked_kind(alloc, index as u64 + 1, next)?;
+        kinds.push(kind)?;
     }
-    Ok(calls)
+    Ok(kinds)
+}
+
+/// A call that was read before without a fault.
+pub fn read_again(alloc: Global, seen: &SeenCall<'_>) -> Result<RecordedCall, AllocError>
+    requires { IsRecorded (seen_call seen.now) (known_call (seen_call seen.now)) }
+    ensures { IfOk result (λ call. call ≡ known_call (seen_call seen.now)) }
+{
+    match judged_call(alloc, 1, seen) {
+        Ok(call) => Ok(call),
+        Err(Stop::NoMemory) => Err(AllocError),
+        Err(Stop::Fault(_)) => unreachable!(),
+    }
 }

@@ -1,96 +1,122 @@
 //! What is known of the calls of a recording, or its first fault.
 
-ghost use Rattle.std.specs.Prelude.{◌≡◌, reverse, IfOk};
+ghost use Rattle.std.specs.Prelude.{◌≡◌, IfOk, IfSome, length, option_map};
+ghost use Rattle.std.specs.Option.{option_copied};
 ghost use Rattle.history_file.specs.Owning.{all_seen};
 ghost use Rattle.nfs_history.specs.Calls.{eras_from};
+ghost use Rattle.nfs_history.specs.Matching.{seen_call};
 ghost use Rattle.nfs_history.specs.Answers.{IsErrorOf};
 ghost use Rattle.nfs_history.specs.FirstFault.{FirstFaultOf};
-ghost use Rattle.nfs_history.specs.History.{AreCallsOf};
-ghost use Rattle.nfs_history.specs.Judging.{AreKnown, AreFollowed};
+ghost use Rattle.nfs_history.specs.History.{IsRecorded, AreCallsOf};
+ghost use Rattle.nfs_history.specs.Judging.{AreFollowed};
+ghost use Rattle.nfs_history.specs.Precedence.{call_at, begin_of, end_of};
+ghost use Rattle.nfs_history.specs.Reread.{item_at, known_as, call_kind};
 
 use crate::checking::first_event_fault;
 use crate::fault::HistoryFault;
-use crate::history::RecordedCall;
-use crate::judging::judged_calls;
+use crate::history::{CallKind, RecordedCall};
+use crate::judging::{kinds_of, read_again};
 use crate::matching::{SeenCall, count_eras, matched_calls};
 use history_file::SeenEvent;
 use nfs3_types::FileHandle;
-use std::alloc::Global;
+use std::alloc::{AllocError, Global};
 use std::marker::Model;
 
-/// What a history is judged by: the handle of its root directory, its eras and its calls, without its events.
-pub struct KnownCalls {
+/// What a history is judged by: the handle of its root directory, its eras and its calls, without its events. Each call was
+/// read once, and is read again where its messages stand when it is asked for.
+pub struct KnownCalls<'a> {
     root: FileHandle,
     eras: u64,
-    calls: Vec<RecordedCall>,
+    seen: Vec<SeenCall<'a>>,
+    kinds: Vec<CallKind>,
 }
 
-impl Drop for KnownCalls {
+impl<'a> Drop for KnownCalls<'a> {
     fn drop(self) {
         let KnownCalls {
             root,
             eras: _,
-            calls,
+            seen,
+            kinds,
         } = self;
         drop(root);
-        drop(calls);
+        drop(seen);
+        drop(kinds);
     }
 }
 
-impl Model for KnownCalls {
+impl<'a> Model for KnownCalls<'a> {
+    ghost use Rattle.std.specs.Prelude.{map};
     ghost use Rattle.nfs_history.specs.HistoryValue.{CallsValue};
+    ghost use Rattle.nfs_history.specs.Inside.{lent_within};
+    ghost use Rattle.nfs_history.specs.Matching.{seen_call};
+    ghost use Rattle.nfs_history.specs.Reread.{AreReadTo};
 
     ghost Value = { CallsValue };
 
-    ghost use Rattle.nfs_history.specs.Inside.{calls_within};
+    ghost view = { lent_within };
 
-    ghost view = { calls_within };
+    // Each call was read without a fault, and is of its kind.
+    ghost invariant = { λ k. AreReadTo (map seen_call k.seen.items) k.kinds.items };
 }
 
-/// The calls among events of so many eras, the last one first, where they may follow one another. The events are let go.
+/// The calls among events of so many eras, where they may follow one another. The events are let go.
 fn followed_calls<'a>(
     alloc: Global,
     events: Vec<SeenEvent<'a>>,
     eras: u64,
 ) -> Result<Vec<SeenCall<'a>>, HistoryFault>
     requires { eras ≡ eras_from 1 (all_seen events.items) }
-    ensures found { IfOk result (λ v. AreFollowed (all_seen events.entry.items) (reverse v.items)) }
+    ensures found { IfOk result (λ v. AreFollowed (all_seen events.entry.items) v.items) }
     ensures fault { IsErrorOf (FirstFaultOf (all_seen events.entry.items)) result }
 {
     if let Some(fault) = first_event_fault(alloc, events.as_slice())? {
         return Err(HistoryFault::from(fault));
     }
-    Ok(matched_calls(alloc, events.as_slice(), eras)?)
-}
-
-/// What is known of the calls among the events of so many eras.
-fn known_calls(
-    alloc: Global,
-    events: Vec<SeenEvent<'_>>,
-    eras: u64,
-) -> Result<Vec<RecordedCall>, HistoryFault>
-    requires { eras ≡ eras_from 1 (all_seen events.items) }
-    ensures found { IfOk result (λ v. AreKnown (all_seen events.entry.items) v.items) }
-    ensures fault { IsErrorOf (FirstFaultOf (all_seen events.entry.items)) result }
-{
-    let calls = followed_calls(alloc, events, eras)?;
-    let calls = judged_calls(alloc, calls)?;
+    let mut calls = matched_calls(alloc, events.as_slice(), eras)?;
+    calls.reverse();
     Ok(calls)
 }
 
-impl KnownCalls {
+/// Item `number` of the calls that were seen, from 1 on.
+fn seen_at<'s, 'a>(seen: &'s [SeenCall<'a>], number: u64) -> Option<&'s SeenCall<'a>>
+    ensures { option_copied result ≡ item_at seen.now number }
+{
+    if number == 0 {
+        return None;
+    }
+    seen.get(number as usize - 1)
+}
+
+/// Item `number` of the calls' kinds, from 1 on.
+fn kind_at(kinds: &[CallKind], number: u64) -> Option<CallKind>
+    ensures { result ≡ item_at kinds.now number }
+{
+    if number == 0 {
+        return None;
+    }
+    kinds.get(number as usize - 1).copied()
+}
+
+impl<'a> KnownCalls<'a> {
     /// What is known of the calls among these events, which are let go before the calls are read.
     pub(crate) fn of_events(
         alloc: Global,
         root: FileHandle,
-        events: Vec<SeenEvent<'_>>,
-    ) -> Result<KnownCalls, HistoryFault>
+        events: Vec<SeenEvent<'a>>,
+    ) -> Result<KnownCalls<'a>, HistoryFault>
         ensures found { IfOk result (AreCallsOf (record { root = root; events = all_seen events.entry.items })) }
         ensures fault { IsErrorOf (FirstFaultOf (all_seen events.entry.items)) result }
     {
         let eras = count_eras(events.as_slice());
-        let calls = known_calls(alloc, events, eras)?;
-        Ok(KnownCalls { root, eras, calls })
+        let seen = followed_calls(alloc, events, eras)?;
+        let kinds = kinds_of(alloc, seen.as_slice())?;
+        Ok(KnownCalls {
+            root,
+            eras,
+            seen,
+            kinds,
+        })
     }
 
     /// The handle of the root directory.
@@ -107,10 +133,65 @@ impl KnownCalls {
         self.eras
     }
 
-    /// The calls in the order in which they began: call n is the n-th.
-    pub fn recorded_calls(&self) -> &[RecordedCall]
-        ensures { result.now ≡ self.now.calls }
+    /// How many calls there are.
+    pub fn count(&self) -> usize
+        ensures { result ≡ length self.now.calls }
     {
-        self.calls.as_slice()
+        self.kinds.len()
+    }
+
+    /// What call `number` is for a plan, where there is one. Calls are numbered from 1, in the order in which they began.
+    pub fn kind(&self, number: u64) -> Option<CallKind>
+        ensures { result ≡ option_map call_kind (call_at self.now.calls number) }
+    {
+        kind_at(self.kinds.as_slice(), number)
+    }
+
+    // Call `number`, where it was seen.
+    fn seen_call(&self, number: u64) -> Option<&SeenCall<'a>>
+        ensures value { option_map known_as (option_copied result) ≡ call_at self.now.calls number }
+        ensures read { IfSome result (λ c. IsRecorded (seen_call c.now) (known_as c.now)) }
+    {
+        seen_at(self.seen.as_slice(), number)
+    }
+
+    /// The number of the event with which a call began, or 0 where there is no such call.
+    pub fn begin(&self, number: u64) -> u64
+        ensures { result ≡ begin_of self.now.calls number }
+    {
+        match self.seen_call(number) {
+            Some(call) => call.begin,
+            None => 0,
+        }
+    }
+
+    /// The number of the event of a call's reply, where one came.
+    pub fn end(&self, number: u64) -> Option<u64>
+        ensures { result ≡ end_of self.now.calls number }
+    {
+        match self.seen_call(number) {
+            Some(call) => call.end(),
+            None => None,
+        }
+    }
+
+    /// The era of a call, from 1 on, where there is such a call.
+    pub fn era(&self, number: u64) -> Option<u64>
+        ensures { result ≡ option_map (λ call. call.era) (call_at self.now.calls number) }
+    {
+        match self.seen_call(number) {
+            Some(call) => Some(call.era),
+            None => None,
+        }
+    }
+
+    /// Call `number`, where there is one, read from its messages.
+    pub fn call(&self, alloc: Global, number: u64) -> Result<Option<RecordedCall>, AllocError>
+        ensures { IfOk result (λ found. found ≡ call_at self.now.calls number) }
+    {
+        match self.seen_call(number) {
+            Some(seen) => Ok(Some(read_again(alloc, seen)?)),
+            None => Ok(None),
+        }
     }
 }

@@ -28,6 +28,17 @@ pub struct SeenCall<'a> {
     pub answer: Option<SeenReply<'a>>,
 }
 
+impl<'a> SeenCall<'a> {
+    ghost use Rattle.std.specs.Prelude.{◌≡◌, option_map};
+
+    /// The number of the event of its reply, where one came.
+    pub fn end(&self) -> Option<u64>
+        ensures { result ≡ option_map (λ reply. reply.number) self.now.answer }
+    {
+        self.answer.map(|reply| reply.number)
+    }
+}
+
 /// The transaction number of a message: its first word, or 0 where there is none.
 #[tactic(auto, unfolding(crate::specs::Calls::xid_of, xdr_records::specs::Items::word_of))]
 pub fn transaction(message: &[u8]) -> u32

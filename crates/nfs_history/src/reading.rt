@@ -16,8 +16,8 @@ use nfs3_types::FileHandle;
 use std::alloc::Global;
 
 /// What is known of the calls of the history that a file holds. The first fault is named: those of the file, then those
-/// of its events, then those of its calls. No message is copied, and the events are gone when this returns.
-pub fn read_calls(alloc: Global, bytes: &[u8]) -> Result<KnownCalls, HistoryFault>
+/// of its events, then those of its calls. No message is copied: the calls point into the bytes.
+pub fn read_calls(alloc: Global, bytes: &[u8]) -> Result<KnownCalls<'_>, HistoryFault>
     // The bytes are the file of a history whose calls these are.
     ensures found { IfOk result (IsCallsFile bytes.now) }
     // The calls of the file of a history are found, memory aside.

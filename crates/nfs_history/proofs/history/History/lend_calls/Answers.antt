@@ -1,0 +1,12 @@
+use Rattle.std.proofs.Common.{sym, ap, ◌∙◌}
+use Rattle.history_file.specs.Owning.{all_happened}
+use Rattle.nfs_history.specs.History.{recording_of}
+use Rattle.nfs_history.proofs.OneHistory.{known_once}
+use Rattle.nfs_history.proofs.history.History.lend_calls.Goals as goal
+
+pub returns-in-Ok : goal.returns-in-Ok
+returns-in-Ok c =
+    let events = ap all_happened c.events.ensures.shown in
+    let root = c.in_ok-root.ensures.cases ∙ c.root.ensures in
+    let found = rw (events, root) at c.in-Ok.ensures.found in
+    known_once (recording_of c.args.self.now) c.in-Ok.known c.args.self.now.known found c.events.ensures.whole.known

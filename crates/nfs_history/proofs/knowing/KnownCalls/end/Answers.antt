@@ -1,0 +1,6 @@
+use Rattle.std.proofs.Common.{◌∙◌}
+use Rattle.nfs_history.proofs.Rereading.{ended_at}
+use Rattle.nfs_history.proofs.knowing.KnownCalls.end.Goals as goal
+
+pub returns-in-Some : goal.returns-in-Some
+returns-in-Some c = c.end.ensures ∙ ended_at c.args.self.now.calls c.args.number c.in-Some.call.now (rw c.in-Some.is at c.seen_call.ensures.value)
