@@ -22,7 +22,6 @@ use Rattle.nfs_history.specs.JoinedFaults.{of_file, of_event, of_call}
 use Rattle.nfs_history.specs.FirstFault.{FirstFaultOf, FirstFault}
 use Rattle.nfs_history.specs.Answers.{IsFineOrNoMemory, IsErrorOf, IsThatOrNoMemory}
 use Rattle.nfs_history.specs.Judging.{AreReadable, IsStopFor, of_stop, AreKnown}
-use Rattle.history_file.specs.Owning.{all_happened}
 use Rattle.nfs_history.proofs.EventFaultLaws.{first_fault_or_fine, one_first_fault}
 use Rattle.nfs_history.proofs.CallFaultLaws.{first_call_fault_or_fine, one_first_call_fault, all_fine}
 

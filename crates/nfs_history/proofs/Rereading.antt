@@ -5,17 +5,11 @@ use Rattle.std.specs.List.{slice_get}
 use Rattle.std.specs.Option.{option_copied}
 use Rattle.std.proofs.lemmas.List.{take_more}
 use Rattle.std.proofs.lemmas.Option.{slice_get-map, same_Some, get_or_from_slice_get}
-use Rattle.xdr_records.specs.Kinds.{kind_reading}
-use Rattle.xdr_records.specs.Unread.{whole}
-use Rattle.xdr_records.proofs.Fronts.{left_at}
 use Rattle.xdr_records.proofs.Laws.{all_again}
-use Rattle.rpc_reader.specs.Values.{CallValue, Body, ReplyValue}
-use Rattle.rpc_reader.specs.Values.Body.{success}
-use Rattle.rpc_reader.specs.Heads.{kind_of, call_head}
-use Rattle.rpc_reader.specs.ReplyHeads.{Status, reply_head}
+use Rattle.rpc_reader.specs.Values.{CallValue, Body}
+use Rattle.rpc_reader.specs.ReplyHeads.{Status}
 use Rattle.rpc_reader.specs.ReplyHeads.Status.{results_follow, final}
-use Rattle.rpc_reader.specs.Messages.{IsCall, IsEnding, IsReply}
-use Rattle.nfs3_types.specs.declared.calls.NfsCall.{NfsCall}
+use Rattle.rpc_reader.specs.Messages.{IsCall, IsEnding}
 use Rattle.nfs3_types.specs.declared.replies.Outcome.{Outcome}
 use Rattle.nfs3_msgs.specs.Messages.{arguments, results, arguments_of, result_of}
 use Rattle.nfs3_values.specs.Told as told
@@ -28,8 +22,8 @@ use Rattle.nfs_history.specs.declared.matching.SeenReply.{SeenReply}
 use Rattle.nfs_history.specs.Matching.{seen_call, seen_reply}
 use Rattle.nfs_history.specs.Precedence.{call_at, begin_of, end_of}
 use Rattle.nfs_history.specs.Calls.{ReplyEvent, CallEvent}
-use Rattle.nfs_history.specs.Effects.{Says, results_of, has_no_effect}
-use Rattle.nfs_history.specs.History.{CameOut, IsJudged, IsKnownAs, IsRecorded, AreRecorded}
+use Rattle.nfs_history.specs.Effects.{Says, results_of}
+use Rattle.nfs_history.specs.History.{CameOut, IsKnownAs, IsRecorded, AreRecorded}
 use Rattle.nfs_history.specs.Reread.{head_from, head_in, body_behind, body_from, body_in, came_out, meaning_in, outcome_in, known_call, known_as, item_at, call_kind}
 use Rattle.nfs_history.specs.declared.fault.CallFault.{CallFault}
 use Rattle.nfs_history.specs.Judging.{IsFound}
@@ -135,6 +129,10 @@ ended_at calls n c is = number_kept c.answer ∙ ap (λ (o : Option RecordedCall
 pub era_at : (calls : List RecordedCall) (n : ℕ) (c : SeenCall) → Some (known_as c) ≡ call_at calls n → Some c.era ≡ option_map (λ call. call.era) (call_at calls n)
 unfolding known_call
 era_at calls n c is = ap (λ (o : Option RecordedCall). option_map (λ call. call.era) o) is
+
+pub lane_at : (calls : List RecordedCall) (n : ℕ) (c : SeenCall) → Some (known_as c) ≡ call_at calls n → Some c.lane ≡ option_map (λ call. call.lane) (call_at calls n)
+unfolding known_call
+lane_at calls n c is = ap (λ (o : Option RecordedCall). option_map (λ call. call.lane) o) is
 
 -- ---- calls that are read one after the other
 

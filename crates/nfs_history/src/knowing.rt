@@ -185,6 +185,16 @@ impl<'a> KnownCalls<'a> {
         }
     }
 
+    /// The lane of a call, where there is such a call.
+    pub fn lane(&self, number: u64) -> Option<u32>
+        ensures { result ≡ option_map (λ call. call.lane) (call_at self.now.calls number) }
+    {
+        match self.seen_call(number) {
+            Some(call) => Some(call.lane),
+            None => None,
+        }
+    }
+
     /// Call `number`, where there is one, read from its messages.
     pub fn call(&self, alloc: Global, number: u64) -> Result<Option<RecordedCall>, AllocError>
         ensures { IfOk result (λ found. found ≡ call_at self.now.calls number) }

@@ -1,5 +1,5 @@
 -- A plan has its shape exactly where no fault of the shape is found.
-use Rattle.std.proofs.Common.{◌≡◌, ◌≢◌, ◌==◌, ◌&&◌, ◌||◌, ℕ, zero, suc, ◌+◌, ◌<◌, ◌≤◌, Bool, true, false, not, cond, IsTrue, List, [], ◌∷◌, ◌++◌, length, All, Option, Some, None, IfSome, is_some, Result, Ok, Err, OnOk, unwrap_or, nat_lt, refl, sym, ap, subst, ◌∙◌, arith, inl, inr, add-zero}
+use Rattle.std.proofs.Common.{◌≡◌, ◌≢◌, ◌==◌, ◌&&◌, ◌||◌, ℕ, zero, suc, ◌+◌, ◌<◌, ◌≤◌, Bool, true, false, not, cond, IsTrue, List, [], ◌∷◌, ◌++◌, length, take, drop, slice_index_or, All, Option, Some, None, IfSome, is_some, Result, Ok, Err, OnOk, unwrap_or, nat_lt, refl, sym, ap, subst, ◌∙◌, arith, inl, inr, add-zero, add-one}
 use Rattle.std.specs.List.{AllByRecursion, slice_get}
 use Rattle.std.proofs.lemmas.List.Elements.{All-from_recursion}
 use Rattle.std.proofs.lemmas.List.Recursion.{or_push}
@@ -11,9 +11,9 @@ use Rattle.certificate.specs.declared.plan.EraPlan.{EraPlan}
 use Rattle.order_check.specs.declared.places.OrderedPlace.{OrderedPlace}
 use Rattle.order_check.specs.declared.fault.ShapeFault.{ShapeFault}
 use Rattle.order_check.specs.declared.fault.ShapeFault.TheVariants as faults
-use Rattle.order_check.specs.Places.{order_from, number_of, passes, is_known, is_of_era, is_placeable, is_judged, is_answered}
+use Rattle.order_check.specs.Places.{order_from, number_of, passes, is_known, is_of_era, is_placeable, is_judged, is_answered, is_wanted}
 use Rattle.order_check.specs.Shape.{is_named, NameDifferentCalls, HasShape}
-use Rattle.order_check.specs.FirstFault.{at_place, failing, repeat_behind, missing_from, bad_cut_from, or_else, shape_fault_of_order, shape_fault, IsCheck}
+use Rattle.order_check.specs.FirstFault.{Marks, at_place, failing, repeat_behind, missing_from, bad_cut_from, or_else, shape_fault_of_order, shape_fault, IsCheck}
 
 -- a choice of a value or of another answer is none exactly where the test fails and the other answer is none
 not_chosen : {X : Type 0} (b : Bool) (x : X) (other : Option X) → cond b (Some x) other ≡ None → (b ≡ false) × (other ≡ None)
@@ -102,7 +102,7 @@ none_named (p ∷ order) = (refl, none_named order)
 
 -- of calls that are numbered from n on, each answered judged one is placed
 abbrev Complete : ℕ → List RecordedCall → List OrderedPlace → Type 0
-Complete n calls order = (k : ℕ) (call : RecordedCall) → slice_get calls k ≡ Some call → IsTrue (is_judged call.meaning && is_answered call) → is_named order (n + k) ≡ true
+Complete n calls order = (k : ℕ) (call : RecordedCall) → slice_get calls k ≡ Some call → IsTrue (is_wanted call) → is_named order (n + k) ≡ true
 
 -- an answered judged call that isn't left out is named
 kept : (asked named : Bool) → (asked && not named) ≡ false → asked ≡ true → named ≡ true
@@ -171,7 +171,7 @@ at_none fault place none = rw none refl
 
 -- by the number of a call
 named_call : (calls : List RecordedCall) (order : List OrderedPlace) → Complete 1 calls order
-    → (n : ℕ) (call : RecordedCall) → call_at calls n ≡ Some call → IsTrue (is_judged call.meaning && is_answered call) → IsTrue (is_named order n)
+    → (n : ℕ) (call : RecordedCall) → call_at calls n ≡ Some call → IsTrue (is_wanted call) → IsTrue (is_named order n)
 named_call calls order complete zero call there asked = absurd (none-some call there)
 named_call calls order complete (suc k) call there asked = let e : suc k ≡ 1 + k = omega arith in rw e (complete k call there asked)
 
@@ -240,3 +240,36 @@ shape_on_ok eras calls plan (Err fault) found = tt
 pub shape_only : (eras : ℕ) (calls : List RecordedCall) (plan : List EraPlan) (result : Result (Unit {0}) ShapeFault)
     → IsCheck result (shape_fault eras calls plan) → HasShape eras calls plan → IsCheck result None
 shape_only eras calls plan result found shape = subst (λ fault. IsCheck result fault) (none_from_shape eras calls plan shape) found
+
+-- ---- the calls one after the other
+
+abbrev missing_at : ℕ → List RecordedCall → ℕ → List OrderedPlace → Option ShapeFault
+missing_at n calls k order =
+    cond (passes is_wanted (slice_get calls k) && not (is_named order n)) (Some (faults.Missing n)) (missing_from (n + 1) (drop (suc k) calls) order)
+
+missing_behind : (n : ℕ) (calls : List RecordedCall) (k : ℕ) (order : List OrderedPlace) → k < length calls → missing_from n (drop k calls) order ≡ missing_at n calls k order
+missing_behind n [] k order lt = absurd (omega (arith, lt))
+missing_behind n (call ∷ calls) zero order lt = refl
+missing_behind n (call ∷ calls) (suc k) order lt = missing_behind n calls k order (omega (arith, lt))
+
+-- whether the call behind the first i is missing
+abbrev pub IsMissingAt : List RecordedCall → List OrderedPlace → ℕ → List Bool → ℕ → Bool → Type 0
+IsMissingAt calls order many named i found =
+    Marks order named many × (many ≡ length calls) × (i < many) × (found ≡ (passes is_wanted (call_at calls (i + 1)) && not (slice_index_or named i false)))
+
+missing_is : (calls : List RecordedCall) (order : List OrderedPlace) (many : ℕ) (named : List Bool) (i : ℕ) (found : Bool) → IsMissingAt calls order many named i found
+    → missing_from (i + 1) (drop i calls) order ≡ cond found (Some (faults.Missing (i + 1))) (missing_from (i + 1 + 1) (drop (i + 1) calls) order)
+missing_is calls order many named i found (marks, size, lt, is) =
+    let same : found ≡ (passes is_wanted (slice_get calls i) && not (is_named order (i + 1))) =
+    is ∙ ap (λ (n : ℕ). passes is_wanted (call_at calls n) && not (slice_index_or named i false)) (add-one i) ∙ ap (λ (b : Bool). passes is_wanted (slice_get calls i) && not b) (marks.marked i lt) in
+    missing_behind (i + 1) calls i order (subst (λ m. i < m) size lt)
+    ∙ ap (λ (b : Bool). cond b (Some (faults.Missing (i + 1))) (missing_from (i + 1 + 1) (drop (suc i) calls) order)) (sym same)
+    ∙ ap (λ (k : ℕ). cond found (Some (faults.Missing (i + 1))) (missing_from (i + 1 + 1) (drop k calls) order)) (sym (add-one i))
+
+pub missing_here : (calls : List RecordedCall) (order : List OrderedPlace) (many : ℕ) (named : List Bool) (i : ℕ) → IsMissingAt calls order many named i true
+    → missing_from (i + 1) (drop i calls) order ≡ missing_from 1 calls order → Some (faults.Missing (i + 1)) ≡ missing_from 1 calls order
+missing_here calls order many named i is so_far = sym (missing_is calls order many named i true is) ∙ so_far
+
+pub missing_later : (calls : List RecordedCall) (order : List OrderedPlace) (many : ℕ) (named : List Bool) (i : ℕ) → IsMissingAt calls order many named i false
+    → missing_from (i + 1) (drop i calls) order ≡ missing_from 1 calls order → missing_from (i + 1 + 1) (drop (i + 1) calls) order ≡ missing_from 1 calls order
+missing_later calls order many named i is so_far = sym (missing_is calls order many named i false is) ∙ so_far

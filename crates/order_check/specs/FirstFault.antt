@@ -6,7 +6,7 @@ use Rattle.certificate.specs.declared.plan.EraPlan.{EraPlan}
 use Rattle.order_check.specs.declared.places.OrderedPlace.{OrderedPlace}
 use Rattle.order_check.specs.declared.fault.ShapeFault.{ShapeFault}
 use Rattle.order_check.specs.declared.fault.ShapeFault.TheVariants as faults
-use Rattle.order_check.specs.Places.{order_from, number_of, is_known, is_of_era, is_placeable, is_judged, is_answered}
+use Rattle.order_check.specs.Places.{order_from, number_of, is_known, is_of_era, is_placeable, is_wanted}
 use Rattle.order_check.specs.Shape.{is_named}
 
 -- the fault of the call at a place
@@ -27,7 +27,7 @@ repeat_behind before (p ∷ order) = if is_named before (number_of p) then Some 
 abbrev pub missing_from : ℕ → List RecordedCall → List OrderedPlace → Option ShapeFault
 missing_from n [] order = None
 missing_from n (call ∷ calls) order =
-    if (is_judged call.meaning && is_answered call) && not (is_named order n) then Some (faults.Missing n) else missing_from (n + 1) calls order
+    if is_wanted call && not (is_named order n) then Some (faults.Missing n) else missing_from (n + 1) calls order
 
 -- the first era, of those numbered from e on, that keeps more places than it has
 abbrev pub bad_cut_from : ℕ → List EraPlan → Option ShapeFault

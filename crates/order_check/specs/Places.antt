@@ -42,9 +42,13 @@ abbrev pub is_judged : Meaning → Bool
 is_judged (meanings.Judged call) = true
 is_judged meanings.Unjudged = false
 
+-- a call that has to have a place
+abbrev pub is_wanted : RecordedCall → Bool
+is_wanted call = is_judged call.meaning && is_answered call
+
 -- an answered judged call is placed with its reply, and only an unanswered one that changes the tree is taken
 abbrev pub may_place : Place → RecordedCall → Bool
-may_place (Answered n) call = is_judged call.meaning && is_answered call
+may_place (Answered n) call = is_wanted call
 may_place (Taken n count) call = is_none call.«end» && may_take call.meaning count
 
 -- a test of the call at a place, which fails where there is no such call

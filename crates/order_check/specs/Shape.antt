@@ -7,7 +7,7 @@ use Rattle.nfs_history.specs.declared.history.RecordedCall.{RecordedCall}
 use Rattle.nfs_history.specs.Precedence.{call_at}
 use Rattle.certificate.specs.declared.plan.EraPlan.{EraPlan}
 use Rattle.order_check.specs.declared.places.OrderedPlace.{OrderedPlace}
-use Rattle.order_check.specs.Places.{order_from, number_of, is_judged, is_answered, is_of_era, is_placeable}
+use Rattle.order_check.specs.Places.{order_from, number_of, is_wanted, is_of_era, is_placeable}
 
 -- some place names the call
 abbrev pub is_named : List OrderedPlace → ℕ → Bool
@@ -28,6 +28,6 @@ pub record HasShape (eras : ℕ) (calls : List RecordedCall) (plan : List EraPla
   -- an answered judged call is placed with its reply, and only an unanswered one that changes the tree is taken
   pub right : AllByRecursion (λ p. IsTrue (is_placeable calls p)) (order_from 1 plan)
   -- every answered judged call is placed
-  pub complete : (n : ℕ) (call : RecordedCall) → call_at calls n ≡ Some call → IsTrue (is_judged call.meaning && is_answered call) → IsTrue (is_named (order_from 1 plan) n)
+  pub complete : (n : ℕ) (call : RecordedCall) → call_at calls n ≡ Some call → IsTrue (is_wanted call) → IsTrue (is_named (order_from 1 plan) n)
   -- no more places are kept than there are
   pub cuts : AllByRecursion (λ era. IfSome era.cut (λ kept. kept ≤ length era.places)) plan

@@ -1,11 +1,13 @@
 //! The places of a certificate as one serial order, and how a call may be placed.
 
-ghost use Rattle.std.specs.Prelude.{◌≡◌, ◌++◌, map, IfOk};
+ghost use Rattle.std.specs.Prelude.{◌≡◌, ◌++◌, ℕ, map, IfOk};
+ghost use Rattle.nfs_history.specs.Precedence.{call_at};
+ghost use Rattle.certificate.specs.declared.plan.Place.{Place};
 ghost use Rattle.certificate.specs.Plan.{call_of};
-ghost use Rattle.order_check.specs.Places.{order_from, number_of, may_place, may_take, is_known, is_of_era, is_placeable};
+ghost use Rattle.order_check.specs.Places.{order_from, number_of, may_place, may_take, passes, is_wanted, is_known, is_of_era, is_placeable};
 
 use certificate::{EraPlan, Place};
-use nfs_history::{Meaning, RecordedCall, find_call};
+use nfs_history::{CallKind, KnownCalls, Meaning, RecordedCall};
 use nfs3_types::NfsCall;
 use std::alloc::{AllocError, Global};
 
@@ -37,8 +39,8 @@ pub fn number_at(place: Place) -> u64
     }
 }
 
-/// Whether a call that changes the tree may be taken as done, with this count of bytes.
-fn may_be_taken(meaning: &Meaning, count: Option<u32>) -> bool
+/// Whether a call has the meaning of one that changes the tree, taken as done with this count of bytes.
+fn may_take(meaning: &Meaning, count: Option<u32>) -> bool
     ensures { result ≡ may_take meaning.now count }
 {
     match (meaning, count) {
@@ -61,42 +63,63 @@ fn may_be_taken(meaning: &Meaning, count: Option<u32>) -> bool
     }
 }
 
-/// Whether a call may be placed so.
-fn may_stand(place: Place, call: &RecordedCall) -> bool
-    ensures { result ≡ may_place place call.now }
+/// Whether a call may be taken as done, with this count of bytes.
+fn may_be_taken(call: &RecordedCall, count: Option<u32>) -> bool
+    ensures { (number : ℕ) → result ≡ may_place (Place.Taken number count) call.now }
 {
-    match place {
-        Place::Answered(_) => {
-            matches!(call.meaning, Meaning::Judged(_)) && call.outcome.is_some()
-        }
-        Place::Taken(_, count) => call.end.is_none() && may_be_taken(&call.meaning, count),
-    }
+    call.end.is_none() && may_take(&call.meaning, count)
+}
+
+/// Whether a call of this number is judged and answered.
+pub fn is_answered_call(history: &KnownCalls<'_>, number: u64) -> bool
+    ensures { result ≡ passes is_wanted (call_at history.now.calls number) }
+{
+    matches!(history.kind(number), Some(CallKind::Answered(_)))
 }
 
 /// Whether a place names a call.
-pub fn names_call(calls: &[RecordedCall], place: &OrderedPlace) -> bool
-    ensures { result ≡ is_known calls.now place.now }
+pub fn names_call(history: &KnownCalls<'_>, place: &OrderedPlace) -> bool
+    ensures { result ≡ is_known history.now.calls place.now }
 {
-    find_call(calls, place.number()).is_some()
+    history.kind(place.number()).is_some()
 }
 
 /// Whether the call of a place is of its era.
-pub fn stands_in_era(calls: &[RecordedCall], place: &OrderedPlace) -> bool
-    ensures { result ≡ is_of_era calls.now place.now }
+pub fn stands_in_era(history: &KnownCalls<'_>, place: &OrderedPlace) -> bool
+    ensures { result ≡ is_of_era history.now.calls place.now }
 {
-    match find_call(calls, place.number()) {
-        Some(call) => call.era <= place.era && place.era <= call.era,
+    match history.era(place.number()) {
+        Some(era) => era <= place.era && place.era <= era,
         None => false,
+    }
+}
+
+/// Whether a call of this number may be taken as done, with this count of bytes.
+fn takes_right(
+    alloc: Global,
+    history: &KnownCalls<'_>,
+    number: u64,
+    count: Option<u32>,
+) -> Result<bool, AllocError>
+    ensures { IfOk result (λ right. right ≡ passes (may_place (Place.Taken number count)) (call_at history.now.calls number)) }
+{
+    match history.call(alloc, number)? {
+        Some(call) => Ok(may_be_taken(&call, count)),
+        None => Ok(false),
     }
 }
 
 /// Whether the call of a place may be placed so.
-pub fn stands_right(calls: &[RecordedCall], place: &OrderedPlace) -> bool
-    ensures { result ≡ is_placeable calls.now place.now }
+pub fn stands_right(
+    alloc: Global,
+    history: &KnownCalls<'_>,
+    place: &OrderedPlace,
+) -> Result<bool, AllocError>
+    ensures { IfOk result (λ right. right ≡ is_placeable history.now.calls place.now) }
 {
-    match find_call(calls, place.number()) {
-        Some(call) => may_stand(place.place, call),
-        None => false,
+    match place.place {
+        Place::Answered(number) => Ok(is_answered_call(history, number)),
+        Place::Taken(number, count) => takes_right(alloc, history, number, count),
     }
 }
 

@@ -1,46 +1,76 @@
 //! Whether a plan has the shape that a history asks for.
 
-ghost use Rattle.std.specs.Prelude.{◌≡◌, ◌<◌, ◌≤◌, length, [], None, All, IfOk, OnOk};
+ghost use Rattle.std.specs.Prelude.{◌≡◌, ◌<◌, ◌≤◌, ◌+◌, ◌&&◌, not, false, slice_index_or, length, [], None, All, IfOk, OnOk};
 ghost use Rattle.std.specs.Option.{option_copied};
-ghost use Rattle.order_check.specs.Places.{number_of, is_known, is_of_era, is_placeable};
+ghost use Rattle.order_check.specs.Places.{number_of, passes, is_wanted, is_known, is_of_era, is_placeable};
+ghost use Rattle.nfs_history.specs.Precedence.{call_at};
 ghost use Rattle.order_check.specs.Shape.{HasShape};
 ghost use Rattle.order_check.specs.FirstFault.{failing, missing_from, bad_cut_from, repeat_behind, shape_fault, shape_fault_of_order, Marks, IsCheck};
 
 use crate::fault::ShapeFault;
-use crate::places::{OrderedPlace, names_call, serial_order, stands_in_era, stands_right};
+use crate::places::{
+    OrderedPlace, is_answered_call, names_call, serial_order, stands_in_era, stands_right,
+};
 use certificate::{Certificate, EraPlan};
-use nfs_history::{KnownCalls, Meaning, RecordedCall};
+use nfs_history::KnownCalls;
 use std::alloc::{AllocError, Global};
 
 /// The first place that names no call.
-fn unknown<'a>(calls: &[RecordedCall], order: &'a [OrderedPlace]) -> Option<&'a OrderedPlace>
-    ensures { option_copied result ≡ failing (is_known calls.now) order.now }
+fn unknown<'a>(
+    history: &KnownCalls<'_>,
+    order: &'a [OrderedPlace],
+) -> Option<&'a OrderedPlace>
+    ensures { option_copied result ≡ failing (is_known history.now.calls) order.now }
 {
-    order.iter().find(|place| !names_call(calls, place))
+    order.iter().find(|place| !names_call(history, place))
 }
 
 /// The first place whose call is of another era.
-fn wrong_era<'a>(calls: &[RecordedCall], order: &'a [OrderedPlace]) -> Option<&'a OrderedPlace>
-    ensures { option_copied result ≡ failing (is_of_era calls.now) order.now }
+fn wrong_era<'a>(
+    history: &KnownCalls<'_>,
+    order: &'a [OrderedPlace],
+) -> Option<&'a OrderedPlace>
+    ensures { option_copied result ≡ failing (is_of_era history.now.calls) order.now }
 {
-    order.iter().find(|place| !stands_in_era(calls, place))
+    order.iter().find(|place| !stands_in_era(history, place))
 }
 
 /// The first place whose call may not be placed so.
-fn not_to_place<'a>(calls: &[RecordedCall], order: &'a [OrderedPlace]) -> Option<&'a OrderedPlace>
-    ensures { option_copied result ≡ failing (is_placeable calls.now) order.now }
+fn not_to_place(
+    alloc: Global,
+    history: &KnownCalls<'_>,
+    order: &[OrderedPlace],
+) -> Result<Option<OrderedPlace>, AllocError>
+    ensures { IfOk result (λ found. found ≡ failing (is_placeable history.now.calls) order.now) }
 {
-    order.iter().find(|place| !stands_right(calls, place))
+    for place in order {
+        if !stands_right(alloc, history, place)? {
+            return Ok(Some(*place));
+        }
+    }
+    Ok(None)
+}
+
+/// Whether the call behind the first `index` ones is judged and answered, and isn't named.
+fn is_missing(history: &KnownCalls<'_>, named: &[bool], index: usize) -> bool
+    requires { index < length named.now }
+    ensures { result ≡ (passes is_wanted (call_at history.now.calls (index + 1)) && not (slice_index_or named.now index false)) }
+{
+    is_answered_call(history, index as u64 + 1) && !named[index]
 }
 
 /// The first answered judged call that isn't named, where `named` tells of each call whether it is.
-fn missing(calls: &[RecordedCall], order: &[OrderedPlace], named: &[bool]) -> Option<ShapeFault>
-    requires { Marks order.now named.now (length calls.now) }
-    ensures { result ≡ missing_from 1 calls.now order.now }
+fn missing(
+    history: &KnownCalls<'_>,
+    order: &[OrderedPlace],
+    named: &[bool],
+) -> Option<ShapeFault>
+    requires { Marks order.now named.now (length history.now.calls) }
+    ensures { result ≡ missing_from 1 history.now.calls order.now }
 {
-    for (index, call) in calls.iter().enumerate() {
-        let judged = matches!(call.meaning, Meaning::Judged(_));
-        if judged && call.outcome.is_some() && !named[index] {
+    let count = history.count();
+    for index in 0..count {
+        if is_missing(history, named, index) {
             return Some(ShapeFault::Missing(index as u64 + 1));
         }
     }
@@ -92,26 +122,26 @@ fn mark_calls(alloc: Global, calls: usize, order: &[OrderedPlace]) -> Result<Mar
 /// The shape of an order whose plan has the right number of eras.
 fn check_places(
     alloc: Global,
-    calls: &[RecordedCall],
+    history: &KnownCalls<'_>,
     eras: &[EraPlan],
     order: &[OrderedPlace],
 ) -> Result<(), ShapeFault>
-    ensures { IsCheck result (shape_fault_of_order calls.now eras.now order.now) }
+    ensures { IsCheck result (shape_fault_of_order history.now.calls eras.now order.now) }
 {
-    if let Some(place) = unknown(calls, order) {
+    if let Some(place) = unknown(history, order) {
         return Err(ShapeFault::Unknown(place.number()));
     }
-    if let Some(place) = wrong_era(calls, order) {
+    if let Some(place) = wrong_era(history, order) {
         return Err(ShapeFault::WrongEra(place.number()));
     }
-    let marking = mark_calls(alloc, calls.len(), order)?;
+    let marking = mark_calls(alloc, history.count(), order)?;
     if let Some(place) = marking.repeat {
         return Err(ShapeFault::Twice(place.number()));
     }
-    if let Some(place) = not_to_place(calls, order) {
+    if let Some(place) = not_to_place(alloc, history, order)? {
         return Err(ShapeFault::NotToPlace(place.number()));
     }
-    if let Some(fault) = missing(calls, order, marking.named.as_slice()) {
+    if let Some(fault) = missing(history, order, marking.named.as_slice()) {
         return Err(fault);
     }
     match bad_cut(eras) {
@@ -123,7 +153,7 @@ fn check_places(
 /// Whether the plan has the shape that the history asks for.
 pub fn check_shape(
     alloc: Global,
-    history: &KnownCalls,
+    history: &KnownCalls<'_>,
     certificate: &Certificate,
 ) -> Result<(), ShapeFault>
     // The first fault.
@@ -137,5 +167,5 @@ pub fn check_shape(
         return Err(ShapeFault::WrongEras);
     }
     let order = serial_order(alloc, eras)?;
-    check_places(alloc, history.recorded_calls(), eras, order.as_slice())
+    check_places(alloc, history, eras, order.as_slice())
 }

@@ -1,4 +1,4 @@
-use Rattle.std.proofs.Common.{arith, sym, ap, ◌∙◌}
+use Rattle.std.proofs.Common.{arith, ◌∙◌}
 use Rattle.std.proofs.lemmas.List.{take_all}
 use Rattle.nfs_history.proofs.Rereading.{none_missing, one_more_read}
 use Rattle.nfs_history.proofs.history.all_calls.Goals as goal

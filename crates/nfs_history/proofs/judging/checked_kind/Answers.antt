@@ -1,4 +1,4 @@
-use Rattle.std.proofs.Common.{sym, subst, ap, ◌∙◌}
+use Rattle.std.proofs.Common.{sym, ap, ◌∙◌}
 use Rattle.nfs_history.specs.Matching.{seen_call}
 use Rattle.nfs_history.specs.Reread.{call_kind}
 use Rattle.nfs_history.proofs.Rereading.{known_again, recorded_again}

@@ -1,4 +1,4 @@
-use Rattle.std.proofs.Common.{arith, rules}
+use Rattle.std.proofs.Common.{arith}
 use Rattle.std.proofs.lemmas.Result.{err_from_is_err_and}
 use Rattle.nfs_history.proofs.JudgingSteps.{none_judged, readable_at, stops_here, judged_more, all_judged}
 use Rattle.nfs_history.proofs.judging.kinds_of.Goals as goal

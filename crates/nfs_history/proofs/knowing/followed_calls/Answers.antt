@@ -1,4 +1,4 @@
-use Rattle.std.proofs.Common.{inr, inl, subst, ap, ◌∙◌}
+use Rattle.std.proofs.Common.{inr, inl, subst, ap}
 use Rattle.history_file.specs.Owning.{all_seen}
 use Rattle.nfs_history.specs.Checking.{IsFirstFault}
 use Rattle.nfs_history.proofs.knowing.followed_calls.Goals as goal

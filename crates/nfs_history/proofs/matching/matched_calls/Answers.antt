@@ -1,9 +1,9 @@
-use Rattle.std.proofs.Common.{◌≡◌, ◌+◌, ◌-◌, [], length, drop, take, ap, ◌∙◌, arith, refl, map, sym}
+use Rattle.std.proofs.Common.{◌≡◌, ◌+◌, ◌-◌, [], length, drop, take, ap, ◌∙◌, arith, refl}
 use Rattle.std.specs.HashMap.{get}
 use Rattle.std.proofs.lemmas.List.{drop_all, take_all}
 use Rattle.history_file.specs.declared.event.SeenEvent.TheVariants as sees
 use Rattle.nfs_history.specs.Calls.{calls_from, eras_from}
-use Rattle.nfs_history.specs.Matching.{seen_call, same_key}
+use Rattle.nfs_history.specs.Matching.{same_key}
 use Rattle.history_file.specs.Owning.{all_seen}
 use Rattle.nfs_history.proofs.MatchingSteps.{none_met, met_call, met_reply, met_close, met_crash, one_before, behind_it, era_before, era_at_crash}
 use Rattle.nfs_history.proofs.matching.matched_calls.Goals as goal

@@ -6,10 +6,10 @@ use Rattle.order_check.proofs.order.began_last.Goals as goal
 
 pub returns-in-Some : goal.returns-in-Some
 returns-in-Some c = λ places place named last.
-    still_last c.args.calls.now places place c.in-Some.other c.args.number (subst (BeganLastIfAny c.args.calls.now places) c.in-Some.is last) named
+    still_last c.args.history.now.calls places place c.in-Some.other c.args.number (subst (BeganLastIfAny c.args.history.now.calls places) c.in-Some.is last) named
     (omega arith)
 
 pub returns-in_default : goal.returns-in_default
 returns-in_default c = λ places place named last.
-    later_last c.args.calls.now places place c.in-Some.other c.args.number (subst (BeganLastIfAny c.args.calls.now places) c.in-Some.is last) named
+    later_last c.args.history.now.calls places place c.in-Some.other c.args.number (subst (BeganLastIfAny c.args.history.now.calls places) c.in-Some.is last) named
     (omega arith)

@@ -8,7 +8,7 @@ use Rattle.order_check.proofs.order.check_era.Goals.{in_default-via-in-None-1, i
 
 pub returns-in-loop-place-clause-early : goal.returns-in-loop-place-clause-early
 returns-in-loop-place-clause-early c =
-    let calls = c.args.calls.now in
+    let calls = c.args.history.now.calls in
     let places = c.args.places.now in
     let so_far = subst (InOrderSoFar calls (take c.loop-place.place-index places)) c.in-Some.is c.loop-place.invariant in
     early_here calls places c.loop-place.place-index _ c.number_at-number.result c.in-Some.other c.loop-place-test.true c.number_at-number.ensures so_far
@@ -16,7 +16,7 @@ returns-in-loop-place-clause-early c =
 
 pub loop-place-preserved : goal.loop-place-preserved
 loop-place-preserved c =
-    let calls = c.args.calls.now in
+    let calls = c.args.history.now.calls in
     let places = c.args.places.now in
     let index = c.loop-place.place-index in
     let number = c.number_at-number.result in

@@ -1,4 +1,4 @@
-use Rattle.std.proofs.Common.{sym, ap, ◌∙◌}
+use Rattle.std.proofs.Common.{ap, ◌∙◌}
 use Rattle.history_file.specs.Owning.{all_happened}
 use Rattle.nfs_history.specs.History.{recording_of}
 use Rattle.nfs_history.proofs.OneHistory.{known_once}
