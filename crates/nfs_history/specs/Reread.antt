@@ -99,6 +99,14 @@ kind_as (meanings.Judged call) (Some outcome) = kinds.Answered (procedure_called
 abbrev pub call_kind : RecordedCall → CallKind
 call_kind call = kind_as call.meaning call.outcome
 
+-- a judged call, and how it came out
+abbrev pub judged_as : Meaning → Option Outcome → Option (NfsCall × Option Outcome)
+judged_as meanings.Unjudged outcome = None
+judged_as (meanings.Judged call) outcome = Some (call, outcome)
+
+abbrev pub judged_in : RecordedCall → Option (NfsCall × Option Outcome)
+judged_in call = judged_as call.meaning call.outcome
+
 -- the call was read without a fault, and is of this kind
 abbrev pub IsReadAs : CallEvent → CallKind → Type 0
 IsReadAs event kind = IsRecorded event (known_call event) × (kind ≡ call_kind (known_call event))

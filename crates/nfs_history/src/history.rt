@@ -54,7 +54,7 @@ pub enum CallKind {
 
 impl RecordedCall {
     ghost use Rattle.std.specs.Prelude.{◌≡◌};
-    ghost use Rattle.nfs_history.specs.Reread.{call_kind};
+    ghost use Rattle.nfs_history.specs.Reread.{call_kind, judged_in};
 
     /// What it is for a plan.
     pub fn kind(&self) -> CallKind
@@ -67,6 +67,28 @@ impl RecordedCall {
             CallKind::Answered(call.procedure())
         } else {
             CallKind::Unanswered(call.procedure())
+        }
+    }
+
+    /// The call, where it is a judged one, and how it came out.
+    pub fn into_judged(self) -> Option<(NfsCall, Option<Outcome>)>
+        ensures { result ≡ judged_in self }
+    {
+        let RecordedCall {
+            lane: _,
+            xid: _,
+            meaning,
+            begin: _,
+            end: _,
+            era: _,
+            outcome,
+        } = self;
+        match meaning {
+            Meaning::Judged(call) => Some((call, outcome)),
+            Meaning::Unjudged => {
+                drop(outcome);
+                None
+            }
         }
     }
 }

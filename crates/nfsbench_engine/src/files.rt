@@ -58,5 +58,5 @@ pub(crate) fn check_paths<R: Files + AllocGlobal>(
 {
     let history = read_file(rt, history, HISTORY_READ)?;
     let certificate = read_file(rt, certificate, u64::MAX)?;
-    judge_read(rt.alloc(), history, certificate.as_deref())
+    judge_read(rt.alloc(), history.as_deref(), certificate.as_deref())
 }

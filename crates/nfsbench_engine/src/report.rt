@@ -1,6 +1,6 @@
 //! What is said of a history and a certificate: a line and an exit status.
 
-ghost use Rattle.std.specs.Prelude.{◌≡◌, ◌++◌, ◌∷◌, [], ℕ, List, Some, codes, IfOk, IfSome, option_map, string_bytes};
+ghost use Rattle.std.specs.Prelude.{◌≡◌, ◌++◌, ◌∷◌, [], ℕ, List, Some, codes, IfOk, IfSome, string_bytes};
 ghost use Rattle.std.specs.Option.{option_copied};
 ghost use Rattle.nfsbench_engine.specs.Report.{IsRefusal, IsSaid, IsSaidOfFiles, IsSaidOfRead, refused_line};
 
@@ -8,7 +8,7 @@ use crate::bundle::{BundleFault, read_bundle};
 use std::alloc::{AllocError, Global};
 use std::fmt::Display;
 use std::marker::Model;
-use witness_check::{FileVerdict, check_owned_files};
+use witness_check::{FileVerdict, check_files};
 
 /// A line that ends in a line feed, and the exit status that goes with it.
 #[derive(Drop)]
@@ -74,36 +74,31 @@ fn line_of<D: Display>(alloc: Global, words: &str, told: &D) -> Result<String, A
     format!(in alloc; "{words}{text}\n")
 }
 
-/// What is said of a history file and a certificate's text; that memory runs out is no answer. The file's bytes are let
-/// go once its calls are read.
-pub fn judge_files(
-    alloc: Global,
-    history: Vec<u8>,
-    certificate: &[u8],
-) -> Result<Report, AllocError>
+/// What is said of a history file and a certificate's text; that memory runs out is no answer.
+pub fn judge_files(alloc: Global, history: &[u8], certificate: &[u8]) -> Result<Report, AllocError>
     // The answer is what is said of the two texts.
     ensures exact { IfOk result (λ report.
-        IsSaidOfFiles history.items certificate.now report.status report.line) }
+        IsSaidOfFiles history.now certificate.now report.status report.line) }
     // What is said of the two texts is the answer.
-    ensures only { (status : ℕ) (line : List ℕ) → IsSaidOfFiles history.items certificate.now status line
+    ensures only { (status : ℕ) (line : List ℕ) → IsSaidOfFiles history.now certificate.now status line
         → IfOk result (λ report. (report.status ≡ status) × (report.line ≡ line)) }
 {
-    let verdict = check_owned_files(alloc, history, certificate)?;
+    let verdict = check_files(alloc, history, certificate)?;
     Report::of_verdict(alloc, verdict)
 }
 
 /// What is said of two files as they were read; one that couldn't be read has no bytes.
 pub fn judge_read(
     alloc: Global,
-    history: Option<Vec<u8>>,
+    history: Option<&[u8]>,
     certificate: Option<&[u8]>,
 ) -> Result<Report, AllocError>
     // The answer is what is said of what was read.
-    ensures exact { IfOk result (λ report. IsSaidOfRead (option_map (λ bytes. bytes.items) history)
+    ensures exact { IfOk result (λ report. IsSaidOfRead (option_copied history.entry)
         (option_copied certificate.entry) report.status report.line) }
     // What is said of what was read is the answer.
     ensures only { (status : ℕ) (line : List ℕ)
-        → IsSaidOfRead (option_map (λ bytes. bytes.items) history) (option_copied certificate.entry) status line
+        → IsSaidOfRead (option_copied history.entry) (option_copied certificate.entry) status line
         → IfOk result (λ report. (report.status ≡ status) × (report.line ≡ line)) }
 {
     let Some(history) = history else {
@@ -124,7 +119,7 @@ pub fn judge(alloc: Global, bytes: &[u8]) -> Result<Report, AllocError>
         → IfOk result (λ report. (report.status ≡ status) × (report.line ≡ line)) }
 {
     match read_bundle(alloc, bytes) {
-        Ok(bundle) => judge_files(alloc, bundle.history, bundle.certificate),
+        Ok(bundle) => judge_files(alloc, bundle.history.as_slice(), bundle.certificate),
         Err(BundleFault::Malformed) => Report::refused(alloc, "bad bundle"),
         Err(BundleFault::NoMemory) => Err(AllocError),
     }

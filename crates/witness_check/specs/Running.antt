@@ -18,14 +18,14 @@ use Rattle.file_tree.specs.Success.{next_tree}
 use Rattle.witness_check.specs.declared.run.Found.{Found}
 use Rattle.witness_check.specs.Run.{step_at}
 
--- how a call came out that is taken
-abbrev pub taken_outcome : Place → Outcome
-taken_outcome (Answered n) = outcomes.Taken None
-taken_outcome (Taken n count) = outcomes.Taken count
+-- how a call came out at a place, of one that is taken as the place says
+abbrev pub outcome_at : Place → Option Outcome → Option Outcome
+outcome_at (Answered n) received = received
+outcome_at (Taken n count) received = Some (outcomes.Taken count)
 
 -- a call that was found at a place, as a step
 abbrev pub found_step : Found → run.Taken NfsCall Outcome
-found_step found = record { number = found.number; call = found.call.now; outcome = found.outcome.now }
+found_step found = record { number = found.number; call = found.call; outcome = found.outcome }
 
 -- a run that stands after these steps, those behind the cut last
 abbrev pub Stands : Bindings → Replay Tree Bindings NfsCall Outcome Undo → List (run.Taken NfsCall Outcome) → List (run.Taken NfsCall Outcome) → Type 0

@@ -9,53 +9,57 @@ ghost use Rattle.nfs3_types.specs.declared.calls.NfsCall.{NfsCall};
 ghost use Rattle.nfs3_types.specs.declared.replies.Outcome.{Outcome};
 ghost use Rattle.tree_nodes.specs.Tree.{opening};
 ghost use Rattle.file_tree.specs.Success.{next_tree};
-ghost use Rattle.witness_check.specs.Run.{step_at, steps_of, era_of, eras_of, next_of, Runs};
-ghost use Rattle.witness_check.specs.Running.{taken_outcome, found_step, Stands, tree_after, IsStuckAt, IsIllegalBehind};
+ghost use Rattle.witness_check.specs.Run.{step_of_call, step_at, steps_of, era_of, eras_of, next_of, Runs};
+ghost use Rattle.witness_check.specs.Running.{outcome_at, found_step, Stands, tree_after, IsStuckAt, IsIllegalBehind};
 
 use certificate::{Certificate, EraPlan, Place};
 use cut_check::bindings_of_plan;
 use file_tree::FileTree;
-use nfs_history::{KnownCalls, Meaning, RecordedCall, find_call};
+use nfs_history::{KnownCalls, RecordedCall};
 use nfs3_types::{NfsCall, Outcome};
 use replay_law::{Replay, RunFault, StepFault};
-use std::alloc::Global;
+use std::alloc::{AllocError, Global};
 use tree_handles::Binds;
 
 /// A call that is placed, and how it came out.
-#[derive(Clone, Copy)]
-pub struct Found<'a> {
+pub struct Found {
     pub number: u64,
-    pub call: &'a NfsCall,
-    pub outcome: &'a Outcome,
+    pub call: NfsCall,
+    pub outcome: Outcome,
 }
 
-/// How a call came out, where it is taken; of another place what stands here counts for nothing.
-fn taken_outcome(place: Place) -> Outcome
-    ensures { result ≡ taken_outcome place }
-{
-    match place {
-        Place::Answered(_) => Outcome::Taken(None),
-        Place::Taken(_, count) => Outcome::Taken(count),
+impl Drop for Found {
+    fn drop(self) {
+        let Found {
+            number: _,
+            call,
+            outcome,
+        } = self;
+        drop(call);
+        drop(outcome);
     }
 }
 
-/// Drops an outcome in one place, so that no other proof goes through its cases.
-fn put_away(_outcome: Outcome) {}
+/// Drops what was found at a place, so that no other proof goes through its cases.
+fn put_away(_found: Option<Found>) {}
 
-/// The call at a place with its outcome, where it has one.
-fn find_step<'a>(calls: &'a [RecordedCall], place: Place, taken: &'a Outcome) -> Option<Found<'a>>
-    requires { taken.now ≡ taken_outcome place }
-    ensures { option_map found_step result ≡ step_at calls.now place }
+/// The outcome at a place of a call that came out so, where it has one.
+fn outcome_at(place: Place, received: Option<Outcome>) -> Option<Outcome>
+    ensures { result ≡ outcome_at place received }
+{
+    match place {
+        Place::Answered(_) => received,
+        Place::Taken(_, count) => Some(Outcome::Taken(count)),
+    }
+}
+
+/// The step of a call at a place, where it has one.
+fn step_of_call(place: Place, recorded: RecordedCall) -> Option<Found>
+    ensures { option_map found_step result ≡ step_of_call place recorded }
 {
     let (Place::Answered(number) | Place::Taken(number, _)) = place;
-    let recorded = find_call(calls, number)?;
-    let Meaning::Judged(call) = &recorded.meaning else {
-        return None;
-    };
-    let outcome = match place {
-        Place::Answered(_) => recorded.outcome.as_ref()?,
-        Place::Taken(..) => taken,
-    };
+    let (call, received) = recorded.into_judged()?;
+    let outcome = outcome_at(place, received)?;
     Some(Found {
         number,
         call,
@@ -63,25 +67,79 @@ fn find_step<'a>(calls: &'a [RecordedCall], place: Place, taken: &'a Outcome) ->
     })
 }
 
-/// Takes the step of a place ahead of the cut.
-fn run_kept_place(
+/// The call at a place with its outcome, where it has one.
+fn find_step(
+    alloc: Global,
+    history: &KnownCalls<'_>,
+    place: Place,
+) -> Result<Option<Found>, AllocError>
+    ensures { IfOk result (λ found. option_map found_step found ≡ step_at history.now.calls place) }
+{
+    let (Place::Answered(number) | Place::Taken(number, _)) = place;
+    match history.call(alloc, number)? {
+        Some(recorded) => Ok(step_of_call(place, recorded)),
+        None => Ok(None),
+    }
+}
+
+/// Takes a step ahead of the cut, where there is one.
+fn run_kept_step(
     replay: &mut Replay<FileTree>,
     binds: &Binds,
-    calls: &[RecordedCall],
-    place: Place,
-    taken: &Outcome,
+    step: &Option<Found>,
 ) -> Result<(), RunFault>
-    requires { taken.now ≡ taken_outcome place }
     ensures ok { OnOk result ((kept : List (run.Taken NfsCall Outcome)) → Stands binds.now replay.old kept []
-        → Stands binds.now replay.new (kept ++ option_to_list (step_at calls.now place)) []) }
+        → Stands binds.now replay.new (kept ++ option_to_list (option_map found_step step.now)) []) }
     ensures illegal { (number : ℕ) → result ≡ Err (RunFault.Illegal number)
         → (kept : List (run.Taken NfsCall Outcome)) → Stands binds.now replay.old kept []
-        → IsStuckAt binds.now kept (step_at calls.now place) number }
+        → IsStuckAt binds.now kept (option_map found_step step.now) number }
 {
-    let Some(found) = find_step(calls, place, taken) else {
+    let Some(found) = step else {
         return Ok(());
     };
-    match replay.step_kept(binds, found.number, found.call, found.outcome) {
+    match replay.step_kept(binds, found.number, &found.call, &found.outcome) {
+        Ok(()) => Ok(()),
+        Err(StepFault::NotAllowed) => Err(RunFault::Illegal(found.number)),
+        Err(StepFault::NoMemory) => Err(RunFault::NoMemory),
+    }
+}
+
+/// Takes the step of a place ahead of the cut.
+fn run_kept_place(
+    alloc: Global,
+    replay: &mut Replay<FileTree>,
+    binds: &Binds,
+    history: &KnownCalls<'_>,
+    place: Place,
+) -> Result<(), RunFault>
+    ensures ok { OnOk result ((kept : List (run.Taken NfsCall Outcome)) → Stands binds.now replay.old kept []
+        → Stands binds.now replay.new (kept ++ option_to_list (step_at history.now.calls place)) []) }
+    ensures illegal { (number : ℕ) → result ≡ Err (RunFault.Illegal number)
+        → (kept : List (run.Taken NfsCall Outcome)) → Stands binds.now replay.old kept []
+        → IsStuckAt binds.now kept (step_at history.now.calls place) number }
+{
+    let found = find_step(alloc, history, place)?;
+    let step = run_kept_step(replay, binds, &found);
+    put_away(found);
+    step
+}
+
+/// Takes a step past the cut, where there is one.
+fn run_lost_step(
+    replay: &mut Replay<FileTree>,
+    binds: &Binds,
+    step: &Option<Found>,
+) -> Result<(), RunFault>
+    ensures ok { OnOk result ((kept lost : List (run.Taken NfsCall Outcome)) → Stands binds.now replay.old kept lost
+        → Stands binds.now replay.new kept (lost ++ option_to_list (option_map found_step step.now))) }
+    ensures illegal { (number : ℕ) → result ≡ Err (RunFault.Illegal number)
+        → (kept lost : List (run.Taken NfsCall Outcome)) → Stands binds.now replay.old kept lost
+        → IsStuckAt binds.now (kept ++ lost) (option_map found_step step.now) number }
+{
+    let Some(found) = step else {
+        return Ok(());
+    };
+    match replay.step_lost(binds, found.number, &found.call, &found.outcome) {
         Ok(()) => Ok(()),
         Err(StepFault::NotAllowed) => Err(RunFault::Illegal(found.number)),
         Err(StepFault::NoMemory) => Err(RunFault::NoMemory),
@@ -90,69 +148,60 @@ fn run_kept_place(
 
 /// Takes the step of a place past the cut.
 fn run_lost_place(
+    alloc: Global,
     replay: &mut Replay<FileTree>,
     binds: &Binds,
-    calls: &[RecordedCall],
+    history: &KnownCalls<'_>,
     place: Place,
-    taken: &Outcome,
 ) -> Result<(), RunFault>
-    requires { taken.now ≡ taken_outcome place }
     ensures ok { OnOk result ((kept lost : List (run.Taken NfsCall Outcome)) → Stands binds.now replay.old kept lost
-        → Stands binds.now replay.new kept (lost ++ option_to_list (step_at calls.now place))) }
+        → Stands binds.now replay.new kept (lost ++ option_to_list (step_at history.now.calls place))) }
     ensures illegal { (number : ℕ) → result ≡ Err (RunFault.Illegal number)
         → (kept lost : List (run.Taken NfsCall Outcome)) → Stands binds.now replay.old kept lost
-        → IsStuckAt binds.now (kept ++ lost) (step_at calls.now place) number }
+        → IsStuckAt binds.now (kept ++ lost) (step_at history.now.calls place) number }
 {
-    let Some(found) = find_step(calls, place, taken) else {
-        return Ok(());
-    };
-    match replay.step_lost(binds, found.number, found.call, found.outcome) {
-        Ok(()) => Ok(()),
-        Err(StepFault::NotAllowed) => Err(RunFault::Illegal(found.number)),
-        Err(StepFault::NoMemory) => Err(RunFault::NoMemory),
-    }
+    let found = find_step(alloc, history, place)?;
+    let step = run_lost_step(replay, binds, &found);
+    put_away(found);
+    step
 }
 
 /// Takes the steps of places ahead of the cut.
 fn run_kept(
+    alloc: Global,
     replay: &mut Replay<FileTree>,
     binds: &Binds,
-    calls: &[RecordedCall],
+    history: &KnownCalls<'_>,
     places: &[Place],
 ) -> Result<(), RunFault>
     ensures ok { OnOk result ((kept : List (run.Taken NfsCall Outcome)) → Stands binds.now replay.old kept []
-        → Stands binds.now replay.new (kept ++ steps_of calls.now places.now) []) }
+        → Stands binds.now replay.new (kept ++ steps_of history.now.calls places.now) []) }
     ensures illegal { (number : ℕ) → result ≡ Err (RunFault.Illegal number)
         → (kept : List (run.Taken NfsCall Outcome)) → Stands binds.now replay.old kept []
-        → IsIllegalBehind binds.now kept (steps_of calls.now places.now) number }
+        → IsIllegalBehind binds.now kept (steps_of history.now.calls places.now) number }
 {
     for place in places {
-        let taken = taken_outcome(*place);
-        let step = run_kept_place(replay, binds, calls, *place, &taken);
-        put_away(taken);
-        step?;
+        run_kept_place(alloc, replay, binds, history, *place)?;
     }
     Ok(())
 }
 
 /// Takes the steps of places past the cut.
 fn run_lost(
+    alloc: Global,
     replay: &mut Replay<FileTree>,
     binds: &Binds,
-    calls: &[RecordedCall],
+    history: &KnownCalls<'_>,
     places: &[Place],
 ) -> Result<(), RunFault>
     ensures ok { OnOk result ((kept : List (run.Taken NfsCall Outcome)) → Stands binds.now replay.old kept []
-        → Stands binds.now replay.new kept (steps_of calls.now places.now)) }
+        → Stands binds.now replay.new kept (steps_of history.now.calls places.now)) }
     ensures illegal { (number : ℕ) → result ≡ Err (RunFault.Illegal number)
         → (kept : List (run.Taken NfsCall Outcome)) → Stands binds.now replay.old kept []
-        → IsIllegalBehind binds.now kept (steps_of calls.now places.now) number }
+        → IsIllegalBehind binds.now kept (steps_of history.now.calls places.now) number }
 {
     for place in places {
-        let taken = taken_outcome(*place);
-        let step = run_lost_place(replay, binds, calls, *place, &taken);
-        put_away(taken);
-        step?;
+        run_lost_place(alloc, replay, binds, history, *place)?;
     }
     Ok(())
 }
@@ -171,24 +220,25 @@ fn split_at_cut(era: &EraPlan) -> (&[Place], &[Place])
 
 /// Runs an era, and takes the crash at its end.
 fn run_era(
+    alloc: Global,
     replay: Replay<FileTree>,
     binds: &Binds,
-    calls: &[RecordedCall],
+    history: &KnownCalls<'_>,
     era: &EraPlan,
 ) -> Result<Replay<FileTree>, RunFault>
     requires { (kept : List (run.Taken NfsCall Outcome)) × Stands binds.now replay kept [] }
     ensures runs { OnOk result ((kept : List (run.Taken NfsCall Outcome)) → Stands binds.now replay kept []
-        → IsSome (tree_after binds.now (kept ++ steps_of calls.now era.now.places))) }
+        → IsSome (tree_after binds.now (kept ++ steps_of history.now.calls era.now.places))) }
     ensures crashed { IfOk result (λ after. (kept : List (run.Taken NfsCall Outcome)) → Stands binds.now replay kept []
-        → Stands binds.now after (kept ++ steps_of calls.now (take (cut_of era.now) era.now.places)) []) }
+        → Stands binds.now after (kept ++ steps_of history.now.calls (take (cut_of era.now) era.now.places)) []) }
     ensures illegal { (number : ℕ) → result ≡ Err (RunFault.Illegal number)
         → (kept : List (run.Taken NfsCall Outcome)) → Stands binds.now replay kept []
-        → IsIllegalBehind binds.now kept (steps_of calls.now era.now.places) number }
+        → IsIllegalBehind binds.now kept (steps_of history.now.calls era.now.places) number }
 {
     let (kept, lost) = split_at_cut(era);
     let mut replay = replay;
-    run_kept(&mut replay, binds, calls, kept)?;
-    run_lost(&mut replay, binds, calls, lost)?;
+    run_kept(alloc, &mut replay, binds, history, kept)?;
+    run_lost(alloc, &mut replay, binds, history, lost)?;
     let after = replay.crash()?;
     Ok(after)
 }
@@ -197,31 +247,30 @@ fn run_era(
 fn run_plans(
     alloc: Global,
     binds: &Binds,
-    calls: &[RecordedCall],
+    history: &KnownCalls<'_>,
     eras: &[EraPlan],
 ) -> Result<(), RunFault>
-    ensures ok { OnOk result (EveryEraRuns (next_tree binds.now) opening (map (era_of calls.now) eras.now)) }
+    ensures ok { OnOk result (EveryEraRuns (next_tree binds.now) opening (map (era_of history.now.calls) eras.now)) }
     ensures illegal { (number : ℕ) → result ≡ Err (RunFault.Illegal number)
-        → IsFirstIllegalInEras (next_tree binds.now) opening (map (era_of calls.now) eras.now) number }
+        → IsFirstIllegalInEras (next_tree binds.now) opening (map (era_of history.now.calls) eras.now) number }
 {
     let mut replay = Replay::<FileTree>::begin(alloc, binds)?;
     for era in eras {
-        replay = run_era(replay, binds, calls, era)?;
+        replay = run_era(alloc, replay, binds, history, era)?;
     }
     Ok(())
 }
 
 /// Whether every era of a plan runs.
-pub fn run_plan(alloc: Global, history: &KnownCalls, plan: &Certificate) -> Result<(), RunFault>
+pub fn run_plan(
+    alloc: Global,
+    history: &KnownCalls<'_>,
+    plan: &Certificate,
+) -> Result<(), RunFault>
     ensures ok { OnOk result (Runs history.now plan.now) }
     ensures illegal { (number : ℕ) → result ≡ Err (RunFault.Illegal number)
         → IsFirstIllegalInEras (next_of history.now plan.now) opening (eras_of history.now plan.now) number }
 {
     let binds = bindings_of_plan(alloc, history, plan)?;
-    run_plans(
-        alloc,
-        &binds,
-        history.recorded_calls(),
-        plan.eras.as_slice(),
-    )
+    run_plans(alloc, &binds, history, plan.eras.as_slice())
 }

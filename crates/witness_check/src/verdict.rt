@@ -44,7 +44,7 @@ pub enum FileVerdict {
 /// The shape, then the order, the run, the cuts and the write verifiers.
 fn check_parts(
     alloc: Global,
-    history: &KnownCalls,
+    history: &KnownCalls<'_>,
     certificate: &Certificate,
 ) -> Result<(), CheckFault>
     ensures ok { OnOk result (IsWitness history.now certificate.now) }
@@ -61,7 +61,7 @@ fn check_parts(
 /// Whether the certificate is a witness, or else its first fault; that no other answer is right is said at `check`.
 fn verdict_of(
     alloc: Global,
-    history: &KnownCalls,
+    history: &KnownCalls<'_>,
     certificate: &Certificate,
 ) -> Result<Verdict, AllocError>
     ensures { IfOk result (IsVerdict history.now certificate.now) }
@@ -84,13 +84,14 @@ pub fn check(
     // The verdict on the two is the answer, memory aside.
     ensures only { (verdict : Verdict) → IsVerdict history.now.known certificate.now verdict → IfOk result (λ given. given ≡ verdict) }
 {
-    verdict_of(alloc, history.known(), certificate)
+    let known = history.lend_calls(alloc)?;
+    verdict_of(alloc, &known, certificate)
 }
 
 /// The verdict on a file, of which this was read, and a text; that no other is right is said at `check_files`.
 fn verdict_on(
     alloc: Global,
-    read: Result<KnownCalls, HistoryFault>,
+    read: Result<KnownCalls<'_>, HistoryFault>,
     certificate: &[u8],
 ) -> Result<FileVerdict, AllocError>
     ensures { (file : List ℕ) → IfOk read (IsCallsFile file) → IsErrorOf (FirstFault file) read
@@ -125,22 +126,4 @@ pub fn check_files(
         → IfOk result (λ given. given ≡ verdict) }
 {
     verdict_on(alloc, read_calls(alloc, history), certificate)
-}
-
-/// As `check_files`, of a history that is let go once its calls are read: so its bytes and what a run holds never stand
-/// beside one another.
-pub fn check_owned_files(
-    alloc: Global,
-    history: Vec<u8>,
-    certificate: &[u8],
-) -> Result<FileVerdict, AllocError>
-    // The answer is the verdict on the two texts.
-    ensures verdict { IfOk result (IsFileVerdict history.items certificate.now) }
-    // The verdict on the two texts is the answer, memory aside.
-    ensures only { (verdict : FileVerdict) → IsFileVerdict history.items certificate.now verdict
-        → IfOk result (λ given. given ≡ verdict) }
-{
-    let read = read_calls(alloc, history.as_slice());
-    drop(history);
-    verdict_on(alloc, read, certificate)
 }

@@ -19,7 +19,7 @@ use Rattle.witness_check.proofs.run.run_era.Goals as goal
 pub returns-in_err-run_kept-clause-illegal : goal.returns-in_err-run_kept-clause-illegal
 returns-in_err-run_kept-clause-illegal c = λ number is kept s base reached.
     let next = next_tree c.args.binds.now in
-    let calls = c.args.calls.now in
+    let calls = c.args.history.now.calls in
     let cut = cut_of c.args.era.now in
     let parts = both (step_at calls) cut c.args.era.now.places c.split_at_cut.result.0.now c.split_at_cut.result.1.now c.split_at_cut.ensures.kept c.split_at_cut.ensures.lost in
     let fault = err_from_is_err_and c.from_residual.result c.from_residual.ensures.1 in
@@ -32,7 +32,7 @@ returns-in_err-run_kept-clause-illegal c = λ number is kept s base reached.
 pub returns-in_err-run_lost-clause-illegal : goal.returns-in_err-run_lost-clause-illegal
 returns-in_err-run_lost-clause-illegal c = λ number is kept s base reached.
     let next = next_tree c.args.binds.now in
-    let calls = c.args.calls.now in
+    let calls = c.args.history.now.calls in
     let front = steps_of calls c.split_at_cut.result.0.now in
     let parts = both (step_at calls) (cut_of c.args.era.now) c.args.era.now.places c.split_at_cut.result.0.now c.split_at_cut.result.1.now c.split_at_cut.ensures.kept c.split_at_cut.ensures.lost in
     let fault = err_from_is_err_and c.from_residual-in_err-run_lost.result c.from_residual-in_err-run_lost.ensures.1 in
@@ -47,12 +47,12 @@ returns-in_err-run_lost-clause-illegal c = λ number is kept s base reached.
 pub crash-requires : goal.crash-requires
 crash-requires c =
     let kept = c.requires.0 in
-    let stands = c.in_ok-run_lost.ensures.ok (kept ++ steps_of c.args.calls.now c.split_at_cut.result.0.now) (c.in_ok-run_kept.ensures.ok kept c.requires.1) in
+    let stands = c.in_ok-run_lost.ensures.ok (kept ++ steps_of c.args.history.now.calls c.split_at_cut.result.0.now) (c.in_ok-run_kept.ensures.ok kept c.requires.1) in
     (stands.base, stands.back)
 
 pub returns-clause-runs : goal.returns-clause-runs
 returns-clause-runs c = λ kept s.
-    let calls = c.args.calls.now in
+    let calls = c.args.history.now.calls in
     let front = steps_of calls c.split_at_cut.result.0.now in
     let back = steps_of calls c.split_at_cut.result.1.now in
     let parts = both (step_at calls) (cut_of c.args.era.now) c.args.era.now.places c.split_at_cut.result.0.now c.split_at_cut.result.1.now c.split_at_cut.ensures.kept c.split_at_cut.ensures.lost in
@@ -61,7 +61,7 @@ returns-clause-runs c = λ kept s.
 
 pub returns-clause-crashed : goal.returns-clause-crashed
 returns-clause-crashed c = λ kept s.
-    let calls = c.args.calls.now in
+    let calls = c.args.history.now.calls in
     let front = steps_of calls c.split_at_cut.result.0.now in
     let stands = c.in_ok-run_lost.ensures.ok (kept ++ front) (c.in_ok-run_kept.ensures.ok kept s) in
     let after = c.in_ok-after.ensures c.args.binds.now (kept ++ front) (steps_of calls c.split_at_cut.result.1.now) stands in

@@ -13,24 +13,24 @@ use Rattle.witness_check.proofs.run.run_kept.Goals as goal
 
 pub loop-place-preserved : goal.loop-place-preserved
 loop-place-preserved c = λ kept s.
-    let calls = c.args.calls.now in
+    let calls = c.args.history.now.calls in
     let places = c.args.places.now in
     let i = c.loop-place.place-index in
-    more_kept c.args.binds.now calls places i _ c.loop-place-test.true c.run_kept_place-step.new.replay kept
-    (c.in_ok-step.ensures.ok (kept ++ steps_of calls (take i places)) (c.loop-place.invariant kept s))
+    more_kept c.args.binds.now calls places i _ c.loop-place-test.true c.run_kept_place.new.replay kept
+    (c.in_ok-run_kept_place.ensures.ok (kept ++ steps_of calls (take i places)) (c.loop-place.invariant kept s))
 
-pub returns-in_err-step-clause-illegal : goal.returns-in_err-step-clause-illegal
-returns-in_err-step-clause-illegal c = λ number is kept s.
-    let calls = c.args.calls.now in
+pub returns-in_err-run_kept_place-clause-illegal : goal.returns-in_err-run_kept_place-clause-illegal
+returns-in_err-run_kept_place-clause-illegal c = λ number is kept s.
+    let calls = c.args.history.now.calls in
     let places = c.args.places.now in
     let i = c.loop-place.place-index in
     let stands = c.loop-place.invariant kept s in
     let fault = err_from_is_err_and c.from_residual.result c.from_residual.ensures.1 in
-    let was : c.run_kept_place-step.result ≡ Err c.in_err-step.field-0.0 = c.in_err-step.was in
-    let refused : c.run_kept_place-step.result ≡ Err (Illegal number) = cc (fault.1, fault.2, was, is) in
-    stuck_kept c.args.binds.now calls places i _ number c.loop-place-test.true c.loop-place.replay kept stands (c.run_kept_place-step.ensures.illegal number refused (kept ++ steps_of calls (take i places)) stands)
+    let was : c.run_kept_place.result ≡ Err c.in_err-run_kept_place.field-0.0 = c.in_err-run_kept_place.was in
+    let refused : c.run_kept_place.result ≡ Err (Illegal number) = cc (fault.1, fault.2, was, is) in
+    stuck_kept c.args.binds.now calls places i _ number c.loop-place-test.true c.loop-place.replay kept stands (c.run_kept_place.ensures.illegal number refused (kept ++ steps_of calls (take i places)) stands)
 
 pub returns-clause-ok : goal.returns-clause-ok
 returns-clause-ok c = λ kept s.
     let all = take_all c.loop-place.place-index c.args.places.now c.loop-place-test.false in
-    subst (λ (ps : List Place). Stands c.args.binds.now c.loop-place.replay (kept ++ steps_of c.args.calls.now ps) []) all (c.loop-place.invariant kept s)
+    subst (λ (ps : List Place). Stands c.args.binds.now c.loop-place.replay (kept ++ steps_of c.args.history.now.calls ps) []) all (c.loop-place.invariant kept s)

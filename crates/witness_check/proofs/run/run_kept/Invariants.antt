@@ -9,4 +9,4 @@ use Rattle.witness_check.proofs.run.run_kept.Given as goal
 -- the places so far are kept
 abbrev pub invariant-loop-place : goal.invariant-loop-place
 invariant-loop-place l =
-    (kept : List (Taken NfsCall Outcome)) → Stands l.binds l.initial.replay kept [] → Stands l.binds l.replay (kept ++ steps_of l.calls (take l.place-index l.places)) []
+    (kept : List (Taken NfsCall Outcome)) → Stands l.binds l.initial.replay kept [] → Stands l.binds l.replay (kept ++ steps_of l.history.calls (take l.place-index l.places)) []

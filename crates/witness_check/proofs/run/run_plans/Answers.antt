@@ -25,7 +25,7 @@ loop-era-init c = record {
 pub loop-era-preserved : goal.loop-era-preserved
 loop-era-preserved c =
     let next = next_tree c.args.binds.now in
-    let calls = c.args.calls.now in
+    let calls = c.args.history.now.calls in
     let era = c.era-item.result in
     let so_far = map (era_of calls) (take c.loop-era.era-index c.args.eras.now) in
     let more = map_more (era_of calls) c.args.eras.now c.loop-era.era-index era c.loop-era-test.true c.era-item.is in
@@ -41,7 +41,7 @@ loop-era-preserved c =
 
 pub returns-in_err-replay-2-clause-illegal : goal.returns-in_err-replay-2-clause-illegal
 returns-in_err-replay-2-clause-illegal c = λ number is.
-    let calls = c.args.calls.now in
+    let calls = c.args.history.now.calls in
     let i = c.loop-era.era-index in
     let era = c.era-item.result in
     let stands = c.loop-era.invariant.stands in
@@ -62,4 +62,4 @@ returns-in_err-replay-2-clause-illegal c = λ number is.
 pub returns-clause-ok : goal.returns-clause-ok
 returns-clause-ok c =
     let next = next_tree c.args.binds.now in
-    subst (λ (eras : List EraPlan). EveryEraRuns next opening (map (era_of c.args.calls.now) eras)) (take_all c.loop-era.era-index c.args.eras.now c.loop-era-test.false) c.loop-era.invariant.run
+    subst (λ (eras : List EraPlan). EveryEraRuns next opening (map (era_of c.args.history.now.calls) eras)) (take_all c.loop-era.era-index c.args.eras.now c.loop-era-test.false) c.loop-era.invariant.run

@@ -10,6 +10,6 @@ use Rattle.witness_check.proofs.run.run_plans.Given as goal
 abbrev pub invariant-loop-era : goal.invariant-loop-era
 invariant-loop-era l =
     record {
-      stands : Stands l.binds l.replay (kept_steps (map (era_of l.calls) (take l.era-index l.eras))) [];
-      run : EveryEraRuns (next_tree l.binds) opening (map (era_of l.calls) (take l.era-index l.eras));
+      stands : Stands l.binds l.replay (kept_steps (map (era_of l.history.calls) (take l.era-index l.eras))) [];
+      run : EveryEraRuns (next_tree l.binds) opening (map (era_of l.history.calls) (take l.era-index l.eras));
     }
