@@ -1,6 +1,7 @@
 //! Calls and the replies that answer them.
 
-ghost use Rattle.std.specs.Prelude.{◌≡◌, IfOk, map, reverse};
+ghost use Rattle.std.specs.Prelude.{◌≡◌, [], IfOk, map, reverse};
+ghost use Rattle.nfs_history.specs.Standing.{EachMayFollow};
 ghost use Rattle.nfs_history.specs.Calls.{xid_of, calls_of, eras_from};
 ghost use Rattle.nfs_history.specs.Matching.{seen_call};
 ghost use Rattle.nfs_history.specs.Checking.{is_crash};
@@ -71,14 +72,15 @@ pub fn count_eras(events: &[SeenEvent<'_>]) -> u64
 }
 
 /// The calls among the events of so many eras, the last one first, each with the first reply behind it on its lane that has
-/// its transaction number. It goes from the last event to the first, so that a call finds its reply met; the era goes down
-/// by one at each crash.
+/// its transaction number. It goes from the last event to the first, so that a call finds its reply met, and takes it; the era
+/// goes down by one at each crash.
 pub fn matched_calls<'a>(
     alloc: Global,
     events: &[SeenEvent<'a>],
     eras: u64,
 ) -> Result<Vec<SeenCall<'a>>, AllocError>
-    requires { eras ≡ eras_from 1 (all_seen events.now) }
+    requires count { eras ≡ eras_from 1 (all_seen events.now) }
+    requires follow { EachMayFollow [] (all_seen events.now) }
     ensures { IfOk result (λ v. map seen_call (reverse v.items) ≡ calls_of (all_seen events.now)) }
 {
     let mut replies: IndexMap<(u32, u32), SeenReply<'a>> = IndexMap::new(alloc);
@@ -89,7 +91,7 @@ pub fn matched_calls<'a>(
         match events[index] {
             SeenEvent::Call { lane, message } => {
                 let xid = transaction(message);
-                let answer = replies.get(&(lane, xid)).copied();
+                let answer = replies.swap_remove(&(lane, xid));
                 calls.push(SeenCall {
                     lane,
                     message,
