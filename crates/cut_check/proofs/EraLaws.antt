@@ -43,7 +43,7 @@ module _ (binds : Bindings) (calls : List RecordedCall) (eras : List EraPlan) (n
             subst (KeepsStable binds calls) is (λ position past. last.last position (omega arith))
       ]
 
-pub keeps_along : (binds binds' : Bindings) (calls calls' : List RecordedCall) (eras eras' : List EraPlan) → binds ≡ binds' → calls ≡ calls' → eras ≡ eras'
-    → CutsKeepStable binds calls eras → CutsKeepStable binds' calls' eras'
-keeps_along binds binds' calls calls' eras eras' a b c keeps =
-    subst (λ x. CutsKeepStable x calls' eras') a (subst (λ x. CutsKeepStable binds x eras') b (subst (λ x. CutsKeepStable binds calls x) c keeps))
+pub keeps_along : (binds binds' : Bindings) (calls : List RecordedCall) (eras eras' : List EraPlan) → binds ≡ binds' → eras ≡ eras'
+    → CutsKeepStable binds calls eras → CutsKeepStable binds' calls eras'
+keeps_along binds binds' calls eras eras' a b keeps =
+    subst (λ x. CutsKeepStable x calls eras') a (subst (λ x. CutsKeepStable binds calls x) b keeps)

@@ -77,6 +77,22 @@ adds_none calls set = record {
 pub shown_none : (calls : List RecordedCall) → IsShown calls [] shown.Nothing
 shown_none calls = λ v s. no_place calls v s
 
+-- what a set has, by what places show
+module _ (calls : List RecordedCall) (places : List Place) (set : BTreeSet ℕ) where
+  pub adds_nothing : IsShown calls places shown.Nothing → AddsShown calls places set set
+  adds_nothing none = record {
+    kept = λ v has. has;
+    added = λ v s. absurd (none v s);
+    only = λ v has. inl has;
+  }
+
+  pub adds_one : (new : BTreeSet ℕ) (one : ℕ) → IsShown calls places (shown.One one) → AddsSeen (Some one) set new → AddsShown calls places set new
+  adds_one new one shows sees = record {
+    kept = sees.kept;
+    added = λ v s. sees.added v (ap Some (sym (shows.1 v s)));
+    only = λ v has. elim (sees.only v has) [ inl before ↦ inl before | inr e ↦ inr (subst (Shows calls places) (same_Some one v e) shows.0) ];
+  }
+
 -- when an era is at fault, by what it shows
 module _ (calls : List RecordedCall) (era : EraPlan) (set : BTreeSet ℕ) where
   pub silent_fine : IsShown calls era.places shown.Nothing → IsAtFaultWith calls era set → ⊥

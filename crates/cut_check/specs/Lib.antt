@@ -4,6 +4,7 @@ pub mod Boundaries
 pub mod LastWrites
 pub mod Stability
 pub mod Places
+pub mod Procedures
 pub mod Cut
 pub mod ShortCut
 pub mod Verifier

@@ -10,25 +10,26 @@ ghost use Rattle.cut_check.specs.ShortCut.{IsShortCut};
 ghost use Rattle.cut_check.specs.FaultNamed.{HasNoCutFault};
 
 use crate::fault::CutFault;
-use crate::places::{bindings_of_plan, calls_of, cut_of, effect_at};
+use crate::places::{bindings_of_plan, cut_of, effect_at};
 use crate::stability::Stability;
 use certificate::{Certificate, EraPlan, Place};
-use nfs_history::{KnownCalls, RecordedCall};
+use nfs_history::KnownCalls;
 use std::alloc::{AllocError, Global};
 use tree_handles::Binds;
 
 /// The position of the last stable place of an era, or 0.
 fn last_stable(
     alloc: Global,
-    calls: &[RecordedCall],
+    history: &KnownCalls<'_>,
     binds: &Binds,
     places: &[Place],
 ) -> Result<u64, AllocError>
-    ensures { IfOk result (λ needed. IsLastStable (effects_of binds.now calls.now places.now) needed) }
+    ensures { IfOk result (λ needed. IsLastStable (effects_of binds.now history.now.calls places.now) needed) }
 {
     let mut stability = Stability::new(alloc);
     for place in places {
-        stability.note_effect(effect_at(calls, binds, *place))?;
+        let effect = effect_at(alloc, history, binds, *place)?;
+        stability.note_effect(effect)?;
     }
     Ok(stability.needed())
 }
@@ -36,16 +37,16 @@ fn last_stable(
 /// The first era whose cut is short, and the position that it should have kept.
 fn first_short_cut(
     alloc: Global,
-    calls: &[RecordedCall],
+    history: &KnownCalls<'_>,
     binds: &Binds,
     eras: &[EraPlan],
 ) -> Result<Option<(u64, u64)>, AllocError>
-    ensures { IfOk result (λ found. MatchOption found (CutsKeepStable binds.now calls.now eras.now)
-        (λ short. IsShortCut binds.now calls.now eras.now short.0 short.1)) }
+    ensures { IfOk result (λ found. MatchOption found (CutsKeepStable binds.now history.now.calls eras.now)
+        (λ short. IsShortCut binds.now history.now.calls eras.now short.0 short.1)) }
 {
     for number in 1..eras.len() {
         let era = &eras[number - 1];
-        let needed = last_stable(alloc, calls, binds, era.places.as_slice())?;
+        let needed = last_stable(alloc, history, binds, era.places.as_slice())?;
         if cut_of(era) < needed {
             return Ok(Some((number as u64, needed)));
         }
@@ -56,7 +57,7 @@ fn first_short_cut(
 /// Whether each cut keeps the stable places of its era.
 pub fn check_cuts(
     alloc: Global,
-    history: &KnownCalls,
+    history: &KnownCalls<'_>,
     certificate: &Certificate,
 ) -> Result<(), CutFault>
     ensures ok { OnOk result (CutsKeepStable (bindings_of history.now.root certificate.now.binds) history.now.calls certificate.now.eras) }
@@ -69,9 +70,8 @@ pub fn check_cuts(
     ensures named { (e needed : ℕ) → IsShortCut (bindings_of history.now.root certificate.now.binds) history.now.calls certificate.now.eras e needed
         → (result ≡ Err (CutFault.ShortCut e needed)) ⊎ (result ≡ Err CutFault.NoMemory) }
 {
-    let calls = calls_of(history);
     let binds = bindings_of_plan(alloc, history, certificate)?;
-    match first_short_cut(alloc, calls, &binds, certificate.eras.as_slice())? {
+    match first_short_cut(alloc, history, &binds, certificate.eras.as_slice())? {
         Some((era, needed)) => Err(CutFault::ShortCut(era, needed)),
         None => Ok(()),
     }

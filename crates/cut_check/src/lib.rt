@@ -8,6 +8,7 @@ mod fault;
 mod last_writes;
 mod laws;
 mod places;
+mod procedures;
 mod stability;
 mod verifier;
 

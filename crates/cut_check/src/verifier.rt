@@ -1,8 +1,10 @@
 //! Whether the write verifiers of a plan's eras agree.
 
-ghost use Rattle.std.specs.Prelude.{◌≡◌, ◌↔◌, ◌⊎◌, ℕ, Err, IsTrue, IfOk, OnOk, MatchOption};
+ghost use Rattle.std.specs.Prelude.{◌≡◌, ◌↔◌, ◌⊎◌, ℕ, Err, IsTrue, false, IfOk, OnOk, MatchOption, option_and_then};
 ghost use Rattle.std.specs.List.{list_any};
+ghost use Rattle.std.specs.Option.{option_map_or};
 ghost use Rattle.cut_check.specs.declared.fault.VerifierFault.{VerifierFault};
+ghost use Rattle.cut_check.specs.Places.{answered_with};
 ghost use Rattle.cut_check.specs.Verifier.{verifier_of, writes_bytes, verifier_at, writes_bytes_at, loses_write, VerifiersAgree};
 ghost use Rattle.cut_check.specs.VerifierFault.{IsVerifierFault};
 ghost use Rattle.cut_check.specs.Shown.{IsShown, IsShownWith, AddsSeen, AddsShown, IsAtFaultWith};
@@ -10,7 +12,8 @@ ghost use Rattle.cut_check.specs.FaultNamed.{HasNoVerifierFault};
 
 use crate::effect::{commit_success, write_success};
 use crate::fault::VerifierFault;
-use crate::places::{answered_at, calls_of, cut_of};
+use crate::places::{answered, cut_of, procedure_at, recorded_at};
+use crate::procedures::{may_show_verifier, may_write};
 use certificate::{Certificate, EraPlan, Place};
 use nfs_history::{KnownCalls, RecordedCall};
 use nfs3_types::{NfsCall, Outcome};
@@ -55,21 +58,61 @@ fn writes_bytes(call: &NfsCall, outcome: &Outcome) -> bool
     }
 }
 
-/// The verifier that a place shows.
-fn verifier_at(calls: &[RecordedCall], place: Place) -> Option<u64>
-    ensures { result ≡ verifier_at calls.now place }
+/// The verifier that a call shows that was read.
+fn verifier_in(recorded: &RecordedCall) -> Option<u64>
+    ensures { result ≡ option_and_then (λ a. verifier_of a.0 a.1) (answered_with recorded.now.meaning recorded.now.outcome) }
 {
-    let (call, outcome) = answered_at(calls, place)?;
+    let (call, outcome) = answered(recorded)?;
     verifier_of(call, outcome)
 }
 
-/// Whether a place wrote at least one byte.
-fn writes_bytes_at(calls: &[RecordedCall], place: Place) -> bool
-    ensures { result ≡ writes_bytes_at calls.now place }
+/// Whether a call that was read wrote at least one byte.
+fn writes_bytes_in(recorded: &RecordedCall) -> bool
+    ensures { result ≡ option_map_or (λ a. writes_bytes a.0 a.1) (answered_with recorded.now.meaning recorded.now.outcome) false }
 {
-    match answered_at(calls, place) {
+    match answered(recorded) {
         Some((call, outcome)) => writes_bytes(call, outcome),
         None => false,
+    }
+}
+
+/// The verifier that a place shows. A call that can show none isn't read.
+fn verifier_at(
+    alloc: Global,
+    history: &KnownCalls<'_>,
+    place: Place,
+) -> Result<Option<u64>, AllocError>
+    ensures { IfOk result (λ seen. seen ≡ verifier_at history.now.calls place) }
+{
+    let Some(procedure) = procedure_at(history, place) else {
+        return Ok(None);
+    };
+    if !may_show_verifier(procedure) {
+        return Ok(None);
+    }
+    match recorded_at(alloc, history, place)? {
+        Some(recorded) => Ok(verifier_in(&recorded)),
+        None => Ok(None),
+    }
+}
+
+/// Whether a place wrote at least one byte. A call that can't have isn't read.
+fn writes_bytes_at(
+    alloc: Global,
+    history: &KnownCalls<'_>,
+    place: Place,
+) -> Result<bool, AllocError>
+    ensures { IfOk result (λ writes. writes ≡ writes_bytes_at history.now.calls place) }
+{
+    let Some(procedure) = procedure_at(history, place) else {
+        return Ok(false);
+    };
+    if !may_write(procedure) {
+        return Ok(false);
+    }
+    match recorded_at(alloc, history, place)? {
+        Some(recorded) => Ok(writes_bytes_in(&recorded)),
+        None => Ok(false),
     }
 }
 
@@ -94,33 +137,39 @@ fn shown_with(so_far: Shown, seen: Option<u64>) -> Shown
 }
 
 /// What places show.
-fn shown_of(calls: &[RecordedCall], places: &[Place]) -> Shown
-    ensures { IsShown calls.now places.now result }
+fn shown_of(alloc: Global, history: &KnownCalls<'_>, places: &[Place]) -> Result<Shown, AllocError>
+    ensures { IfOk result (IsShown history.now.calls places.now) }
 {
     let mut shown = Shown::Nothing;
     for place in places {
-        shown = shown_with(shown, verifier_at(calls, *place));
+        let seen = verifier_at(alloc, history, *place)?;
+        shown = shown_with(shown, seen);
     }
-    shown
+    Ok(shown)
 }
 
 /// Whether some place wrote at least one byte.
-fn any_writes(calls: &[RecordedCall], places: &[Place]) -> bool
-    ensures { result ≡ list_any (writes_bytes_at calls.now) places.now }
+fn any_writes(alloc: Global, history: &KnownCalls<'_>, places: &[Place]) -> Result<bool, AllocError>
+    ensures { IfOk result (λ any. any ≡ list_any (writes_bytes_at history.now.calls) places.now) }
 {
-    places.iter().any(|place| writes_bytes_at(calls, *place))
+    for place in places {
+        if writes_bytes_at(alloc, history, *place)? {
+            return Ok(true);
+        }
+    }
+    Ok(false)
 }
 
 /// Whether a place past an era's cut wrote at least one byte.
-fn loses_write(calls: &[RecordedCall], era: &EraPlan) -> bool
-    ensures { result ≡ loses_write calls.now era.now }
+fn loses_write(alloc: Global, history: &KnownCalls<'_>, era: &EraPlan) -> Result<bool, AllocError>
+    ensures { IfOk result (λ loses. loses ≡ loses_write history.now.calls era.now) }
 {
     let places = era.places.as_slice();
     let cut = cut_of(era) as usize;
     if places.len() <= cut {
-        return false;
+        return Ok(false);
     }
-    any_writes(calls, &places[cut..])
+    any_writes(alloc, history, &places[cut..])
 }
 
 /// Adds to a set the verifier that a place shows, if any.
@@ -133,47 +182,83 @@ fn add_seen(set: &mut BTreeSet<u64>, seen: Option<u64>) -> Result<(), AllocError
     Ok(())
 }
 
-/// Adds to a set the verifiers that places show.
-fn add_shown(
+/// Adds to a set the verifiers that places show, where they show several.
+fn add_each(
+    alloc: Global,
     set: &mut BTreeSet<u64>,
-    calls: &[RecordedCall],
+    history: &KnownCalls<'_>,
     places: &[Place],
 ) -> Result<(), AllocError>
-    ensures { IfOk result (λ _. AddsShown calls.now places.now set.old set.new) }
+    ensures { IfOk result (λ _. AddsShown history.now.calls places.now set.old set.new) }
 {
     for place in places {
-        add_seen(set, verifier_at(calls, *place))?;
+        let seen = verifier_at(alloc, history, *place)?;
+        add_seen(set, seen)?;
     }
     Ok(())
 }
 
-/// Whether an era is at fault, where the set has the verifiers that later eras show.
-fn is_at_fault(calls: &[RecordedCall], era: &EraPlan, later: &BTreeSet<u64>) -> bool
-    ensures { IsTrue result ↔ IsAtFaultWith calls.now era.now later.now }
+/// Adds to a set the verifiers that places show. They are gone through again where they show several.
+fn add_shown(
+    alloc: Global,
+    set: &mut BTreeSet<u64>,
+    history: &KnownCalls<'_>,
+    places: &[Place],
+    shown: Shown,
+) -> Result<(), AllocError>
+    requires { IsShown history.now.calls places.now shown }
+    ensures { IfOk result (λ _. AddsShown history.now.calls places.now set.old set.new) }
 {
-    match shown_of(calls, era.places.as_slice()) {
-        Shown::Nothing => false,
-        Shown::One(verifier) => later.contains(&verifier) && loses_write(calls, era),
-        Shown::Several => true,
+    match shown {
+        Shown::Nothing => Ok(()),
+        Shown::One(verifier) => add_seen(set, Some(verifier)),
+        Shown::Several => add_each(alloc, set, history, places),
+    }
+}
+
+/// Whether an era is at fault that shows this, where the set has the verifiers that later eras show.
+fn is_at_fault(
+    alloc: Global,
+    history: &KnownCalls<'_>,
+    era: &EraPlan,
+    shown: Shown,
+    later: &BTreeSet<u64>,
+) -> Result<bool, AllocError>
+    requires { IsShown history.now.calls era.now.places shown }
+    ensures { IfOk result (λ fault. IsTrue fault ↔ IsAtFaultWith history.now.calls era.now later.now) }
+{
+    match shown {
+        Shown::Nothing => Ok(false),
+        Shown::One(verifier) => {
+            if later.contains(&verifier) {
+                loses_write(alloc, history, era)
+            } else {
+                Ok(false)
+            }
+        }
+        Shown::Several => Ok(true),
     }
 }
 
 /// The first era at fault.
 fn first_at_fault(
     alloc: Global,
-    calls: &[RecordedCall],
+    history: &KnownCalls<'_>,
     eras: &[EraPlan],
 ) -> Result<Option<u64>, AllocError>
-    ensures { IfOk result (λ found. MatchOption found (VerifiersAgree calls.now eras.now) (IsVerifierFault calls.now eras.now)) }
+    ensures { IfOk result (λ found. MatchOption found (VerifiersAgree history.now.calls eras.now)
+        (IsVerifierFault history.now.calls eras.now)) }
 {
     let mut later = BTreeSet::new(alloc);
     let mut found = None;
     for index in (0..eras.len()).rev() {
         let era = &eras[index];
-        if is_at_fault(calls, era, &later) {
+        let places = era.places.as_slice();
+        let shown = shown_of(alloc, history, places)?;
+        if is_at_fault(alloc, history, era, shown, &later)? {
             found = Some(index as u64 + 1);
         }
-        add_shown(&mut later, calls, era.places.as_slice())?;
+        add_shown(alloc, &mut later, history, places, shown)?;
     }
     Ok(found)
 }
@@ -181,7 +266,7 @@ fn first_at_fault(
 /// Whether each era shows one write verifier, and none that an era ahead of it had when it lost a WRITE.
 pub fn check_verifiers(
     alloc: Global,
-    history: &KnownCalls,
+    history: &KnownCalls<'_>,
     certificate: &Certificate,
 ) -> Result<(), VerifierFault>
     ensures ok { OnOk result (VerifiersAgree history.now.calls certificate.now.eras) }
@@ -192,7 +277,7 @@ pub fn check_verifiers(
     ensures named { (e : ℕ) → IsVerifierFault history.now.calls certificate.now.eras e
         → (result ≡ Err (VerifierFault.Verifier e)) ⊎ (result ≡ Err VerifierFault.NoMemory) }
 {
-    match first_at_fault(alloc, calls_of(history), certificate.eras.as_slice())? {
+    match first_at_fault(alloc, history, certificate.eras.as_slice())? {
         Some(era) => Err(VerifierFault::Verifier(era)),
         None => Ok(()),
     }

@@ -13,8 +13,8 @@ returns-then-cut_of-needed c =
     let needed = c.in_ok-needed.needed in
     let back : (number - 1) + 1 ≡ number = omega arith in
     let here : era_at eras number ≡ Some era = subst (λ n. era_at eras n ≡ Some era) back (era_there eras (number - 1) era (omega arith) c.index-eras-number.is) in
-    let last = subst (λ places. IsLastStable (effects_of c.args.binds.now c.args.calls.now places) needed) c.as_slice.ensures c.in_ok-needed.ensures in
-    short_here c.args.binds.now c.args.calls.now eras number needed era here last c.loop-number.invariant (omega arith) (let e = c.cut_of.ensures in omega arith)
+    let last = subst (λ places. IsLastStable (effects_of c.args.binds.now c.args.history.now.calls places) needed) c.as_slice.ensures c.in_ok-needed.ensures in
+    short_here c.args.binds.now c.args.history.now.calls eras number needed era here last c.loop-number.invariant (omega arith) (let e = c.cut_of.ensures in omega arith)
 
 pub loop-number-preserved : goal.loop-number-preserved
 loop-number-preserved c =
@@ -24,8 +24,8 @@ loop-number-preserved c =
     let needed = c.in_ok-needed.needed in
     let back : (number - 1) + 1 ≡ number = omega arith in
     let here : era_at eras number ≡ Some era = subst (λ n. era_at eras n ≡ Some era) back (era_there eras (number - 1) era (omega arith) c.index-eras-number.is) in
-    let last = subst (λ places. IsLastStable (effects_of c.args.binds.now c.args.calls.now places) needed) c.as_slice.ensures c.in_ok-needed.ensures in
-    keeps_one_more c.args.binds.now c.args.calls.now eras number needed era here last c.loop-number.invariant (let e = c.cut_of.ensures in omega arith)
+    let last = subst (λ places. IsLastStable (effects_of c.args.binds.now c.args.history.now.calls places) needed) c.as_slice.ensures c.in_ok-needed.ensures in
+    keeps_one_more c.args.binds.now c.args.history.now.calls eras number needed era here last c.loop-number.invariant (let e = c.cut_of.ensures in omega arith)
 
 pub returns : goal.returns
 returns c = λ e era there before. c.loop-number.invariant e era there (omega arith)

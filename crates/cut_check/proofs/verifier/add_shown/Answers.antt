@@ -1,14 +1,23 @@
-use Rattle.std.proofs.Common.{take, sym, subst}
-use Rattle.std.proofs.lemmas.List.{take_more}
-use Rattle.cut_check.specs.Shown.{AddsSeen, AddsShown}
-use Rattle.cut_check.proofs.ShownLaws.{adds_more}
+-- By what the places show.
+use Rattle.std.proofs.Common.{Some, subst}
+use Rattle.std.proofs.lemmas.Result.{IfOk-weaker}
+use Rattle.cut_check.specs.Shown.{IsShown, AddsSeen, AddsShown}
+use Rattle.cut_check.specs.declared.verifier.Shown.TheVariants as shown
+use Rattle.cut_check.proofs.ShownLaws.{adds_nothing, adds_one}
 use Rattle.cut_check.proofs.verifier.add_shown.Goals as goal
 
-pub loop-place-preserved : goal.loop-place-preserved
-loop-place-preserved c =
-    let calls = c.args.calls.now in
+pub returns-in-Nothing : goal.returns-in-Nothing
+returns-in-Nothing c =
+    let calls = c.args.history.now.calls in
     let places = c.args.places.now in
-    let i = c.loop-place.place-index in
-    let sees = subst (λ seen. AddsSeen seen c.loop-place.set c.add_seen.new.set) c.verifier_at.ensures c.in_ok-add_seen.ensures in
-    let more = adds_more calls (take i places) _ c.args.set.now c.loop-place.set c.add_seen.new.set c.loop-place.invariant sees in
-    subst (λ ps. AddsShown calls ps c.args.set.now c.add_seen.new.set) (sym (take_more places i _ c.loop-place-test.true)) more
+    adds_nothing calls places c.args.set.now (subst (IsShown calls places) c.in-Nothing.is c.requires)
+
+pub returns-in-One : goal.returns-in-One
+returns-in-One c =
+    let calls = c.args.history.now.calls in
+    let places = c.args.places.now in
+    let old = c.args.set.now in
+    let new = c.add_seen.new.set in
+    let one = c.in-One.verifier in
+    let shows : IsShown calls places (shown.One one) = subst (IsShown calls places) c.in-One.is c.requires in
+    IfOk-weaker c.add_seen.result (λ _. AddsSeen (Some one) old new) (λ _. AddsShown calls places old new) (λ _ sees. adds_one calls places old new one shows sees) c.add_seen.ensures
