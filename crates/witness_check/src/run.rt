@@ -262,11 +262,7 @@ fn run_plans(
 }
 
 /// Whether every era of a plan runs.
-pub fn run_plan(
-    alloc: Global,
-    history: &KnownCalls<'_>,
-    plan: &Certificate,
-) -> Result<(), RunFault>
+pub fn run_plan(alloc: Global, history: &KnownCalls<'_>, plan: &Certificate) -> Result<(), RunFault>
     ensures ok { OnOk result (Runs history.now plan.now) }
     ensures illegal { (number : ℕ) → result ≡ Err (RunFault.Illegal number)
         → IsFirstIllegalInEras (next_of history.now plan.now) opening (eras_of history.now plan.now) number }

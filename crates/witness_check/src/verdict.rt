@@ -94,7 +94,7 @@ fn verdict_on(
     read: Result<KnownCalls<'_>, HistoryFault>,
     certificate: &[u8],
 ) -> Result<FileVerdict, AllocError>
-    ensures { (file : List ℕ) → IfOk read (IsCallsFile file) → IsErrorOf (FirstFault file) read
+    ensures { (file : List ℕ) → IfOk read.entry (IsCallsFile file) → IsErrorOf (FirstFault file) read.entry
         → IfOk result (IsFileVerdict file certificate.now) }
 {
     let history = match read {

@@ -10,20 +10,20 @@ use Rattle.witness_check.proofs.run.run_lost_step.Goals as goal
 
 pub returns-in_default-clause-ok : goal.returns-in_default-clause-ok
 returns-in_default-clause-ok c = λ kept lost s.
-    let none : option_map found_step c.args.step.now ≡ None = sym c.in_default.ensures in
+    let none : option_map found_step c.args.step.now ≡ None = ap (option_map found_step) c.in_default.is in
     subst (λ (xs : List (Taken NfsCall Outcome)). Stands c.args.binds.now c.args.replay.now kept xs) (sym (no_step c.args.binds.now [] (option_map found_step c.args.step.now) lost none)) s
 
 pub returns-in-Ok-clause-ok : goal.returns-in-Ok-clause-ok
 returns-in-Ok-clause-ok c = λ kept lost s.
     let found = c.in-Some.found in
-    let some : option_map found_step c.args.step.now ≡ Some (found_step found) = sym c.in-Some.ensures in
+    let some : option_map found_step c.args.step.now ≡ Some (found_step found) = ap (option_map found_step) c.in-Some.is in
     subst (λ (xs : List (Taken NfsCall Outcome)). Stands c.args.binds.now c.step_lost.new.self kept xs) (sym (one_step c.args.binds.now [] (option_map found_step c.args.step.now) (found_step found) lost some))
     (c.in-Ok.ensures.ok kept lost s)
 
 pub returns-in-Err-NotAllowed-clause-illegal : goal.returns-in-Err-NotAllowed-clause-illegal
 returns-in-Err-NotAllowed-clause-illegal c = λ number is kept lost s.
     let found = c.in-Some.found in
-    let some : option_map found_step c.args.step.now ≡ Some (found_step found) = sym c.in-Some.ensures in
+    let some : option_map found_step c.args.step.now ≡ Some (found_step found) = ap (option_map found_step) c.in-Some.is in
     let named : found.number ≡ number = cc in
     is_stuck c.args.binds.now [] (option_map found_step c.args.step.now) (found_step found) (kept ++ lost) number some named
     (c.in-Err-NotAllowed.ensures.not_allowed (cc) kept lost s)

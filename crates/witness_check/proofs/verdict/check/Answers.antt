@@ -14,4 +14,4 @@ the_only history plan (Ok given) is verdict other = one_verdict history plan giv
 the_only history plan (Err none) is verdict other = tt
 
 pub returns-clause-only : goal.returns-clause-only
-returns-clause-only c = the_only c.args.history.now.known c.args.certificate.now c.verdict_of.result (rw c.known.ensures at c.verdict_of.ensures)
+returns-clause-only c = the_only c.args.history.now.known c.args.certificate.now c.verdict_of.result (rw c.in_ok-known.ensures at c.verdict_of.ensures)
