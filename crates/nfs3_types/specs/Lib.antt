@@ -1,2 +1,3 @@
 pub mod Procedures
 pub mod Limits
+pub mod Short

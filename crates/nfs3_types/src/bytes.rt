@@ -2,6 +2,7 @@
 
 ghost use Rattle.std.specs.Prelude.{◌≡◌, ◌≤◌, ◌<◌, ◌^◌, IfOk, length};
 
+use crate::short::ShortBytes;
 use std::alloc::{AllocError, Global};
 use std::marker::Model;
 
@@ -14,7 +15,7 @@ pub const FILE_LIMIT: u64 = 16_777_216;
 /// A file handle, `nfs_fh3`: at most 64 bytes that only the server understands.
 #[derive(Drop)]
 pub struct FileHandle {
-    bytes: Vec<u8>,
+    bytes: ShortBytes,
 }
 
 impl Model for FileHandle {
@@ -22,9 +23,9 @@ impl Model for FileHandle {
 
     ghost Value = { List ℕ };
 
-    ghost view = { λ h. h.bytes.items };
+    ghost view = { λ h. h.bytes };
 
-    ghost invariant = { λ h. length h.bytes.items ≤ 64 };
+    ghost invariant = { λ h. length h.bytes ≤ 64 };
 }
 
 impl FileHandle {
@@ -34,7 +35,7 @@ impl FileHandle {
         ensures { IfOk result (λ h. h ≡ bytes.now) }
     {
         Ok(FileHandle {
-            bytes: Vec::from_slice(alloc, bytes)?,
+            bytes: ShortBytes::from_slice(alloc, bytes)?,
         })
     }
 
@@ -50,7 +51,7 @@ impl FileHandle {
 /// A name in a directory, `filename3`: below 2^32 bytes, with no rule on which.
 #[derive(Drop)]
 pub struct Name {
-    text: Vec<u8>,
+    text: ShortBytes,
 }
 
 impl Model for Name {
@@ -58,9 +59,9 @@ impl Model for Name {
 
     ghost Value = { List ℕ };
 
-    ghost view = { λ n. n.text.items };
+    ghost view = { λ n. n.text };
 
-    ghost invariant = { λ n. length n.text.items < 2 ^ 32 };
+    ghost invariant = { λ n. length n.text < 2 ^ 32 };
 }
 
 impl Name {
@@ -70,7 +71,7 @@ impl Name {
         ensures { IfOk result (λ n. n ≡ bytes.now) }
     {
         Ok(Name {
-            text: Vec::from_slice(alloc, bytes)?,
+            text: ShortBytes::from_slice(alloc, bytes)?,
         })
     }
 
@@ -159,7 +160,9 @@ impl Clone for FileHandle {
     ghost is_clone = { λ x y. y ≡ x };
 
     fn clone(&self) -> Result<FileHandle, AllocError> {
-        FileHandle::from_slice(*self.bytes.allocator(), self.as_slice())
+        Ok(FileHandle {
+            bytes: self.bytes.clone()?,
+        })
     }
 }
 
@@ -167,7 +170,9 @@ impl Clone for Name {
     ghost is_clone = { λ x y. y ≡ x };
 
     fn clone(&self) -> Result<Name, AllocError> {
-        Name::from_slice(*self.text.allocator(), self.as_slice())
+        Ok(Name {
+            text: self.text.clone()?,
+        })
     }
 }
 

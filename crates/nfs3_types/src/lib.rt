@@ -9,6 +9,7 @@ mod entries;
 mod held;
 mod procedures;
 mod replies;
+mod short;
 mod status;
 
 pub use attributes::{
