@@ -166,8 +166,8 @@ impl Model for History {
     ghost invariant = { λ h. IsHistory (recording_of (value_of h)) (value_of h) };
 }
 
-/// Call n of a history's calls, from 1 on.
-fn find_call(calls: &[RecordedCall], number: u64) -> Option<&RecordedCall>
+/// Call n of a list of calls, from 1 on, where there is one.
+pub fn find_call(calls: &[RecordedCall], number: u64) -> Option<&RecordedCall>
     ensures { option_copied result ≡ call_at calls.now number }
 {
     if number == 0 {

@@ -12,7 +12,7 @@ mod reading;
 
 pub use checking::OpenCalls;
 pub use fault::{CallFault, EventFault, HistoryFault, Which};
-pub use history::{CallKind, History, Meaning, RecordedCall};
+pub use history::{CallKind, History, Meaning, RecordedCall, find_call};
 pub use history_file::{Event, FileFault, Message, WriteFault, write_history};
 pub use knowing::KnownCalls;
 pub use laws::{
