@@ -136,7 +136,6 @@ met_crash k era before events table calls some matched =
       table_is = λ l x unanswered. matched.table_is l x (still_unanswered l x before crash tt unanswered);
     }
 
-
 -- the events behind the place i are matched, and those before it end in the era
 pub record IsMatchedTo (events : List SeenEvent) (i era : ℕ) (table : Table) (calls : List SeenCall) : Type 0 where
   pub matched : IsMatched (all_seen (take i events)) i era (all_seen (drop i events)) table calls

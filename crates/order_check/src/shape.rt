@@ -16,20 +16,14 @@ use nfs_history::KnownCalls;
 use std::alloc::{AllocError, Global};
 
 /// The first place that names no call.
-fn unknown<'a>(
-    history: &KnownCalls<'_>,
-    order: &'a [OrderedPlace],
-) -> Option<&'a OrderedPlace>
+fn unknown<'a>(history: &KnownCalls<'_>, order: &'a [OrderedPlace]) -> Option<&'a OrderedPlace>
     ensures { option_copied result ≡ failing (is_known history.now.calls) order.now }
 {
     order.iter().find(|place| !names_call(history, place))
 }
 
 /// The first place whose call is of another era.
-fn wrong_era<'a>(
-    history: &KnownCalls<'_>,
-    order: &'a [OrderedPlace],
-) -> Option<&'a OrderedPlace>
+fn wrong_era<'a>(history: &KnownCalls<'_>, order: &'a [OrderedPlace]) -> Option<&'a OrderedPlace>
     ensures { option_copied result ≡ failing (is_of_era history.now.calls) order.now }
 {
     order.iter().find(|place| !stands_in_era(history, place))
@@ -60,11 +54,7 @@ fn is_missing(history: &KnownCalls<'_>, named: &[bool], index: usize) -> bool
 }
 
 /// The first answered judged call that isn't named, where `named` tells of each call whether it is.
-fn missing(
-    history: &KnownCalls<'_>,
-    order: &[OrderedPlace],
-    named: &[bool],
-) -> Option<ShapeFault>
+fn missing(history: &KnownCalls<'_>, order: &[OrderedPlace], named: &[bool]) -> Option<ShapeFault>
     requires { Marks order.now named.now (length history.now.calls) }
     ensures { result ≡ missing_from 1 history.now.calls order.now }
 {
