@@ -1,12 +1,11 @@
 //! Words of the command line, on the system's own files.
 
 use crate::samples::EMPTY;
-use nfsbench_engine::run_words;
-use std::rt::Files;
+use nfsbench_engine::{Recorder, run_words};
 use std::test::Fail;
 
 /// Whether these words, with a bundle of no event on the input, get this text and this status.
-fn is_told<R: Files + AllocGlobal>(rt: &R, words: &[&str], text: &[u8], status: u8) -> bool {
+fn is_told<R: Recorder>(rt: &R, words: &[&str], text: &[u8], status: u8) -> bool {
     let Ok(bundle) = format!(in rt.alloc(); "{EMPTY}\nwitness 1\nend\n") else {
         return false;
     };

@@ -3,3 +3,4 @@ pub mod Fronts
 pub mod LowerHex
 pub mod Pieces
 pub mod Told
+mod Saved

@@ -1,3 +1,4 @@
 pub mod Bundle
 pub mod Report
 pub mod Streams
+pub mod Tap

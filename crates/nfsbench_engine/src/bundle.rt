@@ -51,7 +51,7 @@ fn are_lower_digits(text: &[u8]) -> bool
 }
 
 /// The bytes that the digits spell.
-fn decode_digits(alloc: Global, digits: &[u8]) -> Result<Vec<u8>, BundleFault>
+pub(crate) fn decode_digits(alloc: Global, digits: &[u8]) -> Result<Vec<u8>, BundleFault>
     ensures bytes { IfOk result (λ bytes. IsBytes bytes.items) }
     ensures spelled { IfOk result (λ bytes. digits.now ≡ encode_lower bytes.items) }
     ensures malformed { result ≡ Err BundleFault.Malformed

@@ -1,4 +1,5 @@
-//! The engine behind the program `nfsbench`: it judges a history and a certificate, from files or in one stream.
+//! The engine behind the program `nfsbench`: it judges a history and a certificate, from files or in one stream, and
+//! records histories.
 #![tactic(auto)]
 
 mod bundle;
@@ -8,12 +9,18 @@ mod input;
 mod output;
 mod process;
 mod reading;
+mod recorder;
 mod report;
+mod saving;
+mod tap;
+mod tap_end;
+mod tap_words;
 mod words;
 
 pub use engine::run_bundle;
 pub use input::{Input, READ_SIZE, Stream};
 pub use output::{Output, Sink};
 pub use process::run_process;
+pub use recorder::Recorder;
 pub use report::{Report, judge, judge_files, judge_read};
 pub use words::run_words;

@@ -57,7 +57,7 @@ impl<W: Write> Output for Sink<W> {
 }
 
 /// Writes a text piece by piece. A write that is interrupted is tried again.
-fn write_pieces<W: Write>(writer: &mut W, text: &[u8]) -> io::Result<()>
+pub(crate) fn write_pieces<W: Write>(writer: &mut W, text: &[u8]) -> io::Result<()>
     ensures whole { OnOk result (Appends (W.contents writer.old) (W.contents writer.new) text.now) }
     ensures front { AppendsFront (W.contents writer.old) (W.contents writer.new) text.now }
 {

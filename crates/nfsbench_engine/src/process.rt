@@ -3,18 +3,19 @@
 use crate::engine::{tell, tell_want_of_memory};
 use crate::input::Stream;
 use crate::output::Sink;
+use crate::recorder::Recorder;
 use crate::words::run_words;
 use std::env;
 use std::io::{self, ErrorKind};
 use std::process::ExitCode;
-use std::rt::{Env, Files};
+use std::rt::Env;
 
 fn words_of<R: Env + AllocGlobal>(rt: &R) -> io::Result<Vec<String>> {
     Ok(env::args(rt)?.collect(rt.alloc())?)
 }
 
 /// Does what the process's words ask for, on standard input and standard output, and gives its exit status.
-pub fn run_process<R: Env + Files + Input + Print + AllocGlobal>(rt: &R) -> ExitCode {
+pub fn run_process<R: Env + Input + Print + Recorder>(rt: &R) -> ExitCode {
     let mut output = Sink::new(io::writer(rt));
     let status = match words_of(rt) {
         Ok(words) => {

@@ -1,6 +1,6 @@
 //! What is said of a history and a certificate: a line and an exit status.
 
-ghost use Rattle.std.specs.Prelude.{◌≡◌, ◌++◌, ◌∷◌, [], ℕ, List, Some, codes, IfOk, IfSome, string_bytes};
+ghost use Rattle.std.specs.Prelude.{◌≡◌, ◌++◌, ◌∷◌, [], ℕ, List, Some, codes, decimal, IfOk, IfSome, string_bytes};
 ghost use Rattle.std.specs.Option.{option_copied};
 ghost use Rattle.nfsbench_engine.specs.Report.{IsRefusal, IsSaid, IsSaidOfFiles, IsSaidOfRead, refused_line};
 
@@ -48,6 +48,17 @@ impl Report {
         Ok(Report {
             status: 2,
             line: line_of(alloc, "refused: ", &reason)?,
+        })
+    }
+
+    /// That a history with so many calls was recorded.
+    pub(crate) fn recorded(alloc: Global, calls: usize) -> Result<Report, AllocError>
+        ensures status { IfOk result (λ report. report.status ≡ 0) }
+        ensures line { IfOk result (λ report. report.line ≡ codes "calls " ++ (decimal calls ++ 10 ∷ [])) }
+    {
+        Ok(Report {
+            status: 0,
+            line: line_of(alloc, "calls ", &calls)?,
         })
     }
 

@@ -1,6 +1,6 @@
 //! The command line.
 
-ghost use Rattle.std.specs.Prelude.{◌≡◌, ◌⊎◌, ◌<◌, ◌≤◌, ℕ, List, length, IfSome};
+ghost use Rattle.std.specs.Prelude.{◌≡◌, ◌⊎◌, ◌<◌, ◌≤◌, ℕ, List, length, IfSome, IfOk, IsOk, OnErr, Ok};
 ghost use Rattle.std.specs.Io.KnownBytes.{Appends};
 ghost use Rattle.nfsbench_engine.specs.Bundle.{IsAcceptedBundle, IsRefutedBundle};
 ghost use Rattle.nfsbench_engine.specs.Report.{IsSaid, MayTell, Tells, memory_line, no_line};
@@ -11,6 +11,9 @@ use crate::engine::{run_bundle, tell, tell_answer, tell_want_of_memory};
 use crate::files::check_paths;
 use crate::input::Input;
 use crate::output::Output;
+use crate::recorder::Recorder;
+use crate::tap::run_tap;
+use crate::tap_words::{TapRequest, tap_command, tap_request};
 use clap::error::ErrorKind;
 use clap::{Arg, Command};
 use std::alloc::{AllocError, Global};
@@ -18,7 +21,7 @@ use std::convert::AsStr;
 use std::rt::Files;
 
 /// What the words ask for.
-#[derive(Clone, Copy, PartialEq, Eq)]
+#[derive(Clone, Copy)]
 enum Request<'a> {
     /// The verdict on the bundle on the input.
     Bundle,
@@ -27,6 +30,8 @@ enum Request<'a> {
         history: &'a str,
         certificate: &'a str,
     },
+    /// A recording.
+    Tap(TapRequest<'a>),
 }
 
 /// The command line's grammar.
@@ -48,13 +53,21 @@ fn command<'a>(alloc: Global) -> Result<Command<'a>, AllocError> {
             "Judges histories of NFS version 3 servers. Without a command, reads a bundle from standard input.",
         )
         .disable_help_subcommand(true)
-        .subcommand(check)
+        .subcommand(check)?
+        .subcommand(tap_command(alloc)?)
 }
 
 /// What the words ask for, or the parser's text.
 fn read_words<'a, S: AsStr>(alloc: Global, words: &'a [S]) -> Result<Request<'a>, clap::Error> {
     let matches = command(alloc)?.try_get_matches_from(words)?;
     match matches.subcommand() {
+        Some(("tap", tap)) => match tap_request(tap) {
+            Some(request) => Ok(Request::Tap(request)),
+            None => {
+                let message = "the value of --host is no IP address";
+                Err(command(alloc)?.error(ErrorKind::ValueValidation, message)?)
+            }
+        },
         // The parser asks for both.
         Some((_, check)) => Ok(Request::Check {
             history: check.get_str("HISTORY").unwrap_or(""),
@@ -82,14 +95,63 @@ fn tell_parser<O: Output>(alloc: Global, output: &mut O, error: &clap::Error) ->
     }
 }
 
+/// Judges what the words of a command line ask for, as [`run_words`]; where they ask for a recording, that is handed
+/// back, and nothing is read or written.
+pub(crate) fn judge_words<'a, R: Files + AllocGlobal, S: AsStr, I: Input, O: Output>(
+    rt: &R,
+    words: &'a [S],
+    input: &mut I,
+    output: &mut O,
+) -> Result<u8, TapRequest<'a>>
+    // Without words, as `run_bundle`.
+    ensures bundle { length words.now ≤ 1 → IsOk result }
+    ensures bundle_yes { length words.now ≤ 1 → result ≡ Ok 0
+        → IfSome (I.remaining input.old) IsAcceptedBundle }
+    ensures bundle_no { length words.now ≤ 1 → result ≡ Ok 1
+        → (fault : Fault) × IfSome (I.remaining input.old) (IsRefutedBundle fault)
+        × Appends (O.contents output.old) (O.contents output.new) (no_line fault) }
+    ensures bundle_told { length words.now ≤ 1 → (line : List ℕ) × MayTell (I.remaining input.old) line
+        × AppendsFront (O.contents output.old) (O.contents output.new) line }
+    ensures bundle_exact { length words.now ≤ 1 → (bytes line : List ℕ) (status : ℕ) → IsSaid bytes status line
+        → GivesAll (I.remaining input.old) (I.reads_left input.old) bytes
+        → HasRoom (O.room output.old) line → HasRoom (O.room output.old) memory_line
+        → IfOk result (λ given. Tells given (O.contents output.old) (O.contents output.new) status line
+        ⊎ Tells given (O.contents output.old) (O.contents output.new) 3 memory_line) }
+
+    // With any words.
+    ensures memory_line { result ≡ Ok 3
+        → Appends (O.contents output.old) (O.contents output.new) memory_line }
+    ensures known { IfOk result (λ given. given < 4) }
+
+    // With words that ask for a recording.
+    ensures tap { OnErr result ((output.new ≡ output.old) × (input.new ≡ input.old)) }
+{
+    let alloc = rt.alloc();
+    if words.len() < 2 {
+        return Ok(run_bundle(alloc, input, output));
+    }
+    match read_words(alloc, words) {
+        Ok(Request::Bundle) => Ok(run_bundle(alloc, input, output)),
+        Ok(
+            Request::Check {
+                history,
+                certificate,
+            },
+        ) => Ok(tell_answer(output, check_paths(rt, history, certificate))),
+        Ok(Request::Tap(request)) => Err(request),
+        Err(error) => Ok(tell_parser(alloc, output, &error)),
+    }
+}
+
 /// Does what the words of a command line ask for, of which the first is the program's name, and gives the exit
-/// status: 0 for a yes, and for a text that was asked for; 1 for a no; 2 for a refusal, a fault of the command line
-/// or a failed write; 3 for want of memory. All that is written goes to the one output.
+/// status: 0 for a yes, for a text that was asked for, and for a recording; 1 for a no; 2 for a refusal, a fault of the
+/// command line or a failed write; 3 for want of memory. All that is written goes to the one output, but for what is
+/// said while a recording runs.
 ///
 /// Without further words it is `run_bundle`. With `check` and two paths both files are read, in this order, before
 /// anything is judged, and what is said is what `judge_read` gives; which words ask for that, which files are opened
-/// and what the parser's texts are no clause says.
-pub fn run_words<R: Files + AllocGlobal, S: AsStr, I: Input, O: Output>(
+/// and what the parser's texts are no clause says. With `tap` it records, and may wait for as long as it is let.
+pub fn run_words<R: Recorder, S: AsStr, I: Input, O: Output>(
     rt: &R,
     words: &[S],
     input: &mut I,
@@ -114,18 +176,8 @@ pub fn run_words<R: Files + AllocGlobal, S: AsStr, I: Input, O: Output>(
         → Appends (O.contents output.old) (O.contents output.new) memory_line }
     ensures known { result < 4 }
 {
-    let alloc = rt.alloc();
-    if words.len() < 2 {
-        return run_bundle(alloc, input, output);
-    }
-    match read_words(alloc, words) {
-        Ok(Request::Bundle) => run_bundle(alloc, input, output),
-        Ok(
-            Request::Check {
-                history,
-                certificate,
-            },
-        ) => tell_answer(output, check_paths(rt, history, certificate)),
-        Err(error) => tell_parser(alloc, output, &error),
+    match judge_words(rt, words, input, output) {
+        Ok(status) => status,
+        Err(request) => run_tap(rt, &request, input, output),
     }
 }

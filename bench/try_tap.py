@@ -1,0 +1,458 @@
+#!/usr/bin/env python3
+"""Tries `nfsbench tap` on bad input: try_tap.py NFSBENCH [NAME..]
+
+Each case starts a small server and the program between it and clients of its own, and looks at how the program ended,
+at what it printed and at the history. It prints a line for each case, and ends with status 1 where one failed.
+"""
+import os, socket, struct, subprocess, sys, tempfile, threading, time
+
+PORT, SERVER = 29470, 29471
+ROOT = "00" * 8
+
+
+def frame(message):
+    return struct.pack(">I", 0x80000000 | len(message)) + message
+
+
+def call(xid, size=0):
+    """A NULL call of NFS version 3, with so many bytes behind it."""
+    return struct.pack(">10I", xid, 0, 2, 100003, 3, 0, 0, 0, 0, 0) + bytes(size)
+
+
+def reply(xid):
+    return struct.pack(">6I", xid, 1, 0, 0, 0, 0)
+
+
+def read_exact(sock, count):
+    data = b""
+    while len(data) < count:
+        piece = sock.recv(count - len(data))
+        if not piece:
+            return None
+        data += piece
+    return data
+
+
+def read_record(sock):
+    head = read_exact(sock, 4)
+    if head is None:
+        return None
+    return read_exact(sock, struct.unpack(">I", head)[0] & 0x7FFFFFFF)
+
+
+class Server:
+    """Answers each call; may die in the middle of a reply."""
+
+    def __init__(self, partial_after=None, lazy=False):
+        self.partial_after, self.lazy = partial_after, lazy
+        self.sock = socket.socket()
+        self.sock.setsockopt(socket.SOL_SOCKET, socket.SO_REUSEADDR, 1)
+        self.sock.bind(("127.0.0.1", SERVER))
+        self.sock.listen(256)
+        self.peers = []
+        threading.Thread(target=self.accept, daemon=True).start()
+
+    def accept(self):
+        while True:
+            try:
+                peer, _ = self.sock.accept()
+            except OSError:
+                return
+            self.peers.append(peer)
+            threading.Thread(target=self.answer, args=(peer,), daemon=True).start()
+
+    def answer(self, peer):
+        count = 0
+        try:
+            while True:
+                message = read_record(peer)
+                if message is None:
+                    break
+                count += 1
+                if self.lazy:
+                    time.sleep(0.5)
+                text = frame(reply(struct.unpack(">I", message[:4])[0]))
+                if self.partial_after is not None and count > self.partial_after:
+                    peer.sendall(text[:10])
+                    break
+                peer.sendall(text)
+        except OSError:
+            pass
+        peer.close()
+
+    def close(self):
+        try:
+            self.sock.shutdown(socket.SHUT_RDWR)
+        except OSError:
+            pass
+        self.sock.close()
+        for peer in self.peers:
+            try:
+                peer.shutdown(socket.SHUT_RDWR)
+            except OSError:
+                pass
+
+
+class Tap:
+    def __init__(self, lanes=None, quiet=True):
+        self.path = tempfile.mktemp(suffix=".hist")
+        line = [sys.argv[1], "tap", "--root", ROOT, "--port", str(PORT), "--server", str(SERVER)]
+        line += ["--lanes", str(lanes)] if lanes else []
+        line += ["--quiet"] if quiet else []
+        self.process = subprocess.Popen(line + [self.path], stdin=subprocess.PIPE, stdout=subprocess.PIPE,
+                                        stderr=subprocess.PIPE)
+        for _ in range(200):
+            if any(f":{PORT:04X} 00000000:0000 0A" in row for row in open("/proc/net/tcp")) or self.process.poll() is not None:
+                return
+            time.sleep(0.01)
+
+    def say(self, text):
+        self.process.stdin.write(text)
+        self.process.stdin.flush()
+
+    def end(self, timeout=30):
+        """Its status, what it printed, what it said, and the events of its history."""
+        out, err = self.process.communicate(timeout=timeout)
+        events = None
+        if os.path.exists(self.path):
+            events = read_history(self.path)
+            os.remove(self.path)
+        return self.process.returncode, out.decode(), err.decode(), events
+
+
+def read_history(path):
+    """The events of a history file: kind, lane, message."""
+    data = open(path, "rb").read()
+    at = 8
+    def word():
+        nonlocal at
+        at += 4
+        return struct.unpack(">I", data[at - 4:at])[0]
+    def opaque():
+        nonlocal at
+        count = word()
+        at += (count + 3) // 4 * 4
+        return data[at - (count + 3) // 4 * 4:][:count]
+    assert data[:8] == b"NFSHIST1"
+    opaque()
+    events = []
+    for _ in range(word()):
+        kind = word()
+        if kind < 2:
+            events.append((kind, word(), opaque()))
+        else:
+            events.append((kind, word() if kind == 2 else 0, b""))
+    assert at == len(data)
+    return events
+
+
+def connect():
+    sock = socket.create_connection(("127.0.0.1", PORT))
+    sock.settimeout(20)
+    return sock
+
+
+def ask(sock, xid):
+    sock.sendall(frame(call(xid)))
+    message = read_record(sock)
+    assert message == reply(xid), message
+
+
+def count(events, kind):
+    return sum(1 for event in events if event[0] == kind)
+
+
+def port_in_use():
+    taken = socket.socket()
+    taken.bind(("127.0.0.1", PORT))
+    taken.listen()
+    status, out, _, events = Tap(lanes=1).end()
+    taken.close()
+    assert (status, out, events) == (2, "refused: cannot listen\n", None), (status, out)
+
+
+def no_server():
+    tap = Tap(lanes=1)
+    sock = connect()
+    status, out, _, events = tap.end(40)
+    sock.close()
+    assert (status, out, events) == (2, "refused: cannot connect\n", None), (status, out)
+
+
+def no_server_open():
+    tap = Tap()
+    sock = connect()
+    assert sock.recv(1) == b""
+    server = Server()
+    other = connect()
+    ask(other, 7)
+    other.close()
+    time.sleep(0.3)
+    tap.say(b"")
+    tap.process.stdin.close()
+    tap.process.stdin = None
+    status, out, err, events = tap.end()
+    server.close()
+    assert (status, out) == (0, "calls 1\n") and "the server takes none" in err, (status, out, err)
+    assert [event[:2] for event in events] == [(0, 1), (1, 1), (2, 1)], events
+
+
+def half_record():
+    server, tap = Server(), Tap(lanes=2)
+    bad, good = connect(), connect()
+    bad.sendall(frame(call(1))[:30])
+    bad.close()
+    for xid in range(50):
+        ask(good, xid)
+    good.close()
+    status, out, err, events = tap.end()
+    server.close()
+    assert (status, out) == (0, "calls 50\n"), (status, out, err)
+    assert count(events, 2) == 2 and err == "", (events[-3:], err)
+
+
+def long_header():
+    server, tap = Server(), Tap(lanes=2)
+    bad, good = connect(), connect()
+    ask(bad, 1)
+    bad.sendall(struct.pack(">I", 0x7FFFFFFF) + bytes(100))
+    ask(good, 1)
+    assert bad.recv(1) in (b"",)
+    ask(good, 2)
+    good.close()
+    bad.close()
+    status, out, err, events = tap.end()
+    server.close()
+    assert (status, out) == (0, "calls 3\n") and "RecordTooLong" in err, (status, out, err)
+    assert count(events, 2) == 2
+
+
+def byte_by_byte():
+    server, tap = Server(), Tap(lanes=2)
+    slow, good = connect(), connect()
+    slow.setsockopt(socket.IPPROTO_TCP, socket.TCP_NODELAY, 1)
+    for byte in frame(call(1)) + frame(call(2)):
+        slow.send(bytes([byte]))
+        time.sleep(0.001)
+    ask(good, 5)
+    assert read_record(slow) == reply(1) and read_record(slow) == reply(2)
+    slow.close()
+    good.close()
+    status, out, err, events = tap.end()
+    server.close()
+    assert (status, out, err) == (0, "calls 3\n", ""), (status, out, err)
+
+
+def many_lanes():
+    server, tap = Server(), Tap(lanes=64)
+    socks = [connect() for _ in range(64)]
+    def work(sock):
+        for xid in range(100):
+            ask(sock, xid)
+        sock.close()
+    threads = [threading.Thread(target=work, args=(sock,)) for sock in socks]
+    [thread.start() for thread in threads]
+    [thread.join() for thread in threads]
+    status, out, err, events = tap.end()
+    server.close()
+    assert (status, out, err) == (0, "calls 6400\n", ""), (status, out, err)
+    assert count(events, 2) == 64 and count(events, 1) == 6400
+    assert {event[1] for event in events} == set(range(1, 65))
+
+
+def many_in_turn():
+    server, tap = Server(), Tap()
+    for _ in range(200):
+        sock = connect()
+        ask(sock, 1)
+        sock.close()
+    time.sleep(0.5)
+    tap.process.stdin.close()
+    tap.process.stdin = None
+    status, out, err, events = tap.end()
+    server.close()
+    assert (status, out, err) == (0, "calls 200\n", ""), (status, out, err)
+    assert count(events, 2) == 200 and {event[1] for event in events} == set(range(1, 201))
+
+
+def server_dies_in_reply():
+    server, tap = Server(partial_after=2), Tap(lanes=1)
+    sock = connect()
+    ask(sock, 1)
+    ask(sock, 2)
+    sock.sendall(frame(call(3)))
+    assert sock.recv(100) == b""
+    status, out, err, events = tap.end()
+    server.close()
+    sock.close()
+    assert (status, out) == (0, "calls 3\n"), (status, out, err)
+    assert [event[:2] for event in events] == [(0, 1), (1, 1), (0, 1), (1, 1), (0, 1), (2, 1)], events
+
+
+def half_closed():
+    server, tap = Server(lazy=True), Tap(lanes=1)
+    sock = connect()
+    sock.sendall(frame(call(1)) + frame(call(2)))
+    sock.shutdown(socket.SHUT_WR)
+    assert read_record(sock) == reply(1) and read_record(sock) == reply(2) and sock.recv(1) == b""
+    status, out, err, events = tap.end()
+    server.close()
+    assert (status, out, err) == (0, "calls 2\n", ""), (status, out, err)
+    assert [event[0] for event in events][-1] == 2 and count(events, 1) == 2
+
+
+def xid_in_use():
+    server, tap = Server(lazy=True), Tap(lanes=2)
+    bad, good = connect(), connect()
+    bad.sendall(frame(call(1)) + frame(call(1)))
+    assert bad.recv(1000) == b""
+    ask(good, 1)
+    good.close()
+    status, out, err, events = tap.end()
+    server.close()
+    bad.close()
+    assert (status, out) == (0, "calls 2\n"), (status, out, err)
+    assert "calls LogFault XidInUse" in err, err
+
+
+def not_rpc():
+    server, tap = Server(), Tap(lanes=1)
+    sock = connect()
+    sock.sendall(frame(b"abc"))
+    assert sock.recv(1000) == b""
+    status, out, err, events = tap.end()
+    server.close()
+    assert (status, out) == (0, "calls 0\n") and "LogFault BadRpc" in err, (status, out, err)
+
+
+def late_connections():
+    server, tap = Server(), Tap(lanes=1)
+    first = connect()
+    ask(first, 1)
+    try:
+        late = connect()
+        late.settimeout(2)
+        late.sendall(frame(call(9)))
+        served = late.recv(10)
+    except OSError:
+        served = b""
+    assert served == b"", served
+    ask(first, 2)
+    first.close()
+    status, out, err, events = tap.end()
+    server.close()
+    assert (status, out, count(events, 0)) == (0, "calls 2\n", 2), (status, out, err)
+
+
+def ended_by_input():
+    server, tap = Server(), Tap(quiet=False)
+    socks = [connect() for _ in range(5)]
+    for sock in socks:
+        ask(sock, 1)
+    time.sleep(1.2)
+    tap.process.stdin.close()
+    tap.process.stdin = None
+    for sock in socks:
+        assert sock.recv(1) == b""
+    status, out, err, events = tap.end()
+    try:
+        connect()
+        refused = False
+    except OSError:
+        refused = True
+    server.close()
+    assert refused and (status, out) == (0, "calls 5\n") and count(events, 2) == 5, (status, out, err)
+    assert "connections 5, calls 5, bytes 320" in err, err
+
+
+def crash():
+    server, tap = Server(), Tap()
+    old = [connect() for _ in range(3)]
+    for sock in old:
+        ask(sock, 1)
+    server.close()
+    tap.say(b"cra")
+    time.sleep(0.1)
+    tap.say(b"sh\nno order\n")
+    for sock in old:
+        assert sock.recv(1) == b""
+    time.sleep(0.2)
+    pending = connect()
+    pending.sendall(frame(call(4)))
+    time.sleep(0.3)
+    server = Server()
+    assert read_record(pending) == reply(4)
+    pending.close()
+    time.sleep(0.3)
+    tap.process.stdin.close()
+    tap.process.stdin = None
+    status, out, err, events = tap.end()
+    server.close()
+    kinds = [event[0] for event in events]
+    assert (status, out) == (0, "calls 4\n"), (status, out, err)
+    assert kinds == [0, 1] * 3 + [2] * 3 + [3, 0, 1, 2], kinds
+    assert events[-1][1] == 4
+
+
+def bad_root():
+    global ROOT
+    for root in ("zz", "0", "AA", "00" * 65):
+        kept, ROOT = ROOT, root
+        status, out, _, events = Tap(lanes=1).end()
+        ROOT = kept
+        assert (status, out, events) == (2, "refused: bad root\n", None), (root, status, out)
+
+
+def cannot_write():
+    server = Server()
+    line = [sys.argv[1], "tap", "--root", "", "--port", str(PORT), "--server", str(SERVER), "--lanes", "1", "/nowhere/h"]
+    process = subprocess.Popen(line, stdout=subprocess.PIPE, stderr=subprocess.PIPE)
+    time.sleep(0.3)
+    sock = connect()
+    ask(sock, 1)
+    sock.close()
+    out, err = process.communicate(timeout=20)
+    server.close()
+    assert (process.returncode, out) == (2, b"refused: cannot write\n"), (process.returncode, out, err)
+
+
+def log_full():
+    """Some 130 calls of 2 MB fill a history's file."""
+    server, tap = Server(), Tap()
+    sock, other = connect(), connect()
+    ask(other, 1)
+    try:
+        for xid in range(200):
+            sock.sendall(frame(call(xid, 2_000_000)))
+            if read_record(sock) is None:
+                break
+    except OSError:
+        pass
+    assert other.recv(1) == b""
+    time.sleep(1)
+    assert os.path.exists(tap.path)
+    tap.process.stdin.close()
+    tap.process.stdin = None
+    status, out, err, events = tap.end()
+    server.close()
+    calls = count(events, 0)
+    assert (status, out) == (0, f"calls {calls}\n") and f"LogFull; calls {calls}" in err, (status, out, err)
+    assert count(events, 2) == 2 and 130 < calls < 137, calls
+
+
+CASES = [port_in_use, no_server, no_server_open, half_record, long_header, byte_by_byte, many_lanes, many_in_turn,
+         server_dies_in_reply, half_closed, xid_in_use, not_rpc, late_connections, ended_by_input, crash, bad_root,
+         cannot_write, log_full]
+
+faults = 0
+for case in CASES:
+    if sys.argv[2:] and case.__name__ not in sys.argv[2:]:
+        continue
+    begun, PORT, SERVER = time.time(), PORT + 2, SERVER + 2
+    try:
+        case()
+        said = "ok"
+    except Exception as error:
+        said, faults = f"FAILED {type(error).__name__}: {error}", 1
+    print(f"{case.__name__}: {said} ({time.time() - begun:.1f} s)", flush=True)
+sys.exit(faults)

@@ -1,0 +1,9 @@
+use Rattle.std.proofs.Common.{ℕ, ◌-◌, List}
+use Rattle.history_lines.specs.Lines.{AreLinesOf}
+use Rattle.history_lines.proofs.lines.EventLines.next_line.Given as goal
+
+abbrev pub invariant-loop-unread : goal.invariant-loop-unread
+invariant-loop-unread l = (bytes : List ℕ) → AreLinesOf bytes l.initial.self → AreLinesOf bytes l.self
+
+abbrev pub decreases-loop-unread : goal.decreases-loop-unread
+decreases-loop-unread l = l.self.unread.count - l.self.unread.read

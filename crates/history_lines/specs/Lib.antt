@@ -1,0 +1,3 @@
+pub mod Printable
+pub mod Left
+pub mod Lines

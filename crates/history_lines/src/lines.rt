@@ -1,0 +1,296 @@
+//! A line for each event of a history file.
+
+ghost use Rattle.std.specs.Prelude.{ℕ, List, IfOk, IfSome};
+ghost use Rattle.history_file.specs.FileFaults.{IsFileFault, IsErrorOf};
+ghost use Rattle.history_lines.specs.Printable.{IsLine};
+
+use crate::events::UnreadEvents;
+use crate::messages::{Asked, push_call, push_reply};
+use crate::text::{Line, Text};
+use history_file::{FileFault, SeenEvent};
+use indexmap::IndexMap;
+use rpc_reader::{CallHead, ReplyHead, RpcFault, read_call, read_reply};
+use std::alloc::{AllocError, Global};
+
+/// Which events are shown.
+#[derive(Clone, Copy)]
+pub struct Selection {
+    /// The number of the first event.
+    pub from: u64,
+    /// The number of the last event.
+    pub to: u64,
+    /// Where it is there, of these events only the call of this number and the reply to it.
+    pub call: Option<u64>,
+}
+
+impl Selection {
+    /// Whether an event is shown, which is a call or the reply to one.
+    fn has(&self, event: u64, call: Option<u64>) -> bool {
+        if event < self.from || self.to < event {
+            return false;
+        }
+        match self.call {
+            Some(number) => call == Some(number),
+            None => true,
+        }
+    }
+}
+
+/// The text of a line, as far as it is the same for each event.
+fn begin_text(alloc: Global, number: u64) -> Result<Text, AllocError> {
+    let mut text = Text::new(alloc);
+    text.push_decimal(number)?;
+    Ok(text)
+}
+
+/// Appends the connection of an event.
+fn push_lane(text: &mut Text, lane: u32) -> Result<(), AllocError> {
+    text.push_number(" lane ", u64::from(lane))
+}
+
+/// The line of a call, which is event `number`.
+fn call_line(
+    alloc: Global,
+    number: u64,
+    call: u64,
+    lane: u32,
+    message: &[u8],
+    read: &Result<CallHead<'_>, RpcFault>,
+) -> Result<Line, AllocError>
+    ensures { IfOk result IsLine }
+{
+    let mut text = begin_text(alloc, number)?;
+    text.push_number(" call ", call)?;
+    push_lane(&mut text, lane)?;
+    match read {
+        Ok(head) => {
+            text.push_word(" xid 0x", head.xid)?;
+            push_call(alloc, &mut text, &Asked::of_head(call, head), head.args)?;
+        }
+        Err(_) => text.push_bytes(" no RPC call ", message)?,
+    }
+    text.into_line()
+}
+
+/// The line of a reply, which is event `number`.
+fn reply_line(
+    alloc: Global,
+    number: u64,
+    asked: Option<Asked>,
+    lane: u32,
+    message: &[u8],
+    read: &Result<ReplyHead<'_>, RpcFault>,
+) -> Result<Line, AllocError>
+    ensures { IfOk result IsLine }
+{
+    let mut text = begin_text(alloc, number)?;
+    match asked {
+        Some(asked) => text.push_number(" reply to call ", asked.number)?,
+        None => text.push_words(" reply to no call")?,
+    }
+    push_lane(&mut text, lane)?;
+    match read {
+        Ok(head) => {
+            text.push_word(" xid 0x", head.xid)?;
+            push_reply(alloc, &mut text, asked, &head.body)?;
+        }
+        Err(_) => text.push_bytes(" no RPC reply ", message)?,
+    }
+    text.into_line()
+}
+
+fn close_line(alloc: Global, number: u64, lane: u32) -> Result<Line, AllocError>
+    ensures { IfOk result IsLine }
+{
+    let mut text = begin_text(alloc, number)?;
+    text.push_words(" close")?;
+    push_lane(&mut text, lane)?;
+    text.into_line()
+}
+
+fn crash_line(alloc: Global, number: u64) -> Result<Line, AllocError>
+    ensures { IfOk result IsLine }
+{
+    let mut text = begin_text(alloc, number)?;
+    text.push_words(" crash")?;
+    text.into_line()
+}
+
+/// What makes lines of the events that are shown. Of the events so far it keeps the calls that are unanswered.
+#[derive(Drop)]
+struct LineMaker {
+    alloc: Global,
+    selection: Selection,
+    /// The calls that are unanswered, by lane and transaction number.
+    unanswered: IndexMap<(u32, u32), Asked>,
+}
+
+impl LineMaker {
+    /// The line of a call, where it is shown.
+    fn line_of_call(
+        &self,
+        number: u64,
+        call: u64,
+        lane: u32,
+        message: &[u8],
+        read: &Result<CallHead<'_>, RpcFault>,
+    ) -> Result<Option<Line>, AllocError>
+        ensures { IfOk result (λ shown. IfSome shown IsLine) }
+    {
+        if !self.selection.has(number, Some(call)) {
+            return Ok(None);
+        }
+        Ok(Some(call_line(self.alloc, number, call, lane, message, read)?))
+    }
+
+    /// Takes in call `call`, which is event `number`, and gives its line where it is shown.
+    fn take_call(
+        &mut self,
+        number: u64,
+        call: u64,
+        lane: u32,
+        message: &[u8],
+    ) -> Result<Option<Line>, AllocError>
+        ensures { IfOk result (λ shown. IfSome shown IsLine) }
+    {
+        let read = read_call(message);
+        let line = self.line_of_call(number, call, lane, message, &read)?;
+        if let Ok(head) = read {
+            let asked = Asked::of_head(call, &head);
+            self.unanswered.insert((lane, head.xid), asked)?;
+        }
+        Ok(line)
+    }
+
+    /// The call that a reply answers.
+    fn answered(&self, lane: u32, read: &Result<ReplyHead<'_>, RpcFault>) -> Option<Asked> {
+        match read {
+            Ok(head) => self.unanswered.get(&(lane, head.xid)).copied(),
+            Err(_) => None,
+        }
+    }
+
+    /// The line of a reply, where it is shown.
+    fn line_of_reply(
+        &self,
+        number: u64,
+        lane: u32,
+        message: &[u8],
+        read: &Result<ReplyHead<'_>, RpcFault>,
+    ) -> Result<Option<Line>, AllocError>
+        ensures { IfOk result (λ shown. IfSome shown IsLine) }
+    {
+        let asked = self.answered(lane, read);
+        if !self.selection.has(number, asked.map(|asked| asked.number)) {
+            return Ok(None);
+        }
+        Ok(Some(reply_line(self.alloc, number, asked, lane, message, read)?))
+    }
+
+    /// Takes in a reply, which is event `number`, and gives its line where it is shown.
+    fn take_reply(
+        &mut self,
+        number: u64,
+        lane: u32,
+        message: &[u8],
+    ) -> Result<Option<Line>, AllocError>
+        ensures { IfOk result (λ shown. IfSome shown IsLine) }
+    {
+        let read = read_reply(message);
+        let line = self.line_of_reply(number, lane, message, &read)?;
+        if let Ok(head) = read {
+            self.unanswered.swap_remove(&(lane, head.xid));
+        }
+        Ok(line)
+    }
+
+    /// The line of a close or a crash, where it is shown.
+    fn line_beside_calls(
+        &self,
+        number: u64,
+        closed: Option<u32>,
+    ) -> Result<Option<Line>, AllocError>
+        ensures { IfOk result (λ shown. IfSome shown IsLine) }
+    {
+        if !self.selection.has(number, None) {
+            return Ok(None);
+        }
+        match closed {
+            Some(lane) => Ok(Some(close_line(self.alloc, number, lane)?)),
+            None => Ok(Some(crash_line(self.alloc, number)?)),
+        }
+    }
+
+    /// Takes in event `number`, and gives its line where it is shown; a call is call `call`. At an error nothing is taken in.
+    fn take_event(
+        &mut self,
+        number: u64,
+        call: u64,
+        event: &SeenEvent<'_>,
+    ) -> Result<Option<Line>, AllocError>
+        ensures { IfOk result (λ shown. IfSome shown IsLine) }
+    {
+        match event {
+            SeenEvent::Call { lane, message } => self.take_call(number, call, *lane, *message),
+            SeenEvent::Reply { lane, message } => self.take_reply(number, *lane, *message),
+            SeenEvent::Close { lane } => self.line_beside_calls(number, Some(*lane)),
+            SeenEvent::Crash => self.line_beside_calls(number, None),
+        }
+    }
+}
+
+/// The lines of a history file, one an event.
+#[derive(Drop)]
+pub struct EventLines<'a> {
+    maker: LineMaker,
+    unread: UnreadEvents<'a>,
+}
+
+impl<'a> EventLines<'a> {
+    ghost use Rattle.history_lines.specs.Lines.{AreLinesOf, IsWholeAtEnd};
+
+    /// Ahead of the first event of a file.
+    pub fn new(
+        alloc: Global,
+        bytes: &'a [u8],
+        selection: Selection,
+    ) -> Result<EventLines<'a>, FileFault>
+        ensures found { IfOk result (AreLinesOf bytes.now) }
+        ensures fault { IsErrorOf (IsFileFault bytes.now) result }
+    {
+        let unread = UnreadEvents::of_file(bytes)?;
+        let maker = LineMaker {
+            alloc,
+            selection,
+            unanswered: IndexMap::new(alloc),
+        };
+        Ok(EventLines { maker, unread })
+    }
+
+    /// The line of the next event that is shown. Where none is left, the rest of the file is read too, so that its fault is
+    /// named. After want of memory it goes on with the same event, and after a fault it names the fault again.
+    pub fn next_line(&mut self) -> Result<Option<Line>, FileFault>
+        // Printable bytes, and one line feed, at the end.
+        ensures printable { IfOk result (λ shown. IfSome shown IsLine) }
+
+        // Of a file they are its lines still, also where it is at fault, which is its first fault.
+        ensures goes_on { (bytes : List ℕ) → AreLinesOf bytes self.old → AreLinesOf bytes self.new }
+        ensures fault { (bytes : List ℕ) → AreLinesOf bytes self.old → IsErrorOf (IsFileFault bytes) result }
+        // Where no line is left the file is whole.
+        ensures ended { (bytes : List ℕ) → AreLinesOf bytes self.old → IsWholeAtEnd bytes result }
+    {
+        while self.unread.left() > 0 {
+            let mut unread = self.unread;
+            let event = unread.next()?;
+            let line = self
+                .maker
+                .take_event(unread.read(), unread.calls(), &event)?;
+            self.unread = unread;
+            if line.is_some() {
+                return Ok(line);
+            }
+        }
+        self.unread.ended()?;
+        Ok(None)
+    }
+}

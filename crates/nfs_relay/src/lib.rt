@@ -1,0 +1,14 @@
+//! A recorder between clients and a server: it relays their connections, and has a log note what they say.
+#![tactic(auto)]
+
+mod connection;
+mod control;
+mod ending;
+mod order;
+mod relay;
+mod tally;
+
+pub use control::Halt;
+pub use order::OrderReader;
+pub use relay::{Host, Relay};
+pub use tally::calls_in;

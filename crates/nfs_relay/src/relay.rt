@@ -1,0 +1,228 @@
+//! The relay: it takes connections, and ends them.
+
+ghost use Rattle.std.specs.Prelude.{◌≡◌, ◌≢◌, Err};
+ghost use Rattle.history_file.specs.Event.Event.{crash};
+ghost use Rattle.nfs_tap.specs.Room.{HasRoom};
+ghost use Rattle.nfs_relay.specs.Closing.{NotesOnce};
+
+use crate::control::{Admission, Control, Halt};
+use crate::tally::{Progress, Tally};
+use nfs_tap::TapLog;
+use std::net::{Net, SocketAddr, TcpListener, TcpStream};
+use std::sync::{Condvar, Mutex, Wait};
+use std::thread::{self, Threads};
+use std::time::{Clock, Duration, Instant};
+
+/// What a relay needs of the runtime.
+pub trait Host: Net<Listener = TcpListener, Stream = TcpStream>
+    + Threads
+    + Wait
+    + Clock
+    + Eprint
+    + AllocGlobal
+    + Sync {}
+
+impl<R> Host for R
+where
+    R: Net<Listener = TcpListener, Stream = TcpStream>
+        + Threads
+        + Wait
+        + Clock
+        + Eprint
+        + AllocGlobal
+        + Sync,
+{}
+
+/// How many milliseconds the relay sleeps where no connection waits.
+const PAUSE: u64 = 1;
+
+/// Connections between clients and a server, and the log of what they say.
+#[derive(Drop)]
+pub struct Relay {
+    pub(crate) log: Mutex<TapLog>,
+    pub(crate) control: Mutex<Control>,
+    /// Told when the control changes.
+    pub(crate) changed: Condvar,
+    pub(crate) server: SocketAddr,
+    /// Whether so many connections are to come, each of which has to get its server.
+    pub(crate) is_counted: bool,
+    is_quiet: bool,
+}
+
+impl Relay {
+    /// A relay to a server, for so many connections or any number of them.
+    pub fn new(log: TapLog, server: SocketAddr, lanes: Option<u32>, is_quiet: bool) -> Relay {
+        Relay {
+            log: Mutex::new(log),
+            control: Mutex::new(Control::new(lanes)),
+            changed: Condvar::new(),
+            server,
+            is_counted: lanes.is_some(),
+            is_quiet,
+        }
+    }
+
+    /// What was noted.
+    pub fn log(&self) -> &Mutex<TapLog> {
+        &self.log
+    }
+
+    /// Why it ended, or is to end, where not all its connections had come.
+    pub fn reason<R: Wait>(&self, rt: &R) -> Option<Halt> {
+        self.control.lock(rt).reason()
+    }
+
+    /// Ends the connections.
+    pub fn finish<R: Wait>(&self, rt: &R) {
+        self.halt(rt, Halt::Told);
+    }
+
+    /// Ends the connections for a reason.
+    pub(crate) fn halt<R: Wait>(&self, rt: &R, reason: Halt) {
+        self.control.lock(rt).halt(reason);
+        self.changed.notify_all();
+    }
+
+    /// Ends the connections of a server that went down, and notes the crash behind their closes.
+    pub fn crash<R: Wait>(&self, rt: &R) {
+        self.control.lock(rt).begin_crash();
+        self.changed.notify_all();
+        let control = self
+            .changed
+            .wait_while(rt, self.control.lock(rt), |control| control.relayed() > 0);
+        drop(control);
+        if let Err(reason) = note_crash(&mut self.log.lock(rt)) {
+            self.halt(rt, reason);
+        }
+        self.control.lock(rt).end_crash();
+        self.changed.notify_all();
+    }
+
+    /// Whether a connection that came is taken.
+    fn admits<R: Host>(&self, rt: &R) -> bool {
+        if !self.log.lock(rt).has_room(0) {
+            self.halt(rt, Halt::LogFull);
+            return false;
+        }
+        let admission = self.control.lock(rt).admit();
+        match admission {
+            Admission::Admitted => true,
+            Admission::Refused => {
+                let _ = eprintln!(rt; "a connection ended: too many are open");
+                false
+            }
+            Admission::Over => false,
+        }
+    }
+
+    /// Says that there is no thread for a connection that was taken.
+    pub(crate) fn lack_thread<R: Wait + Eprint>(&self, rt: &R) {
+        if self.is_counted {
+            self.halt(rt, Halt::NoThread);
+        }
+        let _ = eprintln!(rt; "a connection ended: no thread");
+    }
+
+    /// A connection that was taken ended.
+    pub(crate) fn leave<R: Wait>(&self, rt: &R) {
+        self.control.lock(rt).leave();
+        self.changed.notify_all();
+    }
+
+    /// Relays the connections that come to a listener, until no more do and all have ended.
+    pub fn run<R: Host>(&self, rt: &R, listener: TcpListener) {
+        let _ = listener.set_nonblocking(true);
+        thread::scope(thread::scope_env(), rt, move |scope| {
+            let mut ticker = Ticker::new(rt);
+            for _ in rt.forever() {
+                if self.control.lock(rt).is_over() {
+                    break;
+                }
+                match listener.accept() {
+                    Ok((client, _)) => {
+                        if self.admits(rt) && scope.spawn(move || self.serve(rt, client)).is_err() {
+                            self.lack_thread(rt);
+                            self.leave(rt);
+                        }
+                    }
+                    Err(_) => thread::sleep(rt, Duration::from_millis(PAUSE)),
+                }
+                self.tell_progress(rt, &mut ticker);
+            }
+            drop(listener);
+            self.wait_for_ends(rt, &mut ticker);
+        });
+    }
+
+    /// Waits until the connections that were taken have ended.
+    fn wait_for_ends<R: Host>(&self, rt: &R, ticker: &mut Ticker) {
+        for _ in rt.forever() {
+            let control = self.control.lock(rt);
+            if control.present() == 0 {
+                return;
+            }
+            let (control, _) = self
+                .changed
+                .wait_timeout(rt, control, Duration::from_millis(100));
+            drop(control);
+            self.tell_progress(rt, ticker);
+        }
+        unreachable!()
+    }
+
+    /// Once a second, tells how far the recording is.
+    fn tell_progress<R: Host>(&self, rt: &R, ticker: &mut Ticker) {
+        if self.is_quiet || !ticker.is_due(rt) {
+            return;
+        }
+        ticker.tally.follow(self.log.lock(rt).events());
+        let present = self.control.lock(rt).present();
+        let tally = ticker.tally;
+        let _ = rt.eprintln(Progress { present, tally });
+    }
+}
+
+/// When how far a recording is was told last, and what was counted by then.
+#[derive(Clone, Copy)]
+struct Ticker {
+    last: Option<Instant>,
+    tally: Tally,
+}
+
+impl Ticker {
+    fn new<R: Clock>(rt: &R) -> Ticker {
+        Ticker {
+            last: Instant::now(rt).ok(),
+            tally: Tally::new(),
+        }
+    }
+
+    /// Whether a second has gone by since it was due.
+    fn is_due<R: Clock>(&mut self, rt: &R) -> bool {
+        let Ok(now) = Instant::now(rt) else {
+            return false;
+        };
+        let is_due = match self.last {
+            Some(last) => now.duration_since(last) >= Duration::from_secs(1),
+            None => true,
+        };
+        if is_due {
+            self.last = Some(now);
+        }
+        is_due
+    }
+}
+
+/// Has a crash noted, if the log has room for it.
+fn note_crash(log: &mut TapLog) -> Result<(), Halt>
+    ensures once { NotesOnce log.old crash result log.new }
+    ensures full { HasRoom log.old 0 → result ≢ Err Halt.LogFull }
+{
+    if !log.has_room(0) {
+        return Err(Halt::LogFull);
+    }
+    match log.note_crash() {
+        Ok(()) => Ok(()),
+        Err(_) => Err(Halt::NoMemory),
+    }
+}

@@ -1,0 +1,72 @@
+//! A server and a client.
+
+use crate::frames::{CALL, REPLY};
+use nfsbench_engine::Recorder;
+use std::io::{self, ErrorKind, Read, Write};
+use std::net::{IpAddr, Ipv4Addr, Net, SocketAddr, TcpListener, TcpStream};
+use std::thread;
+use std::time::Duration;
+
+/// A port of 127.0.0.1; 0 is any that is free.
+fn local(port: u16) -> SocketAddr {
+    SocketAddr::new(IpAddr::V4(Ipv4Addr::new(127, 0, 0, 1)), port)
+}
+
+/// A listener on a port that was free.
+pub(crate) fn listen<R: Recorder>(rt: &R) -> io::Result<TcpListener> {
+    TcpListener::bind(rt, local(0))
+}
+
+/// The port of a listener.
+pub(crate) fn port_of(listener: &TcpListener) -> io::Result<u16> {
+    Ok(listener.local_addr()?.port())
+}
+
+/// A connection to a port, to which someone may listen soon.
+pub(crate) fn connect<R: Recorder>(rt: &R, port: u16) -> io::Result<TcpStream> {
+    for _try in 0..10_000 {
+        if let Ok(stream) = TcpStream::connect(rt, local(port)) {
+            return Ok(stream);
+        }
+        thread::sleep(rt, Duration::from_millis(1));
+    }
+    Err(io::Error::from(ErrorKind::TimedOut))
+}
+
+/// Whether just this record comes next.
+fn comes(stream: &mut TcpStream, record: &[u8]) -> bool {
+    let mut buffer = [0; 64];
+    if record.len() > buffer.len() {
+        return false;
+    }
+    let bytes = &mut buffer[..record.len()];
+    stream.read_exact(bytes).is_ok() && *bytes == *record
+}
+
+/// Whether the stream ends.
+pub(crate) fn ends(stream: &mut TcpStream) -> bool {
+    matches!(stream.read(&mut [0; 64]), Ok(0))
+}
+
+/// Answers a connection's call so often, and then sees it end.
+pub(crate) fn answer(listener: &TcpListener, calls: u32) -> bool {
+    let Ok((mut stream, _)) = listener.accept() else {
+        return false;
+    };
+    for _ in 0..calls {
+        if !comes(&mut stream, CALL) || stream.write_all(REPLY).is_err() {
+            return false;
+        }
+    }
+    ends(&mut stream)
+}
+
+/// Calls so often, and gets each answer.
+pub(crate) fn call(stream: &mut TcpStream, calls: u32) -> bool {
+    for _ in 0..calls {
+        if stream.write_all(CALL).is_err() || !comes(stream, REPLY) {
+            return false;
+        }
+    }
+    true
+}
