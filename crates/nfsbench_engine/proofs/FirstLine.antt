@@ -1,11 +1,13 @@
 -- The first line of a bundle, and what stands behind it.
-use Rattle.std.proofs.Common.{◌≡◌, ◌≢◌, ℕ, ◌+◌, ◌==◌, Bool, true, false, List, [], ◌∷◌, ◌++◌, length, take, drop, get_or, Some, None, Result, Ok, refl, sym, ap, ◌∙◌, arith, add-one, take-append-drop, drop-cons, length-append}
+use Rattle.std.proofs.Common.{◌≡◌, ◌≢◌, ℕ, ◌+◌, ◌<◌, ◌==◌, Bool, true, false, List, [], ◌∷◌, ◌++◌, length, take, drop, get_or, Option, Some, None, inl, inr, Result, Ok, refl, sym, ap, ◌∙◌, arith, add-one, take-append-drop, drop-cons, length-append}
 use Rattle.std.specs.Prelude.{position}
 use Rattle.std.specs.List.{AllPass, position_or_len}
-use Rattle.std.proofs.lemmas.Bool.{eqb-true}
+use Rattle.std.proofs.lemmas.Bool.{cases_Bool, eqb-true}
 use Rattle.std.proofs.lemmas.Bool.Decides.{nat_tests}
 use Rattle.std.proofs.lemmas.List.Elements.{All-head, All-tail}
 use Rattle.std.proofs.lemmas.List.Quantifiers.{position-Some}
+use Rattle.std.proofs.lemmas.List.Sums.{position_or_len_is}
+use Rattle.memchr.specs.Find.{IsFirstByte, is_byte}
 use Rattle.std.proofs.Math.Seq.{drop-append-add, take-append_seam}
 use Rattle.hex.specs.Hex.{IsBytes, encode_lower, decode_of}
 use Rattle.hex.specs.declared.error.FromHexError.{FromHexError}
@@ -90,3 +92,19 @@ one_bundle bytes history certificate history' certificate' h h' =
     let behind : drop (length (encode_lower history) + 1) (encode_lower history ++ 10 ∷ certificate) ≡ drop (length (encode_lower history') + 1) (encode_lower history' ++ 10 ∷ certificate') =
     ap (λ d. drop (length d + 1) (encode_lower history ++ 10 ∷ certificate)) line ∙ ap (drop (length (encode_lower history') + 1)) (sym h.spelled ∙ h'.spelled) in
     (same, sym (drop-append-add (encode_lower history) (10 ∷ certificate) 1) ∙ behind ∙ drop-append-add (encode_lower history') (10 ∷ certificate') 1)
+
+-- what isn't true is false
+is_false : (b : Bool) → (b ≡ true → ⊥) → b ≡ false
+is_false b h = elim (cases_Bool b) [ inl e ↦ absurd (h e) | inr e ↦ e ]
+
+-- the first place of a line feed
+pub position-first : (bytes : List ℕ) (r : Option ℕ) → IsFirstByte (is_byte 10) bytes r → r ≡ position is_line_feed bytes
+position-first bytes None none =
+    let at : position_or_len is_line_feed bytes ≡ length bytes =
+    position_or_len_is is_line_feed bytes (length bytes) 0 (omega arith) (λ k lt. is_false (is_line_feed (get_or bytes k 0)) (none k (omega arith) lt)) (λ lt. absurd (omega arith)) in
+    rw at (grind (arith, nat_tests))
+position-first bytes (Some end) found =
+    let within : end < length bytes = found.0.high in
+    let at : position_or_len is_line_feed bytes ≡ end =
+    position_or_len_is is_line_feed bytes end 0 (omega arith) (λ k lt. is_false (is_line_feed (get_or bytes k 0)) (found.0.before k (omega arith) lt)) (λ lt. found.1) in
+    rw at (grind (arith, nat_tests))

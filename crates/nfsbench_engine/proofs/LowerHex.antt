@@ -1,18 +1,12 @@
--- Text in lower case hex: it is what its bytes are written as.
-use Rattle.std.proofs.Common.{◌≡◌, ℕ, zero, suc, ◌+◌, ◌*◌, ◌/◌, ◌%◌, ◌<◌, ◌==◌, nat_lt, if◌then◌else◌, inl, inr, Bool, true, ◌&&◌, List, [], ◌∷◌, slice_index, Option, Some, None, Result, Ok, Err, refl, sym, ap, ◌∙◌, arith}
-use Rattle.std.proofs.lemmas.Bool.{and_parts, cases_lt, eqb-true}
-use Rattle.std.proofs.lemmas.List.Elements.{All-cons, All-head, All-nil, All-tail}
+-- Text in lower case hex.
+use Rattle.std.proofs.Common.{◌≡◌, ℕ, zero, suc, ◌+◌, ◌*◌, ◌/◌, ◌%◌, ◌<◌, ◌==◌, nat_lt, if◌then◌else◌, inl, inr, Bool, true, false, not, ◌&&◌, ◌||◌, List, [], ◌∷◌, ◌++◌, slice_index, take, length, get_or, append_assoc, refl, sym, ap, ◌∙◌, arith}
+use Rattle.std.proofs.lemmas.Bool.{and_parts, cases_Bool, cases_lt, eqb-true}
 use Rattle.std.proofs.lemmas.Bool.Decides.{nat_tests}
-use Rattle.std.specs.List.{AllPass}
-use Rattle.std.specs.Result.{result_unwrap_or}
-use Rattle.hex.specs.Hex.{IsBytes, decode_of, decode_pairs, digit_or_error, hex_digit_value, encode_lower, encode_with, lower_digits, pair_value, value_at, ◌>>=◌}
-use Rattle.hex.specs.declared.error.FromHexError.{FromHexError}
-use Rattle.hex.proofs.HexLemmas.{decode_of-even, decode_of-ok}
+use Rattle.std.proofs.lemmas.List.{take_more}
+use Rattle.std.proofs.lemmas.List.Elements.{All-cons, All-head, All-nil, All-tail}
+use Rattle.std.specs.List.{AllPass, fold}
+use Rattle.hex.specs.Hex.{IsBytes, encode_lower, encode_with, lower_digits}
 use Rattle.nfsbench_engine.specs.Bundle.{is_lower_digit}
-
--- the fact of `AllPass is_lower_digit`
-abbrev IsLower : ℕ → Type 0
-IsLower c = is_lower_digit c ≡ true
 
 -- ---- the digit of each value
 
@@ -41,68 +35,116 @@ are_written-at (suc n) k h lt =
 lower_digit-of : (v : ℕ) → v < 16 → IsLower (slice_index lower_digits v)
 lower_digit-of v h = (and_parts (is_lower_digit (slice_index lower_digits v)) _ (are_written-at 16 v refl h)).0
 
--- a value's digit
-slice_index-lower_digits : (v : ℕ) → v < 16 → slice_index lower_digits v ≡ (if nat_lt v 10 then 48 + v else 87 + v)
-slice_index-lower_digits v h =
-    eqb-true (slice_index lower_digits v) (if nat_lt v 10 then 48 + v else 87 + v)
-    (and_parts (is_lower_digit (slice_index lower_digits v)) _ (are_written-at 16 v refl h)).1
+-- ---- the value of each digit
 
--- a lower case digit that has a value is the digit of that value
-digit-from_value : (c v : ℕ) → IsLower c → hex_digit_value c ≡ Some v → (v < 16) × (c ≡ (if nat_lt v 10 then 48 + v else 87 + v))
-digit-from_value c v h e = (grind (arith, nat_tests), grind (arith, nat_tests))
+-- the value of a digit, by its low four bits and bit 64
+abbrev pub value_of : ℕ → ℕ
+value_of c = (c % 16 + 9 * (c / 64)) % 16
 
-digit_of_value : (c v : ℕ) → IsLower c → hex_digit_value c ≡ Some v → (v < 16) × (c ≡ slice_index lower_digits v)
-digit_of_value c v h e =
-    let p = digit-from_value c v h e in
-    (p.0, p.1 ∙ sym (slice_index-lower_digits v p.0))
+-- the test of one digit, which computes: its value's digit is itself
+abbrev is_spelled : ℕ → Bool
+is_spelled c = not (is_lower_digit c) || (slice_index lower_digits (value_of c) == c)
 
--- what an `Ok` after `>>=` shows
-bind_ok : {A B : Type 0} (r : Result A FromHexError) (f : A → Result B FromHexError) (y : B)
-    → (r >>= f) ≡ Ok y → (x : A) × (r ≡ Ok x) × (f x ≡ Ok y)
-bind_ok (Ok x) f y h = (x, refl, h)
-bind_ok (Err e) f y h = cc h
+-- the test of those below n
+abbrev are_spelled : ℕ → Bool
+are_spelled zero = true
+are_spelled (suc n) = is_spelled n && are_spelled n
 
--- the value of a digit that read
-digit_read : (c i : ℕ) (o : Option ℕ) (v : ℕ) → digit_or_error c i o ≡ Ok v → o ≡ Some v
-digit_read c i (Some w) v h = ap Some (ap (λ (r : Result ℕ FromHexError). result_unwrap_or r 0) h)
-digit_read c i None v h = cc h
+-- what is below n passed the test
+are_spelled-at : (n k : ℕ) → are_spelled n ≡ true → k < n → is_spelled k ≡ true
+are_spelled-at zero k h lt = absurd (omega arith)
+are_spelled-at (suc n) k h lt =
+    let parts = and_parts (is_spelled n) (are_spelled n) h in
+    elim (cases_lt k n) [
+      | inl below ↦ are_spelled-at n k parts.1 below
+      | inr top ↦
+          let e : k ≡ n = omega arith in
+          rw e parts.0
+    ]
 
--- ---- text and bytes
+-- a digit is below 103
+digit-small : (c : ℕ) → is_lower_digit c ≡ true → c < 103
+digit-small c h = grind (arith, nat_tests)
 
--- two digits in front of equal texts
-pair_same : {a b c d : ℕ} {s t : List ℕ} → a ≡ c → b ≡ d → s ≡ t → a ∷ b ∷ s ≡ c ∷ d ∷ t
-pair_same p q r = cc
+-- a digit is that of its value
+pub digit-of_value : (c : ℕ) → is_lower_digit c ≡ true → slice_index lower_digits (value_of c) ≡ c
+digit-of_value c h =
+    let t : is_spelled c ≡ true = are_spelled-at 103 c refl (digit-small c h) in
+    let e : (slice_index lower_digits (value_of c) == c) ≡ true = rw h at t in
+    eqb-true (slice_index lower_digits (value_of c)) c e
 
--- pairs of lower case digits that decode are what their bytes are written as
-decode_pairs-lower : (i : ℕ) (s bytes : List ℕ) → decode_pairs i s ≡ Ok bytes → AllPass is_lower_digit s
-    → s ≡ encode_with lower_digits bytes
-unfolding decode_pairs encode_with
-decode_pairs-lower i [] bytes h low =
-    let e : [] ≡ bytes = ap (λ (r : Result (List ℕ) FromHexError). result_unwrap_or r []) h in
-    rw (← e) refl
-decode_pairs-lower i (a ∷ []) bytes h low = cc h
-decode_pairs-lower i (a ∷ b ∷ rest) bytes h low =
-    let p0 = bind_ok (pair_value a b i) _ bytes h in
-    let p1 = bind_ok (value_at a i) _ p0.0 p0.1 in
-    let p2 = bind_ok (value_at b (i + 1)) _ p0.0 p1.2 in
-    let p3 = bind_ok (decode_pairs (i + 2) rest) _ bytes p0.2 in
-    let tail = All-tail IsLower a (b ∷ rest) low in
-    let ih = decode_pairs-lower (i + 2) rest p3.0 p3.1 (All-tail IsLower b rest tail) in
-    let e : p0.0 ∷ p3.0 ≡ bytes = ap (λ (r : Result (List ℕ) FromHexError). result_unwrap_or r []) p3.2 in
-    let da = digit_of_value a p1.0 (All-head IsLower a (b ∷ rest) low) (digit_read a i (hex_digit_value a) p1.0 p1.1) in
-    let db = digit_of_value b p2.0 (All-head IsLower b rest tail) (digit_read b (i + 1) (hex_digit_value b) p2.0 p2.1) in
-    let byte : p1.0 * 16 + p2.0 ≡ p0.0 = ap (λ (r : Result ℕ FromHexError). result_unwrap_or r 0) p2.2 in
-    let va = da.0 in
-    let vb = db.0 in
-    let high : p0.0 / 16 ≡ p1.0 = omega arith in
-    let low_half : p0.0 % 16 ≡ p2.0 = omega arith in
-    rw (← e) (rw (high, low_half) (pair_same da.1 db.1 ih))
+-- the byte of two digits is written as these
+pub pair-spelled : (a b : ℕ) → is_lower_digit a ≡ true → is_lower_digit b ≡ true
+    → encode_lower ((value_of a * 16 + value_of b) ∷ []) ≡ a ∷ b ∷ []
+unfolding encode_with
+pair-spelled a b ha hb =
+    let high : (value_of a * 16 + value_of b) / 16 ≡ value_of a = omega arith in
+    let low : (value_of a * 16 + value_of b) % 16 ≡ value_of b = omega arith in
+    rw (high, low, digit-of_value a ha, digit-of_value b hb) refl
 
--- a text of lower case digits that decodes is what its bytes are written as
-pub decode_of-lower : (s bytes : List ℕ) → decode_of s ≡ Ok bytes → AllPass is_lower_digit s → s ≡ encode_lower bytes
-decode_of-lower s bytes h low =
-    let even = (decode_of-ok s bytes h).0 in
-    decode_pairs-lower 0 s bytes (sym (decode_of-even s even) ∙ h) low
+-- one digit more
+abbrev pub still_lower : Bool → ℕ → Bool
+still_lower all c = all && is_lower_digit c
+
+-- what failed once stays so
+stays : (xs : List ℕ) → fold still_lower false xs ≡ false
+stays [] = refl
+stays (x ∷ xs) = stays xs
+
+-- nothing failed where all pass
+pub none_failed-AllPass : (xs : List ℕ) → fold still_lower true xs ≡ true → AllPass is_lower_digit xs
+none_failed-AllPass [] h = All-nil (λ c. is_lower_digit c ≡ true)
+none_failed-AllPass (x ∷ xs) h = elim (cases_Bool (is_lower_digit x)) [
+      | inl e ↦
+          let rest : fold still_lower true xs ≡ true = rw e at h in
+          All-cons (λ c. is_lower_digit c ≡ true) x xs e (none_failed-AllPass xs rest)
+      | inr e ↦
+          let rest : fold still_lower false xs ≡ true = rw e at h in
+          cc (rest, stays xs)
+    ]
+
+-- all pass, so that nothing fails
+pub AllPass-none_failed : (xs : List ℕ) → AllPass is_lower_digit xs → fold still_lower true xs ≡ true
+AllPass-none_failed [] h = refl
+AllPass-none_failed (x ∷ xs) h =
+    let e : is_lower_digit x ≡ true = All-head (λ c. is_lower_digit c ≡ true) x xs h in
+    rw e (AllPass-none_failed xs (All-tail (λ c. is_lower_digit c ≡ true) x xs h))
+
+-- what bytes behind bytes are written as
+pub encode_with-append : (t xs ys : List ℕ) → encode_with t (xs ++ ys) ≡ encode_with t xs ++ encode_with t ys
+unfolding encode_with
+encode_with-append t [] ys = refl
+encode_with-append t (x ∷ xs) ys = rw (encode_with-append t xs ys) refl
+
+-- one pair of digits more
+pub pair_more : (digits bytes pushed : List ℕ) (i b : ℕ) → 2 * i + 1 < length digits → encode_lower bytes ≡ take (2 * i) digits
+    → pushed ≡ bytes ++ b ∷ []
+    → encode_lower (b ∷ []) ≡ get_or digits (2 * i) 0 ∷ get_or digits (2 * i + 1) 0 ∷ []
+    → encode_lower pushed ≡ take (2 * (i + 1)) digits
+pair_more digits bytes pushed i b within so_far e pair =
+    let one = take_more digits (2 * i) 0 (omega arith) in
+    let two = take_more digits (2 * i + 1) 0 within in
+    let at : 2 * (i + 1) ≡ 2 * i + 1 + 1 = omega arith in
+    ap encode_lower e ∙ encode_with-append lower_digits bytes (b ∷ [])
+    ∙ rw (so_far, pair, at, two, one) (sym (append_assoc (take (2 * i) digits) (get_or digits (2 * i) 0 ∷ []) (get_or digits (2 * i + 1) 0 ∷ [])))
+
+-- one byte more
+pub IsBytes-push : (bytes pushed : List ℕ) (b : ℕ) → pushed ≡ bytes ++ b ∷ [] → b < 256 → IsBytes bytes → IsBytes pushed
+IsBytes-push bytes pushed b e fits h = rw e (pushed_fits bytes h)
+  where
+    pushed_fits : (xs : List ℕ) → IsBytes xs → IsBytes (xs ++ b ∷ [])
+    pushed_fits [] h zero = fits
+    pushed_fits [] h (suc i) = omega arith
+    pushed_fits (x ∷ xs) h zero = h 0
+    pushed_fits (x ∷ xs) h (suc i) = pushed_fits xs (λ k. h (suc k)) i
+
+-- no bytes
+pub IsBytes-none : (bytes : List ℕ) → bytes ≡ [] → IsBytes bytes
+IsBytes-none bytes e = rw e (λ i. omega arith)
+
+pub none_spelled : (bytes : List ℕ) → bytes ≡ [] → encode_lower bytes ≡ []
+unfolding encode_with
+none_spelled bytes e = rw e refl
 
 -- bytes are written in lower case digits
 pub AllPass-encode_lower : (bytes : List ℕ) → IsBytes bytes → AllPass is_lower_digit (encode_lower bytes)

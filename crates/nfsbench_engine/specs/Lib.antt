@@ -1,4 +1,5 @@
 pub mod Bundle
 pub mod Report
+pub mod Reported
 pub mod Streams
 pub mod Tap

@@ -1,12 +1,12 @@
 //! A bundle: a history in lower case hex, a line feed, and a certificate's text.
 
-ghost use Rattle.std.specs.Prelude.{◌≡◌, ◌≢◌, ℕ, List, ◌<◌, ◌==◌, IfOk, IfSome, IsTrue, ◌↔◌, position, length};
+ghost use Rattle.std.specs.Prelude.{◌≡◌, ◌≢◌, ℕ, List, [], ◌∷◌, ◌<◌, ◌+◌, ◌*◌, ◌%◌, ◌/◌, ◌==◌, IfOk, IfSome, IsTrue, true, ◌↔◌, position, length};
 ghost use Rattle.std.specs.List.{AllPass};
 ghost use Rattle.hex.specs.Hex.{IsBytes, encode_lower};
 ghost use Rattle.nfsbench_engine.specs.Bundle.{IsBundle, IsSomeBundle, is_lower_digit};
 
-use hex::FromHexError;
-use std::alloc::Global;
+use memchr::memchr;
+use std::alloc::{AllocError, Global};
 
 /// Why there is no bundle.
 #[derive(Clone, Copy, PartialEq, Eq)]
@@ -16,18 +16,11 @@ pub(crate) enum BundleFault {
     NoMemory,
 }
 
-impl From<FromHexError> for BundleFault {
-    ghost use Rattle.hex.specs.declared.error.FromHexError.TheVariants.{OutOfMemory};
-    ghost use Rattle.nfsbench_engine.specs.declared.bundle.BundleFault.TheVariants.{Malformed, NoMemory};
+impl From<AllocError> for BundleFault {
+    ghost from_gives = { λ _ fault. fault ≡ BundleFault.NoMemory };
 
-    ghost from_gives = { λ error fault. (error ≡ OutOfMemory → fault ≡ NoMemory)
-        × (error ≢ OutOfMemory → fault ≡ Malformed) };
-
-    fn from(error: FromHexError) -> BundleFault {
-        match error {
-            FromHexError::OutOfMemory => BundleFault::NoMemory,
-            _ => BundleFault::Malformed,
-        }
+    fn from(_: AllocError) -> BundleFault {
+        BundleFault::NoMemory
     }
 }
 
@@ -44,10 +37,45 @@ fn is_lower_digit(byte: u8) -> bool
     matches!(byte, b'0'..=b'9' | b'a'..=b'f')
 }
 
+/// Whether each byte is a digit, with no branch a byte: a text may have half a gigabyte.
 fn are_lower_digits(text: &[u8]) -> bool
     ensures { IsTrue result ↔ AllPass is_lower_digit text.now }
 {
-    text.iter().all(|byte| is_lower_digit(*byte))
+    let mut all = true;
+    for byte in text {
+        all &= is_lower_digit(*byte);
+    }
+    all
+}
+
+/// The value of a digit: the low four bits of `0` to `9` are 0 to 9, those of `a` to `f` are 1 to 6, beside bit 64.
+fn digit_value(digit: u8) -> u8
+    ensures value { result ≡ (digit % 16 + 9 * (digit / 64)) % 16 }
+{
+    (digit % 16 + 9 * (digit / 64)) % 16
+}
+
+/// The byte that two digits spell.
+fn byte_of(high: u8, low: u8) -> u8
+    ensures spelled { is_lower_digit high ≡ true → is_lower_digit low ≡ true
+        → encode_lower (result ∷ []) ≡ high ∷ low ∷ [] }
+{
+    digit_value(high) * 16 + digit_value(low)
+}
+
+/// The bytes that pairs of digits spell. `hex::decode` looks a digit up by branches, which took longer than all else
+/// that is done with a bundle's bytes.
+fn decode_pairs(alloc: Global, digits: &[u8]) -> Result<Vec<u8>, AllocError>
+    ensures bytes { IfOk result (λ bytes. IsBytes bytes.items) }
+    ensures spelled { AllPass is_lower_digit digits.now → length digits.now % 2 ≡ 0
+        → IfOk result (λ bytes. encode_lower bytes.items ≡ digits.now) }
+{
+    let count = digits.len() / 2;
+    let mut bytes = Vec::with_capacity(alloc, count)?;
+    for index in 0..count {
+        bytes.push(byte_of(digits[2 * index], digits[2 * index + 1]))?;
+    }
+    Ok(bytes)
 }
 
 /// The bytes that the digits spell.
@@ -57,10 +85,10 @@ pub(crate) fn decode_digits(alloc: Global, digits: &[u8]) -> Result<Vec<u8>, Bun
     ensures malformed { result ≡ Err BundleFault.Malformed
         → (bytes : List ℕ) → IsBytes bytes → digits.now ≢ encode_lower bytes }
 {
-    if !are_lower_digits(digits) {
+    if digits.len() % 2 != 0 || !are_lower_digits(digits) {
         return Err(BundleFault::Malformed);
     }
-    Ok(hex::decode(alloc, digits)?)
+    Ok(decode_pairs(alloc, digits)?)
 }
 
 /// Where the first line ends.
@@ -68,7 +96,7 @@ fn first_line_feed(bytes: &[u8]) -> Option<usize>
     ensures first { result ≡ position (λ byte. byte == 10) bytes.now }
     ensures within { IfSome result (λ end. end < length bytes.now) }
 {
-    bytes.iter().position(|byte| *byte == b'\n')
+    memchr(b'\n', bytes)
 }
 
 /// The bundle that the bytes are.

@@ -2,10 +2,12 @@
 
 ghost use Rattle.std.specs.Prelude.{◌≡◌, ℕ, List, IfOk, Option};
 ghost use Rattle.nfsbench_engine.specs.Report.{IsSaidOfRead};
+ghost use Rattle.nfsbench_engine.specs.Reported.{IsReportedOfRead};
 
 use crate::input::Stream;
 use crate::reading::{InputFault, read_all};
 use crate::report::{Report, judge_read};
+use crate::reporting::report_read;
 use std::alloc::AllocError;
 use std::fs::{File, OpenFile};
 use std::io::Read;
@@ -59,4 +61,19 @@ pub(crate) fn check_paths<R: Files + AllocGlobal>(
     let history = read_file(rt, history, HISTORY_READ)?;
     let certificate = read_file(rt, certificate, u64::MAX)?;
     judge_read(rt.alloc(), history.as_deref(), certificate.as_deref())
+}
+
+/// What is reported of the files at two paths. Both are read, in this order, before anything is judged.
+pub(crate) fn report_paths<R: Files + AllocGlobal>(
+    rt: &R,
+    history: &str,
+    certificate: &str,
+) -> Result<Report, AllocError>
+    // The answer is what is reported of what was read.
+    ensures said { IfOk result (λ report. (history_read : Option (List ℕ)) × (certificate_read : Option (List ℕ))
+        × IsReportedOfRead history_read certificate_read report.status report.line) }
+{
+    let history = read_file(rt, history, HISTORY_READ)?;
+    let certificate = read_file(rt, certificate, u64::MAX)?;
+    report_read(rt.alloc(), history.as_deref(), certificate.as_deref())
 }

@@ -62,7 +62,8 @@ impl Report {
         })
     }
 
-    fn of_verdict(alloc: Global, verdict: FileVerdict) -> Result<Report, AllocError>
+    /// What is said of a verdict.
+    pub(crate) fn of_verdict(alloc: Global, verdict: FileVerdict) -> Result<Report, AllocError>
         ensures status { IfOk result (λ report. report.status ≡ status_of verdict) }
         ensures line { IfOk result (λ report. report.line ≡ line_of verdict) }
     {
@@ -73,6 +74,20 @@ impl Report {
             FileVerdict::BadText(fault) => (2, line_of(alloc, "refused: ", &fault)?),
         };
         Ok(Report { status, line })
+    }
+
+    /// The same, behind these lines.
+    pub(crate) fn behind(self, lines: String) -> Result<Report, AllocError>
+        ensures status { IfOk result (λ report. report.status ≡ self.status) }
+        ensures line { IfOk result (λ report. report.line ≡ string_bytes lines ++ self.line) }
+    {
+        let Report { status, line } = self;
+        let mut lines = lines;
+        lines.push_str(line.as_str())?;
+        Ok(Report {
+            status,
+            line: lines,
+        })
     }
 }
 

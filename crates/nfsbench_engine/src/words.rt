@@ -8,7 +8,7 @@ ghost use Rattle.nfsbench_engine.specs.Streams.{AppendsFront, GivesAll, HasRoom}
 ghost use Rattle.witness_check.specs.declared.fault.Fault.{Fault};
 
 use crate::engine::{run_bundle, tell, tell_answer, tell_want_of_memory};
-use crate::files::check_paths;
+use crate::files::{check_paths, report_paths};
 use crate::input::Input;
 use crate::output::Output;
 use crate::recorder::Recorder;
@@ -30,22 +30,45 @@ enum Request<'a> {
         history: &'a str,
         certificate: &'a str,
     },
+    /// What the history at a path comes to, and the verdict on the files at these paths.
+    Report {
+        history: &'a str,
+        certificate: &'a str,
+    },
     /// A recording.
     Tap(TapRequest<'a>),
 }
 
-/// The command line's grammar.
-fn command<'a>(alloc: Global) -> Result<Command<'a>, AllocError> {
+/// A command that takes the paths of a history and a certificate.
+fn of_two_files<'a>(
+    alloc: Global,
+    name: &'a str,
+    about: &'a str,
+) -> Result<Command<'a>, AllocError> {
     let history = Arg::new(alloc, "HISTORY")
         .required(true)
         .help("What the clients of a server saw");
     let certificate = Arg::new(alloc, "CERTIFICATE")
         .required(true)
         .help("A serial order of their calls");
-    let check = Command::new(alloc, "check")
-        .about("Judges the history and the certificate in two files")
+    Command::new(alloc, name)
+        .about(about)
         .arg(history)?
-        .arg(certificate)?;
+        .arg(certificate)
+}
+
+/// The command line's grammar.
+fn command<'a>(alloc: Global) -> Result<Command<'a>, AllocError> {
+    let check = of_two_files(
+        alloc,
+        "check",
+        "Judges the history and the certificate in two files",
+    )?;
+    let report = of_two_files(
+        alloc,
+        "report",
+        "Counts the calls of a history, and judges it as check does",
+    )?;
     Command::new(alloc, "nfsbench")
         .bin_name("nfsbench")?
         .version("0.1.0")
@@ -54,6 +77,7 @@ fn command<'a>(alloc: Global) -> Result<Command<'a>, AllocError> {
         )
         .disable_help_subcommand(true)
         .subcommand(check)?
+        .subcommand(report)?
         .subcommand(tap_command(alloc)?)
 }
 
@@ -68,7 +92,11 @@ fn read_words<'a, S: AsStr>(alloc: Global, words: &'a [S]) -> Result<Request<'a>
                 Err(command(alloc)?.error(ErrorKind::ValueValidation, message)?)
             }
         },
-        // The parser asks for both.
+        // The parser asks for both words of these two.
+        Some(("report", report)) => Ok(Request::Report {
+            history: report.get_str("HISTORY").unwrap_or(""),
+            certificate: report.get_str("CERTIFICATE").unwrap_or(""),
+        }),
         Some((_, check)) => Ok(Request::Check {
             history: check.get_str("HISTORY").unwrap_or(""),
             certificate: check.get_str("CERTIFICATE").unwrap_or(""),
@@ -138,6 +166,12 @@ pub(crate) fn judge_words<'a, R: Files + AllocGlobal, S: AsStr, I: Input, O: Out
                 certificate,
             },
         ) => Ok(tell_answer(output, check_paths(rt, history, certificate))),
+        Ok(
+            Request::Report {
+                history,
+                certificate,
+            },
+        ) => Ok(tell_answer(output, report_paths(rt, history, certificate))),
         Ok(Request::Tap(request)) => Err(request),
         Err(error) => Ok(tell_parser(alloc, output, &error)),
     }
@@ -149,7 +183,8 @@ pub(crate) fn judge_words<'a, R: Files + AllocGlobal, S: AsStr, I: Input, O: Out
 /// said while a recording runs.
 ///
 /// Without further words it is `run_bundle`. With `check` and two paths both files are read, in this order, before
-/// anything is judged, and what is said is what `judge_read` gives; which words ask for that, which files are opened
+/// anything is judged, and what is said is what `judge_read` gives; with `report` and two paths it is what `report_read`
+/// gives; which words ask for that, which files are opened
 /// and what the parser's texts are no clause says. With `tap` it records, and may wait for as long as it is let.
 pub fn run_words<R: Recorder, S: AsStr, I: Input, O: Output>(
     rt: &R,

@@ -1,7 +1,7 @@
 //! A server and a client.
 
 use crate::frames::{CALL, REPLY};
-use nfsbench_engine::Recorder;
+use nfs_relay::Host;
 use std::io::{self, ErrorKind, Read, Write};
 use std::net::{IpAddr, Ipv4Addr, Net, SocketAddr, TcpListener, TcpStream};
 use std::thread;
@@ -13,7 +13,7 @@ fn local(port: u16) -> SocketAddr {
 }
 
 /// A listener on a port that was free.
-pub(crate) fn listen<R: Recorder>(rt: &R) -> io::Result<TcpListener> {
+pub(crate) fn listen<R: Host>(rt: &R) -> io::Result<TcpListener> {
     TcpListener::bind(rt, local(0))
 }
 
@@ -23,7 +23,7 @@ pub(crate) fn port_of(listener: &TcpListener) -> io::Result<u16> {
 }
 
 /// A connection to a port, to which someone may listen soon.
-pub(crate) fn connect<R: Recorder>(rt: &R, port: u16) -> io::Result<TcpStream> {
+pub(crate) fn connect<R: Host>(rt: &R, port: u16) -> io::Result<TcpStream> {
     for _try in 0..10_000 {
         if let Ok(stream) = TcpStream::connect(rt, local(port)) {
             return Ok(stream);

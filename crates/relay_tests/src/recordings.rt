@@ -2,12 +2,14 @@
 
 use crate::frames::{ONE_LANE, TWO_ERAS};
 use crate::peers::{answer, call, connect, ends, listen, port_of};
+use nfs_relay::Host;
 use nfsbench_engine::{Input, Recorder, Stream, run_words};
 use std::alloc::AllocError;
 use std::io::{self, Write};
-use std::net::{TcpListener, TcpStream};
+use std::net::TcpListener;
 use std::test::Fail;
-use std::{fs, thread};
+use std::fs;
+use std::thread::{self, JoinHandle, Scope};
 
 /// The path of a recording on this port.
 fn path_of<R: Recorder>(rt: &R, port: u16) -> Result<String, AllocError> {
@@ -23,25 +25,40 @@ fn taps<R: Recorder, I: Input>(rt: &R, line: &str, input: &mut I, says: &[u8]) -
     run_words(rt, words.as_slice(), input, &mut told) == 0 && told.as_slice() == says
 }
 
-/// Whether a client's two calls are recorded.
+/// Whether a client that comes to this port is answered twice.
+fn calls_twice<R: Host>(rt: &R, port: u16) -> bool {
+    match connect(rt, port) {
+        Ok(mut stream) => call(&mut stream, 2),
+        Err(_) => false,
+    }
+}
+
+/// Begins a client that calls twice, in a thread of its own.
+fn begin_client<'s, E, R: Host>(
+    scope: &Scope<'s, E>,
+    rt: &'s R,
+    port: u16,
+) -> Option<JoinHandle<bool>> {
+    scope.spawn(move || calls_twice(rt, port)).ok()
+}
+
+/// Whether a client's two calls are recorded. The program runs on this thread, which has the files.
 fn records_a_lane<R: Recorder>(rt: &R, server: &TcpListener, port: u16, line: &str) -> bool {
     thread::scope(thread::scope_env(), rt, |scope| {
         let answered = scope.spawn(move || answer(server, 2));
-        let tapped = scope.spawn(move || taps(rt, line, &mut b"".as_slice(), b"calls 2\n"));
-        let called = match connect(rt, port) {
-            Ok(mut stream) => call(&mut stream, 2),
-            Err(_) => false,
-        };
-        let (Ok(answered), Ok(tapped)) = (answered, tapped) else {
+        let called = begin_client(scope, rt, port);
+        let tapped = taps(rt, line, &mut b"".as_slice(), b"calls 2\n");
+        let (Ok(answered), Some(called)) = (answered, called) else {
             return false;
         };
-        called && answered.join(rt) && tapped.join(rt)
+        tapped && answered.join(rt) && called.join(rt)
     })
 }
 
 /// Whether a client is served by a server, then ended by a crash, and served anew.
-fn calls_over_a_crash<R: Recorder>(rt: &R, port: u16, orders: &mut TcpStream) -> io::Result<bool> {
-    let mut first = connect(rt, port)?;
+fn calls_over_a_crash<R: Host>(rt: &R, ports: (u16, u16)) -> io::Result<bool> {
+    let mut orders = connect(rt, ports.1)?;
+    let mut first = connect(rt, ports.0)?;
     if !call(&mut first, 1) {
         return Ok(false);
     }
@@ -49,7 +66,18 @@ fn calls_over_a_crash<R: Recorder>(rt: &R, port: u16, orders: &mut TcpStream) ->
     if !ends(&mut first) {
         return Ok(false);
     }
-    Ok(call(&mut connect(rt, port)?, 1))
+    Ok(call(&mut connect(rt, ports.0)?, 1))
+}
+
+/// Begins two clients with a crash between them, in a thread of its own.
+fn begin_clients<'s, E, R: Host>(
+    scope: &Scope<'s, E>,
+    rt: &'s R,
+    ports: (u16, u16),
+) -> Option<JoinHandle<bool>> {
+    scope
+        .spawn(move || calls_over_a_crash(rt, ports).unwrap_or(false))
+        .ok()
 }
 
 /// Whether what two clients say is recorded, with a crash between them that is told on a stream.
@@ -62,18 +90,15 @@ fn records_a_crash<R: Recorder>(
 ) -> bool {
     thread::scope(thread::scope_env(), rt, |scope| {
         let answered = scope.spawn(move || answer(server, 1) && answer(server, 1));
-        let tapped = scope.spawn(move || match control.accept() {
+        let called = begin_clients(scope, rt, ports);
+        let tapped = match control.accept() {
             Ok((orders, _)) => taps(rt, line, &mut Stream::new(orders), b"calls 2\n"),
             Err(_) => false,
-        });
-        let called = match connect(rt, ports.1) {
-            Ok(mut orders) => calls_over_a_crash(rt, ports.0, &mut orders).unwrap_or(false),
-            Err(_) => false,
         };
-        let (Ok(answered), Ok(tapped)) = (answered, tapped) else {
+        let (Ok(answered), Some(called)) = (answered, called) else {
             return false;
         };
-        called && answered.join(rt) && tapped.join(rt)
+        tapped && answered.join(rt) && called.join(rt)
     })
 }
 

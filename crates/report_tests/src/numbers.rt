@@ -5,7 +5,7 @@ use certificate::{Certificate, read_certificate};
 use history_report::{Report, lost_of, report_of};
 use nfs_history::{History, read_history};
 use order_check::check_shape;
-use std::alloc::Global;
+use std::alloc::{AllocError, Global};
 use std::test::Fail;
 
 /// Calls, judged, answered, unjudged and excused ones, and eras.
@@ -21,10 +21,15 @@ fn numbers(report: Report) -> [u64; 6] {
 }
 
 /// How many places the plan lost, where it has its shape.
-fn lost_by(alloc: Global, history: &History, certificate: &Certificate) -> Option<u64> {
-    match check_shape(alloc, history.known(), certificate) {
-        Ok(()) => Some(lost_of(history, certificate)),
-        Err(_) => None,
+fn lost_by(
+    alloc: Global,
+    history: &History,
+    certificate: &Certificate,
+) -> Result<Option<u64>, AllocError> {
+    let known = history.lend_calls(alloc)?;
+    match check_shape(alloc, &known, certificate) {
+        Ok(()) => Ok(Some(lost_of(history, certificate))),
+        Err(_) => Ok(None),
     }
 }
 
@@ -34,7 +39,7 @@ fn a_refused_call_is_answered_and_excused(rt: HostRuntime) -> Result<(), Fail> {
     assert_eq!(rt; numbers(report_of(&history)), [4, 4, 4, 0, 1, 1]);
     let text = "witness 1\nbind aa 1\nplace 1\nplace 2\nplace 3\nplace 4\nend\n";
     let certificate = read_certificate(rt.alloc(), text.as_bytes())?;
-    assert_eq!(rt; lost_by(rt.alloc(), &history, &certificate), Some(0));
+    assert_eq!(rt; lost_by(rt.alloc(), &history, &certificate)?, Some(0));
     Ok(())
 }
 
@@ -63,7 +68,7 @@ fn a_taken_call_past_the_cut_is_lost(rt: HostRuntime) -> Result<(), Fail> {
     ];
     for (text, lost) in rows {
         let certificate = read_certificate(rt.alloc(), text.as_bytes())?;
-        assert_eq!(rt; lost_by(rt.alloc(), &history, &certificate), lost);
+        assert_eq!(rt; lost_by(rt.alloc(), &history, &certificate)?, lost);
     }
     Ok(())
 }
