@@ -1,5 +1,5 @@
 -- Reading a history file event by event is reading it.
-use Rattle.std.proofs.Common.{◌≡◌, ℕ, zero, suc, ◌+◌, ◌-◌, ◌<◌, ◌≤◌, Bool, true, false, cond, nat_lt, nat_le, List, [], ◌∷◌, ◌++◌, length, Result, Ok, Err, IfOk, IfErr, refl, sym, ap, subst, ◌∙◌, append_assoc, append-nil, length-append, drop, take, nat_eq, arith}
+use Rattle.std.proofs.Common.{◌≡◌, ℕ, zero, suc, ◌+◌, ◌-◌, ◌<◌, ◌≤◌, Bool, true, false, cond, nat_lt, nat_le, List, [], ◌∷◌, ◌++◌, length, Result, Ok, Err, IfOk, IfErr, refl, sym, ap, subst, ◌∙◌, append_assoc, length-append, drop, take, nat_eq, arith}
 use Rattle.std.specs.List.{starts_with}
 use Rattle.xdr_records.specs.declared.fault.XdrFault.{XdrFault}
 use Rattle.xdr_records.specs.declared.fault.XdrFault.TheVariants.{Short, TooLong}
@@ -7,7 +7,7 @@ use Rattle.xdr_records.specs.Unread.{Unread, At, whole, behind}
 use Rattle.xdr_records.specs.Grammar.{Grammar}
 use Rattle.xdr_records.specs.Grammar.Grammar.{one_word, one_opaque, named, nothing, both}
 use Rattle.xdr_records.specs.Items.{word_of, padded, word_at, fixed_at, opaque_in, opaque_at, end_in, end_at}
-use Rattle.xdr_records.specs.Reading.{bound, reading, ended, all_of, kinds, item_here}
+use Rattle.xdr_records.specs.Reading.{bound, reading, ended, kinds, item_here}
 use Rattle.xdr_records.specs.Kinds.{item_kind, name_before, kind_reading}
 use Rattle.xdr_records.proofs.KindLaws.{kind_reading-is}
 use Rattle.history_file.specs.declared.fault.FileFault.{FileFault}
@@ -18,7 +18,6 @@ use Rattle.history_file.specs.Event.Event.{call, reply, close, crash}
 use Rattle.history_file.specs.Limits.{root_limit}
 use Rattle.history_file.specs.HistoryFile.{kind_of, event_kind, event_count, message, event_of, event, events, recording, magic}
 use Rattle.history_file.specs.FileFaults.{IsFileFault}
-use Rattle.history_file.specs.FileReading.{file_of}
 use Rattle.history_file.proofs.FileLaws.{file_found, file_fault, file_of-body}
 use Rattle.history_lines.specs.declared.events.UnreadEvents.{UnreadEvents}
 use Rattle.history_lines.specs.Left.{with_end, events_left, recorded, body_of, IsBegun, IsLeftOf, IsLeft, IsWhole}

@@ -1,5 +1,5 @@
 -- What is left of a history file that is read event by event: what the code's private functions say to the prover.
-use Rattle.std.specs.Prelude.{◌≡◌, ℕ, ◌+◌, ◌-◌, List, [], ◌++◌, length, Result, Ok, Err}
+use Rattle.std.specs.Prelude.{◌≡◌, ℕ, ◌+◌, ◌-◌, List, [], ◌++◌, length, Result, Ok}
 use Rattle.xdr_records.specs.Unread.{Unread, whole}
 use Rattle.xdr_records.specs.Items.{end_at}
 use Rattle.xdr_records.specs.Reading.{bound, all_of, kinds}

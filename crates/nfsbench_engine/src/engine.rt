@@ -48,7 +48,7 @@ pub(crate) fn tell<O: Output>(output: &mut O, line: &[u8], status: u8) -> u8
 }
 
 /// Writes what is said.
-fn tell_report<O: Output>(output: &mut O, report: &Report) -> u8
+pub(crate) fn tell_report<O: Output>(output: &mut O, report: &Report) -> u8
     ensures whole { (result ≡ 2)
         ⊎ Tells result (O.contents output.old) (O.contents output.new) report.now.status report.now.line }
     ensures front { AppendsFront (O.contents output.old) (O.contents output.new) report.now.line }

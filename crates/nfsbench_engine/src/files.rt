@@ -48,6 +48,14 @@ fn read_file<R: Files + AllocGlobal>(
     }
 }
 
+/// The bytes of a history file, or none where it can't be read.
+pub(crate) fn read_history_file<R: Files + AllocGlobal>(
+    rt: &R,
+    path: &str,
+) -> Result<Option<Vec<u8>>, AllocError> {
+    read_file(rt, path, HISTORY_READ)
+}
+
 /// What is said of the files at two paths. Both are read, in this order, before anything is judged.
 pub(crate) fn check_paths<R: Files + AllocGlobal>(
     rt: &R,
@@ -58,7 +66,7 @@ pub(crate) fn check_paths<R: Files + AllocGlobal>(
     ensures said { IfOk result (λ report. (history_read : Option (List ℕ)) × (certificate_read : Option (List ℕ))
         × IsSaidOfRead history_read certificate_read report.status report.line) }
 {
-    let history = read_file(rt, history, HISTORY_READ)?;
+    let history = read_history_file(rt, history)?;
     let certificate = read_file(rt, certificate, u64::MAX)?;
     judge_read(rt.alloc(), history.as_deref(), certificate.as_deref())
 }
@@ -73,7 +81,7 @@ pub(crate) fn report_paths<R: Files + AllocGlobal>(
     ensures said { IfOk result (λ report. (history_read : Option (List ℕ)) × (certificate_read : Option (List ℕ))
         × IsReportedOfRead history_read certificate_read report.status report.line) }
 {
-    let history = read_file(rt, history, HISTORY_READ)?;
+    let history = read_history_file(rt, history)?;
     let certificate = read_file(rt, certificate, u64::MAX)?;
     report_read(rt.alloc(), history.as_deref(), certificate.as_deref())
 }

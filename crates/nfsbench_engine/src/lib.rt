@@ -13,6 +13,8 @@ mod recorder;
 mod report;
 mod reporting;
 mod saving;
+mod show_words;
+mod showing;
 mod tap;
 mod tap_end;
 mod tap_words;

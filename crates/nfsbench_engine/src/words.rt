@@ -8,10 +8,12 @@ ghost use Rattle.nfsbench_engine.specs.Streams.{AppendsFront, GivesAll, HasRoom}
 ghost use Rattle.witness_check.specs.declared.fault.Fault.{Fault};
 
 use crate::engine::{run_bundle, tell, tell_answer, tell_want_of_memory};
-use crate::files::{check_paths, report_paths};
+use crate::files::{check_paths, read_history_file, report_paths};
 use crate::input::Input;
 use crate::output::Output;
 use crate::recorder::Recorder;
+use crate::show_words::{ShowRequest, show_command, show_request};
+use crate::showing::show_bytes;
 use crate::tap::run_tap;
 use crate::tap_words::{TapRequest, tap_command, tap_request};
 use clap::error::ErrorKind;
@@ -35,6 +37,8 @@ enum Request<'a> {
         history: &'a str,
         certificate: &'a str,
     },
+    /// The events of a history.
+    Show(ShowRequest<'a>),
     /// A recording.
     Tap(TapRequest<'a>),
 }
@@ -78,6 +82,7 @@ fn command<'a>(alloc: Global) -> Result<Command<'a>, AllocError> {
         .disable_help_subcommand(true)
         .subcommand(check)?
         .subcommand(report)?
+        .subcommand(show_command(alloc)?)?
         .subcommand(tap_command(alloc)?)
 }
 
@@ -92,6 +97,7 @@ fn read_words<'a, S: AsStr>(alloc: Global, words: &'a [S]) -> Result<Request<'a>
                 Err(command(alloc)?.error(ErrorKind::ValueValidation, message)?)
             }
         },
+        Some(("show", show)) => Ok(Request::Show(show_request(show))),
         // The parser asks for both words of these two.
         Some(("report", report)) => Ok(Request::Report {
             history: report.get_str("HISTORY").unwrap_or(""),
@@ -119,6 +125,23 @@ fn tell_parser<O: Output>(alloc: Global, output: &mut O, error: &clap::Error) ->
             let status = if error.use_stderr() { 2 } else { 0 };
             tell(output, text.as_bytes(), status)
         }
+        Err(AllocError) => tell_want_of_memory(output),
+    }
+}
+
+/// Shows the events of the history at a path, as [`show_bytes`].
+fn show_path<R: Files + AllocGlobal, O: Output>(
+    rt: &R,
+    request: &ShowRequest<'_>,
+    output: &mut O,
+) -> u8
+    ensures memory_line { result ≡ 3
+        → Appends (O.contents output.old) (O.contents output.new) memory_line }
+    ensures known { result < 4 }
+{
+    match read_history_file(rt, request.history) {
+        Ok(Some(bytes)) => show_bytes(rt.alloc(), bytes.as_slice(), request.selection, output),
+        Ok(None) => tell(output, b"refused: unreadable history\n", 2),
         Err(AllocError) => tell_want_of_memory(output),
     }
 }
@@ -172,6 +195,7 @@ pub(crate) fn judge_words<'a, R: Files + AllocGlobal, S: AsStr, I: Input, O: Out
                 certificate,
             },
         ) => Ok(tell_answer(output, report_paths(rt, history, certificate))),
+        Ok(Request::Show(request)) => Ok(show_path(rt, &request, output)),
         Ok(Request::Tap(request)) => Err(request),
         Err(error) => Ok(tell_parser(alloc, output, &error)),
     }
@@ -184,7 +208,7 @@ pub(crate) fn judge_words<'a, R: Files + AllocGlobal, S: AsStr, I: Input, O: Out
 ///
 /// Without further words it is `run_bundle`. With `check` and two paths both files are read, in this order, before
 /// anything is judged, and what is said is what `judge_read` gives; with `report` and two paths it is what `report_read`
-/// gives; which words ask for that, which files are opened
+/// gives; with `show` and a path a line for each event, and the first fault of the history; which words ask for that, which files are opened
 /// and what the parser's texts are no clause says. With `tap` it records, and may wait for as long as it is let.
 pub fn run_words<R: Recorder, S: AsStr, I: Input, O: Output>(
     rt: &R,

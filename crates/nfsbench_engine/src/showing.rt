@@ -1,0 +1,104 @@
+//! The lines of a history file's events, on an output.
+
+ghost use Rattle.std.specs.Prelude.{◌≡◌, ◌≢◌, ◌<◌, ℕ, List, OnOk, IfErr};
+ghost use Rattle.std.specs.Io.KnownBytes.{Appends};
+ghost use Rattle.history_file.specs.FileFaults.{IsFileFault};
+ghost use Rattle.history_lines.specs.Left.{IsWhole};
+ghost use Rattle.history_lines.specs.Lines.{AreLinesOf};
+ghost use Rattle.nfs_history.specs.declared.knowing.KnownCalls.{KnownCalls};
+ghost use Rattle.nfs_history.specs.History.{IsCallsFile};
+ghost use Rattle.nfsbench_engine.specs.Shown.{AreLines};
+ghost use Rattle.nfsbench_engine.specs.Streams.{AppendsFront};
+
+use crate::engine::{tell, tell_report};
+use crate::output::Output;
+use crate::report::Report;
+use history_file::FileFault;
+use history_lines::{EventLines, Selection};
+use nfs_history::{HistoryFault, read_calls};
+use std::alloc::{AllocError, Global};
+use witness_check::FileVerdict;
+
+/// Why a showing ended ahead of a file's end.
+#[derive(Clone, Copy)]
+enum ShowStop {
+    Fault(FileFault),
+    CannotWrite,
+}
+
+/// Writes the lines that are left.
+fn put_lines<O: Output>(lines: &mut EventLines<'_>, output: &mut O) -> Result<(), ShowStop>
+    ensures lines { (text : List ℕ) × AreLines text × AppendsFront (O.contents output.old) (O.contents output.new) text }
+    ensures whole { OnOk result ((text : List ℕ) × AreLines text × Appends (O.contents output.old) (O.contents output.new) text) }
+{
+    for _ in 0..u64::MAX {
+        match lines.next_line() {
+            Ok(Some(line)) => match output.write_text(line.as_slice()) {
+                Ok(()) => {}
+                Err(_) => return Err(ShowStop::CannotWrite),
+            },
+            Ok(None) => return Ok(()),
+            Err(fault) => return Err(ShowStop::Fault(fault)),
+        }
+    }
+    Err(ShowStop::CannotWrite)
+}
+
+/// Writes the lines of the events of a file that are selected.
+fn put_selected<O: Output>(
+    alloc: Global,
+    bytes: &[u8],
+    selection: Selection,
+    output: &mut O,
+) -> Result<(), ShowStop>
+    ensures lines { (text : List ℕ) × AreLines text × AppendsFront (O.contents output.old) (O.contents output.new) text }
+    ensures whole { OnOk result ((text : List ℕ) × AreLines text × Appends (O.contents output.old) (O.contents output.new) text) }
+{
+    match EventLines::new(alloc, bytes, selection) {
+        Ok(lines) => {
+            let mut lines = lines;
+            put_lines(&mut lines, output)
+        }
+        Err(fault) => Err(ShowStop::Fault(fault)),
+    }
+}
+
+/// Says why a history is refused. Where memory runs out, that is said in the place of the fault: lines may stand ahead of it,
+/// so it isn't told as the program's want of memory.
+fn tell_refused<O: Output>(alloc: Global, output: &mut O, fault: HistoryFault) -> u8
+    ensures { result ≡ 2 }
+{
+    if let HistoryFault::NoMemory = fault {
+        return tell(output, b"refused: out of memory\n", 2);
+    }
+    match Report::of_verdict(alloc, FileVerdict::BadHistory(fault)) {
+        Ok(report) => {
+            tell_report(output, &report);
+            2
+        }
+        Err(AllocError) => tell(output, b"refused: out of memory\n", 2),
+    }
+}
+
+/// Shows a line for each event of a history file that is selected, and behind them the file's first fault, if it has one.
+/// Gives 0 for a history, else 2.
+pub(crate) fn show_bytes<O: Output>(
+    alloc: Global,
+    bytes: &[u8],
+    selection: Selection,
+    output: &mut O,
+) -> u8
+    // All that is written of a history are lines of printable bytes.
+    ensures lines { result ≡ 0 → (text : List ℕ) × AreLines text × Appends (O.contents output.old) (O.contents output.new) text }
+    ensures whole { result ≡ 0 → (known : KnownCalls) × IsCallsFile bytes.now known }
+    ensures known { result ≢ 0 → result ≡ 2 }
+{
+    match put_selected(alloc, bytes, selection, output) {
+        Ok(()) => match read_calls(alloc, bytes) {
+            Ok(_) => 0,
+            Err(fault) => tell_refused(alloc, output, fault),
+        },
+        Err(ShowStop::Fault(fault)) => tell_refused(alloc, output, HistoryFault::from(fault)),
+        Err(ShowStop::CannotWrite) => 2,
+    }
+}
