@@ -1,5 +1,6 @@
 //! A connection that is relayed, by two pumps.
 
+ghost use Rattle.std.specs.Prelude.{◌≡◌, IfErr};
 ghost use Rattle.history_file.specs.Event.Event.{close};
 ghost use Rattle.nfs_relay.specs.Closing.{NotesOnce};
 
@@ -93,15 +94,17 @@ impl Relay {
             return;
         };
         pair.send_at_once();
-        match self.pump_both(rt, lane, pair) {
-            Some(end) => self.tell_end(rt, end),
-            None => self.lack_thread(rt),
-        }
+        let end = self.pump_both(rt, lane, pair);
         if let Err(reason) = note_close(&mut self.log.lock(rt), lane.number) {
             self.halt(rt, reason);
         }
         self.control.lock(rt).leave_lane();
         self.changed.notify_all();
+        // What is said waits for whoever reads it, so it comes last: a crash waits for the lanes to end.
+        match end {
+            Some(end) => self.tell_end(rt, end),
+            None => self.lack_thread(rt),
+        }
     }
 
     /// Runs the pumps of a lane, unless there is no thread for them.
@@ -217,7 +220,8 @@ fn is_late<R: Host>(rt: &R, start: Option<Instant>) -> bool {
 
 /// Has the close of a lane noted.
 fn note_close(log: &mut TapLog, lane: u32) -> Result<(), Halt>
-    ensures { NotesOnce log.old (close lane) result log.new }
+    ensures once { NotesOnce log.old (close lane) result log.new }
+    ensures reason { IfErr result (λ reason. reason ≡ Halt.NoMemory) }
 {
     match log.note_close(lane) {
         Ok(()) => Ok(()),

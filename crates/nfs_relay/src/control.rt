@@ -89,6 +89,10 @@ impl Control {
             → (self.new.present ≡ self.old.present) × (self.new.left ≡ self.old.left) }
         ensures lanes { (self.new.lanes ≡ self.old.lanes) × (self.new.relayed ≡ self.old.relayed) }
         ensures halt { self.new.halt ≡ self.old.halt }
+        ensures era { (self.new.era ≡ self.old.era) × (self.new.is_crashing ≡ self.old.is_crashing) }
+        // One that may come is taken.
+        ensures over { (self.old.halt ≢ None) ⊎ (self.old.left ≡ Some 0) → result ≡ Admission.Over }
+        ensures taken { self.old.halt ≡ None → self.old.left ≢ Some 0 → self.old.present < 1024 → result ≡ Admission.Admitted }
     {
         if self.is_over() {
             return Admission::Over;
@@ -106,7 +110,10 @@ impl Control {
 
     /// A connection that was taken ended.
     pub(crate) fn leave(&mut self)
-        ensures { self.new.present ≡ self.old.present - 1 }
+        ensures present { self.new.present ≡ self.old.present - 1 }
+        ensures lanes { (self.new.lanes ≡ self.old.lanes) × (self.new.relayed ≡ self.old.relayed) }
+        ensures halt { (self.new.left ≡ self.old.left) × (self.new.halt ≡ self.old.halt) }
+        ensures era { (self.new.era ≡ self.old.era) × (self.new.is_crashing ≡ self.old.is_crashing) }
     {
         self.present = self.present.saturating_sub(1);
     }
@@ -118,6 +125,10 @@ impl Control {
         ensures relayed { IfSome result (λ lane. (self.new.relayed ≡ self.old.relayed + 1) × (lane.era ≡ self.old.era)) }
         ensures may { IsSome result → (self.old.halt ≡ None) × (self.old.is_crashing ≡ false) }
         ensures kept { IfNone result ((self.new.lanes ≡ self.old.lanes) × (self.new.relayed ≡ self.old.relayed)) }
+        ensures halt { (self.new.left ≡ self.old.left) × (self.new.halt ≡ self.old.halt) × (self.new.present ≡ self.old.present) }
+        ensures era { (self.new.era ≡ self.old.era) × (self.new.is_crashing ≡ self.old.is_crashing) }
+        // Where one may be given, it is.
+        ensures gives { self.old.halt ≡ None → self.old.is_crashing ≡ false → self.old.lanes < 4294967295 → IsSome result }
     {
         if self.halt.is_some() || self.is_crashing || self.lanes == u32::MAX {
             return None;
@@ -133,7 +144,9 @@ impl Control {
     /// A lane ended.
     pub(crate) fn leave_lane(&mut self)
         ensures relayed { self.new.relayed ≡ self.old.relayed - 1 }
-        ensures lanes { self.new.lanes ≡ self.old.lanes }
+        ensures lanes { (self.new.lanes ≡ self.old.lanes) × (self.new.present ≡ self.old.present) }
+        ensures halt { (self.new.left ≡ self.old.left) × (self.new.halt ≡ self.old.halt) }
+        ensures era { (self.new.era ≡ self.old.era) × (self.new.is_crashing ≡ self.old.is_crashing) }
     {
         self.relayed = self.relayed.saturating_sub(1);
     }
@@ -149,6 +162,8 @@ impl Control {
     pub(crate) fn halt(&mut self, reason: Halt)
         ensures first { self.new.halt ≡ option_or self.old.halt (Some reason) }
         ensures lanes { (self.new.lanes ≡ self.old.lanes) × (self.new.relayed ≡ self.old.relayed) }
+        ensures present { (self.new.present ≡ self.old.present) × (self.new.left ≡ self.old.left) }
+        ensures era { (self.new.era ≡ self.old.era) × (self.new.is_crashing ≡ self.old.is_crashing) }
     {
         if self.halt.is_none() {
             self.halt = Some(reason);
@@ -166,6 +181,7 @@ impl Control {
     pub(crate) fn begin_crash(&mut self)
         ensures era { (self.new.era ≢ self.old.era) × (self.new.is_crashing ≡ true) }
         ensures lanes { (self.new.lanes ≡ self.old.lanes) × (self.new.relayed ≡ self.old.relayed) }
+        ensures halt { (self.new.left ≡ self.old.left) × (self.new.halt ≡ self.old.halt) × (self.new.present ≡ self.old.present) }
     {
         self.era = self.era.wrapping_add(1);
         self.is_crashing = true;
@@ -175,6 +191,7 @@ impl Control {
     pub(crate) fn end_crash(&mut self)
         ensures era { (self.new.era ≡ self.old.era) × (self.new.is_crashing ≡ false) }
         ensures lanes { (self.new.lanes ≡ self.old.lanes) × (self.new.relayed ≡ self.old.relayed) }
+        ensures halt { (self.new.left ≡ self.old.left) × (self.new.halt ≡ self.old.halt) × (self.new.present ≡ self.old.present) }
     {
         self.is_crashing = false;
     }

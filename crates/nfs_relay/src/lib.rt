@@ -9,6 +9,6 @@ mod relay;
 mod tally;
 
 pub use control::Halt;
-pub use order::OrderReader;
+pub use order::{Order, OrderReader};
 pub use relay::{Host, Relay};
 pub use tally::calls_in;

@@ -1,12 +1,21 @@
 //! What whoever records has to say, line by line.
 
-ghost use Rattle.std.specs.Prelude.{◌≡◌, ◌≢◌, ◌++◌, ◌∷◌, [], ◌↔◌, IfOk, OnOk, OnErr, IsTrue, take, codes};
+ghost use Rattle.std.specs.Prelude.{◌≡◌, ◌≢◌, ◌++◌, ◌∷◌, [], ◌↔◌, IfOk, OnOk, OnErr, IsTrue, Some, take, codes};
 
 use std::alloc::{AllocError, Global};
 use std::marker::Model;
 
 /// The line that tells of a crash.
 const CRASH: &[u8] = b"crash";
+
+/// What a line says.
+#[derive(Clone, Copy, PartialEq, Eq)]
+pub enum Order {
+    /// The server went down.
+    Crash,
+    /// Another line, which isn't empty.
+    Unknown,
+}
 
 /// Reads lines, a byte at a time. Contracts see it as the front of the line that has begun, of six bytes at most.
 #[derive(Drop)]
@@ -34,21 +43,43 @@ impl OrderReader {
         }
     }
 
-    /// Takes a byte, and says whether the line ends with it and is `crash`.
-    pub fn take(&mut self, byte: u8) -> Result<bool, AllocError>
-        ensures crash { IfOk result (λ is_crash. IsTrue is_crash ↔ ((byte ≡ 10) × (self.old ≡ codes "crash"))) }
+    /// Takes a byte, and says what the line is where it ends with it.
+    pub fn take(&mut self, byte: u8) -> Result<Option<Order>, AllocError>
+        ensures crash { IfOk result (λ order. (order ≡ Some Order.Crash) ↔ ((byte ≡ 10) × (self.old ≡ codes "crash"))) }
+        ensures unknown { IfOk result (λ order. (order ≡ Some Order.Unknown) ↔ ((byte ≡ 10) × (self.old ≢ []) × (self.old ≢ codes "crash"))) }
         ensures begun { OnOk result (byte ≡ 10 → self.new ≡ []) }
         ensures line { OnOk result (byte ≢ 10 → self.new ≡ take 6 (self.old ++ byte ∷ [])) }
         ensures kept { OnErr result (self.new ≡ self.old) }
     {
         if byte == b'\n' {
-            let is_crash = self.line.as_slice() == CRASH;
+            let order = order_of(self.line.as_slice());
             self.line.clear();
-            return Ok(is_crash);
+            return Ok(order);
         }
         if self.line.len() < 6 {
             self.line.push(byte)?;
         }
-        Ok(false)
+        Ok(None)
     }
+
+    /// Whether a line has begun.
+    pub fn is_amid_line(&self) -> bool
+        ensures { IsTrue result ↔ (self.now ≢ []) }
+    {
+        !self.line.is_empty()
+    }
+}
+
+/// What a line says, of which this is the front.
+fn order_of(line: &[u8]) -> Option<Order>
+    ensures crash { (result ≡ Some Order.Crash) ↔ (line.now ≡ codes "crash") }
+    ensures unknown { (result ≡ Some Order.Unknown) ↔ ((line.now ≢ []) × (line.now ≢ codes "crash")) }
+{
+    if line.is_empty() {
+        return None;
+    }
+    if line == CRASH {
+        return Some(Order::Crash);
+    }
+    Some(Order::Unknown)
 }

@@ -1,6 +1,6 @@
 //! The relay: it takes connections, and ends them.
 
-ghost use Rattle.std.specs.Prelude.{◌≡◌, ◌≢◌, Err};
+ghost use Rattle.std.specs.Prelude.{◌≡◌, ◌≢◌, ◌⊎◌, Err, IfErr, IsOk};
 ghost use Rattle.history_file.specs.Event.Event.{crash};
 ghost use Rattle.nfs_tap.specs.Room.{HasRoom};
 ghost use Rattle.nfs_relay.specs.Closing.{NotesOnce};
@@ -84,18 +84,22 @@ impl Relay {
     }
 
     /// Ends the connections of a server that went down, and notes the crash behind their closes.
-    pub fn crash<R: Wait>(&self, rt: &R) {
+    pub fn crash<R: Wait + Eprint>(&self, rt: &R) {
         self.control.lock(rt).begin_crash();
         self.changed.notify_all();
         let control = self
             .changed
             .wait_while(rt, self.control.lock(rt), |control| control.relayed() > 0);
         drop(control);
-        if let Err(reason) = note_crash(&mut self.log.lock(rt)) {
+        let noted = note_crash(&mut self.log.lock(rt));
+        if let Err(reason) = noted {
             self.halt(rt, reason);
         }
         self.control.lock(rt).end_crash();
         self.changed.notify_all();
+        if noted.is_ok() {
+            let _ = eprintln!(rt; "the crash is noted");
+        }
     }
 
     /// Whether a connection that came is taken.
@@ -217,6 +221,8 @@ impl Ticker {
 fn note_crash(log: &mut TapLog) -> Result<(), Halt>
     ensures once { NotesOnce log.old crash result log.new }
     ensures full { HasRoom log.old 0 → result ≢ Err Halt.LogFull }
+    ensures within { IsOk result → HasRoom log.old 0 }
+    ensures reason { IfErr result (λ reason. (reason ≡ Halt.LogFull) ⊎ (reason ≡ Halt.NoMemory)) }
 {
     if !log.has_room(0) {
         return Err(Halt::LogFull);
