@@ -1,3 +1,4 @@
 pub mod Printable
 pub mod Left
 pub mod Lines
+pub mod Shown

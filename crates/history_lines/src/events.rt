@@ -1,6 +1,6 @@
 //! The events of a history file, one after the other. Nothing is copied, and nothing is kept of those that are read.
 
-ghost use Rattle.std.specs.Prelude.{◌≡◌, ◌-◌, ◌≤◌, ◌<◌, nat_eq, ℕ, List, IfOk, IfErr, OnOk, Err};
+ghost use Rattle.std.specs.Prelude.{◌≡◌, ◌+◌, ◌-◌, ◌≤◌, ◌<◌, nat_eq, ℕ, List, IfOk, IfErr, OnOk, Err};
 ghost use Rattle.std.specs.List.{starts_with};
 ghost use Rattle.history_file.specs.HistoryFile.{magic};
 
@@ -56,6 +56,7 @@ impl<'a> UnreadEvents<'a> {
     /// Ahead of the first event of a file.
     pub fn of_file(bytes: &'a [u8]) -> Result<UnreadEvents<'a>, FileFault>
         ensures found { IfOk result (IsLeft bytes.now) }
+        ensures first { IfOk result (λ unread. unread.read ≡ 0) }
         ensures fault { IfErr result (IsFileFault bytes.now) }
     {
         if !has_magic(bytes) {
@@ -68,7 +69,9 @@ impl<'a> UnreadEvents<'a> {
     }
 
     /// The number of the last event that was read.
-    pub fn read(&self) -> u64 {
+    pub fn read(&self) -> u64
+        ensures { result ≡ self.now.read }
+    {
         self.read
     }
 
@@ -90,6 +93,7 @@ impl<'a> UnreadEvents<'a> {
         ensures goes_on { OnOk result ((bytes : List ℕ) → IsLeft bytes self.old → IsLeft bytes self.new) }
         ensures fault { IfErr result (λ fault. (bytes : List ℕ) → IsLeft bytes self.old → IsFileFault bytes fault) }
         ensures one { OnOk result (self.new.count - self.new.read < self.old.count - self.old.read) }
+        ensures step { OnOk result (self.new.read ≡ self.old.read + 1) }
     {
         let mut reader = Reader::new(self.rest);
         let event = event(&mut reader, self.read + 1)?;

@@ -1,6 +1,6 @@
 //! A line for each event of a history file.
 
-ghost use Rattle.std.specs.Prelude.{ℕ, List, IfOk, IfSome};
+ghost use Rattle.std.specs.Prelude.{◌≡◌, ℕ, List, IfOk, IfSome, MatchBool};
 ghost use Rattle.history_file.specs.FileFaults.{IsFileFault, IsErrorOf};
 ghost use Rattle.history_lines.specs.Printable.{IsLine};
 
@@ -24,8 +24,12 @@ pub struct Selection {
 }
 
 impl Selection {
+    ghost use Rattle.history_lines.specs.Shown.{IsAsked, IsPassedOver};
+
     /// Whether an event is shown, which is a call or the reply to one.
-    fn has(&self, event: u64, call: Option<u64>) -> bool {
+    fn has(&self, event: u64, call: Option<u64>) -> bool
+        ensures { MatchBool result (IsAsked self.now event) (IsPassedOver self.now event) }
+    {
         if event < self.from || self.to < event {
             return false;
         }
@@ -126,6 +130,8 @@ struct LineMaker {
 }
 
 impl LineMaker {
+    ghost use Rattle.history_lines.specs.Shown.{IsShownAs};
+
     /// The line of a call, where it is shown.
     fn line_of_call(
         &self,
@@ -135,7 +141,8 @@ impl LineMaker {
         message: &[u8],
         read: &Result<CallHead<'_>, RpcFault>,
     ) -> Result<Option<Line>, AllocError>
-        ensures { IfOk result (λ shown. IfSome shown IsLine) }
+        ensures printable { IfOk result (λ shown. IfSome shown IsLine) }
+        ensures shown { IfOk result (IsShownAs self.now.selection number) }
     {
         if !self.selection.has(number, Some(call)) {
             return Ok(None);
@@ -151,7 +158,9 @@ impl LineMaker {
         lane: u32,
         message: &[u8],
     ) -> Result<Option<Line>, AllocError>
-        ensures { IfOk result (λ shown. IfSome shown IsLine) }
+        ensures printable { IfOk result (λ shown. IfSome shown IsLine) }
+        ensures shown { IfOk result (IsShownAs self.old.selection number) }
+        ensures kept { self.new.selection ≡ self.old.selection }
     {
         let read = read_call(message);
         let line = self.line_of_call(number, call, lane, message, &read)?;
@@ -178,7 +187,8 @@ impl LineMaker {
         message: &[u8],
         read: &Result<ReplyHead<'_>, RpcFault>,
     ) -> Result<Option<Line>, AllocError>
-        ensures { IfOk result (λ shown. IfSome shown IsLine) }
+        ensures printable { IfOk result (λ shown. IfSome shown IsLine) }
+        ensures shown { IfOk result (IsShownAs self.now.selection number) }
     {
         let asked = self.answered(lane, read);
         if !self.selection.has(number, asked.map(|asked| asked.number)) {
@@ -194,7 +204,9 @@ impl LineMaker {
         lane: u32,
         message: &[u8],
     ) -> Result<Option<Line>, AllocError>
-        ensures { IfOk result (λ shown. IfSome shown IsLine) }
+        ensures printable { IfOk result (λ shown. IfSome shown IsLine) }
+        ensures shown { IfOk result (IsShownAs self.old.selection number) }
+        ensures kept { self.new.selection ≡ self.old.selection }
     {
         let read = read_reply(message);
         let line = self.line_of_reply(number, lane, message, &read)?;
@@ -210,7 +222,8 @@ impl LineMaker {
         number: u64,
         closed: Option<u32>,
     ) -> Result<Option<Line>, AllocError>
-        ensures { IfOk result (λ shown. IfSome shown IsLine) }
+        ensures printable { IfOk result (λ shown. IfSome shown IsLine) }
+        ensures shown { IfOk result (IsShownAs self.now.selection number) }
     {
         if !self.selection.has(number, None) {
             return Ok(None);
@@ -228,7 +241,9 @@ impl LineMaker {
         call: u64,
         event: &SeenEvent<'_>,
     ) -> Result<Option<Line>, AllocError>
-        ensures { IfOk result (λ shown. IfSome shown IsLine) }
+        ensures printable { IfOk result (λ shown. IfSome shown IsLine) }
+        ensures shown { IfOk result (IsShownAs self.old.selection number) }
+        ensures kept { self.new.selection ≡ self.old.selection }
     {
         match event {
             SeenEvent::Call { lane, message } => self.take_call(number, call, *lane, *message),
@@ -247,7 +262,7 @@ pub struct EventLines<'a> {
 }
 
 impl<'a> EventLines<'a> {
-    ghost use Rattle.history_lines.specs.Lines.{AreLinesOf, IsWholeAtEnd};
+    ghost use Rattle.history_lines.specs.Lines.{AreLinesOf, IsWholeAtEnd, IsNextShown, selection_of, last_read};
 
     /// Ahead of the first event of a file.
     pub fn new(
@@ -256,6 +271,7 @@ impl<'a> EventLines<'a> {
         selection: Selection,
     ) -> Result<EventLines<'a>, FileFault>
         ensures found { IfOk result (AreLinesOf bytes.now) }
+        ensures first { IfOk result (λ lines. (selection_of lines ≡ selection) × (last_read lines ≡ 0)) }
         ensures fault { IsErrorOf (IsFileFault bytes.now) result }
     {
         let unread = UnreadEvents::of_file(bytes)?;
@@ -272,6 +288,11 @@ impl<'a> EventLines<'a> {
     pub fn next_line(&mut self) -> Result<Option<Line>, FileFault>
         // Printable bytes, and one line feed, at the end.
         ensures printable { IfOk result (λ shown. IfSome shown IsLine) }
+
+        // It is the line of an event between the two numbers, and where no call is named none of these is left out, whatever
+        // fails.
+        ensures shown { IsNextShown self.old self.new result }
+        ensures kept { selection_of self.new ≡ selection_of self.old }
 
         // Of a file they are its lines still, also where it is at fault, which is its first fault.
         ensures goes_on { (bytes : List ℕ) → AreLinesOf bytes self.old → AreLinesOf bytes self.new }

@@ -8,6 +8,10 @@ use Rattle.std.specs.List.{AllPass, fold}
 use Rattle.hex.specs.Hex.{IsBytes, encode_lower, encode_with, lower_digits}
 use Rattle.nfsbench_engine.specs.Bundle.{is_lower_digit}
 
+-- the fact of `AllPass is_lower_digit`
+abbrev IsLower : ℕ → Type 0
+IsLower c = is_lower_digit c ≡ true
+
 -- ---- the digit of each value
 
 -- the test of one value, which computes: it has one of the digits, whose value it is
@@ -95,13 +99,13 @@ stays (x ∷ xs) = stays xs
 pub none_failed-AllPass : (xs : List ℕ) → fold still_lower true xs ≡ true → AllPass is_lower_digit xs
 none_failed-AllPass [] h = All-nil (λ c. is_lower_digit c ≡ true)
 none_failed-AllPass (x ∷ xs) h = elim (cases_Bool (is_lower_digit x)) [
-      | inl e ↦
-          let rest : fold still_lower true xs ≡ true = rw e at h in
-          All-cons (λ c. is_lower_digit c ≡ true) x xs e (none_failed-AllPass xs rest)
-      | inr e ↦
-          let rest : fold still_lower false xs ≡ true = rw e at h in
-          cc (rest, stays xs)
-    ]
+  | inl e ↦
+      let rest : fold still_lower true xs ≡ true = rw e at h in
+      All-cons (λ c. is_lower_digit c ≡ true) x xs e (none_failed-AllPass xs rest)
+  | inr e ↦
+      let rest : fold still_lower false xs ≡ true = rw e at h in
+      cc (rest, stays xs)
+]
 
 -- all pass, so that nothing fails
 pub AllPass-none_failed : (xs : List ℕ) → AllPass is_lower_digit xs → fold still_lower true xs ≡ true

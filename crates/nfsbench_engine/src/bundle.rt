@@ -17,7 +17,9 @@ pub(crate) enum BundleFault {
 }
 
 impl From<AllocError> for BundleFault {
-    ghost from_gives = { λ _ fault. fault ≡ BundleFault.NoMemory };
+    ghost use Rattle.nfsbench_engine.specs.declared.bundle.BundleFault.TheVariants.{NoMemory};
+
+    ghost from_gives = { λ _ fault. fault ≡ NoMemory };
 
     fn from(_: AllocError) -> BundleFault {
         BundleFault::NoMemory

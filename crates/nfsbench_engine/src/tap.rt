@@ -14,7 +14,7 @@ use crate::recorder::Recorder;
 use crate::saving::{SaveFault, write_log};
 use crate::tap_end::{TapEnd, refusal_of, tell_end};
 use crate::tap_words::TapRequest;
-use nfs_relay::{Halt, Host, OrderReader, Relay, calls_in};
+use nfs_relay::{Halt, Host, Order, OrderReader, Relay, calls_in};
 use nfs_tap::TapLog;
 use nfs3_types::FileHandle;
 use std::alloc::{AllocError, Global};
@@ -50,11 +50,22 @@ fn take_orders<R: Host>(
     bytes: &[u8],
 ) -> Result<(), AllocError> {
     for byte in bytes {
-        if orders.take(*byte)? {
-            relay.crash(rt);
+        match orders.take(*byte)? {
+            Some(Order::Crash) => relay.crash(rt),
+            Some(Order::Unknown) => {
+                let _ = eprintln!(rt; "an order is unknown: crash is the only one");
+            }
+            None => {}
         }
     }
     Ok(())
+}
+
+/// Says that the last order has no end, which may be a part of one.
+fn tell_unfinished<R: Host>(rt: &R, orders: &OrderReader) {
+    if orders.is_amid_line() {
+        let _ = eprintln!(rt; "the last order isn't done: it has no line feed");
+    }
 }
 
 /// Hands the orders on an input to the relay, to the end of the input.
@@ -63,7 +74,10 @@ fn read_orders<R: Host, I: Input>(rt: &R, relay: &Relay, input: &mut I) -> Resul
     let mut orders = OrderReader::new(rt.alloc());
     for _ in rt.forever() {
         match input.read(buffer.as_mut_slice()) {
-            Ok(0) => return Ok(()),
+            Ok(0) => {
+                tell_unfinished(rt, &orders);
+                return Ok(());
+            }
             Ok(count) => take_orders(rt, relay, &mut orders, &buffer[..count])?,
             Err(error) if error.kind() == ErrorKind::Interrupted => {}
             Err(_) => return Ok(()),

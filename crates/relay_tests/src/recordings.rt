@@ -5,10 +5,10 @@ use crate::peers::{answer, call, connect, ends, listen, port_of};
 use nfs_relay::Host;
 use nfsbench_engine::{Input, Recorder, Stream, run_words};
 use std::alloc::AllocError;
+use std::fs;
 use std::io::{self, Write};
 use std::net::TcpListener;
 use std::test::Fail;
-use std::fs;
 use std::thread::{self, JoinHandle, Scope};
 
 /// The path of a recording on this port.

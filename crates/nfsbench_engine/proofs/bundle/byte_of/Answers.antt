@@ -1,4 +1,3 @@
-use Rattle.std.proofs.Common.{◌≡◌}
 use Rattle.nfsbench_engine.proofs.LowerHex.{pair-spelled}
 use Rattle.nfsbench_engine.proofs.bundle.byte_of.Goals as goal
 

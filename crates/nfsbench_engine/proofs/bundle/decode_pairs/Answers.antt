@@ -1,8 +1,5 @@
-use Rattle.std.proofs.Common.{rules, ◌≡◌, ◌<◌, ◌+◌, ◌*◌, ◌%◌, ◌/◌, length, ℕ, refl, sym, ap, ◌∙◌, arith}
-use Rattle.std.specs.List.{AllPass}
+use Rattle.std.proofs.Common.{rules, ◌≡◌, ◌<◌, ◌+◌, ◌*◌, length, ◌∙◌, arith}
 use Rattle.std.proofs.lemmas.List.{take_all}
-use Rattle.hex.specs.Hex.{IsBytes, encode_lower, encode_with}
-use Rattle.nfsbench_engine.specs.Bundle.{is_lower_digit}
 use Rattle.nfsbench_engine.proofs.LowerHex.{IsBytes-none, IsBytes-push, none_spelled, pair_more}
 use Rattle.nfsbench_engine.proofs.bundle.decode_pairs.Goals as goal
 
@@ -13,16 +10,17 @@ loop-index-init c =
 pub loop-index-preserved : goal.loop-index-preserved
 loop-index-preserved c =
     let digits = c.args.digits.now in
-    let fits : c.byte_of.result < 256 = search rules in
-    (IsBytes-push c.loop-index.bytes.items c.push.new.self.items c.byte_of.result c.in_ok-push.ensures.items fits c.loop-index.invariant.0,
-    λ lower. pair_more digits c.loop-index.bytes.items c.push.new.self.items c.loop-index.index c.byte_of.result (omega arith)
-    (c.loop-index.invariant.1 lower) c.in_ok-push.ensures.items
-    (c.byte_of.ensures.spelled (lower (2 * c.loop-index.index) 0 (omega arith)) (lower (2 * c.loop-index.index + 1) 0 (omega arith))))
+    let fits : c.byte_of.result < 256 = search rules in (
+      IsBytes-push c.loop-index.bytes.items c.push.new.self.items c.byte_of.result c.in_ok-push.ensures.items fits c.loop-index.invariant.0,
+      λ lower. pair_more digits c.loop-index.bytes.items c.push.new.self.items c.loop-index.index c.byte_of.result (omega arith)
+          (c.loop-index.invariant.1 lower) c.in_ok-push.ensures.items
+          (c.byte_of.ensures.spelled (lower (2 * c.loop-index.index) 0 (omega arith)) (lower (2 * c.loop-index.index + 1) 0 (omega arith))),
+    )
 
 pub returns : goal.returns
 returns c = record {
   bytes = c.loop-index.invariant.0;
   spelled = λ lower even.
-    let all : length c.args.digits.now ≡ 2 * c.loop-index.index = omega arith in
-    c.loop-index.invariant.1 lower ∙ take_all (2 * c.loop-index.index) c.args.digits.now (omega arith);
+      let all : length c.args.digits.now ≡ 2 * c.loop-index.index = omega arith in
+      c.loop-index.invariant.1 lower ∙ take_all (2 * c.loop-index.index) c.args.digits.now (omega arith);
 }

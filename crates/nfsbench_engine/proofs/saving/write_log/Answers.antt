@@ -1,5 +1,5 @@
-use Rattle.std.proofs.Common.{arith, ap, ◌∙◌, length}
-use Rattle.nfsbench_engine.proofs.Saved.{head_small, log_written, log_within}
+use Rattle.std.proofs.Common.{arith, ap, length}
+use Rattle.nfsbench_engine.proofs.Saved.{head_small}
 use Rattle.nfsbench_engine.proofs.saving.write_log.Goals as goal
 
 pub write_events-requires : goal.write_events-requires

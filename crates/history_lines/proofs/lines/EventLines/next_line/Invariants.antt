@@ -1,9 +1,15 @@
-use Rattle.std.proofs.Common.{ℕ, ◌-◌, List}
+use Rattle.std.proofs.Common.{◌≡◌, ℕ, ◌-◌, ◌≤◌, List}
 use Rattle.history_lines.specs.Lines.{AreLinesOf}
+use Rattle.history_lines.specs.Shown.{ArePassedOver}
 use Rattle.history_lines.proofs.lines.EventLines.next_line.Given as goal
 
 abbrev pub invariant-loop-unread : goal.invariant-loop-unread
-invariant-loop-unread l = (bytes : List ℕ) → AreLinesOf bytes l.initial.self → AreLinesOf bytes l.self
+invariant-loop-unread l = record {
+  goes_on : (bytes : List ℕ) → AreLinesOf bytes l.initial.self → AreLinesOf bytes l.self;
+  passed : ArePassedOver l.initial.self.maker.selection l.initial.self.unread.read l.self.unread.read;
+  behind : l.initial.self.unread.read ≤ l.self.unread.read;
+  kept : l.self.maker.selection ≡ l.initial.self.maker.selection;
+}
 
 abbrev pub decreases-loop-unread : goal.decreases-loop-unread
 decreases-loop-unread l = l.self.unread.count - l.self.unread.read
