@@ -2,6 +2,7 @@
 
 use crate::samples::EMPTY;
 use nfsbench_engine::{Recorder, run_words};
+use std::net::{TcpListener, TcpStream};
 use std::test::Fail;
 
 /// Whether these words, with a bundle of no event on the input, get this text and this status.
@@ -16,6 +17,9 @@ fn is_told<R: Recorder>(rt: &R, words: &[&str], text: &[u8], status: u8) -> bool
 
 #[test]
 fn a_file_that_cannot_be_read_is_named(rt: HostRuntime) -> Result<(), Fail> {
+    // The prover knows the types that a function names: the engine has values of these two.
+    let _listener: Option<TcpListener> = None;
+    let _stream: Option<TcpStream> = None;
     let history = b"refused: unreadable history\n";
     let certificate = b"refused: unreadable certificate\n";
     assert!(rt;
@@ -48,6 +52,9 @@ fn a_file_that_cannot_be_read_is_named(rt: HostRuntime) -> Result<(), Fail> {
 
 #[test]
 fn a_device_is_read_to_its_end(rt: HostRuntime) -> Result<(), Fail> {
+    // The prover knows the types that a function names: the engine has values of these two.
+    let _listener: Option<TcpListener> = None;
+    let _stream: Option<TcpStream> = None;
     let words = ["nfsbench", "check", "/dev/null", "/dev/null"];
     assert!(rt; is_told(&rt, &words, b"refused: BadMagic\n", 2));
     Ok(())

@@ -7,7 +7,7 @@ use nfsbench_engine::{Input, Recorder, Stream, run_words};
 use std::alloc::AllocError;
 use std::fs;
 use std::io::{self, Write};
-use std::net::TcpListener;
+use std::net::{TcpListener, TcpStream};
 use std::test::Fail;
 use std::thread::{self, JoinHandle, Scope};
 
@@ -104,6 +104,8 @@ fn records_a_crash<R: Recorder>(
 
 #[test]
 fn a_crash_is_recorded(rt: HostRuntime) -> Result<(), Fail> {
+    // The prover knows the types that a function names.
+    let _stream: Option<TcpStream> = None;
     let server = listen(&rt)?;
     let control = listen(&rt)?;
     let behind = port_of(&server)?;
@@ -120,6 +122,8 @@ fn a_crash_is_recorded(rt: HostRuntime) -> Result<(), Fail> {
 
 #[test]
 fn what_a_client_says_is_recorded(rt: HostRuntime) -> Result<(), Fail> {
+    // The prover knows the types that a function names.
+    let _stream: Option<TcpStream> = None;
     let server = listen(&rt)?;
     let behind = port_of(&server)?;
     let port = port_of(&listen(&rt)?)?;
@@ -134,6 +138,9 @@ fn what_a_client_says_is_recorded(rt: HostRuntime) -> Result<(), Fail> {
 
 #[test]
 fn a_port_has_its_bounds(rt: HostRuntime) -> Result<(), Fail> {
+    // The prover knows the types that a function names.
+    let _listener: Option<TcpListener> = None;
+    let _stream: Option<TcpStream> = None;
     let line = "nfsbench tap --root 00 --port 65536 --server 2049 history";
     let words: Vec<&str> = line.split(' ').collect(rt.alloc())?;
     let mut told = Vec::new(rt.alloc());
