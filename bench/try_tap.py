@@ -373,7 +373,7 @@ def crash():
     server.close()
     tap.say(b"cra")
     time.sleep(0.1)
-    tap.say(b"sh\nno order\n")
+    tap.say(b"sh\nno order\n\n")
     for sock in old:
         assert sock.recv(1) == b""
     time.sleep(0.2)
@@ -384,10 +384,14 @@ def crash():
     assert read_record(pending) == reply(4)
     pending.close()
     time.sleep(0.3)
+    tap.say(b"cras")
     tap.process.stdin.close()
     tap.process.stdin = None
     status, out, err, events = tap.end()
     server.close()
+    told = ["the crash is noted", "an order is unknown: crash is the only one", "the last order isn't done: it has no line feed"]
+    said = err.split("\n")
+    assert all(said.count(line) == 1 for line in told), err
     kinds = [event[0] for event in events]
     assert (status, out) == (0, "calls 4\n"), (status, out, err)
     assert kinds == [0, 1] * 3 + [2] * 3 + [3, 0, 1, 2], kinds
