@@ -1,4 +1,6 @@
--- What any number of claimers do to a table, step by step, each at any time.
+-- What any number of claimers do to a table, step by step, each at any time. A claim takes several steps, others may step between
+-- any two of them, and what it answers was so at one of its own (Herlihy and Wing, Linearizability: A Correctness Condition for
+-- Concurrent Objects, 1990).
 use Rattle.std.specs.Prelude.{◌≡◌, ◌≢◌, ℕ, ◌==◌, if◌then◌else◌, List, [], ◌∷◌, ◌++◌, replicate, slice_index, slice_set, ⊤}
 use Rattle.std.specs.List.{AllByRecursion}
 use mathlib.Core.Option.{some}
