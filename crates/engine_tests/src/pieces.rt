@@ -1,7 +1,8 @@
 //! Readers that give a bundle in pieces or break off, and writers with little room.
 
 use crate::samples::{CERTIFICATE, HISTORY};
-use nfsbench_engine::{Sink, Stream, run_bundle};
+use bench_streams::{Sink, Stream};
+use nfsbench_engine::run_bundle;
 use std::alloc::Global;
 use std::io::{self, ErrorKind, Read, Write};
 use std::test::Fail;

@@ -1,7 +1,8 @@
 //! An input that never ends, and an output that is interrupted.
 
 use crate::samples::EMPTY;
-use nfsbench_engine::{Sink, Stream, run_bundle};
+use bench_streams::{Sink, Stream};
+use nfsbench_engine::run_bundle;
 use std::io::{self, ErrorKind, Read, Write};
 use std::test::Fail;
 

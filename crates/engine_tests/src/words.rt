@@ -1,7 +1,8 @@
 //! Words of the command line, on the system's own files.
 
 use crate::samples::EMPTY;
-use nfsbench_engine::{Recorder, run_words};
+use nfs_recording::Recorder;
+use nfsbench_engine::run_words;
 use std::net::{TcpListener, TcpStream};
 use std::test::Fail;
 

@@ -10,7 +10,8 @@ use Rattle.history_report.specs.Counted.{report_of}
 use Rattle.witness_check.specs.declared.verdict.FileVerdict.{FileVerdict}
 use Rattle.witness_check.specs.declared.verdict.FileVerdict.TheVariants.{BadHistory}
 use Rattle.witness_check.specs.Verdict.{IsFileVerdict}
-use Rattle.nfsbench_engine.specs.Report.{Answer, line_of, status_of}
+use Rattle.bench_streams.specs.Told.{Answer}
+use Rattle.nfsbench_engine.specs.Report.{line_of, status_of}
 use Rattle.nfsbench_engine.specs.Reported.{IsLost, IsReported, count_lines, lost_lines}
 
 -- of a history, its numbers and what was found of it

@@ -1,5 +1,5 @@
 -- What a bundle is: a history and a certificate in one stream of bytes.
-use Rattle.std.specs.Prelude.{◌≡◌, ℕ, Bool, ◌&&◌, ◌||◌, nat_le, List, ◌∷◌, ◌++◌}
+use Rattle.std.specs.Prelude.{◌≡◌, ℕ, List, ◌∷◌, ◌++◌}
 use Rattle.hex.specs.Hex.{IsBytes, encode_lower}
 use Rattle.witness_check.specs.declared.fault.Fault.{Fault}
 use Rattle.witness_check.specs.Witness.{AreAccepted}
@@ -27,7 +27,3 @@ pub record IsRefutedBundle (fault : Fault) (bytes : List ℕ) : Type 0 where
   pub certificate : List ℕ
   pub spelled : IsBundle bytes history certificate
   pub refuted : AreRefuted history certificate fault
-
--- whether a byte is one of the sixteen digits, 48 to 57 and 97 to 102
-abbrev pub is_lower_digit : ℕ → Bool
-is_lower_digit c = (nat_le 48 c && nat_le c 57) || (nat_le 97 c && nat_le c 102)

@@ -1,6 +1,5 @@
 -- What is said of a history and a certificate: an exit status and a line (words of this project's own).
 use Rattle.std.specs.Prelude.{◌≡◌, ◌⊎◌, ℕ, List, [], ◌∷◌, ◌++◌, codes, Option, Some, None, IfSome}
-use Rattle.std.specs.Io.KnownBytes.{Appends}
 use Rattle.nfs_history.specs.FaultText.{history_fault_words}
 use Rattle.certificate.specs.FaultText.{text_fault_words}
 use Rattle.witness_check.specs.declared.fault.Fault.{Fault}
@@ -8,23 +7,12 @@ use Rattle.witness_check.specs.FaultText.{fault_words}
 use Rattle.witness_check.specs.declared.verdict.FileVerdict.{FileVerdict}
 use Rattle.witness_check.specs.declared.verdict.FileVerdict.TheVariants.{Yes, No, BadHistory, BadText}
 use Rattle.witness_check.specs.Verdict.{IsFileVerdict}
+use Rattle.bench_streams.specs.Told.{IsRefusal, memory_line, refused_line}
 use Rattle.nfsbench_engine.specs.Bundle.{IsBundle, IsSomeBundle}
-
--- what a report shows: the exit status, and the line with its line feed
-pub record Answer : Type 0 where
-  pub status : ℕ
-  pub line : List ℕ
 
 -- the line that tells a fault of a plan
 abbrev pub no_line : Fault → List ℕ
 no_line fault = codes "no: " ++ fault_words fault ++ 10 ∷ []
-
--- the line that tells why something can't be judged
-abbrev pub refused_line : List ℕ → List ℕ
-refused_line words = codes "refused: " ++ words ++ 10 ∷ []
-
-abbrev pub memory_line : List ℕ
-memory_line = codes "out of memory" ++ 10 ∷ []
 
 -- the exit status of a verdict
 abbrev pub status_of : FileVerdict → ℕ
@@ -39,10 +27,6 @@ line_of Yes = codes "yes" ++ 10 ∷ []
 line_of (No fault) = no_line fault
 line_of (BadHistory fault) = refused_line (history_fault_words fault)
 line_of (BadText fault) = refused_line (text_fault_words fault)
-
--- what is said of a refusal
-abbrev pub IsRefusal : List ℕ → ℕ → List ℕ → Type 0
-IsRefusal words status line = (status ≡ 2) × (line ≡ refused_line words)
 
 -- what is said of a history file and a certificate's text: the verdict on them
 abbrev pub IsSaidOfFiles : List ℕ → List ℕ → ℕ → List ℕ → Type 0
@@ -72,7 +56,3 @@ MaySay known status line =
 -- the line that may be told of an input, at any status
 abbrev pub MayTell : Option (List ℕ) → List ℕ → Type 0
 MayTell known line = ((status : ℕ) × MaySay known status line) ⊎ (line ≡ memory_line)
-
--- this status was given, and this line was written, and nothing else
-abbrev pub Tells : ℕ → Option (List ℕ) → Option (List ℕ) → ℕ → List ℕ → Type 0
-Tells given old new status line = (given ≡ status) × Appends old new line

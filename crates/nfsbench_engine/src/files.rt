@@ -4,10 +4,9 @@ ghost use Rattle.std.specs.Prelude.{◌≡◌, ℕ, List, IfOk, Option};
 ghost use Rattle.nfsbench_engine.specs.Report.{IsSaidOfRead};
 ghost use Rattle.nfsbench_engine.specs.Reported.{IsReportedOfRead};
 
-use crate::input::Stream;
-use crate::reading::{InputFault, read_all};
-use crate::report::{Report, judge_read};
+use crate::report::judge_read;
 use crate::reporting::report_read;
+use bench_streams::{InputFault, Report, Stream, read_all};
 use std::alloc::AllocError;
 use std::fs::{File, OpenFile};
 use std::io::Read;

@@ -1,103 +1,26 @@
 //! What is said of a history and a certificate: a line and an exit status.
 
-ghost use Rattle.std.specs.Prelude.{◌≡◌, ◌++◌, ◌∷◌, [], ℕ, List, Some, codes, decimal, IfOk, IfSome, string_bytes};
+ghost use Rattle.std.specs.Prelude.{◌≡◌, ℕ, List, IfOk};
 ghost use Rattle.std.specs.Option.{option_copied};
-ghost use Rattle.nfsbench_engine.specs.Report.{IsRefusal, IsSaid, IsSaidOfFiles, IsSaidOfRead, refused_line};
+ghost use Rattle.nfsbench_engine.specs.Report.{IsSaid, IsSaidOfFiles, IsSaidOfRead, line_of, status_of};
 
 use crate::bundle::{BundleFault, read_bundle};
+use bench_streams::{Report, line_of};
 use std::alloc::{AllocError, Global};
-use std::fmt::Display;
-use std::marker::Model;
 use witness_check::{FileVerdict, check_files};
 
-/// A line that ends in a line feed, and the exit status that goes with it.
-#[derive(Drop)]
-pub struct Report {
-    status: u8,
-    line: String,
-}
-
-impl Model for Report {
-    ghost use Rattle.std.specs.Prelude.{string_bytes};
-    ghost use Rattle.nfsbench_engine.specs.Report.{Answer};
-
-    ghost Value = { Answer };
-
-    ghost view = { λ report. record { status = report.status; line = string_bytes report.line } };
-}
-
-impl Report {
-    ghost use Rattle.nfsbench_engine.specs.Report.{line_of, status_of};
-
-    pub fn status(&self) -> u8
-        ensures { result ≡ self.now.status }
-    {
-        self.status
-    }
-
-    pub fn line(&self) -> &str
-        ensures { result.now ≡ self.now.line }
-    {
-        self.line.as_str()
-    }
-
-    /// What can't be judged, for this reason.
-    pub(crate) fn refused(alloc: Global, reason: &str) -> Result<Report, AllocError>
-        ensures { IfOk result (λ report. IsRefusal reason.now report.status report.line) }
-    {
-        Ok(Report {
-            status: 2,
-            line: line_of(alloc, "refused: ", &reason)?,
-        })
-    }
-
-    /// That a history with so many calls was recorded.
-    pub(crate) fn recorded(alloc: Global, calls: usize) -> Result<Report, AllocError>
-        ensures status { IfOk result (λ report. report.status ≡ 0) }
-        ensures line { IfOk result (λ report. report.line ≡ codes "calls " ++ (decimal calls ++ 10 ∷ [])) }
-    {
-        Ok(Report {
-            status: 0,
-            line: line_of(alloc, "calls ", &calls)?,
-        })
-    }
-
-    /// What is said of a verdict.
-    pub(crate) fn of_verdict(alloc: Global, verdict: FileVerdict) -> Result<Report, AllocError>
-        ensures status { IfOk result (λ report. report.status ≡ status_of verdict) }
-        ensures line { IfOk result (λ report. report.line ≡ line_of verdict) }
-    {
-        let (status, line) = match verdict {
-            FileVerdict::Yes => (0, String::from_str(alloc, "yes\n")?),
-            FileVerdict::No(fault) => (1, line_of(alloc, "no: ", &fault)?),
-            FileVerdict::BadHistory(fault) => (2, line_of(alloc, "refused: ", &fault)?),
-            FileVerdict::BadText(fault) => (2, line_of(alloc, "refused: ", &fault)?),
-        };
-        Ok(Report { status, line })
-    }
-
-    /// The same, behind these lines.
-    pub(crate) fn behind(self, lines: String) -> Result<Report, AllocError>
-        ensures status { IfOk result (λ report. report.status ≡ self.status) }
-        ensures line { IfOk result (λ report. report.line ≡ string_bytes lines ++ self.line) }
-    {
-        let Report { status, line } = self;
-        let mut lines = lines;
-        lines.push_str(line.as_str())?;
-        Ok(Report {
-            status,
-            line: lines,
-        })
-    }
-}
-
-/// The line of these words and the text.
-fn line_of<D: Display>(alloc: Global, words: &str, told: &D) -> Result<String, AllocError>
-    ensures { IfOk result (λ line. IfSome (D.output told.now) (λ text.
-        string_bytes line ≡ words.now ++ text ++ 10 ∷ [])) }
+/// What is said of a verdict.
+pub(crate) fn verdict_report(alloc: Global, verdict: FileVerdict) -> Result<Report, AllocError>
+    ensures status { IfOk result (λ report. report.status ≡ status_of verdict) }
+    ensures line { IfOk result (λ report. report.line ≡ line_of verdict) }
 {
-    let text = told.to_string(alloc)?;
-    format!(in alloc; "{words}{text}\n")
+    let (status, line) = match verdict {
+        FileVerdict::Yes => (0, String::from_str(alloc, "yes\n")?),
+        FileVerdict::No(fault) => (1, line_of(alloc, "no: ", &fault)?),
+        FileVerdict::BadHistory(fault) => (2, line_of(alloc, "refused: ", &fault)?),
+        FileVerdict::BadText(fault) => (2, line_of(alloc, "refused: ", &fault)?),
+    };
+    Ok(Report::new(status, line))
 }
 
 /// What is said of a history file and a certificate's text; that memory runs out is no answer.
@@ -110,7 +33,7 @@ pub fn judge_files(alloc: Global, history: &[u8], certificate: &[u8]) -> Result<
         → IfOk result (λ report. (report.status ≡ status) × (report.line ≡ line)) }
 {
     let verdict = check_files(alloc, history, certificate)?;
-    Report::of_verdict(alloc, verdict)
+    verdict_report(alloc, verdict)
 }
 
 /// What is said of two files as they were read; one that couldn't be read has no bytes.

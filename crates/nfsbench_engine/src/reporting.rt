@@ -7,7 +7,8 @@ ghost use Rattle.witness_check.specs.Verdict.{IsFileVerdict};
 ghost use Rattle.nfsbench_engine.specs.Report.{line_of, status_of};
 ghost use Rattle.nfsbench_engine.specs.Reported.{IsLost, IsReported, IsReportedOfRead, count_lines, lost_lines, number_line};
 
-use crate::report::Report;
+use crate::report::verdict_report;
+use bench_streams::Report;
 use certificate::{TextFault, read_certificate};
 use history_report::{Report as Counts, lost_of, report_of};
 use nfs_history::{History, HistoryFault, read_history};
@@ -90,7 +91,7 @@ fn report_found(alloc: Global, counts: &Counts, finding: Finding) -> Result<Repo
 {
     let mut lines = count_lines(alloc, counts)?;
     put_lost(alloc, &mut lines, finding.lost)?;
-    Report::of_verdict(alloc, finding.verdict)?.behind(lines)
+    verdict_report(alloc, finding.verdict)?.behind(lines)
 }
 
 /// What a history file comes to in numbers, and the verdict on it and a certificate's text; that memory runs out is no
@@ -109,7 +110,7 @@ pub(crate) fn report_files(
             report_found(alloc, &counts, finding)
         }
         Err(HistoryFault::NoMemory) => Err(AllocError),
-        Err(fault) => Report::of_verdict(alloc, FileVerdict::BadHistory(fault)),
+        Err(fault) => verdict_report(alloc, FileVerdict::BadHistory(fault)),
     }
 }
 

@@ -8,11 +8,10 @@ ghost use Rattle.history_lines.specs.Lines.{AreLinesOf};
 ghost use Rattle.nfs_history.specs.declared.knowing.KnownCalls.{KnownCalls};
 ghost use Rattle.nfs_history.specs.History.{IsCallsFile};
 ghost use Rattle.nfsbench_engine.specs.Shown.{AreLines};
-ghost use Rattle.nfsbench_engine.specs.Streams.{AppendsFront};
+ghost use Rattle.bench_streams.specs.Streams.{AppendsFront};
 
-use crate::engine::{tell, tell_report};
-use crate::output::Output;
-use crate::report::Report;
+use crate::report::verdict_report;
+use bench_streams::{Output, tell, tell_report};
 use history_file::FileFault;
 use history_lines::{EventLines, Selection};
 use nfs_history::{HistoryFault, read_calls};
@@ -71,7 +70,7 @@ fn tell_refused<O: Output>(alloc: Global, output: &mut O, fault: HistoryFault) -
     if let HistoryFault::NoMemory = fault {
         return tell(output, b"refused: out of memory\n", 2);
     }
-    match Report::of_verdict(alloc, FileVerdict::BadHistory(fault)) {
+    match verdict_report(alloc, FileVerdict::BadHistory(fault)) {
         Ok(report) => {
             tell_report(output, &report);
             2

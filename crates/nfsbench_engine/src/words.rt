@@ -3,21 +3,19 @@
 ghost use Rattle.std.specs.Prelude.{◌≡◌, ◌⊎◌, ◌<◌, ◌≤◌, ℕ, List, length, IfSome, IfOk, IsOk, OnErr, Ok};
 ghost use Rattle.std.specs.Io.KnownBytes.{Appends};
 ghost use Rattle.nfsbench_engine.specs.Bundle.{IsAcceptedBundle, IsRefutedBundle};
-ghost use Rattle.nfsbench_engine.specs.Report.{IsSaid, MayTell, Tells, memory_line, no_line};
-ghost use Rattle.nfsbench_engine.specs.Streams.{AppendsFront, GivesAll, HasRoom};
+ghost use Rattle.nfsbench_engine.specs.Report.{IsSaid, MayTell, no_line};
+ghost use Rattle.bench_streams.specs.Streams.{AppendsFront, GivesAll, HasRoom};
+ghost use Rattle.bench_streams.specs.Told.{Tells, memory_line};
 ghost use Rattle.witness_check.specs.declared.fault.Fault.{Fault};
 
-use crate::engine::{run_bundle, tell, tell_answer, tell_want_of_memory};
+use crate::engine::run_bundle;
 use crate::files::{check_paths, read_history_file, report_paths};
-use crate::input::Input;
-use crate::output::Output;
-use crate::recorder::Recorder;
 use crate::show_words::{ShowRequest, show_command, show_request};
 use crate::showing::show_bytes;
-use crate::tap::run_tap;
-use crate::tap_words::{TapRequest, tap_command, tap_request};
+use bench_streams::{Input, Output, tell, tell_answer, tell_want_of_memory};
 use clap::error::ErrorKind;
 use clap::{Arg, Command};
+use nfs_recording::{Recorder, TapRequest, run_tap, tap_command, tap_request};
 use std::alloc::{AllocError, Global};
 use std::convert::AsStr;
 use std::rt::Files;
