@@ -15,20 +15,6 @@ pub(crate) enum BundleFault {
     NoMemory,
 }
 
-impl From<DigitsFault> for BundleFault {
-    ghost use Rattle.bench_streams.specs.declared.digits.DigitsFault.TheVariants as digits;
-    ghost use Rattle.nfsbench_engine.specs.declared.bundle.BundleFault.TheVariants.{Malformed, NoMemory};
-
-    ghost from_gives = { λ fault given. ((fault ≡ digits.Malformed) × (given ≡ Malformed)) ⊎ ((fault ≡ digits.NoMemory) × (given ≡ NoMemory)) };
-
-    fn from(fault: DigitsFault) -> BundleFault {
-        match fault {
-            DigitsFault::Malformed => BundleFault::Malformed,
-            DigitsFault::NoMemory => BundleFault::NoMemory,
-        }
-    }
-}
-
 /// The bytes of a history, and the text of a certificate.
 #[derive(Drop)]
 pub(crate) struct Bundle<'a> {
@@ -52,9 +38,12 @@ pub(crate) fn read_bundle<'a>(alloc: Global, bytes: &'a [u8]) -> Result<Bundle<'
     let Some(end) = first_line_feed(bytes) else {
         return Err(BundleFault::Malformed);
     };
-    let history = decode_digits(alloc, &bytes[..end])?;
-    Ok(Bundle {
-        history,
-        certificate: &bytes[end + 1..],
-    })
+    match decode_digits(alloc, &bytes[..end]) {
+        Ok(history) => Ok(Bundle {
+            history,
+            certificate: &bytes[end + 1..],
+        }),
+        Err(DigitsFault::Malformed) => Err(BundleFault::Malformed),
+        Err(DigitsFault::NoMemory) => Err(BundleFault::NoMemory),
+    }
 }

@@ -6,13 +6,11 @@ use Rattle.nfsbench_engine.proofs.bundle.read_bundle.Goals as goal
 pub returns-in_default-clause-malformed : goal.returns-in_default-clause-malformed
 returns-in_default-clause-malformed c = λ _ some. no_bundle-without c.args.bytes.now (sym c.in_default.ensures.first) some
 
-pub returns-in_err-history-clause-malformed : goal.returns-in_err-history-clause-malformed
-returns-in_err-history-clause-malformed c =
-    λ e some.
-    let told = rw e at c.from_residual.ensures.1 in
-    no_bundle-other c.args.bytes.now c.in-Some.end (sym c.in-Some.ensures.first) (c.decode_digits.ensures.malformed (cc (told, c.in_err-history.was))) some
+pub returns-in-Err-Malformed-clause-malformed : goal.returns-in-Err-Malformed-clause-malformed
+returns-in-Err-Malformed-clause-malformed c =
+    λ _ some. no_bundle-other c.args.bytes.now c.in-Some.end (sym c.in-Some.ensures.first) (c.in-Err-Malformed.ensures.malformed (cc)) some
 
-pub returns-clause-ok : goal.returns-clause-ok
-returns-clause-ok c =
+pub returns-in-Ok-clause-ok : goal.returns-in-Ok-clause-ok
+returns-in-Ok-clause-ok c =
     rw (between_to_end c.args.bytes.now (c.in-Some.end + 1) (length c.args.bytes.now) (omega arith))
-    (IsBundle-from_line c.args.bytes.now c.in_ok-history.history.items c.in-Some.end (sym c.in-Some.ensures.first) c.in_ok-history.ensures.bytes c.in_ok-history.ensures.spelled)
+    (IsBundle-from_line c.args.bytes.now c.in-Ok.history.items c.in-Some.end (sym c.in-Some.ensures.first) c.in-Ok.ensures.bytes c.in-Ok.ensures.spelled)

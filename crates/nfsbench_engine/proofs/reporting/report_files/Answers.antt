@@ -19,4 +19,4 @@ pub returns-in-Err : goal.returns-in-Err
 returns-in-Err c =
     let another : c.in-Err.fault ≢ NoMemory = search rules in
     fault_reported c.args.history.now c.args.certificate.now c.in-Err.fault (left c.in-Err.ensures.fault another)
-    c.of_verdict.result c.of_verdict.ensures.status c.of_verdict.ensures.line
+    c.verdict_report.result c.verdict_report.ensures.status c.verdict_report.ensures.line
