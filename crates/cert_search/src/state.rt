@@ -1,0 +1,168 @@
+//! A branch with its tree.
+
+use crate::desk::{Desk, Move, Step};
+use crate::found::{Found, find};
+use crate::problem::Problem;
+use crate::trial::Trial;
+use seen_states::fingerprint;
+use std::alloc::{AllocError, Global};
+use tree_handles::Binds;
+
+/// The branch that a worker is at.
+#[derive(Drop)]
+pub(crate) struct State {
+    trial: Trial,
+    pub(crate) desk: Desk,
+}
+
+/// The digest of a tree: that of its text.
+fn digest_of(alloc: Global, trial: &Trial) -> Result<u64, AllocError> {
+    let mut text = Vec::new(alloc);
+    trial.print(&mut text)?;
+    Ok(fingerprint(text.as_slice()))
+}
+
+/// The number of the call that a move places.
+fn number_of(chosen: Move) -> u64 {
+    match chosen {
+        Move::Answer(number) | Move::Take(number) => number,
+        Move::Cut(_) => 0,
+    }
+}
+
+impl State {
+    /// At the branch without a move.
+    pub(crate) fn begin(alloc: Global, problem: &Problem<'_, '_>) -> Result<State, AllocError> {
+        let binds = Binds::of_root(alloc, problem.known.root().as_slice())?;
+        let trial = Trial::begin(alloc, &binds)?;
+        let digest = digest_of(alloc, &trial)?;
+        Ok(State {
+            trial,
+            desk: Desk::new(alloc, problem, digest)?,
+        })
+    }
+
+    /// Takes the step of a call on the tree, and says whether it is a legal one; else nothing changes.
+    fn step(&mut self, problem: &Problem<'_, '_>, number: u64, found: &Found) -> Result<bool, AllocError> {
+        let before = self.desk.front;
+        self.desk.bind_given(self.trial.nodes(), number, found)?;
+        if self.trial.step(&self.desk.binds, number, &found.call, &found.outcome)? {
+            return Ok(true);
+        }
+        self.desk.front = before;
+        self.desk.unbind(problem)?;
+        Ok(false)
+    }
+
+    /// Places a call next, and says whether that is legal; else nothing changes.
+    fn place(&mut self, problem: &Problem<'_, '_>, chosen: Move) -> Result<bool, AllocError> {
+        let before = self.desk.front;
+        let Some(found) = find(self.desk.alloc, problem.known, chosen)? else {
+            return Ok(false);
+        };
+        let number = number_of(chosen);
+        if !self.step(problem, number, &found)? {
+            return Ok(false);
+        }
+        self.desk.path.push(
+            Step {
+                node: 0,
+                chosen,
+                before,
+            },
+        )?;
+        let is_taken = matches!(chosen, Move::Take(_));
+        self.desk.place(problem, number, is_taken)?;
+        Ok(true)
+    }
+
+    /// Ends the era, and keeps so many of its places.
+    fn cut(self, problem: &Problem<'_, '_>, kept: usize) -> Result<State, AllocError> {
+        let State { trial, desk } = self;
+        let mut desk = desk;
+        let places = desk.path.len().saturating_sub(desk.front.era_start);
+        let trial = trial.back(places.saturating_sub(kept))?;
+        let before = desk.front;
+        desk.path.push(
+            Step {
+                node: 0,
+                chosen: Move::Cut(kept),
+                before,
+            },
+        )?;
+        let digest = digest_of(desk.alloc, &trial)?;
+        desk.begin_era(problem, digest)?;
+        Ok(State { trial, desk })
+    }
+
+    /// Makes a move, and says whether it is a legal one; else nothing changes.
+    pub(crate) fn make(
+        self,
+        problem: &Problem<'_, '_>,
+        chosen: Move,
+    ) -> Result<(State, bool), AllocError> {
+        if let Move::Cut(kept) = chosen {
+            return Ok((self.cut(problem, kept)?, true));
+        }
+        let mut state = self;
+        let is_legal = state.place(problem, chosen)?;
+        Ok((state, is_legal))
+    }
+
+    /// Takes the steps of the places past a cut again.
+    fn redo(&mut self, problem: &Problem<'_, '_>, kept: usize) -> Result<(), AllocError> {
+        let first = self.desk.front.era_start.saturating_add(kept);
+        for step in self.desk.path.iter().skip(first) {
+            if let Some(found) = find(self.desk.alloc, problem.known, step.chosen)? {
+                let number = number_of(step.chosen);
+                self.trial.step(&self.desk.binds, number, &found.call, &found.outcome)?;
+            }
+        }
+        Ok(())
+    }
+
+    /// Goes back to the branch ahead of the last move, where there is one.
+    fn back_once(self, problem: &Problem<'_, '_>) -> Result<State, AllocError> {
+        let State { trial, desk } = self;
+        let mut desk = desk;
+        let Some(step) = desk.path.pop() else {
+            return Ok(State { trial, desk });
+        };
+        match step.chosen {
+            Move::Answer(number) | Move::Take(number) => {
+                desk.unplace(problem, number, step.before)?;
+                Ok(State {
+                    trial: trial.back(1)?,
+                    desk,
+                })
+            }
+            Move::Cut(kept) => {
+                desk.leave_era(problem, step.before)?;
+                let mut state = State { trial, desk };
+                state.redo(problem, kept)?;
+                Ok(state)
+            }
+        }
+    }
+
+    /// Goes back to where so many moves were made.
+    pub(crate) fn back_to(self, problem: &Problem<'_, '_>, depth: usize) -> Result<State, AllocError> {
+        let mut state = self;
+        for _ in depth..state.desk.path.len() {
+            state = state.back_once(problem)?;
+        }
+        Ok(state)
+    }
+
+    /// Names the branch that the last move led to.
+    pub(crate) fn name(&mut self, node: u32) {
+        if let Some(step) = self.desk.path.last_mut() {
+            step.node = node;
+        }
+    }
+
+    /// Whether every era has its places.
+    pub(crate) fn is_whole(&self, problem: &Problem<'_, '_>) -> bool {
+        self.desk.is_era_done() && problem.is_last(self.desk.front.era)
+    }
+}
