@@ -1,5 +1,5 @@
 -- How a search may end (words of this project's own).
-use Rattle.std.specs.Prelude.{⊤, ⊥}
+use Rattle.std.specs.Prelude.{⊤}
 use Rattle.certificate.specs.declared.plan.Certificate.{Certificate}
 use Rattle.cert_search.specs.declared.end.SearchEnd.{SearchEnd}
 use Rattle.cert_search.specs.declared.end.SearchEnd.TheVariants.{Found, NotFound, OutOfTurns, NoMemory}

@@ -1,7 +1,7 @@
 //! What the workers of a search share.
 
-use crate::desk::Move;
 use certificate::Certificate;
+use search_branches::Move;
 use std::alloc::{AllocError, Global};
 
 /// A branch that is known, by the move that led to it.

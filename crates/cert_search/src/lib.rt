@@ -2,18 +2,9 @@
 #![tactic(auto)]
 
 mod board;
-mod desk;
-mod digest;
 mod end;
-mod found;
-mod giving;
-mod moves;
-mod problem;
-mod search;
-mod state;
-mod trial;
-mod whole;
+mod searching;
 mod worker;
 
 pub use end::{OpenSearch, SearchEnd, SearchGate};
-pub use search::{Host, search, search_calls};
+pub use searching::{Host, search, search_calls};

@@ -1,14 +1,13 @@
 //! A worker: it takes branches, one by one.
 
-ghost use Rattle.std.specs.Prelude.{◌≡◌};
+ghost use Rattle.std.specs.Prelude.{IfOk, IfSome};
+ghost use Rattle.search_branches.specs.Reversible.{CanGoBack};
 ghost use Rattle.seen_states.specs.Handles.{IsOf};
 
 use crate::board::{Board, Branch};
-use crate::desk::Move;
 use crate::end::SearchGate;
-use crate::problem::{Nature, Problem};
-use crate::state::State;
 use crossbeam_deque::{Steal, Stealer, Worker};
+use search_branches::{Move, Problem, State};
 use seen_states::{Claim, Claimer, SeenTable};
 use std::alloc::{AllocError, Global};
 use std::sync::{Mutex, Wait};
@@ -42,8 +41,8 @@ const PAUSE: u64 = 1;
 /// How many moves the ways of a state and to a branch have in common.
 fn common_depth(state: &State, way: &[(u32, Move)]) -> usize {
     let mut depth = 0usize;
-    for (step, (node, _)) in state.desk.path.iter().zip(way.iter()) {
-        if step.node != *node {
+    for (node, _) in way {
+        if state.node_at(depth.saturating_add(1)) != Some(*node) {
             break;
         }
         depth = depth.saturating_add(1);
@@ -53,13 +52,7 @@ fn common_depth(state: &State, way: &[(u32, Move)]) -> usize {
 
 /// Whether a branch grows from the state's way.
 fn is_on_way(state: &State, branch: Branch) -> bool {
-    if branch.depth == 0 {
-        return true;
-    }
-    match state.desk.path.get(branch.depth - 1) {
-        Some(step) => step.node == branch.parent,
-        None => false,
-    }
+    branch.depth == 0 || state.node_at(branch.depth) == Some(branch.parent)
 }
 
 /// Goes to a branch: back to it where the worker has come through it, else by its moves from where the ways part. Says whether it
@@ -69,7 +62,10 @@ fn walk_to<R: Wait, G>(
     team: &Team<'_, '_, G>,
     state: State,
     branch: Branch,
-) -> Result<(State, bool), AllocError> {
+) -> Result<(State, bool), AllocError>
+    requires { CanGoBack state }
+    ensures { IfOk result (λ walked. CanGoBack walked.0) }
+{
     if is_on_way(&state, branch) {
         return Ok((state.back_to(team.problem, branch.depth)?, true));
     }
@@ -93,7 +89,10 @@ fn make_first(
     state: State,
     moves: &[Move],
     rank: usize,
-) -> Result<(State, Option<(usize, Move)>), AllocError> {
+) -> Result<(State, Option<(usize, Move)>), AllocError>
+    requires { CanGoBack state }
+    ensures { IfOk result (λ made. CanGoBack made.0) }
+{
     let mut state = state;
     for (place, chosen) in moves.iter().enumerate().skip(rank) {
         let (next, is_legal) = state.make(problem, *chosen)?;
@@ -103,15 +102,6 @@ fn make_first(
         }
     }
     Ok((state, None))
-}
-
-/// Whether no other move needs to be tried in the place of this one. A call that leaves the tree and is legal now can be moved
-/// here in each serial order that is one, where its reply binds no handle.
-fn is_free(state: &State, problem: &Problem<'_, '_>, chosen: Move) -> bool {
-    match chosen {
-        Move::Answer(number) => problem.nature(number) == Nature::Looking && state.desk.bound_nothing(),
-        Move::Take(_) | Move::Cut(_) => false,
-    }
 }
 
 /// Puts a branch among the worker's own, the newest.
@@ -134,7 +124,7 @@ fn push_branch<R: Wait, G>(
 /// Has a whole plan judged, and keeps it where it is a witness.
 fn judge_whole<R: Wait, G>(rt: &R, team: &Team<'_, '_, G>, state: &State) -> Result<(), AllocError> {
     let certificate = state.certificate(team.problem)?;
-    if let Verdict::Yes = check_calls(team.alloc, team.problem.known, &certificate)? {
+    if let Verdict::Yes = check_calls(team.alloc, team.problem.known(), &certificate)? {
         team.board.lock(rt).succeed(certificate);
     }
     Ok(())
@@ -145,7 +135,7 @@ fn is_fresh(table: &SeenTable, claimer: &mut Claimer, state: &State) -> bool
     requires { IsOf claimer.old table.now }
     ensures { IsOf claimer.new table.now }
 {
-    let fingerprint = state.desk.fingerprint();
+    let fingerprint = state.fingerprint();
     if fingerprint == 0 {
         return true;
     }
@@ -182,14 +172,16 @@ fn take_branch<R: Wait, G: SearchGate>(
     state: State,
     branch: Branch,
 ) -> Result<State, AllocError>
-    requires { IsOf claimer.old table.now }
-    ensures { IsOf claimer.new table.now }
+    requires table { IsOf claimer.old table.now }
+    requires back { CanGoBack state }
+    ensures table { IsOf claimer.new table.now }
+    ensures back { IfOk result CanGoBack }
 {
     let (state, is_there) = walk_to(rt, team, state, branch)?;
     if !is_there {
         return Ok(state);
     }
-    let moves = state.desk.moves(team.problem)?;
+    let moves = state.moves(team.problem)?;
     let (state, made) = make_first(team.problem, state, moves.as_slice(), branch.rank)?;
     let Some((rank, chosen)) = made else {
         return Ok(state);
@@ -201,7 +193,7 @@ fn take_branch<R: Wait, G: SearchGate>(
     if state.is_whole(team.problem) {
         judge_whole(rt, team, &state)?;
     }
-    let is_last = rank.saturating_add(1) >= moves.len() || is_free(&state, team.problem, chosen);
+    let is_last = rank.saturating_add(1) >= moves.len() || state.is_free(team.problem);
     let rest = rest_of(branch, rank, is_last);
     let next = next_of(node, depth, is_fresh(table, claimer, &state));
     grow(rt, team, seat, rest, next)?;
@@ -266,8 +258,10 @@ fn turn<R: Wait, G: SearchGate>(
     state: State,
     branch: Branch,
 ) -> Option<State>
-    requires { IsOf claimer.old table.now }
-    ensures { IsOf claimer.new table.now }
+    requires table { IsOf claimer.old table.now }
+    requires back { CanGoBack state }
+    ensures table { IsOf claimer.new table.now }
+    ensures back { IfSome result CanGoBack }
 {
     match take_branch(rt, team, table, claimer, seat, state, branch) {
         Ok(state) => {
@@ -291,7 +285,8 @@ fn take_branches<R: Wait + Clock, G: SearchGate>(
     seat: &mut Seat,
     state: State,
 )
-    requires { IsOf claimer.old table.now }
+    requires table { IsOf claimer.old table.now }
+    requires back { CanGoBack state }
     ensures { IsOf claimer.new table.now }
 {
     let mut state = state;

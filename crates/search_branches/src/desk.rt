@@ -10,7 +10,7 @@ use tree_handles::Binds;
 
 /// What a branch adds to the one that it grows from. Calls are named by their numbers.
 #[derive(Clone, Copy, PartialEq, Eq)]
-pub(crate) enum Move {
+pub enum Move {
     /// A call is placed with its reply.
     Answer(u64),
     /// A call is placed as done in full, though no reply came.

@@ -10,12 +10,12 @@ ghost use Rattle.cert_search.specs.End.{IsFoundOnly, IsFoundOrNoMemory};
 
 use crate::board::{Board, Branch};
 use crate::end::{SearchEnd, SearchGate};
-use crate::problem::Problem;
 use crate::worker::{Seat, Team, work};
 use certificate::Certificate;
 use crossbeam_deque::{Stealer, Worker};
 use nfs_history::{History, KnownCalls};
 use reply_order::reply_order;
+use search_branches::Problem;
 use seen_states::{Claimer, SeenTable};
 use std::alloc::{AllocError, Global};
 use std::sync::{Mutex, Wait};
@@ -66,7 +66,7 @@ impl Seats {
 }
 
 /// Has the last seat's worker and so many more work, each in a thread of its own, and gives one claimer for all of theirs.
-fn work_all<R: Host, G: SearchGate + Sync>(
+fn work_all<R: Threads + Wait + Clock + Sync, G: SearchGate + Sync>(
     rt: &R,
     team: &Team<'_, '_, G>,
     table: &SeenTable,

@@ -1,8 +1,11 @@
 //! A branch with its tree.
 
+ghost use Rattle.std.specs.Prelude.{IfOk};
+ghost use Rattle.search_branches.specs.Reversible.{CanGoBack};
+
 use crate::desk::{Desk, Move, Step};
 use crate::found::{Found, find};
-use crate::problem::Problem;
+use crate::problem::{Nature, Problem};
 use crate::trial::Trial;
 use seen_states::fingerprint;
 use std::alloc::{AllocError, Global};
@@ -10,7 +13,7 @@ use tree_handles::Binds;
 
 /// The branch that a worker is at.
 #[derive(Drop)]
-pub(crate) struct State {
+pub struct State {
     trial: Trial,
     pub(crate) desk: Desk,
 }
@@ -32,7 +35,9 @@ fn number_of(chosen: Move) -> u64 {
 
 impl State {
     /// At the branch without a move.
-    pub(crate) fn begin(alloc: Global, problem: &Problem<'_, '_>) -> Result<State, AllocError> {
+    pub fn begin(alloc: Global, problem: &Problem<'_, '_>) -> Result<State, AllocError>
+        ensures { IfOk result CanGoBack }
+    {
         let binds = Binds::of_root(alloc, problem.known.root().as_slice())?;
         let trial = Trial::begin(alloc, &binds)?;
         let digest = digest_of(alloc, &trial)?;
@@ -43,7 +48,10 @@ impl State {
     }
 
     /// Takes the step of a call on the tree, and says whether it is a legal one; else nothing changes.
-    fn step(&mut self, problem: &Problem<'_, '_>, number: u64, found: &Found) -> Result<bool, AllocError> {
+    fn step(&mut self, problem: &Problem<'_, '_>, number: u64, found: &Found) -> Result<bool, AllocError>
+        requires { CanGoBack self.old }
+        ensures { CanGoBack self.new }
+    {
         let before = self.desk.front;
         self.desk.bind_given(self.trial.nodes(), number, found)?;
         if self.trial.step(&self.desk.binds, number, &found.call, &found.outcome)? {
@@ -55,7 +63,10 @@ impl State {
     }
 
     /// Places a call next, and says whether that is legal; else nothing changes.
-    fn place(&mut self, problem: &Problem<'_, '_>, chosen: Move) -> Result<bool, AllocError> {
+    fn place(&mut self, problem: &Problem<'_, '_>, chosen: Move) -> Result<bool, AllocError>
+        requires { CanGoBack self.old }
+        ensures { CanGoBack self.new }
+    {
         let before = self.desk.front;
         let Some(found) = find(self.desk.alloc, problem.known, chosen)? else {
             return Ok(false);
@@ -77,7 +88,10 @@ impl State {
     }
 
     /// Ends the era, and keeps so many of its places.
-    fn cut(self, problem: &Problem<'_, '_>, kept: usize) -> Result<State, AllocError> {
+    fn cut(self, problem: &Problem<'_, '_>, kept: usize) -> Result<State, AllocError>
+        requires { CanGoBack self }
+        ensures { IfOk result CanGoBack }
+    {
         let State { trial, desk } = self;
         let mut desk = desk;
         let places = desk.path.len().saturating_sub(desk.front.era_start);
@@ -96,11 +110,14 @@ impl State {
     }
 
     /// Makes a move, and says whether it is a legal one; else nothing changes.
-    pub(crate) fn make(
+    pub fn make(
         self,
         problem: &Problem<'_, '_>,
         chosen: Move,
-    ) -> Result<(State, bool), AllocError> {
+    ) -> Result<(State, bool), AllocError>
+        requires { CanGoBack self }
+        ensures { IfOk result (λ made. CanGoBack made.0) }
+    {
         if let Move::Cut(kept) = chosen {
             return Ok((self.cut(problem, kept)?, true));
         }
@@ -110,7 +127,10 @@ impl State {
     }
 
     /// Takes the steps of the places past a cut again.
-    fn redo(&mut self, problem: &Problem<'_, '_>, kept: usize) -> Result<(), AllocError> {
+    fn redo(&mut self, problem: &Problem<'_, '_>, kept: usize) -> Result<(), AllocError>
+        requires { CanGoBack self.old }
+        ensures { CanGoBack self.new }
+    {
         let first = self.desk.front.era_start.saturating_add(kept);
         for step in self.desk.path.iter().skip(first) {
             if let Some(found) = find(self.desk.alloc, problem.known, step.chosen)? {
@@ -122,7 +142,10 @@ impl State {
     }
 
     /// Goes back to the branch ahead of the last move, where there is one.
-    fn back_once(self, problem: &Problem<'_, '_>) -> Result<State, AllocError> {
+    fn back_once(self, problem: &Problem<'_, '_>) -> Result<State, AllocError>
+        requires { CanGoBack self }
+        ensures { IfOk result CanGoBack }
+    {
         let State { trial, desk } = self;
         let mut desk = desk;
         let Some(step) = desk.path.pop() else {
@@ -146,7 +169,10 @@ impl State {
     }
 
     /// Goes back to where so many moves were made.
-    pub(crate) fn back_to(self, problem: &Problem<'_, '_>, depth: usize) -> Result<State, AllocError> {
+    pub fn back_to(self, problem: &Problem<'_, '_>, depth: usize) -> Result<State, AllocError>
+        requires { CanGoBack self }
+        ensures { IfOk result CanGoBack }
+    {
         let mut state = self;
         for _ in depth..state.desk.path.len() {
             state = state.back_once(problem)?;
@@ -155,14 +181,57 @@ impl State {
     }
 
     /// Names the branch that the last move led to.
-    pub(crate) fn name(&mut self, node: u32) {
+    pub fn name(&mut self, node: u32)
+        requires { CanGoBack self.old }
+        ensures { CanGoBack self.new }
+    {
         if let Some(step) = self.desk.path.last_mut() {
             step.node = node;
         }
     }
 
     /// Whether every era has its places.
-    pub(crate) fn is_whole(&self, problem: &Problem<'_, '_>) -> bool {
+    pub fn is_whole(&self, problem: &Problem<'_, '_>) -> bool {
         self.desk.is_era_done() && problem.is_last(self.desk.front.era)
+    }
+
+    /// How many moves led to the branch.
+    pub fn depth(&self) -> usize {
+        self.desk.path.len()
+    }
+
+    /// The branch that the way led through behind so many moves.
+    pub fn node_at(&self, depth: usize) -> Option<u32> {
+        if depth == 0 {
+            return None;
+        }
+        match self.desk.path.get(depth - 1) {
+            Some(step) => Some(step.node),
+            None => None,
+        }
+    }
+
+    /// The moves that may come next, the likeliest first.
+    pub fn moves(&self, problem: &Problem<'_, '_>) -> Result<Vec<Move>, AllocError> {
+        self.desk.moves(problem)
+    }
+
+    /// The branch's fingerprint: of the era, its placed calls, its changes in their order, the tree at its start and the binds.
+    pub fn fingerprint(&self) -> u64 {
+        self.desk.fingerprint()
+    }
+
+    /// Whether no other move needs to be tried in the place of the last one. A call that leaves the tree and is legal now can be
+    /// moved here in each serial order, unless its reply binds a handle.
+    pub fn is_free(&self, problem: &Problem<'_, '_>) -> bool {
+        match self.desk.path.last() {
+            Some(step) => match step.chosen {
+                Move::Answer(number) => {
+                    problem.nature(number) == Nature::Looking && self.desk.bound_nothing()
+                }
+                Move::Take(_) | Move::Cut(_) => false,
+            },
+            None => false,
+        }
     }
 }

@@ -1,9 +1,7 @@
 //! A tree that calls are tried on.
 
-ghost use Rattle.std.specs.Prelude.{◌≡◌};
-ghost use Rattle.tree_nodes.specs.Tree.{Tree};
-ghost use Rattle.tree_nodes.specs.Undo.{TakesBack};
-ghost use Rattle.replay_law.specs.Undone.{UndoesAll};
+ghost use Rattle.std.specs.Prelude.{IfOk};
+ghost use Rattle.search_branches.specs.Reversible.{HasBase};
 
 use file_tree::FileTree;
 use nfs3_types::{NfsCall, Outcome};
@@ -17,13 +15,13 @@ use tree_nodes::{Nodes, Undo};
 pub(crate) struct Trial {
     tree: FileTree,
     undos: Vec<Undo>,
-    // The undo values lead back to a tree.
-    ghost based: { (base : Tree) × UndoesAll TakesBack undos.items tree base },
 }
 
 impl Trial {
     /// Before any step.
-    pub(crate) fn begin(alloc: Global, binds: &Binds) -> Result<Trial, AllocError> {
+    pub(crate) fn begin(alloc: Global, binds: &Binds) -> Result<Trial, AllocError>
+        ensures { IfOk result HasBase }
+    {
         let tree = FileTree::opening(alloc, binds)?;
         Ok(Trial {
             tree,
@@ -43,7 +41,10 @@ impl Trial {
         number: u64,
         call: &NfsCall,
         outcome: &Outcome,
-    ) -> Result<bool, AllocError> {
+    ) -> Result<bool, AllocError>
+        requires { HasBase self.old }
+        ensures { HasBase self.new }
+    {
         self.undos.reserve(1)?;
         match self.tree.step(binds, number, call, outcome) {
             Ok(undo) => {
@@ -56,7 +57,10 @@ impl Trial {
     }
 
     /// Takes the last step back, where there is one.
-    fn back_once(self) -> Result<Trial, AllocError> {
+    fn back_once(self) -> Result<Trial, AllocError>
+        requires { HasBase self }
+        ensures { IfOk result HasBase }
+    {
         let Trial { tree, undos } = self;
         let mut undos = undos;
         match undos.pop() {
@@ -69,7 +73,10 @@ impl Trial {
     }
 
     /// Takes so many steps back.
-    pub(crate) fn back(self, count: usize) -> Result<Trial, AllocError> {
+    pub(crate) fn back(self, count: usize) -> Result<Trial, AllocError>
+        requires { HasBase self }
+        ensures { IfOk result HasBase }
+    {
         let mut trial = self;
         for _ in 0..count {
             trial = trial.back_once()?;

@@ -39,7 +39,7 @@ fn sorted_binds(alloc: Global, bound: &[Bind]) -> Result<BindList, AllocError> {
 
 impl State {
     /// The certificate of the branch.
-    pub(crate) fn certificate(&self, problem: &Problem<'_, '_>) -> Result<Certificate, AllocError> {
+    pub fn certificate(&self, problem: &Problem<'_, '_>) -> Result<Certificate, AllocError> {
         let alloc = self.desk.alloc;
         let mut eras = Vec::new(alloc);
         let mut places = Vec::new(alloc);

@@ -33,7 +33,7 @@ pub(crate) struct EraSpan {
 }
 
 /// A history, with what is asked again and again of its calls.
-pub(crate) struct Problem<'s, 'a> {
+pub struct Problem<'s, 'a> {
     pub(crate) known: &'s KnownCalls<'a>,
     /// The answered judged calls by their replies.
     pub(crate) replies: Vec<u64>,
@@ -192,7 +192,7 @@ fn place_of_era(era: u64) -> usize {
 
 impl<'s, 'a> Problem<'s, 'a> {
     /// What is to be known of a history. Each answered call that may change the tree is read once.
-    pub(crate) fn new(
+    pub fn new(
         alloc: Global,
         known: &'s KnownCalls<'a>,
     ) -> Result<Problem<'s, 'a>, AllocError> {
@@ -230,5 +230,10 @@ impl<'s, 'a> Problem<'s, 'a> {
     /// Whether an era is the last one; eras are counted from 0.
     pub(crate) fn is_last(&self, era: usize) -> bool {
         era.saturating_add(1) >= self.spans.len()
+    }
+
+    /// The calls of the history.
+    pub fn known(&self) -> &'s KnownCalls<'a> {
+        self.known
     }
 }
