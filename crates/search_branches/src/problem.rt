@@ -172,9 +172,9 @@ impl Survey {
 
     /// Notes which eras show a write verifier that a later one shows.
     fn look_ahead(&mut self) {
-        let mut era = 0;
+        let mut era = 0u64;
         for (span, shown) in self.spans.iter_mut().zip(self.shown.iter()) {
-            era += 1;
+            era = era.saturating_add(1);
             if let Some(verifier) = shown {
                 span.is_shown_again = match self.last_shown.get(verifier) {
                     Some(last) => *last > era,

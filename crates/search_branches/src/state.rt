@@ -126,16 +126,35 @@ impl State {
         Ok((state, is_legal))
     }
 
+    /// Takes the step of a move again.
+    fn redo_once(&mut self, problem: &Problem<'_, '_>, chosen: Move) -> Result<(), AllocError>
+        requires { CanGoBack self.old }
+        ensures { CanGoBack self.new }
+    {
+        if let Some(found) = find(self.desk.alloc, problem.known, chosen)? {
+            let number = number_of(chosen);
+            self.trial.step(&self.desk.binds, number, &found.call, &found.outcome)?;
+        }
+        Ok(())
+    }
+
+    /// The move on the way to the branch behind so many others, where there is one.
+    fn move_at(&self, place: usize) -> Option<Move> {
+        match self.desk.path.get(place) {
+            Some(step) => Some(step.chosen),
+            None => None,
+        }
+    }
+
     /// Takes the steps of the places past a cut again.
     fn redo(&mut self, problem: &Problem<'_, '_>, kept: usize) -> Result<(), AllocError>
         requires { CanGoBack self.old }
         ensures { CanGoBack self.new }
     {
         let first = self.desk.front.era_start.saturating_add(kept);
-        for step in self.desk.path.iter().skip(first) {
-            if let Some(found) = find(self.desk.alloc, problem.known, step.chosen)? {
-                let number = number_of(step.chosen);
-                self.trial.step(&self.desk.binds, number, &found.call, &found.outcome)?;
+        for place in first..self.desk.path.len() {
+            if let Some(chosen) = self.move_at(place) {
+                self.redo_once(problem, chosen)?;
             }
         }
         Ok(())

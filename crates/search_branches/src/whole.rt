@@ -5,7 +5,6 @@ use crate::found::{find, full_count};
 use crate::problem::Problem;
 use crate::state::State;
 use certificate::{Bind, BindList, Certificate, EraPlan, EraPlanList, Place, PlaceList};
-use nfs3_types::FileHandle;
 use std::alloc::{AllocError, Global};
 use std::collections::BTreeMap;
 
@@ -22,15 +21,18 @@ fn sorted_binds(alloc: Global, bound: &[Bind]) -> Result<BindList, AllocError> {
     let mut objects = BTreeMap::new(alloc);
     for bind in bound {
         let key = Vec::from_slice(alloc, bind.handle.as_slice())?;
-        objects.insert(key, bind.object)?;
+        let kept = Bind {
+            handle: bind.handle.clone()?,
+            object: bind.object,
+        };
+        objects.insert(key, kept)?;
     }
     let mut binds = Vec::new(alloc);
-    for (key, object) in objects.iter() {
-        let handle = FileHandle::from_slice(alloc, key.as_slice())?;
+    for (_, bind) in objects.iter() {
         binds.push(
             Bind {
-                handle,
-                object: *object,
+                handle: bind.handle.clone()?,
+                object: bind.object,
             },
         )?;
     }
