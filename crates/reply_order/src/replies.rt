@@ -47,6 +47,7 @@ pub fn ordered_replies(
     alloc: Global,
     history: &KnownCalls<'_>,
 ) -> Result<Vec<Reply>, AllocError>
+    ensures { IfOk result (λ v. AreInOrder history.now.calls v.items) }
 {
     let mut replies = all_replies(alloc, history)?;
     replies.sort_by_key(|reply| reply.end)?;
