@@ -77,9 +77,10 @@ new_so : (root handle : List ℕ) (bs : List Bind) → is_new (names_of root bs)
 new_so root handle bs new =
     let outer = both (nat_lt 0 (length handle) && nat_le (length handle) 64) (is_none (object_of (names_of root bs) handle)) new in
     let size = both (nat_lt 0 (length handle)) (nat_le (length handle) 64) outer.0 in
-    let h = none_first (same_bytes handle root) 0 (lookup (same_bytes handle) (map (λ (b : Bind). (b.handle, b.object)) bs)) outer.1 in
-    (record { some = ltb-true 0 (length handle) size.0; fits = leb-true (length handle) 64 size.1; other = λ same. false≢true (sym h.0 ∙ (bytes_decides handle root).1 same) },
-    not_there handle bs h.1)
+    let h = none_first (same_bytes handle root) 0 (lookup (same_bytes handle) (map (λ (b : Bind). (b.handle, b.object)) bs)) outer.1 in (
+      record { some = ltb-true 0 (length handle) size.0; fits = leb-true (length handle) 64 size.1; other = λ same. false≢true (sym h.0 ∙ (bytes_decides handle root).1 same) },
+      not_there handle bs h.1,
+    )
 
 true_or_false : (b : Bool) → (b ≡ true) ⊎ (b ≡ false)
 true_or_false true = inl refl
@@ -91,10 +92,10 @@ new_not root handle bs old good =
     elim (true_or_false (is_none (object_of (names_of root bs) handle))) [
       | inl none ↦ absurd (false≢true (sym old ∙ both_true (nat_lt 0 (length handle) && nat_le (length handle) 64) (is_none (object_of (names_of root bs) handle)) size none))
       | inr some ↦
-        elim (some_first (same_bytes handle root) 0 (lookup (same_bytes handle) (map (λ (b : Bind). (b.handle, b.object)) bs)) some) [
-          | inl same ↦ absurd (good.other ((bytes_decides handle root).0 same))
-          | inr rest ↦ there handle bs rest
-        ]
+          elim (some_first (same_bytes handle root) 0 (lookup (same_bytes handle) (map (λ (b : Bind). (b.handle, b.object)) bs)) some) [
+            | inl same ↦ absurd (good.other ((bytes_decides handle root).0 same))
+            | inr rest ↦ there handle bs rest
+          ]
     ]
 
 -- ---- the calls that gave a handle
@@ -143,12 +144,12 @@ module _ (history : CallsValue) where
     firsts = bound.firsts;
     apart = bound.apart;
     covered = λ handle m maker good.
-      elim (bound.covered handle m maker good) [
-        | inl named ↦ inl named
-        | inr (q, inl e, is) ↦
-          absurd (clash (given_at history.calls m) handle (maker_gives history.calls handle m maker) (ap (given_at history.calls) (sym is ∙ ap (λ (p : Reply). p.number) (sym e)) ∙ none))
-        | inr (q, inr a, is) ↦ inr (q, a, is)
-      ];
+        elim (bound.covered handle m maker good) [
+          | inl named ↦ inl named
+          | inr (q, inl e, is) ↦
+              absurd (clash (given_at history.calls m) handle (maker_gives history.calls handle m maker) (ap (given_at history.calls) (sym is ∙ ap (λ (p : Reply). p.number) (sym e)) ∙ none))
+          | inr (q, inr a, is) ↦ inr (q, a, is)
+        ];
   } where
     clash : (o : Option (List ℕ)) (h : List ℕ) → o ≡ Some h → o ≡ None → ⊥
     clash o h p q = absurd (cc)
@@ -161,13 +162,15 @@ module _ (history : CallsValue) where
       let so = new_so history.root handle bs new in
       let first : IsFirstMaker history handle r.number = record {
         maker = gives_maker history.calls handle r.number gave;
-        some = so.0.some; fits = so.0.fits; other = so.0.other;
+        some = so.0.some;
+        fits = so.0.fits;
+        other = so.0.other;
         first = λ m maker.
-          elim (bound.covered handle m maker so.0) [
-            | inl named ↦ absurd (so.1 named)
-            | inr (q, inl e, is) ↦ omega (arith, ap (replied_at history.calls) (ap (λ (p : Reply). p.number) e ∙ is))
-            | inr (q, inr a, is) ↦ omega (arith, all_among (λ (q : Reply). replied_at history.calls r.number ≤ replied_at history.calls q.number) rest q order a, ap (replied_at history.calls) is)
-          ];
+            elim (bound.covered handle m maker so.0) [
+              | inl named ↦ absurd (so.1 named)
+              | inr (q, inl e, is) ↦ omega (arith, ap (replied_at history.calls) (ap (λ (p : Reply). p.number) e ∙ is))
+              | inr (q, inr a, is) ↦ omega (arith, all_among (λ (q : Reply). replied_at history.calls r.number ≤ replied_at history.calls q.number) rest q order a, ap (replied_at history.calls) is)
+            ];
       } in
       record {
         firsts = λ c a. elim (among_either bs (b ∷ []) c a) [
@@ -176,17 +179,17 @@ module _ (history : CallsValue) where
           | inr (inr never) ↦ absurd never
         ];
         apart = pairs_append (λ (a b : Bind). a.handle ≢ b.handle) bs (b ∷ []) bound.apart (tt, tt)
-          (λ x y a c same. elim c [
-            | inl e ↦ so.1 (subst (λ h. Among h (map (λ (b : Bind). b.handle) bs)) (same ∙ ap (λ (d : Bind). d.handle) (sym e)) (map_among (λ (b : Bind). b.handle) bs x a))
-            | inr never ↦ never
-          ]);
+            (λ x y a c same. elim c [
+              | inl e ↦ so.1 (subst (λ h. Among h (map (λ (b : Bind). b.handle) bs)) (same ∙ ap (λ (d : Bind). d.handle) (sym e)) (map_among (λ (b : Bind). b.handle) bs x a))
+              | inr never ↦ never
+            ]);
         covered = λ other m maker good.
-          elim (bound.covered other m maker good) [
-            | inl named ↦ inl (more_handles bs b other named)
-            | inr (q, inl e, is) ↦ inl (subst (λ h. Among h (map (λ (b : Bind). b.handle) (bs ++ b ∷ []))) (same_gift (given_at history.calls m) handle other
-                (ap (given_at history.calls) (sym is ∙ ap (λ (p : Reply). p.number) (sym e)) ∙ gave) (maker_gives history.calls other m maker)) (last_handle bs b))
-            | inr (q, inr a, is) ↦ inr (q, a, is)
-          ];
+            elim (bound.covered other m maker good) [
+              | inl named ↦ inl (more_handles bs b other named)
+              | inr (q, inl e, is) ↦ inl (subst (λ h. Among h (map (λ (b : Bind). b.handle) (bs ++ b ∷ []))) (same_gift (given_at history.calls m) handle other
+                  (ap (given_at history.calls) (sym is ∙ ap (λ (p : Reply). p.number) (sym e)) ∙ gave) (maker_gives history.calls other m maker)) (last_handle bs b))
+              | inr (q, inr a, is) ↦ inr (q, a, is)
+            ];
       } where
         same_gift : (o : Option (List ℕ)) (h k : List ℕ) → o ≡ Some h → o ≡ Some k → h ≡ k
         same_gift o h k p q = cc
@@ -194,13 +197,13 @@ module _ (history : CallsValue) where
     firsts = bound.firsts;
     apart = bound.apart;
     covered = λ other m maker good.
-      elim (bound.covered other m maker good) [
-        | inl named ↦ inl named
-        | inr (q, inl e, is) ↦
-          let same = same_gift (given_at history.calls m) handle other (ap (given_at history.calls) (sym is ∙ ap (λ (p : Reply). p.number) (sym e)) ∙ gave) (maker_gives history.calls other m maker) in
-          inl (subst (λ h. Among h (map (λ (b : Bind). b.handle) bs)) same (new_not history.root handle bs old (subst (IsGood history.root) (sym same) good)))
-        | inr (q, inr a, is) ↦ inr (q, a, is)
-      ];
+        elim (bound.covered other m maker good) [
+          | inl named ↦ inl named
+          | inr (q, inl e, is) ↦
+              let same = same_gift (given_at history.calls m) handle other (ap (given_at history.calls) (sym is ∙ ap (λ (p : Reply). p.number) (sym e)) ∙ gave) (maker_gives history.calls other m maker) in
+              inl (subst (λ h. Among h (map (λ (b : Bind). b.handle) bs)) same (new_not history.root handle bs old (subst (IsGood history.root) (sym same) good)))
+          | inr (q, inr a, is) ↦ inr (q, a, is)
+        ];
   } where
     same_gift : (o : Option (List ℕ)) (h k : List ℕ) → o ≡ Some h → o ≡ Some k → h ≡ k
     same_gift o h k p q = cc
@@ -222,13 +225,12 @@ module _ (history : CallsValue) where
     firsts = λ b a. absurd a;
     apart = tt;
     covered = λ handle m maker good.
-      let kind = made_by (makes_object (call_kind maker.call)) (handle_received maker.call.outcome) handle maker.gave in
-      let g = reply_given m (call_at history.calls m) maker.call maker.there (makes_answered (call_kind maker.call) kind) in
-      inr (g.0, every history.calls replies order m g.0 g.1, g.2);
+        let kind = made_by (makes_object (call_kind maker.call)) (handle_received maker.call.outcome) handle maker.gave in
+        let g = reply_given m (call_at history.calls m) maker.call maker.there (makes_answered (call_kind maker.call) kind) in
+        inr (g.0, every history.calls replies order m g.0 g.1, g.2);
   })
 
 -- ---- no other binds
-
 
 rising : (bs : List Bind) → AreRising bs → Pairwise (λ (a b : Bind). slice_cmp nat_cmp a.handle b.handle ≡ Less) bs
 rising [] rise = tt
@@ -270,18 +272,19 @@ two_lists history xs ys one other =
 sorted_pairs : (bs : List Bind) → ((i j : ℕ) (d : Bind) → i ≤ j → j < length bs → is_lt (slice_cmp nat_cmp (get_or bs j d).handle (get_or bs i d).handle) ≡ false)
     → Pairwise (λ (a b : Bind). is_lt (slice_cmp nat_cmp b.handle a.handle) ≡ false) bs
 sorted_pairs [] h = tt
-sorted_pairs (b ∷ bs) h =
-    (recursion_from_All (λ (c : Bind). is_lt (slice_cmp nat_cmp c.handle b.handle) ≡ false) bs (λ k d lt. h 0 (suc k) d (omega arith) (omega (arith, lt))),
-    sorted_pairs bs (λ i j d le lt. h (suc i) (suc j) d (omega (arith, le)) (omega (arith, lt))))
+sorted_pairs (b ∷ bs) h = (
+  recursion_from_All (λ (c : Bind). is_lt (slice_cmp nat_cmp c.handle b.handle) ≡ false) bs (λ k d lt. h 0 (suc k) d (omega arith) (omega (arith, lt))),
+  sorted_pairs bs (λ i j d le lt. h (suc i) (suc j) d (omega (arith, le)) (omega (arith, lt))),
+)
 
 same_flips : (x y : List ℕ) → same_bytes x y ≡ same_bytes y x
 same_flips x y = elim (true_or_false (same_bytes x y)) [
-    | inl p ↦ p ∙ sym ((bytes_decides y x).1 (sym ((bytes_decides x y).0 p)))
-    | inr p ↦ elim (true_or_false (same_bytes y x)) [
-        | inl q ↦ absurd (false≢true (sym p ∙ (bytes_decides x y).1 (sym ((bytes_decides y x).0 q))))
-        | inr q ↦ p ∙ sym q
-      ]
+  | inl p ↦ p ∙ sym ((bytes_decides y x).1 (sym ((bytes_decides x y).0 p)))
+  | inr p ↦ elim (true_or_false (same_bytes y x)) [
+    | inl q ↦ absurd (false≢true (sym p ∙ (bytes_decides x y).1 (sym ((bytes_decides y x).0 q))))
+    | inr q ↦ p ∙ sym q
   ]
+]
 
 apart_bytes : (x y : List ℕ) → x ≢ y → same_bytes x y ≡ false
 apart_bytes x y other = elim (true_or_false (same_bytes x y)) [ inl p ↦ absurd (other ((bytes_decides x y).0 p)) | inr p ↦ p ]
@@ -297,19 +300,19 @@ made_binds history replies made plan order sorted follow =
     let into : (b : Bind) → Among b found → Among b made = λ b a. among_contained made b (Contains-permutation found made b sorted.shuffled (contained found b a)) in
     let in_plan : (b : Bind) → Among b found → Among b plan = λ b a. among_contained plan b (follow.every b.handle b.object (bound.firsts b a)) in
     let distinct = pairs_of_distinct test made (IsDistinct-IsPermutation test (λ a b. same_flips a.handle b.handle) found made sorted.shuffled
-      (distinct_of_pairs test found (pairs_become (λ (a b : Bind). a.handle ≢ b.handle) (λ (a b : Bind). test a b ≡ false) found (λ x y a b other. apart_bytes x.handle y.handle other) bound.apart))) in
+    (distinct_of_pairs test found (pairs_become (λ (a b : Bind). a.handle ≢ b.handle) (λ (a b : Bind). test a b ≡ false) found (λ x y a b other. apart_bytes x.handle y.handle other) bound.apart))) in
     unique (λ (a b : Bind). slice_cmp nat_cmp a.handle b.handle ≡ Less) (λ (a b : Bind). is_lt (slice_cmp nat_cmp b.handle a.handle) ≡ false)
     (λ x y less more. less_not (slice_cmp nat_cmp x.handle y.handle) less more) never_less plan made strict
     (sorted_pairs made (sorted_far (λ (a b : Bind). is_lt (slice_cmp nat_cmp a.handle b.handle)) (ranks_by nat_list_cmp_total (λ (b : Bind). b.handle)) made sorted.ordered))
     (pairs_become (λ (a b : Bind). test a b ≡ false) (λ x y. x ≢ y) made (λ x y a b other same. false≢true (sym other ∙ (bytes_decides x.handle y.handle).1 (ap (λ (d : Bind). d.handle) same))) distinct)
     (λ b a.
-      let first = all_among (λ (d : Bind). IsFirstMaker history d.handle d.object) plan b follow.each a in
-      let good : IsGood history.root b.handle = record { some = first.some; fits = first.fits; other = first.other } in
-      elim (bound.covered b.handle b.object first.maker good) [
-        | inl named ↦
+    let first = all_among (λ (d : Bind). IsFirstMaker history d.handle d.object) plan b follow.each a in
+    let good : IsGood history.root b.handle = record { some = first.some; fits = first.fits; other = first.other } in
+    elim (bound.covered b.handle b.object first.maker good) [
+      | inl named ↦
           let m = among_map (λ (d : Bind). d.handle) found b.handle named in
           let same : m.0 ≡ b = one_bind plan m.0 b strict (in_plan m.0 m.1) a m.2 in
           subst (λ (d : Bind). Among d made) same (into m.0 m.1)
-        | inr rest ↦ absurd rest.1
-      ])
+      | inr rest ↦ absurd rest.1
+    ])
     (λ b a. in_plan b (from b a))

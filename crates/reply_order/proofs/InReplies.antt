@@ -67,9 +67,9 @@ module _ (calls : List RecordedCall) where
       elim (among_either (replies_up_to calls n) (option_to_list (reply_at calls (suc n))) r a) [
         | inl l ↦ let h = up_to_each n r l in (h.0, omega (arith, h.1))
         | inr o ↦
-          let is = among_option (reply_at calls (suc n)) r o in
-          let so = is_reply_to (suc n) (call_at calls (suc n)) r is in
-          (subst (λ m. reply_at calls m ≡ Some r) (sym so.number) is, omega (arith, so.number))
+            let is = among_option (reply_at calls (suc n)) r o in
+            let so = is_reply_to (suc n) (call_at calls (suc n)) r is in
+            (subst (λ m. reply_at calls m ≡ Some r) (sym so.number) is, omega (arith, so.number))
       ]
 
   up_to_every : (n m : ℕ) (r : Reply) → m ≤ n → reply_at calls m ≡ Some r → Among r (replies_up_to calls n)
@@ -79,8 +79,8 @@ module _ (calls : List RecordedCall) where
       elim (cases_lt m (suc n)) [
         | inl lt ↦ among_left (replies_up_to calls n) (option_to_list (reply_at calls (suc n))) r (up_to_every n m r (omega (arith, lt)) is)
         | inr ge ↦
-          let same : m ≡ suc n = omega (arith, le, ge) in
-          among_right (replies_up_to calls n) (option_to_list (reply_at calls (suc n))) r (option_among (reply_at calls (suc n)) r (subst (λ k. reply_at calls k ≡ Some r) same is))
+            let same : m ≡ suc n = omega (arith, le, ge) in
+            among_right (replies_up_to calls n) (option_to_list (reply_at calls (suc n))) r (option_among (reply_at calls (suc n)) r (subst (λ k. reply_at calls k ≡ Some r) same is))
       ]
 
   up_to_apart : (n : ℕ) → Pairwise (λ (a b : Reply). (a.number == b.number) ≡ false) (replies_up_to calls n)
@@ -89,9 +89,9 @@ module _ (calls : List RecordedCall) where
       pairs_append (λ (a b : Reply). (a.number == b.number) ≡ false) (replies_up_to calls n) (option_to_list (reply_at calls (suc n))) (up_to_apart n)
       (pairs_option (λ (a b : Reply). (a.number == b.number) ≡ false) (reply_at calls (suc n)))
       (λ x y a b.
-        let low = (up_to_each n x a).1 in
-        let so = is_reply_to (suc n) (call_at calls (suc n)) y (among_option (reply_at calls (suc n)) y b) in
-        ne_eqb x.number y.number (λ same. omega (arith, low, so.number, same)))
+      let low = (up_to_each n x a).1 in
+      let so = is_reply_to (suc n) (call_at calls (suc n)) y (among_option (reply_at calls (suc n)) y b) in
+      ne_eqb x.number y.number (λ same. omega (arith, low, so.number, same)))
 
   module _ (replies : List Reply) (order : AreInOrder calls replies) where
     pub each : (r : Reply) → Among r replies → reply_at calls r.number ≡ Some r
@@ -153,11 +153,11 @@ module _ (calls : List RecordedCall) where
         (rising_pairs places follows.rising)
         (pairs_map W place_of kept (pairs_filter (λ (a b : Reply). replied_at calls a.number ≤ replied_at calls b.number) (is_of_era e) replies in_order))
         (pairs_map (λ x y. x ≢ y) place_of kept
-          (pairs_become (λ (a b : Reply). (a.number == b.number) ≡ false) (λ (a b : Reply). place_of a ≢ place_of b) kept (λ x y a b ne. differ x.number y.number ne)
-          (pairs_filter (λ (a b : Reply). (a.number == b.number) ≡ false) (is_of_era e) replies apart)))
+        (pairs_become (λ (a b : Reply). (a.number == b.number) ≡ false) (λ (a b : Reply). place_of a ≢ place_of b) kept (λ x y a b ne. differ x.number y.number ne)
+        (pairs_filter (λ (a b : Reply). (a.number == b.number) ≡ false) (is_of_era e) replies apart)))
         (λ place a.
-          let h = all_among (λ p. IsReplyPlace calls e p) places place follows.each a in
-          subst (λ p. Among p (places_in replies e)) (sym h.stands) (places_every e h.number h.answered))
+        let h = all_among (λ p. IsReplyPlace calls e p) places place follows.each a in
+        subst (λ p. Among p (places_in replies e)) (sym h.stands) (places_every e h.number h.answered))
         (λ place a.
-          let h = places_each e place a in
-          subst (λ p. Among p places) (sym h.stands) (among_contained places (Answered h.number) (follows.every h.number h.answered)))
+        let h = places_each e place a in
+        subst (λ p. Among p places) (sym h.stands) (among_contained places (Answered h.number) (follows.every h.number h.answered)))

@@ -29,12 +29,12 @@ numbers_in_order calls replies order =
     let numbers = map number replies in
     record {
       each = among_all (IsAnswered calls) numbers (λ n a.
-        let m = among_map number replies n a in
-        let so = is_reply_to m.0.number (call_at calls m.0.number) m.0 (each calls replies order m.0 m.1) in
-        subst (IsAnswered calls) m.2 (record { era = so.call.era; in_era = record { call = so.call; there = so.there; answered = so.answered; of_era = refl } }));
+          let m = among_map number replies n a in
+          let so = is_reply_to m.0.number (call_at calls m.0.number) m.0 (each calls replies order m.0 m.1) in
+          subst (IsAnswered calls) m.2 (record { era = so.call.era; in_era = record { call = so.call; there = so.there; answered = so.answered; of_era = refl } }));
       every = λ n is.
-        let g = reply_given n (call_at calls n) is.in_era.call is.in_era.there is.in_era.answered in
-        contained numbers n (subst (λ k. Among k numbers) g.2 (map_among number replies g.0 (every calls replies order n g.0 g.1)));
+          let g = reply_given n (call_at calls n) is.in_era.call is.in_era.there is.in_era.answered in
+          contained numbers n (subst (λ k. Among k numbers) g.2 (map_among number replies g.0 (every calls replies order n g.0 g.1)));
       once = distinct_of_pairs ◌==◌ numbers (pairs_map (λ x y. (x == y) ≡ false) number replies (apart calls replies order));
       sorted = order_of_pairs (replied_at calls) numbers (pairs_map (λ x y. replied_at calls x ≤ replied_at calls y) number replies (in_order calls replies order));
     }

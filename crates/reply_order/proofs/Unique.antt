@@ -102,15 +102,17 @@ distinct_of_pairs same (x ∷ xs) h = (h.0, distinct_of_pairs same xs h.1)
 
 pub pairs_in_order : {A : Type 0} (key : A → ℕ) (xs : List A) → IsNonDecreasingBy key xs → Pairwise (λ x y. key x ≤ key y) xs
 pairs_in_order key [] h = tt
-pairs_in_order key (x ∷ xs) h =
-    (recursion_from_All (λ y. key x ≤ key y) xs (λ k d lt. h 0 (suc k) d (omega arith) (omega (arith, lt))),
-    pairs_in_order key xs (λ i j d le lt. h (suc i) (suc j) d (omega (arith, le)) (omega (arith, lt))))
+pairs_in_order key (x ∷ xs) h = (
+  recursion_from_All (λ y. key x ≤ key y) xs (λ k d lt. h 0 (suc k) d (omega arith) (omega (arith, lt))),
+  pairs_in_order key xs (λ i j d le lt. h (suc i) (suc j) d (omega (arith, le)) (omega (arith, lt))),
+)
 
 pub pairs_append : {A : Type 0} (R : A → A → Type 0) (xs ys : List A) → Pairwise R xs → Pairwise R ys → ((x y : A) → Among x xs → Among y ys → R x y) → Pairwise R (xs ++ ys)
 pairs_append R [] ys p q across = q
-pairs_append R (x ∷ xs) ys p q across =
-    (among_all (R x) (xs ++ ys) (λ y a. elim (among_either xs ys y a) [ inl l ↦ all_among (R x) xs y p.0 l | inr r ↦ across x y (inl refl) r ]),
-    pairs_append R xs ys p.1 q (λ z y a b. across z y (inr a) b))
+pairs_append R (x ∷ xs) ys p q across = (
+  among_all (R x) (xs ++ ys) (λ y a. elim (among_either xs ys y a) [ inl l ↦ all_among (R x) xs y p.0 l | inr r ↦ across x y (inl refl) r ]),
+  pairs_append R xs ys p.1 q (λ z y a b. across z y (inr a) b),
+)
 
 pub pairs_option : {A : Type 0} (R : A → A → Type 0) (o : Option A) → Pairwise R (option_to_list o)
 pairs_option R None = tt

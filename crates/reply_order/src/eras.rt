@@ -40,12 +40,7 @@ fn split_behind(replies: &[Reply], era: u64) -> (&[Reply], &[Reply])
 }
 
 /// The plan of an era.
-fn era_plan(
-    alloc: Global,
-    replies: &[Reply],
-    era: u64,
-    eras: u64,
-) -> Result<EraPlan, AllocError>
+fn era_plan(alloc: Global, replies: &[Reply], era: u64, eras: u64) -> Result<EraPlan, AllocError>
     ensures { IfOk result (λ p. p ≡ era_plan replies.now era eras) }
 {
     let places = places_of(alloc, replies, era)?;

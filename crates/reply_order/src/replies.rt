@@ -1,6 +1,7 @@
 //! The replies of a history, in their order.
 
-ghost use Rattle.std.specs.Prelude.{◌≡◌, length, IfOk};
+ghost use Rattle.std.specs.Prelude.{◌≡◌, length, map, IfOk};
+ghost use Rattle.reply_order.specs.declared.replies.Reply.{Reply};
 ghost use Rattle.reply_order.specs.ReplyOrder.{AreAnsweredInOrder};
 ghost use Rattle.reply_order.specs.Making.{reply_at, replies_up_to, AreInOrder};
 
@@ -43,10 +44,7 @@ fn all_replies(alloc: Global, history: &KnownCalls<'_>) -> Result<Vec<Reply>, Al
 }
 
 /// The replies in their order.
-pub fn ordered_replies(
-    alloc: Global,
-    history: &KnownCalls<'_>,
-) -> Result<Vec<Reply>, AllocError>
+pub fn ordered_replies(alloc: Global, history: &KnownCalls<'_>) -> Result<Vec<Reply>, AllocError>
     ensures { IfOk result (λ v. AreInOrder history.now.calls v.items) }
 {
     let mut replies = all_replies(alloc, history)?;
@@ -54,13 +52,18 @@ pub fn ordered_replies(
     Ok(replies)
 }
 
+/// The numbers of the calls.
+fn numbers_of(alloc: Global, replies: &[Reply]) -> Result<Vec<u64>, AllocError>
+    ensures { IfOk result (λ v. v.items ≡ map (λ (r : Reply). r.number) replies.now) }
+{
+    replies.iter().map(|reply| reply.number).collect(alloc)
+}
+
 /// The numbers of the answered judged calls of all eras, in the order of their replies. It takes the time of a sort.
-pub fn replies_in_order(
-    alloc: Global,
-    history: &KnownCalls<'_>,
-) -> Result<Vec<u64>, AllocError>
+pub fn replies_in_order(alloc: Global, history: &KnownCalls<'_>) -> Result<Vec<u64>, AllocError>
     ensures { IfOk result (λ numbers. AreAnsweredInOrder history.now.calls numbers.items) }
 {
     let replies = ordered_replies(alloc, history)?;
-    replies.iter().map(|reply| reply.number).collect(alloc)
+    let numbers = numbers_of(alloc, replies.as_slice())?;
+    Ok(numbers)
 }
