@@ -1,12 +1,11 @@
 -- The binds that are made are the first makers', and no others follow the replies.
-use Rattle.std.proofs.Common.{◌≡◌, ◌≢◌, ◌==◌, ◌&&◌, ◌||◌, ℕ, zero, suc, ◌+◌, ◌<◌, ◌≤◌, Bool, true, false, cond, nat_lt, nat_le, get_or, List, [], ◌∷◌, ◌++◌, length, map, Option, Some, None, refl, sym, ap, ◌∙◌, subst, arith, inl, inr, ◌⊎◌}
+use Rattle.std.proofs.Common.{◌≡◌, ◌≢◌, ◌&&◌, ℕ, suc, ◌<◌, ◌≤◌, Bool, true, false, cond, nat_lt, nat_le, get_or, List, [], ◌∷◌, ◌++◌, length, map, Option, Some, None, refl, sym, ap, ◌∙◌, subst, arith, inl, inr, ◌⊎◌}
 use Rattle.std.specs.Prelude.{option_and_then, is_none}
-use Rattle.std.specs.List.{AllByRecursion, Contains}
+use Rattle.std.specs.List.{AllByRecursion}
 use Rattle.std.specs.Map.{lookup}
-use Rattle.std.specs.List.Sorted.{IsSortedBy}
-use Rattle.std.specs.Ordering.{nat_cmp, is_lt, ordering_reverse}
+use Rattle.std.specs.Ordering.{nat_cmp, is_lt}
 use Rattle.std.specs.declared.cmp.Ordering.{Ordering}
-use Rattle.std.specs.declared.cmp.Ordering.TheVariants.{Less, Equal, Greater}
+use Rattle.std.specs.declared.cmp.Ordering.TheVariants.{Less, Equal}
 use Rattle.std.specs.Cmp.Lexicographic.{slice_cmp, bytes_decides}
 use Rattle.std.proofs.lemmas.Bool.{false≢true, ltb-true, leb-true, lt-ltb, le-leb}
 use Rattle.std.proofs.lemmas.Cmp.{nat_list_cmp_total, tied_itself}
@@ -21,11 +20,11 @@ use Rattle.nfs_history.specs.Precedence.{call_at}
 use Rattle.nfs_history.specs.Reread.{call_kind}
 use Rattle.certificate.specs.declared.plan.Bind.{Bind}
 use Rattle.certificate.specs.CertificateText.{AreRising}
-use Rattle.tree_handles.specs.Binding.{Bindings, same_bytes, object_of}
+use Rattle.tree_handles.specs.Binding.{same_bytes, object_of}
 use Rattle.reply_order.specs.declared.replies.Reply.{Reply}
 use Rattle.reply_order.specs.ReplyOrder.{is_answered, makes_object, handle_received, handle_given, replied_at, IsMaker, IsFirstMaker, BindsFirstMakers}
 use Rattle.reply_order.specs.Making.{names_of, is_new, binds_with, given_at, binds_behind, AreSorted, AreInOrder}
-use Rattle.reply_order.proofs.Unique.{Among, Pairwise, all_among, among_all, among_contained, contained, among_left, among_right, among_either, among_map, map_among, pairs_of_distinct, distinct_of_pairs, pairs_append, pairs_become, unique}
+use Rattle.reply_order.proofs.Unique.{Among, Pairwise, all_among, among_all, among_contained, contained, among_either, among_map, map_among, pairs_of_distinct, distinct_of_pairs, pairs_append, pairs_become, unique}
 use Rattle.reply_order.proofs.InReplies.{reply_given, every, in_order}
 
 pub record IsGood (root handle : List ℕ) : Type 0 where

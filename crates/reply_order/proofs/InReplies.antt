@@ -1,14 +1,14 @@
 -- The replies in their order are those of all answered judged calls, each once.
-use Rattle.std.proofs.Common.{◌≡◌, ◌≢◌, ◌==◌, ℕ, zero, suc, ◌+◌, ◌<◌, ◌≤◌, Bool, true, false, cond, List, [], ◌∷◌, ◌++◌, length, map, Option, Some, None, unwrap_or, refl, sym, ap, ◌∙◌, subst, arith, inl, inr, ◌⊎◌}
+use Rattle.std.proofs.Common.{◌≡◌, ◌≢◌, ◌==◌, ℕ, zero, suc, ◌<◌, ◌≤◌, Bool, true, false, cond, List, [], ◌∷◌, length, Option, Some, None, unwrap_or, refl, sym, ap, ◌∙◌, subst, arith, inl, inr}
 use Rattle.std.specs.Prelude.{option_and_then}
-use Rattle.std.specs.List.{filter, AllByRecursion}
+use Rattle.std.specs.List.{filter}
 use Rattle.std.specs.Option.{option_to_list}
 use Rattle.std.proofs.lemmas.Bool.{ne_eqb, eqb-true, eq-eqb, false≢true, cases_lt, cases_eq}
 use Rattle.std.proofs.lemmas.Option.{slice_get_cases}
 use Rattle.std.proofs.lemmas.List.Sorted.{Contains-permutation, IsPermutation-sym}
 use Rattle.std.proofs.lemmas.Map.Keys.{IsDistinct-IsPermutation}
 use Rattle.nfs_history.specs.declared.history.RecordedCall.{RecordedCall}
-use Rattle.nfs_history.specs.Precedence.{call_at, end_of}
+use Rattle.nfs_history.specs.Precedence.{call_at}
 use Rattle.nfs_history.specs.Reread.{call_kind}
 use Rattle.certificate.specs.declared.plan.Place.{Place}
 use Rattle.certificate.specs.declared.plan.Place.TheVariants.{Answered}
@@ -16,7 +16,7 @@ use Rattle.reply_order.specs.declared.replies.Reply.{Reply}
 use Rattle.reply_order.specs.ReplyOrder.{is_answered, IsAnsweredIn, replied_at, RepliesRise, IsReplyPlace, FollowsReplies}
 use Rattle.certificate.specs.Plan.{call_of}
 use Rattle.reply_order.specs.Making.{reply_to, reply_at, replies_up_to, AreInOrder, is_of_era, place_of, places_in}
-use Rattle.reply_order.proofs.Unique.{Among, Pairwise, all_among, among_all, among_contained, contained, among_left, among_right, among_either, among_option, option_among, among_filter, filter_among, among_map, map_among, pairs_of_distinct, distinct_of_pairs, pairs_in_order, pairs_append, pairs_option, pairs_become, pairs_filter, pairs_map, unique}
+use Rattle.reply_order.proofs.Unique.{Among, Pairwise, all_among, among_contained, contained, among_left, among_right, among_either, among_option, option_among, among_filter, filter_among, among_map, map_among, pairs_of_distinct, distinct_of_pairs, pairs_in_order, pairs_append, pairs_option, pairs_become, pairs_filter, pairs_map, unique}
 
 -- the reply to a call, and what is known of it
 pub record IsReplyTo (n : ℕ) (found : Option RecordedCall) (r : Reply) : Type 0 where

@@ -1,16 +1,14 @@
 -- The numbers of the replies in their order.
-use Rattle.std.proofs.Common.{◌≡◌, ◌==◌, ℕ, zero, suc, ◌≤◌, ◌<◌, List, [], ◌∷◌, length, map, get_or, Bool, false, refl, sym, subst, ap, ◌∙◌, arith}
+use Rattle.std.proofs.Common.{◌≡◌, ◌==◌, ℕ, zero, suc, ◌≤◌, ◌<◌, List, [], ◌∷◌, length, map, get_or, false, refl, subst, arith}
 use Rattle.std.specs.List.{AllByRecursion}
 use Rattle.std.specs.List.Sorted.{IsNonDecreasingBy}
-use Rattle.std.proofs.lemmas.Bool.{cases_eq}
-use Rattle.std.specs.List.{All}
 use Rattle.std.proofs.lemmas.List.Elements.{All-from_recursion}
 use Rattle.nfs_history.specs.declared.history.RecordedCall.{RecordedCall}
 use Rattle.nfs_history.specs.Precedence.{call_at}
 use Rattle.reply_order.specs.declared.replies.Reply.{Reply}
 use Rattle.reply_order.specs.ReplyOrder.{IsAnswered, AreAnsweredInOrder, replied_at}
 use Rattle.reply_order.specs.Making.{AreInOrder}
-use Rattle.reply_order.proofs.Unique.{Among, Pairwise, all_among, among_all, contained, among_map, map_among, distinct_of_pairs, pairs_map}
+use Rattle.reply_order.proofs.Unique.{Among, Pairwise, among_all, contained, among_map, map_among, distinct_of_pairs, pairs_map}
 use Rattle.reply_order.proofs.InReplies.{is_reply_to, reply_given, each, every, apart, in_order}
 
 at_zero : (key : ℕ → ℕ) (x : ℕ) (xs : List ℕ) → AllByRecursion (λ y. key x ≤ key y) xs → (j d : ℕ) → j < length (x ∷ xs) → key x ≤ key (get_or (x ∷ xs) j d)

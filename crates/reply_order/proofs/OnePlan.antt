@@ -1,5 +1,5 @@
 -- One plan follows the replies of a history, and it is the one that is made.
-use Rattle.std.proofs.Common.{◌≡◌, ℕ, List, Ok, Err, Result, refl, sym, ap, ◌∙◌}
+use Rattle.std.proofs.Common.{◌≡◌, List, Ok, Err, Result, sym, ap, ◌∙◌}
 use Rattle.std.specs.Prelude.{IfOk}
 use Rattle.nfs_history.specs.HistoryValue.{CallsValue}
 use Rattle.certificate.specs.declared.plan.Bind.{Bind}

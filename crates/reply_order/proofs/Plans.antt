@@ -1,6 +1,5 @@
 -- The eras of a plan that follows the replies are determined.
-use Rattle.std.proofs.Common.{◌≡◌, ◌≢◌, ℕ, zero, suc, ◌+◌, ◌<◌, ◌≤◌, Bool, true, false, cond, nat_lt, le-ltb, lt-ltb, List, [], ◌∷◌, ◌++◌, length, map, Option, Some, None, refl, sym, ap, ◌∙◌, subst, arith, add-one, append-nil, append_assoc}
-use Rattle.std.specs.List.{filter}
+use Rattle.std.proofs.Common.{◌≡◌, ◌≢◌, ℕ, zero, suc, ◌+◌, ◌<◌, ◌≤◌, cond, nat_lt, le-ltb, lt-ltb, List, [], ◌∷◌, ◌++◌, length, map, Option, Some, None, refl, sym, ap, ◌∙◌, subst, arith, append-nil, append_assoc}
 use Rattle.std.proofs.lemmas.Bool.{cond-true, cond-false}
 use Rattle.nfs_history.specs.declared.history.RecordedCall.{RecordedCall}
 use Rattle.certificate.specs.declared.plan.Place.{Place}
@@ -9,7 +8,7 @@ use Rattle.certificate.specs.declared.plan.EraPlan.{EraPlan}
 use Rattle.certificate.specs.Plan.{call_of}
 use Rattle.reply_order.specs.declared.replies.Reply.{Reply}
 use Rattle.reply_order.specs.ReplyOrder.{replied_at, RepliesRise, IsReplyPlace, FollowsReplies, cut_behind, ErasFollow}
-use Rattle.reply_order.specs.Making.{AreInOrder, AreGrouped, is_of_era, place_of, places_in, era_plan, plans_up_to}
+use Rattle.reply_order.specs.Making.{AreInOrder, AreGrouped, place_of, places_in, era_plan, plans_up_to}
 use Rattle.reply_order.proofs.Unique.{Among, Pairwise, all_among, among_contained, pairs_become, unique}
 use Rattle.reply_order.proofs.InReplies.{one_era}
 

@@ -1,4 +1,4 @@
-use Rattle.std.proofs.Common.{leb, length, ◌≤◌, arith, rules}
+use Rattle.std.proofs.Common.{leb, rules}
 use Rattle.std.proofs.lemmas.List.Sorted.{IsPartitionPoint-from_clause, IsPartitionedBy-leb}
 use Rattle.reply_order.specs.declared.replies.Reply.{Reply}
 use Rattle.reply_order.proofs.Grouping.{here_is, later_is}
