@@ -66,16 +66,16 @@ impl Board {
     }
 
     /// Numbers the branch that a move led to.
-    pub(crate) fn add(&mut self, parent: u32, chosen: Move, depth: usize) -> Result<u32, AllocError> {
+    pub(crate) fn add(
+        &mut self,
+        parent: u32,
+        chosen: Move,
+        depth: usize,
+    ) -> Result<u32, AllocError> {
         if self.nodes.len() >= u32::MAX as usize - 1 {
             return Err(AllocError);
         }
-        self.nodes.push(
-            Node {
-                parent,
-                chosen,
-            },
-        )?;
+        self.nodes.push(Node { parent, chosen })?;
         self.depth = self.depth.max(depth);
         Ok(self.nodes.len() as u32)
     }

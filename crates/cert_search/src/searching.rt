@@ -32,7 +32,10 @@ const FIRST_ROOM: usize = 256;
 /// What a search needs of the runtime.
 pub trait Host: Threads + Wait + Clock + AllocGlobal + Sync {}
 
-impl<R> Host for R where R: Threads + Wait + Clock + AllocGlobal + Sync {}
+impl<R> Host for R
+where
+    R: Threads + Wait + Clock + AllocGlobal + Sync,
+{}
 
 /// The seats of so many workers, and for each worker the way to its branches.
 #[derive(Drop)]
@@ -65,7 +68,7 @@ impl Seats {
     }
 }
 
-/// Has the last seat's worker and so many more work, each in a thread of its own, and gives one claimer for all of theirs.
+/// Has the last seat's worker and so many more work, each in a thread of its own.
 fn work_all<R: Threads + Wait + Clock + Sync, G: SearchGate + Sync>(
     rt: &R,
     team: &Team<'_, '_, G>,
@@ -73,44 +76,50 @@ fn work_all<R: Threads + Wait + Clock + Sync, G: SearchGate + Sync>(
     claimer: Claimer,
     seats: Vec<Seat>,
     more: u32,
-) -> Claimer
+)
     requires { IsOf claimer table.now }
-    ensures { IsOf result table.now }
 {
     let mut seats = seats;
     let Some(seat) = seats.pop() else {
-        return claimer;
+        return;
     };
     if more == 0 {
-        return work(rt, team, table, claimer, seat);
+        work(rt, team, table, claimer, seat);
+        return;
     }
     let fewer = more - 1;
     let mut claimer = claimer;
     let other = table.split(&mut claimer);
-    let (one, two) = join(
+    join(
         rt,
-        move || -> Claimer
+        move ||
             requires { IsSync R.row × IsSync G.row × IsOf claimer table.now }
-            ensures { IsOf result table.entry.now }
         { work(rt, team, table, claimer, seat) },
-        move || -> Claimer
+        move ||
             requires { IsSync R.row × IsSync G.row × IsOf other table.now }
-            ensures { IsOf result table.entry.now }
         { work_all(rt, team, table, other, seats, fewer) },
     );
-    table.join(one, two)
 }
 
-/// What the workers came to: the plan that they found, and how they ended without one.
-fn outcome_of(board: &mut Board) -> (Option<Certificate>, SearchEnd) {
+/// What workers lacked that found nothing.
+#[derive(Clone, Copy)]
+enum Lack {
+    /// Branches.
+    Branches,
+    Turns,
+    Memory,
+}
+
+/// What the workers came to: the plan that they found, and what they lacked else.
+fn outcome_of(board: &mut Board) -> (Option<Certificate>, Lack) {
     let found = board.take_found();
     if board.lacked_memory {
-        return (found, SearchEnd::NoMemory);
+        return (found, Lack::Memory);
     }
     if board.left_branches {
-        return (found, SearchEnd::OutOfTurns);
+        return (found, Lack::Turns);
     }
-    (found, SearchEnd::NotFound)
+    (found, Lack::Branches)
 }
 
 /// Has the workers search, and gives what they came to.
@@ -120,7 +129,7 @@ fn run_workers<R: Host, G: SearchGate + Sync>(
     workers: u32,
     turns: u64,
     gate: &G,
-) -> Result<(Option<Certificate>, SearchEnd), AllocError> {
+) -> Result<(Option<Certificate>, Lack), AllocError> {
     let alloc = rt.alloc();
     let problem = Problem::new(alloc, known)?;
     let Seats { seats, stealers } = Seats::new(alloc, workers)?;
@@ -134,7 +143,7 @@ fn run_workers<R: Host, G: SearchGate + Sync>(
         gate,
         turns,
     };
-    drop(work_all(rt, &team, &table, claimer, seats, workers.saturating_sub(1)));
+    work_all(rt, &team, &table, claimer, seats, workers.saturating_sub(1));
     let mut ended = board.lock(rt);
     Ok(outcome_of(&mut ended))
 }
@@ -145,7 +154,8 @@ fn if_witness(
     known: &KnownCalls<'_>,
     plan: Certificate,
 ) -> Result<Option<Certificate>, AllocError>
-    ensures { IfOk result (λ found. IfSome found (λ plan. IsWitness known.now plan)) }
+    ensures found { IfOk result (λ found. IfSome found (λ plan. IsWitness known.now plan)) }
+    ensures only { IsWitness known.now plan → IfOk result (λ found. IsSome found) }
 {
     match check_calls(alloc, known, &plan)? {
         Verdict::Yes => Ok(Some(plan)),
@@ -187,13 +197,17 @@ pub fn search_calls<R: Host, G: SearchGate + Sync>(
     // Where the plan that follows the replies is a witness, one is found, memory aside.
     ensures follows { (plan : Certificate) → IsReplyOrder known.now plan → IsWitness known.now plan → IsFoundOrNoMemory result }
 {
-    let (found, end) = match run_workers(rt, known, workers, turns, gate) {
+    let (found, lack) = match run_workers(rt, known, workers, turns, gate) {
         Ok(ended) => ended,
-        Err(AllocError) => (None, SearchEnd::NoMemory),
+        Err(AllocError) => (None, Lack::Memory),
     };
     match settle(rt.alloc(), known, found) {
         Ok(Some(plan)) => SearchEnd::Found(plan),
-        Ok(None) => end,
+        Ok(None) => match lack {
+            Lack::Branches => SearchEnd::NotFound,
+            Lack::Turns => SearchEnd::OutOfTurns,
+            Lack::Memory => SearchEnd::NoMemory,
+        },
         Err(AllocError) => SearchEnd::NoMemory,
     }
 }

@@ -122,7 +122,11 @@ fn push_branch<R: Wait, G>(
 }
 
 /// Has a whole plan judged, and keeps it where it is a witness.
-fn judge_whole<R: Wait, G>(rt: &R, team: &Team<'_, '_, G>, state: &State) -> Result<(), AllocError> {
+fn judge_whole<R: Wait, G>(
+    rt: &R,
+    team: &Team<'_, '_, G>,
+    state: &State,
+) -> Result<(), AllocError> {
     let certificate = state.certificate(team.problem)?;
     if let Verdict::Yes = check_calls(team.alloc, team.problem.known(), &certificate)? {
         team.board.lock(rt).succeed(certificate);
@@ -308,16 +312,15 @@ fn take_branches<R: Wait + Clock, G: SearchGate>(
     team.board.lock(rt).stop_worker();
 }
 
-/// Works until there is nothing more to do, and gives the claimer back.
+/// Works until there is nothing more to do.
 pub(crate) fn work<R: Wait + Clock, G: SearchGate>(
     rt: &R,
     team: &Team<'_, '_, G>,
     table: &SeenTable,
     claimer: Claimer,
     seat: Seat,
-) -> Claimer
+)
     requires { IsOf claimer table.now }
-    ensures { IsOf result table.now }
 {
     let mut claimer = claimer;
     let mut seat = seat;
@@ -325,5 +328,4 @@ pub(crate) fn work<R: Wait + Clock, G: SearchGate>(
         Ok(state) => take_branches(rt, team, table, &mut claimer, &mut seat, state),
         Err(AllocError) => team.board.lock(rt).lack_state(),
     }
-    claimer
 }
