@@ -1,8 +1,8 @@
 //! The call of a move, read from its messages.
 
 use crate::desk::Move;
-use nfs3_types::{NfsCall, Outcome};
 use nfs_history::KnownCalls;
+use nfs3_types::{NfsCall, Outcome};
 use std::alloc::{AllocError, Global};
 
 /// A call that is placed, and how it came out.

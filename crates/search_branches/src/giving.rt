@@ -3,7 +3,8 @@
 use crate::desk::Desk;
 use crate::found::Found;
 use nfs3_types::{
-    Answer, CreateSuccess, DirectoryName, FileHandle, NfsCall, NfsReply, Outcome, ReadDirPlusSuccess,
+    Answer, CreateSuccess, DirectoryName, FileHandle, NfsCall, NfsReply, Outcome,
+    ReadDirPlusSuccess,
 };
 use std::alloc::AllocError;
 use tree_handles::{View, directory_of, entry_at, named};

@@ -56,11 +56,7 @@ impl Desk {
     }
 
     /// Puts the ends of the era behind other moves.
-    fn put_cuts(
-        &self,
-        problem: &Problem<'_, '_>,
-        moves: &mut Vec<Move>,
-    ) -> Result<(), AllocError> {
+    fn put_cuts(&self, problem: &Problem<'_, '_>, moves: &mut Vec<Move>) -> Result<(), AllocError> {
         let places = self.path.len().saturating_sub(self.front.era_start);
         let least = self.least_cut(problem)?;
         for fewer in 0..places.saturating_add(1) {

@@ -1,7 +1,7 @@
 //! What a search knows of a history ahead of its branches.
 
-use nfs3_types::{Answer, NfsReply, Outcome, Verifier};
 use nfs_history::{CallKind, KnownCalls, RecordedCall};
+use nfs3_types::{Answer, NfsReply, Outcome, Verifier};
 use reply_order::replies_in_order;
 use std::alloc::{AllocError, Global};
 use std::collections::BTreeMap;
@@ -147,7 +147,12 @@ impl Survey {
     }
 
     /// Notes what a call can do, and what its reply shows.
-    fn note(&mut self, alloc: Global, known: &KnownCalls<'_>, number: u64) -> Result<(), AllocError> {
+    fn note(
+        &mut self,
+        alloc: Global,
+        known: &KnownCalls<'_>,
+        number: u64,
+    ) -> Result<(), AllocError> {
         let era = known.era(number).unwrap_or(0);
         self.extend_calls(era, number);
         let nature = match known.kind(number) {
@@ -192,10 +197,7 @@ fn place_of_era(era: u64) -> usize {
 
 impl<'s, 'a> Problem<'s, 'a> {
     /// What is to be known of a history. Each answered call that may change the tree is read once.
-    pub fn new(
-        alloc: Global,
-        known: &'s KnownCalls<'a>,
-    ) -> Result<Problem<'s, 'a>, AllocError> {
+    pub fn new(alloc: Global, known: &'s KnownCalls<'a>) -> Result<Problem<'s, 'a>, AllocError> {
         let replies = replies_in_order(alloc, known)?;
         let mut survey = Survey::new(alloc, known.eras() as usize)?;
         for index in 0..known.count() {

@@ -48,13 +48,21 @@ impl State {
     }
 
     /// Takes the step of a call on the tree, and says whether it is a legal one; else nothing changes.
-    fn step(&mut self, problem: &Problem<'_, '_>, number: u64, found: &Found) -> Result<bool, AllocError>
+    fn step(
+        &mut self,
+        problem: &Problem<'_, '_>,
+        number: u64,
+        found: &Found,
+    ) -> Result<bool, AllocError>
         requires { CanGoBack self.old }
         ensures { CanGoBack self.new }
     {
         let before = self.desk.front;
         self.desk.bind_given(self.trial.nodes(), number, found)?;
-        if self.trial.step(&self.desk.binds, number, &found.call, &found.outcome)? {
+        if self
+            .trial
+            .step(&self.desk.binds, number, &found.call, &found.outcome)?
+        {
             return Ok(true);
         }
         self.desk.front = before;
@@ -75,13 +83,11 @@ impl State {
         if !self.step(problem, number, &found)? {
             return Ok(false);
         }
-        self.desk.path.push(
-            Step {
-                node: 0,
-                chosen,
-                before,
-            },
-        )?;
+        self.desk.path.push(Step {
+            node: 0,
+            chosen,
+            before,
+        })?;
         let is_taken = matches!(chosen, Move::Take(_));
         self.desk.place(problem, number, is_taken)?;
         Ok(true)
@@ -97,24 +103,18 @@ impl State {
         let places = desk.path.len().saturating_sub(desk.front.era_start);
         let trial = trial.back(places.saturating_sub(kept))?;
         let before = desk.front;
-        desk.path.push(
-            Step {
-                node: 0,
-                chosen: Move::Cut(kept),
-                before,
-            },
-        )?;
+        desk.path.push(Step {
+            node: 0,
+            chosen: Move::Cut(kept),
+            before,
+        })?;
         let digest = digest_of(desk.alloc, &trial)?;
         desk.begin_era(problem, digest)?;
         Ok(State { trial, desk })
     }
 
     /// Makes a move, and says whether it is a legal one; else nothing changes.
-    pub fn make(
-        self,
-        problem: &Problem<'_, '_>,
-        chosen: Move,
-    ) -> Result<(State, bool), AllocError>
+    pub fn make(self, problem: &Problem<'_, '_>, chosen: Move) -> Result<(State, bool), AllocError>
         requires { CanGoBack self }
         ensures { IfOk result (λ made. CanGoBack made.0) }
     {
@@ -133,7 +133,8 @@ impl State {
     {
         if let Some(found) = find(self.desk.alloc, problem.known, chosen)? {
             let number = number_of(chosen);
-            self.trial.step(&self.desk.binds, number, &found.call, &found.outcome)?;
+            self.trial
+                .step(&self.desk.binds, number, &found.call, &found.outcome)?;
         }
         Ok(())
     }

@@ -29,12 +29,10 @@ fn sorted_binds(alloc: Global, bound: &[Bind]) -> Result<BindList, AllocError> {
     }
     let mut binds = Vec::new(alloc);
     for (_, bind) in objects.iter() {
-        binds.push(
-            Bind {
-                handle: bind.handle.clone()?,
-                object: bind.object,
-            },
-        )?;
+        binds.push(Bind {
+            handle: bind.handle.clone()?,
+            object: bind.object,
+        })?;
     }
     Ok(BindList::new(binds))
 }
@@ -50,22 +48,18 @@ impl State {
                 Move::Answer(number) => places.push(Place::Answered(number))?,
                 Move::Take(number) => places.push(taken_place(alloc, problem, number)?)?,
                 Move::Cut(kept) => {
-                    eras.push(
-                        EraPlan {
-                            places: PlaceList::new(places),
-                            cut: Some(kept as u64),
-                        },
-                    )?;
+                    eras.push(EraPlan {
+                        places: PlaceList::new(places),
+                        cut: Some(kept as u64),
+                    })?;
                     places = Vec::new(alloc);
                 }
             }
         }
-        eras.push(
-            EraPlan {
-                places: PlaceList::new(places),
-                cut: None,
-            },
-        )?;
+        eras.push(EraPlan {
+            places: PlaceList::new(places),
+            cut: None,
+        })?;
         Ok(Certificate {
             binds: sorted_binds(alloc, self.desk.bound.as_slice())?,
             eras: EraPlanList::new(eras),

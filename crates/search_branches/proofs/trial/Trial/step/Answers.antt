@@ -19,9 +19,11 @@ returns-in_err-reserve c =
 pub returns-in-Ok : goal.returns-in-Ok
 returns-in-Ok c =
     let pushed = rw c.unwrap.ensures at c.push.ensures.items in
-    let more : c.push.new.self.items ≡ c.args.self.now.undos.items ++ c.in-Ok.undo ∷ [] = pushed ∙ ap (λ us. us ++ c.in-Ok.undo ∷ []) c.in_ok-reserve.ensures.items in
-    (c.requires.0, subst (λ us. UndoesAll TakesBack us c.step.new.self c.requires.0) (sym more)
-        (one_more_undone TakesBack c.args.self.now.undos.items c.in-Ok.undo c.step.new.self c.args.self.now.tree c.requires.0 c.requires.1 c.in-Ok.ensures.undo))
+    let more : c.push.new.self.items ≡ c.args.self.now.undos.items ++ c.in-Ok.undo ∷ [] = pushed ∙ ap (λ us. us ++ c.in-Ok.undo ∷ []) c.in_ok-reserve.ensures.items in (
+      c.requires.0,
+      subst (λ us. UndoesAll TakesBack us c.step.new.self c.requires.0) (sym more)
+          (one_more_undone TakesBack c.args.self.now.undos.items c.in-Ok.undo c.step.new.self c.args.self.now.tree c.requires.0 c.requires.1 c.in-Ok.ensures.undo),
+    )
 
 pub returns-in-Err-NotAllowed : goal.returns-in-Err-NotAllowed
 returns-in-Err-NotAllowed c =
