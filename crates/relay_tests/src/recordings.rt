@@ -2,9 +2,9 @@
 
 use crate::frames::{ONE_LANE, TWO_ERAS};
 use crate::peers::{answer, call, connect, ends, listen, port_of};
-use nfs_relay::Host;
 use bench_streams::{Input, Stream};
 use nfs_recording::Recorder;
+use nfs_relay::Host;
 use nfsbench_engine::run_words;
 use std::alloc::AllocError;
 use std::fs;
