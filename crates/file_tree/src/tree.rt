@@ -77,6 +77,13 @@ impl FileTree {
 }
 
 impl FileTree {
+    /// Its nodes.
+    pub fn nodes(&self) -> &Nodes
+        ensures { result.now ≡ self.now }
+    {
+        &self.nodes
+    }
+
     /// How many nodes what takes a step back holds, the files' bytes aside.
     pub fn undo_nodes(undo: &Undo) -> u64
         ensures { result ≡ held_nodes undo.now }

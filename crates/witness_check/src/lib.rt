@@ -10,4 +10,4 @@ mod verdict;
 pub use fault::Fault;
 pub use laws::{a_plan_has_one_verdict, two_files_have_one_verdict};
 pub use replay_law::{EraRun, RunFault, run_eras};
-pub use verdict::{FileVerdict, Verdict, check, check_files};
+pub use verdict::{FileVerdict, Verdict, check, check_calls, check_files};

@@ -73,6 +73,20 @@ fn verdict_of(
     }
 }
 
+/// Whether the certificate is a witness of the history that these calls are of, or else its first fault.
+pub fn check_calls(
+    alloc: Global,
+    history: &KnownCalls<'_>,
+    certificate: &Certificate,
+) -> Result<Verdict, AllocError>
+    // The answer is the verdict on the two.
+    ensures verdict { IfOk result (IsVerdict history.now certificate.now) }
+    // The verdict on the two is the answer, memory aside.
+    ensures only { (verdict : Verdict) → IsVerdict history.now certificate.now verdict → IfOk result (λ given. given ≡ verdict) }
+{
+    verdict_of(alloc, history, certificate)
+}
+
 /// Whether the certificate is a witness of the history, or else its first fault.
 pub fn check(
     alloc: Global,
@@ -85,7 +99,7 @@ pub fn check(
     ensures only { (verdict : Verdict) → IsVerdict history.now.known certificate.now verdict → IfOk result (λ given. given ≡ verdict) }
 {
     let known = history.lend_calls(alloc)?;
-    verdict_of(alloc, &known, certificate)
+    check_calls(alloc, &known, certificate)
 }
 
 /// The verdict on a file, of which this was read, and a text; that no other is right is said at `check_files`.

@@ -1,0 +1,29 @@
+//! How a search ends, and what watches it.
+
+use certificate::Certificate;
+
+/// How a search ended.
+#[derive(Drop)]
+pub enum SearchEnd {
+    /// A certificate that is a witness of the history.
+    Found(Certificate),
+    /// Nothing more was left to try. That doesn't say that there is no witness.
+    NotFound,
+    /// A worker took as many branches as it may, and some are left.
+    OutOfTurns,
+    /// A growth was refused.
+    NoMemory,
+}
+
+/// What is told of each branch that is taken.
+pub trait SearchGate {
+    /// Worker `worker`, from 0 on, has taken a branch and pushed what follows. Until this returns it is at that branch.
+    fn at(&self, worker: u32);
+}
+
+/// A gate that is always open.
+pub struct OpenSearch;
+
+impl SearchGate for OpenSearch {
+    fn at(&self, _worker: u32) {}
+}

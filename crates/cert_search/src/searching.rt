@@ -1,0 +1,233 @@
+//! A search by several workers.
+
+ghost use Rattle.std.specs.Prelude.{◌≡◌, ◌≤◌, IfOk, IfSome, IsSome};
+ghost use Rattle.std.specs.Thread.{IsSync};
+ghost use Rattle.certificate.specs.declared.plan.Certificate.{Certificate};
+ghost use Rattle.witness_check.specs.Witness.{IsWitness};
+ghost use Rattle.reply_order.specs.ReplyOrder.{IsReplyOrder};
+ghost use Rattle.seen_states.specs.Handles.{IsOf};
+ghost use Rattle.cert_search.specs.End.{IsFoundOnly, IsFoundOrNoMemory};
+
+use crate::board::{Board, Branch};
+use crate::end::{SearchEnd, SearchGate};
+use crate::worker::{Seat, Team, work};
+use certificate::Certificate;
+use crossbeam_deque::{Stealer, Worker};
+use nfs_history::{History, KnownCalls};
+use reply_order::reply_order;
+use search_branches::Problem;
+use seen_states::{Claimer, SeenTable};
+use std::alloc::{AllocError, Global};
+use std::sync::{Mutex, Wait};
+use std::thread::{Threads, join};
+use std::time::Clock;
+use witness_check::{Verdict, check_calls};
+
+/// The table of seen states has 2^16 words.
+const TABLE_BITS: u32 = 16;
+
+/// How many branches a worker's own list has room for at first.
+const FIRST_ROOM: usize = 256;
+
+/// What a search needs of the runtime.
+pub trait Host: Threads + Wait + Clock + AllocGlobal + Sync {}
+
+impl<R> Host for R
+where
+    R: Threads + Wait + Clock + AllocGlobal + Sync,
+{}
+
+/// The seats of so many workers, and for each worker the way to its branches.
+#[derive(Drop)]
+struct Seats {
+    seats: Vec<Seat>,
+    stealers: Vec<Stealer<Branch>>,
+}
+
+impl Seats {
+    /// For so many workers, of which the last has the root branch.
+    fn new(alloc: Global, workers: u32) -> Result<Seats, AllocError> {
+        let mut seats = Vec::new(alloc);
+        let mut stealers = Vec::new(alloc);
+        for number in 0..workers {
+            let own = Worker::new_lifo(alloc, FIRST_ROOM)?;
+            stealers.push(own.stealer()?)?;
+            seats.push(Seat { number, own })?;
+        }
+        if let Some(seat) = seats.last_mut() {
+            let root = Branch {
+                parent: 0,
+                depth: 0,
+                rank: 0,
+            };
+            if seat.own.push(root).is_err() {
+                return Err(AllocError);
+            }
+        }
+        Ok(Seats { seats, stealers })
+    }
+}
+
+/// Has the last seat's worker and so many more work, each in a thread of its own.
+fn work_all<R: Threads + Wait + Clock + Sync, G: SearchGate + Sync>(
+    rt: &R,
+    team: &Team<'_, '_, G>,
+    table: &SeenTable,
+    claimer: Claimer,
+    seats: Vec<Seat>,
+    more: u32,
+)
+    requires { IsOf claimer table.now }
+{
+    let mut seats = seats;
+    let Some(seat) = seats.pop() else {
+        return;
+    };
+    if more == 0 {
+        work(rt, team, table, claimer, seat);
+        return;
+    }
+    let fewer = more - 1;
+    let mut claimer = claimer;
+    let other = table.split(&mut claimer);
+    join(
+        rt,
+        move ||
+            requires { IsSync R.row × IsSync G.row × IsOf claimer table.now }
+        { work(rt, team, table, claimer, seat) },
+        move ||
+            requires { IsSync R.row × IsSync G.row × IsOf other table.now }
+        { work_all(rt, team, table, other, seats, fewer) },
+    );
+}
+
+/// What workers lacked that found nothing.
+#[derive(Clone, Copy)]
+enum Lack {
+    /// Branches.
+    Branches,
+    Turns,
+    Memory,
+}
+
+/// What the workers came to: the plan that they found, and what they lacked else.
+fn outcome_of(board: &mut Board) -> (Option<Certificate>, Lack) {
+    let found = board.take_found();
+    if board.lacked_memory {
+        return (found, Lack::Memory);
+    }
+    if board.left_branches {
+        return (found, Lack::Turns);
+    }
+    (found, Lack::Branches)
+}
+
+/// Has the workers search, and gives what they came to.
+fn run_workers<R: Host, G: SearchGate + Sync>(
+    rt: &R,
+    known: &KnownCalls<'_>,
+    workers: u32,
+    turns: u64,
+    gate: &G,
+) -> Result<(Option<Certificate>, Lack), AllocError> {
+    let alloc = rt.alloc();
+    let problem = Problem::new(alloc, known)?;
+    let Seats { seats, stealers } = Seats::new(alloc, workers)?;
+    let (table, claimer) = SeenTable::new(alloc, TABLE_BITS)?;
+    let board = Mutex::new(Board::new(alloc));
+    let team = Team {
+        alloc,
+        problem: &problem,
+        board: &board,
+        stealers: stealers.as_slice(),
+        gate,
+        turns,
+    };
+    work_all(rt, &team, &table, claimer, seats, workers.saturating_sub(1));
+    let mut ended = board.lock(rt);
+    Ok(outcome_of(&mut ended))
+}
+
+/// A plan, if it is a witness.
+fn if_witness(
+    alloc: Global,
+    known: &KnownCalls<'_>,
+    plan: Certificate,
+) -> Result<Option<Certificate>, AllocError>
+    ensures found { IfOk result (λ found. IfSome found (λ plan. IsWitness known.now plan)) }
+    ensures only { IsWitness known.now plan → IfOk result (λ found. IsSome found) }
+{
+    match check_calls(alloc, known, &plan)? {
+        Verdict::Yes => Ok(Some(plan)),
+        Verdict::No(_) => Ok(None),
+    }
+}
+
+/// The plan that the workers found, or the one that follows the replies, if it is a witness.
+fn settle(
+    alloc: Global,
+    known: &KnownCalls<'_>,
+    found: Option<Certificate>,
+) -> Result<Option<Certificate>, AllocError>
+    ensures found { IfOk result (λ found. IfSome found (λ plan. IsWitness known.now plan)) }
+    ensures follows { (plan : Certificate) → IsReplyOrder known.now plan → IsWitness known.now plan → IfOk result (λ found. IsSome found) }
+{
+    if let Some(plan) = found {
+        if let Some(plan) = if_witness(alloc, known, plan)? {
+            return Ok(Some(plan));
+        }
+    }
+    let plan = reply_order(alloc, known)?;
+    if_witness(alloc, known, plan)
+}
+
+/// Searches a certificate of the history that these calls are of, with so many workers, each of which takes so many branches at most.
+/// A worker works in a thread of its own, or on the caller's where none can be made. Where the workers end without a witness, the
+/// plan that follows the replies is judged.
+pub fn search_calls<R: Host, G: SearchGate + Sync>(
+    rt: &R,
+    known: &KnownCalls<'_>,
+    workers: u32,
+    turns: u64,
+    gate: &G,
+) -> SearchEnd
+    requires { (1 ≤ workers) × (workers ≤ 64) }
+    // What is found is a witness.
+    ensures found { IsFoundOnly result (λ plan. IsWitness known.now plan) }
+    // Where the plan that follows the replies is a witness, one is found, memory aside.
+    ensures follows { (plan : Certificate) → IsReplyOrder known.now plan → IsWitness known.now plan → IsFoundOrNoMemory result }
+{
+    let (found, lack) = match run_workers(rt, known, workers, turns, gate) {
+        Ok(ended) => ended,
+        Err(AllocError) => (None, Lack::Memory),
+    };
+    match settle(rt.alloc(), known, found) {
+        Ok(Some(plan)) => SearchEnd::Found(plan),
+        Ok(None) => match lack {
+            Lack::Branches => SearchEnd::NotFound,
+            Lack::Turns => SearchEnd::OutOfTurns,
+            Lack::Memory => SearchEnd::NoMemory,
+        },
+        Err(AllocError) => SearchEnd::NoMemory,
+    }
+}
+
+/// Searches a certificate of a history, as [`search_calls`].
+pub fn search<R: Host, G: SearchGate + Sync>(
+    rt: &R,
+    history: &History,
+    workers: u32,
+    turns: u64,
+    gate: &G,
+) -> SearchEnd
+    requires { (1 ≤ workers) × (workers ≤ 64) }
+    // What is found is a witness.
+    ensures found { IsFoundOnly result (λ plan. IsWitness history.now.known plan) }
+    // Where the plan that follows the replies is a witness, one is found, memory aside.
+    ensures follows { (plan : Certificate) → IsReplyOrder history.now.known plan → IsWitness history.now.known plan → IsFoundOrNoMemory result }
+{
+    match history.lend_calls(rt.alloc()) {
+        Ok(known) => search_calls(rt, &known, workers, turns, gate),
+        Err(AllocError) => SearchEnd::NoMemory,
+    }
+}

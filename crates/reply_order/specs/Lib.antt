@@ -1,0 +1,2 @@
+pub mod ReplyOrder
+pub mod Making

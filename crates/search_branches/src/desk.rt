@@ -1,0 +1,284 @@
+//! What is known of a branch beside its tree: its calls, its binds, and which calls may come next.
+
+use crate::digest::Digest;
+use crate::problem::{EraSpan, Nature, Problem};
+use certificate::Bind;
+use nfs3_types::FileHandle;
+use std::alloc::{AllocError, Global};
+use std::collections::BTreeMap;
+use tree_handles::Binds;
+
+/// What a branch adds to the one that it grows from. Calls are named by their numbers.
+#[derive(Clone, Copy, PartialEq, Eq)]
+pub enum Move {
+    /// A call is placed with its reply.
+    Answer(u64),
+    /// A call is placed as done in full, though no reply came.
+    Take(u64),
+    /// The era ends, and so many of its places are kept.
+    Cut(usize),
+}
+
+/// How far a branch is. All of it is put back when the branch is left.
+#[derive(Clone, Copy)]
+pub(crate) struct Front {
+    /// Counted from 0.
+    pub(crate) era: usize,
+    /// How many moves are ahead of the era.
+    pub(crate) era_start: usize,
+    /// Where the first reply stands, in the list of all, whose call may be unplaced.
+    next_reply: usize,
+    /// The number of the first call that begins too late to come next.
+    frontier: u64,
+    /// How many handles are bound.
+    bound: usize,
+    pub(crate) digest: Digest,
+}
+
+/// A move on the way to a branch.
+#[derive(Clone, Copy)]
+pub(crate) struct Step {
+    /// The branch that it led to.
+    pub(crate) node: u32,
+    pub(crate) chosen: Move,
+    /// How far the branch ahead of it was.
+    pub(crate) before: Front,
+}
+
+/// What is known of a branch beside its tree.
+#[derive(Drop)]
+pub(crate) struct Desk {
+    pub(crate) alloc: Global,
+    pub(crate) binds: Binds,
+    /// The handles that are bound, in the order in which they were.
+    pub(crate) bound: Vec<Bind>,
+    pub(crate) path: Vec<Step>,
+    pub(crate) front: Front,
+    /// By the call's number.
+    placed: Vec<bool>,
+    /// The answered calls that may come next, by the numbers of their replies' events.
+    pub(crate) open: BTreeMap<u64, u64>,
+    /// The unanswered calls that may come next and may have changed the tree, by their numbers.
+    pub(crate) waiting: BTreeMap<u64, ()>,
+}
+
+impl Desk {
+    /// Of the branch without a move. The tree has this digest.
+    pub(crate) fn new(
+        alloc: Global,
+        problem: &Problem<'_, '_>,
+        tree_digest: u64,
+    ) -> Result<Desk, AllocError> {
+        let calls = problem.known.count().saturating_add(1);
+        let mut desk = Desk {
+            alloc,
+            binds: Binds::of_root(alloc, problem.known.root().as_slice())?,
+            bound: Vec::new(alloc),
+            path: Vec::new(alloc),
+            front: Front {
+                era: 0,
+                era_start: 0,
+                next_reply: 0,
+                frontier: 1,
+                bound: 0,
+                digest: Digest::of_era(tree_digest, [0; 2]),
+            },
+            placed: vec![in alloc; false; calls]?,
+            open: BTreeMap::new(alloc),
+            waiting: BTreeMap::new(alloc),
+        };
+        desk.let_in(problem)?;
+        Ok(desk)
+    }
+
+    /// The calls and replies of the era.
+    pub(crate) fn span(&self, problem: &Problem<'_, '_>) -> EraSpan {
+        match problem.spans.get(self.front.era) {
+            Some(span) => *span,
+            None => EraSpan {
+                first_call: 1,
+                end_call: 1,
+                first_reply: 0,
+                end_reply: 0,
+                is_shown_again: false,
+            },
+        }
+    }
+
+    /// Whether a call is placed.
+    fn is_placed(&self, number: u64) -> bool {
+        match self.placed.get(number as usize) {
+            Some(placed) => *placed,
+            None => true,
+        }
+    }
+
+    /// Notes that a call is placed, or is no longer.
+    fn mark(&mut self, number: u64, is_placed: bool) {
+        if let Some(placed) = self.placed.get_mut(number as usize) {
+            *placed = is_placed;
+        }
+    }
+
+    /// The number of the event of the first reply of the era whose call isn't placed, or the greatest number.
+    fn first_unplaced_end(&mut self, problem: &Problem<'_, '_>) -> u64 {
+        let span = self.span(problem);
+        for place in self.front.next_reply.max(span.first_reply)..span.end_reply {
+            let Some(number) = problem.replies.get(place) else {
+                break;
+            };
+            if !self.is_placed(*number) {
+                self.front.next_reply = place;
+                return problem.known.end(*number).unwrap_or(u64::MAX);
+            }
+        }
+        self.front.next_reply = span.end_reply;
+        u64::MAX
+    }
+
+    /// Lets in the calls that began ahead of the first reply whose call isn't placed.
+    pub(crate) fn let_in(&mut self, problem: &Problem<'_, '_>) -> Result<(), AllocError> {
+        let limit = self.first_unplaced_end(problem);
+        let span = self.span(problem);
+        let first = self.front.frontier.max(span.first_call);
+        for number in first..span.end_call {
+            if problem.known.begin(number) >= limit {
+                self.front.frontier = number;
+                return Ok(());
+            }
+            self.offer(problem, number)?;
+        }
+        self.front.frontier = span.end_call.max(first);
+        Ok(())
+    }
+
+    /// Puts a call among those that may come next, if it can have a place.
+    fn offer(&mut self, problem: &Problem<'_, '_>, number: u64) -> Result<(), AllocError> {
+        match problem.nature(number) {
+            Nature::Looking | Nature::Changing => {
+                if let Some(end) = problem.known.end(number) {
+                    self.open.insert(end, number)?;
+                }
+            }
+            Nature::Unanswered => {
+                self.waiting.insert(number, ())?;
+            }
+            Nature::Unplaced => {}
+        }
+        Ok(())
+    }
+
+    /// Takes a call from among those that may come next.
+    fn withdraw(&mut self, problem: &Problem<'_, '_>, number: u64) {
+        if let Some(end) = problem.known.end(number) {
+            self.open.remove(&end);
+        }
+        self.waiting.remove(&number);
+    }
+
+    /// Notes a call that is placed, and lets in those that may come next because of it.
+    pub(crate) fn place(
+        &mut self,
+        problem: &Problem<'_, '_>,
+        number: u64,
+        is_taken: bool,
+    ) -> Result<(), AllocError> {
+        let changes = problem.nature(number) != Nature::Looking;
+        self.withdraw(problem, number);
+        self.mark(number, true);
+        self.front.digest = self.front.digest.with_call(number, is_taken, changes);
+        self.let_in(problem)
+    }
+
+    /// Puts back how far the branch was ahead of a call that was placed last.
+    pub(crate) fn unplace(
+        &mut self,
+        problem: &Problem<'_, '_>,
+        number: u64,
+        before: Front,
+    ) -> Result<(), AllocError> {
+        for late in before.frontier..self.front.frontier {
+            self.withdraw(problem, late);
+        }
+        self.mark(number, false);
+        self.front = before;
+        self.unbind(problem)?;
+        self.offer(problem, number)
+    }
+
+    /// Binds a handle to an object, unless it is bound.
+    pub(crate) fn bind(&mut self, handle: &FileHandle, object: u64) -> Result<(), AllocError> {
+        let bytes = handle.as_slice();
+        if bytes.is_empty() || self.binds.object(bytes).is_some() {
+            return Ok(());
+        }
+        let kept = Bind {
+            handle: handle.clone()?,
+            object,
+        };
+        self.bound.push(kept)?;
+        self.binds.push(bytes, object)?;
+        self.front.bound = self.bound.len();
+        self.front.digest = self.front.digest.with_bind(bytes, object);
+        Ok(())
+    }
+
+    /// Lets go the handles that aren't bound as far as the branch is.
+    pub(crate) fn unbind(&mut self, problem: &Problem<'_, '_>) -> Result<(), AllocError> {
+        if self.bound.len() <= self.front.bound {
+            return Ok(());
+        }
+        self.bound.truncate(self.front.bound);
+        let mut binds = Binds::of_root(self.alloc, problem.known.root().as_slice())?;
+        for bind in self.bound.iter() {
+            binds.push(bind.handle.as_slice(), bind.object)?;
+        }
+        self.binds = binds;
+        Ok(())
+    }
+
+    /// Whether the last move bound no handle.
+    pub(crate) fn bound_nothing(&self) -> bool {
+        match self.path.last() {
+            Some(step) => step.before.bound == self.front.bound,
+            None => true,
+        }
+    }
+
+    /// The branch's fingerprint.
+    pub(crate) fn fingerprint(&self) -> u64 {
+        self.front.digest.fingerprint(self.front.era as u64)
+    }
+
+    /// Goes on to the next era, whose tree has this digest.
+    pub(crate) fn begin_era(
+        &mut self,
+        problem: &Problem<'_, '_>,
+        tree_digest: u64,
+    ) -> Result<(), AllocError> {
+        self.waiting.clear();
+        self.open.clear();
+        self.front.era = self.front.era.saturating_add(1);
+        self.front.era_start = self.path.len();
+        self.front.digest = Digest::of_era(tree_digest, self.front.digest.binds());
+        self.let_in(problem)
+    }
+
+    /// Goes back to the end of the era ahead of this one.
+    pub(crate) fn leave_era(
+        &mut self,
+        problem: &Problem<'_, '_>,
+        before: Front,
+    ) -> Result<(), AllocError> {
+        self.waiting.clear();
+        self.open.clear();
+        self.front = before;
+        let span = self.span(problem);
+        for number in span.first_call..span.end_call {
+            if problem.nature(number) == Nature::Unanswered && !self.is_placed(number) {
+                self.waiting.insert(number, ())?;
+            }
+        }
+        Ok(())
+    }
+}

@@ -1,0 +1,97 @@
+//! The handles that replies give, bound to the objects that they name.
+
+use crate::desk::Desk;
+use crate::found::Found;
+use nfs3_types::{
+    Answer, CreateSuccess, DirectoryName, FileHandle, NfsCall, NfsReply, Outcome,
+    ReadDirPlusSuccess,
+};
+use std::alloc::AllocError;
+use tree_handles::{View, directory_of, entry_at, named};
+use tree_nodes::Nodes;
+
+impl Desk {
+    /// The object of an entry of a directory.
+    fn entry_object(&self, nodes: &Nodes, place: &DirectoryName) -> Option<u64> {
+        let view = View {
+            binds: &self.binds,
+            nodes,
+        };
+        match named(&view, place) {
+            Some(node) => Some(node.object),
+            None => None,
+        }
+    }
+
+    /// Binds the handle that a call was given for what it made, or found there.
+    fn bind_made(
+        &mut self,
+        nodes: &Nodes,
+        number: u64,
+        place: &DirectoryName,
+        success: &CreateSuccess,
+    ) -> Result<(), AllocError> {
+        let Some(handle) = &success.object else {
+            return Ok(());
+        };
+        let object = self.entry_object(nodes, place).unwrap_or(number);
+        self.bind(handle, object)
+    }
+
+    /// Binds the handles of a list of entries.
+    fn bind_listed(
+        &mut self,
+        nodes: &Nodes,
+        directory: &FileHandle,
+        success: &ReadDirPlusSuccess,
+    ) -> Result<(), AllocError> {
+        let view = View {
+            binds: &self.binds,
+            nodes,
+        };
+        let Some(parent) = directory_of(&view, directory) else {
+            return Ok(());
+        };
+        for entry in success.entries.as_slice() {
+            if let Some(handle) = &entry.object {
+                if let Some(node) = entry_at(nodes, parent, entry.name.as_slice()) {
+                    self.bind(handle, node.object)?;
+                }
+            }
+        }
+        Ok(())
+    }
+
+    /// Binds the handles that a reply gives and that are bound to no object yet, as the tree ahead of the call has them.
+    pub(crate) fn bind_given(
+        &mut self,
+        nodes: &Nodes,
+        number: u64,
+        found: &Found,
+    ) -> Result<(), AllocError> {
+        let Outcome::Received(reply) = &found.outcome else {
+            return Ok(());
+        };
+        match (&found.call, reply) {
+            (NfsCall::Create(call), NfsReply::Create(Answer::Done(success))) => {
+                self.bind_made(nodes, number, &call.place, success)
+            }
+            (NfsCall::MkDir(call), NfsReply::MkDir(Answer::Done(success))) => {
+                self.bind_made(nodes, number, &call.place, success)
+            }
+            (NfsCall::SymLink(call), NfsReply::SymLink(Answer::Done(success))) => {
+                self.bind_made(nodes, number, &call.place, success)
+            }
+            (NfsCall::Lookup(place), NfsReply::Lookup(Answer::Done(success))) => {
+                match self.entry_object(nodes, place) {
+                    Some(object) => self.bind(&success.object, object),
+                    None => Ok(()),
+                }
+            }
+            (NfsCall::ReadDirPlus(call), NfsReply::ReadDirPlus(Answer::Done(success))) => {
+                self.bind_listed(nodes, &call.directory, success)
+            }
+            _ => Ok(()),
+        }
+    }
+}

@@ -1,0 +1,16 @@
+//! The branches of a search for a certificate: prefixes of a serial order, each with its tree, and the moves that may follow.
+#![tactic(auto)]
+
+mod desk;
+mod digest;
+mod found;
+mod giving;
+mod moves;
+mod problem;
+mod state;
+mod trial;
+mod whole;
+
+pub use desk::Move;
+pub use problem::Problem;
+pub use state::State;

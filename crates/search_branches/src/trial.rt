@@ -1,0 +1,91 @@
+//! A tree that calls are tried on.
+
+ghost use Rattle.std.specs.Prelude.{IfOk};
+ghost use Rattle.search_branches.specs.Reversible.{HasBase};
+
+use file_tree::FileTree;
+use nfs3_types::{NfsCall, Outcome};
+use replay_law::{Replayable, StepFault};
+use std::alloc::{AllocError, Global};
+use tree_handles::Binds;
+use tree_nodes::{Nodes, Undo};
+
+/// A tree behind steps, each of which can be taken back.
+#[derive(Drop)]
+pub(crate) struct Trial {
+    tree: FileTree,
+    undos: Vec<Undo>,
+}
+
+impl Trial {
+    /// Before any step.
+    pub(crate) fn begin(alloc: Global, binds: &Binds) -> Result<Trial, AllocError>
+        ensures { IfOk result HasBase }
+    {
+        let tree = FileTree::opening(alloc, binds)?;
+        Ok(Trial {
+            tree,
+            undos: Vec::new(alloc),
+        })
+    }
+
+    /// The nodes of the tree.
+    pub(crate) fn nodes(&self) -> &Nodes {
+        self.tree.nodes()
+    }
+
+    /// Takes a step, and says whether it is one that the call allows; else nothing changes.
+    pub(crate) fn step(
+        &mut self,
+        binds: &Binds,
+        number: u64,
+        call: &NfsCall,
+        outcome: &Outcome,
+    ) -> Result<bool, AllocError>
+        requires { HasBase self.old }
+        ensures { HasBase self.new }
+    {
+        self.undos.reserve(1)?;
+        match self.tree.step(binds, number, call, outcome) {
+            Ok(undo) => {
+                self.undos.push(undo).unwrap();
+                Ok(true)
+            }
+            Err(StepFault::NotAllowed) => Ok(false),
+            Err(StepFault::NoMemory) => Err(AllocError),
+        }
+    }
+
+    /// Takes the last step back, where there is one.
+    fn back_once(self) -> Result<Trial, AllocError>
+        requires { HasBase self }
+        ensures { IfOk result HasBase }
+    {
+        let Trial { tree, undos } = self;
+        let mut undos = undos;
+        match undos.pop() {
+            Some(undo) => Ok(Trial {
+                tree: tree.undo(undo)?,
+                undos,
+            }),
+            None => Ok(Trial { tree, undos }),
+        }
+    }
+
+    /// Takes so many steps back.
+    pub(crate) fn back(self, count: usize) -> Result<Trial, AllocError>
+        requires { HasBase self }
+        ensures { IfOk result HasBase }
+    {
+        let mut trial = self;
+        for _ in 0..count {
+            trial = trial.back_once()?;
+        }
+        Ok(trial)
+    }
+
+    /// Writes the tree's text behind a text.
+    pub(crate) fn print(&self, text: &mut Vec<u8>) -> Result<(), AllocError> {
+        self.tree.print_state(text)
+    }
+}
