@@ -1,5 +1,6 @@
 //! What the workers of a search share.
 
+use crate::end::Progress;
 use certificate::Certificate;
 use search_branches::Move;
 use std::alloc::{AllocError, Global};
@@ -42,6 +43,8 @@ pub(crate) struct Board {
     pub(crate) turns: u64,
     /// The most moves that led to one.
     pub(crate) depth: usize,
+    /// Branches that nobody had claimed before.
+    pub(crate) states: u64,
 }
 
 impl Board {
@@ -57,6 +60,7 @@ impl Board {
             left_branches: false,
             turns: 0,
             depth: 0,
+            states: 0,
         }
     }
 
@@ -96,6 +100,11 @@ impl Board {
         self.turns = self.turns.saturating_add(1);
     }
 
+    /// A branch was claimed that nobody had claimed before.
+    pub(crate) fn count_state(&mut self) {
+        self.states = self.states.saturating_add(1);
+    }
+
     /// A certificate was found that is a witness.
     pub(crate) fn succeed(&mut self, certificate: Certificate) {
         self.found = Some(certificate);
@@ -118,6 +127,16 @@ impl Board {
     /// A worker ends for want of memory before it took a branch.
     pub(crate) fn lack_state(&mut self) {
         self.lacked_memory = true;
+    }
+
+    /// How far the search is, in a history of so many calls.
+    pub(crate) fn progress(&self, calls: usize) -> Progress {
+        Progress {
+            turns: self.turns,
+            depth: self.depth,
+            calls,
+            states: self.states,
+        }
     }
 
     /// The certificate that was found.

@@ -4,7 +4,8 @@
 mod board;
 mod end;
 mod searching;
+mod watch;
 mod worker;
 
-pub use end::{OpenSearch, SearchEnd, SearchGate};
+pub use end::{OpenSearch, Progress, SearchEnd, SearchGate};
 pub use searching::{Host, search, search_calls};

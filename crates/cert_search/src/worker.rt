@@ -6,6 +6,7 @@ ghost use Rattle.seen_states.specs.Handles.{IsOf};
 
 use crate::board::{Board, Branch};
 use crate::end::SearchGate;
+use crate::watch::Watch;
 use crossbeam_deque::{Steal, Stealer, Worker};
 use search_branches::{Move, Problem, State};
 use seen_states::{Claim, Claimer, SeenTable};
@@ -134,17 +135,27 @@ fn judge_whole<R: Wait, G>(
     Ok(())
 }
 
-/// Claims a branch, and says whether it is to be gone on with: nobody claimed one with its fingerprint, or there is no room.
-fn is_fresh(table: &SeenTable, claimer: &mut Claimer, state: &State) -> bool
+/// Claims a branch by its fingerprint; 0 stands for no fingerprint, so one with that isn't claimed.
+fn claim_state(table: &SeenTable, claimer: &mut Claimer, state: &State) -> Claim
     requires { IsOf claimer.old table.now }
     ensures { IsOf claimer.new table.now }
 {
     let fingerprint = state.fingerprint();
     if fingerprint == 0 {
-        return true;
+        return Claim::Full;
     }
-    match table.claim(claimer, fingerprint) {
-        Claim::New | Claim::Full => true,
+    table.claim(claimer, fingerprint)
+}
+
+/// Counts a branch that was claimed as new, and says whether it is to be gone on with: nobody claimed one with its fingerprint, or
+/// there was no room.
+fn note_claim<R: Wait, G>(rt: &R, team: &Team<'_, '_, G>, claim: Claim) -> bool {
+    match claim {
+        Claim::New => {
+            team.board.lock(rt).count_state();
+            true
+        }
+        Claim::Full => true,
         Claim::Seen => false,
     }
 }
@@ -199,7 +210,8 @@ fn take_branch<R: Wait, G: SearchGate>(
     }
     let is_last = rank.saturating_add(1) >= moves.len() || state.is_free(team.problem);
     let rest = rest_of(branch, rank, is_last);
-    let next = next_of(node, depth, is_fresh(table, claimer, &state));
+    let claim = claim_state(table, claimer, &state);
+    let next = next_of(node, depth, note_claim(rt, team, claim));
     grow(rt, team, seat, rest, next)?;
     Ok(state)
 }
@@ -280,6 +292,21 @@ fn turn<R: Wait, G: SearchGate>(
     }
 }
 
+/// Has the first worker tell how far the search is, where it is time to.
+fn tell_progress<R: Wait + Clock, G: SearchGate>(
+    rt: &R,
+    team: &Team<'_, '_, G>,
+    number: u32,
+    watch: &mut Watch,
+) {
+    if number != 0 || !watch.is_due(rt) {
+        return;
+    }
+    let calls = team.problem.known().count();
+    let progress = team.board.lock(rt).progress(calls);
+    team.gate.tell(progress);
+}
+
 /// Takes branches until a certificate is found, none is left, or as many are taken as may be.
 fn take_branches<R: Wait + Clock, G: SearchGate>(
     rt: &R,
@@ -295,7 +322,9 @@ fn take_branches<R: Wait + Clock, G: SearchGate>(
 {
     let mut state = state;
     let mut left = team.turns;
+    let mut watch = Watch::new(rt);
     for _ in rt.forever() {
+        tell_progress(rt, team, seat.number, &mut watch);
         if left == 0 || team.board.lock(rt).is_over() {
             break;
         }

@@ -16,6 +16,7 @@ use bench_streams::{Input, Output, tell, tell_answer, tell_want_of_memory};
 use clap::error::ErrorKind;
 use clap::{Arg, Command};
 use nfs_recording::{Recorder, TapRequest, run_tap, tap_command, tap_request};
+use nfs_searching::{SearchRequest, search_command, search_history, search_request};
 use std::alloc::{AllocError, Global};
 use std::convert::AsStr;
 use std::rt::Files;
@@ -37,7 +38,16 @@ enum Request<'a> {
     },
     /// The events of a history.
     Show(ShowRequest<'a>),
+    /// A certificate.
+    Search(SearchRequest<'a>),
     /// A recording.
+    Tap(TapRequest<'a>),
+}
+
+/// What the words ask for that may wait for other threads.
+#[derive(Clone, Copy)]
+pub(crate) enum Waiting<'a> {
+    Search(SearchRequest<'a>),
     Tap(TapRequest<'a>),
 }
 
@@ -81,6 +91,7 @@ fn command<'a>(alloc: Global) -> Result<Command<'a>, AllocError> {
         .subcommand(check)?
         .subcommand(report)?
         .subcommand(show_command(alloc)?)?
+        .subcommand(search_command(alloc)?)?
         .subcommand(tap_command(alloc)?)
 }
 
@@ -96,6 +107,7 @@ fn read_words<'a, S: AsStr>(alloc: Global, words: &'a [S]) -> Result<Request<'a>
             }
         },
         Some(("show", show)) => Ok(Request::Show(show_request(show))),
+        Some(("search", search)) => Ok(Request::Search(search_request(search))),
         // The parser asks for both words of these two.
         Some(("report", report)) => Ok(Request::Report {
             history: report.get_str("HISTORY").unwrap_or(""),
@@ -144,14 +156,27 @@ fn show_path<R: Files + AllocGlobal, O: Output>(
     }
 }
 
-/// Judges what the words of a command line ask for, as [`run_words`]; where they ask for a recording, that is handed
+/// Searches a certificate of the history at a path, as [`search_history`].
+fn search_path<R: Recorder, O: Output>(rt: &R, request: &SearchRequest<'_>, output: &mut O) -> u8
+    ensures memory_line { result ≡ 3
+        → Appends (O.contents output.old) (O.contents output.new) memory_line }
+    ensures known { result < 4 }
+{
+    match read_history_file(rt, request.history) {
+        Ok(Some(bytes)) => search_history(rt, request, bytes.as_slice(), output),
+        Ok(None) => tell(output, b"refused: unreadable history\n", 2),
+        Err(AllocError) => tell_want_of_memory(output),
+    }
+}
+
+/// Judges what the words of a command line ask for, as [`run_words`]; where they ask for a search or a recording, that is handed
 /// back, and nothing is read or written.
 pub(crate) fn judge_words<'a, R: Files + AllocGlobal, S: AsStr, I: Input, O: Output>(
     rt: &R,
     words: &'a [S],
     input: &mut I,
     output: &mut O,
-) -> Result<u8, TapRequest<'a>>
+) -> Result<u8, Waiting<'a>>
     // Without words, as `run_bundle`.
     ensures bundle { length words.now ≤ 1 → IsOk result }
     ensures bundle_yes { length words.now ≤ 1 → result ≡ Ok 0
@@ -172,8 +197,8 @@ pub(crate) fn judge_words<'a, R: Files + AllocGlobal, S: AsStr, I: Input, O: Out
         → Appends (O.contents output.old) (O.contents output.new) memory_line }
     ensures known { IfOk result (λ given. given < 4) }
 
-    // With words that ask for a recording.
-    ensures tap { OnErr result ((output.new ≡ output.old) × (input.new ≡ input.old)) }
+    // With words that ask for a search or a recording.
+    ensures waiting { OnErr result ((output.new ≡ output.old) × (input.new ≡ input.old)) }
 {
     let alloc = rt.alloc();
     if words.len() < 2 {
@@ -194,20 +219,23 @@ pub(crate) fn judge_words<'a, R: Files + AllocGlobal, S: AsStr, I: Input, O: Out
             },
         ) => Ok(tell_answer(output, report_paths(rt, history, certificate))),
         Ok(Request::Show(request)) => Ok(show_path(rt, &request, output)),
-        Ok(Request::Tap(request)) => Err(request),
+        Ok(Request::Search(request)) => Err(Waiting::Search(request)),
+        Ok(Request::Tap(request)) => Err(Waiting::Tap(request)),
         Err(error) => Ok(tell_parser(alloc, output, &error)),
     }
 }
 
 /// Does what the words of a command line ask for, of which the first is the program's name, and gives the exit
-/// status: 0 for a yes, for a text that was asked for, and for a recording; 1 for a no; 2 for a refusal, a fault of the
+/// status: 0 for a yes, for a text that was asked for, for a certificate that was found, and for a recording; 1 for a no, and where none
+/// was found; 2 for a refusal, a fault of the
 /// command line or a failed write; 3 for want of memory. All that is written goes to the one output, but for what is
 /// said while a recording runs.
 ///
 /// Without further words it is `run_bundle`. With `check` and two paths both files are read, in this order, before
 /// anything is judged, and what is said is what `judge_read` gives; with `report` and two paths it is what `report_read`
 /// gives; with `show` and a path a line for each event, and the first fault of the history; which words ask for that, which files are opened
-/// and what the parser's texts are no clause says. With `tap` it records, and may wait for as long as it is let.
+/// and what the parser's texts are no clause says. With `search` and a path it is what `search_history` gives, and with `tap` it records:
+/// these two may wait, the second for as long as it is let.
 pub fn run_words<R: Recorder, S: AsStr, I: Input, O: Output>(
     rt: &R,
     words: &[S],
@@ -235,6 +263,7 @@ pub fn run_words<R: Recorder, S: AsStr, I: Input, O: Output>(
 {
     match judge_words(rt, words, input, output) {
         Ok(status) => status,
-        Err(request) => run_tap(rt, &request, input, output),
+        Err(Waiting::Search(request)) => search_path(rt, &request, output),
+        Err(Waiting::Tap(request)) => run_tap(rt, &request, input, output),
     }
 }
