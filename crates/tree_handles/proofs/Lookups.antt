@@ -1,9 +1,11 @@
--- a map that gives each handle the object of its first pair
-use Rattle.std.proofs.Common.{◌≡◌, ◌⊎◌, inl, inr, ℕ, Bool, true, false, cond, List, [], ◌∷◌, ◌++◌, Option, Some, None, refl, sym, ap, ◌∙◌}
-use Rattle.std.specs.Prelude.{is_some}
+-- maps that give each handle the object of its first pair
+use Rattle.std.proofs.Common.{◌≡◌, ◌⊎◌, inl, inr, ℕ, Bool, true, false, cond, List, [], ◌∷◌, ◌++◌, length, Option, Some, None, refl, sym, ap, ◌∙◌, true≢false}
+use Rattle.std.specs.Prelude.{is_some, nat_le}
 use Rattle.std.specs.Cmp.Lexicographic.{bytes_decides}
 use Rattle.std.specs.Map.{lookup}
-use Rattle.tree_handles.specs.Binding.{same_bytes, GivesFirst}
+use Rattle.tree_handles.specs.Binding.{same_bytes}
+use Rattle.tree_handles.specs.declared.objects.Objects.{Objects}
+use Rattle.tree_handles.specs.Finding.{found, first_of, GivesFirst, Notes}
 
 -- only equal byte strings are the same
 same_is : (x y : List ℕ) → same_bytes x y ≡ true → x ≡ y
@@ -18,10 +20,6 @@ pub absent : {X : Type 0} (o : Option X) → is_some o ≡ false → o ≡ None
 absent None e = refl
 absent (Some x) e = cc
 
-abbrev first_of : {X : Type 0} → Option X → Option X → Option X
-first_of None o = o
-first_of (Some x) o = Some x
-
 first_or_none : {X : Type 0} (o : Option X) → first_of o None ≡ o
 first_or_none None = refl
 first_or_none (Some x) = refl
@@ -34,29 +32,63 @@ lookup-append {Key} {X} test (x ∷ xs) ys = go (test x.0) (lookup-append test x
   go true later = refl
   go false later = later
 
-module _ {Key : Type 0} (bytes : Key → List ℕ) where
-  -- a pair more, whose handle has an entry
-  pub first_stays : (es : List (Key × ℕ)) (pairs : List (List ℕ × ℕ)) (handle : List ℕ) (v : ℕ) → is_some (lookup (λ key. same_bytes handle (bytes key)) es) ≡ true
-      → GivesFirst es bytes pairs → GivesFirst es bytes (pairs ++ (handle, v) ∷ [])
-  first_stays es pairs handle v there gives other =
-      gives other ∙ sym (lookup-append (same_bytes other) pairs ((handle, v) ∷ []) ∙ go (true_or_false (same_bytes other handle))) where
-        found : (o : Option ℕ) → is_some o ≡ true → first_of o (Some v) ≡ o
-        found None e = cc
-        found (Some x) e = refl
+-- what a handle more gives another one
+alone : (other handle : List ℕ) (v : ℕ) (o : Option ℕ) → same_bytes other handle ≡ false → first_of o (lookup (same_bytes other) ((handle, v) ∷ [])) ≡ o
+alone other handle v o apart = ap (λ (b : Bool). first_of o (cond b (Some v) None)) apart ∙ first_or_none o
 
-        go : (same_bytes other handle ≡ true) ⊎ (same_bytes other handle ≡ false)
-            → first_of (lookup (same_bytes other) pairs) (cond (same_bytes other handle) (Some v) None) ≡ lookup (same_bytes other) pairs
-        go (inl same) =
-            let one = same_is other handle same in
-            let has : is_some (lookup (same_bytes other) pairs) ≡ true = ap (λ h. is_some (lookup (same_bytes h) pairs)) one ∙ ap is_some (sym (gives handle)) ∙ there in
-            ap (λ b. first_of (lookup (same_bytes other) pairs) (cond b (Some v) None)) same ∙ found (lookup (same_bytes other) pairs) has
-        go (inr apart) = ap (λ b. first_of (lookup (same_bytes other) pairs) (cond b (Some v) None)) apart ∙ first_or_none (lookup (same_bytes other) pairs)
+module _ {Key : Type 0} (bytes : Key → List ℕ) (es : List (Key × ℕ)) (handle : List ℕ) (v : ℕ) where
+  -- a handle that has an entry
+  pub noted_there : is_some (lookup (λ key. same_bytes handle (bytes key)) es) ≡ true → Notes bytes es es handle v
+  noted_there there other = go (true_or_false (same_bytes other handle)) where
+    keeps : (o : Option ℕ) → is_some o ≡ true → first_of o (lookup (same_bytes other) ((handle, v) ∷ [])) ≡ o
+    keeps None e = cc
+    keeps (Some x) e = refl
 
-  -- a pair more, whose handle has none
-  pub first_added : (es : List (Key × ℕ)) (pairs : List (List ℕ × ℕ)) (handle : List ℕ) (k : Key) (v : ℕ) → bytes k ≡ handle
-      → GivesFirst es bytes pairs → GivesFirst (es ++ (k, v) ∷ []) bytes (pairs ++ (handle, v) ∷ [])
-  first_added es pairs handle k v is gives other =
+    go : (same_bytes other handle ≡ true) ⊎ (same_bytes other handle ≡ false)
+        → lookup (λ key. same_bytes other (bytes key)) es ≡ first_of (lookup (λ key. same_bytes other (bytes key)) es) (lookup (same_bytes other) ((handle, v) ∷ []))
+    go (inl same) = sym (keeps _ (ap (λ (h : List ℕ). is_some (lookup (λ key. same_bytes h (bytes key)) es)) (same_is other handle same) ∙ there))
+    go (inr apart) = sym (alone other handle v _ apart)
+
+  -- a handle that has none
+  pub noted_new : (k : Key) → bytes k ≡ handle → Notes bytes es (es ++ (k, v) ∷ []) handle v
+  noted_new k is other =
       lookup-append (λ key. same_bytes other (bytes key)) es ((k, v) ∷ [])
-      ∙ ap (first_of (lookup (λ key. same_bytes other (bytes key)) es)) (ap (λ h. cond (same_bytes other h) (Some v) None) is)
-      ∙ ap (λ o. first_of o (cond (same_bytes other handle) (Some v) None)) (gives other)
+      ∙ ap (λ (h : List ℕ). first_of (lookup (λ key. same_bytes other (bytes key)) es) (cond (same_bytes other h) (Some v) None)) is
+
+module _ (before after : Objects) (pairs : List (List ℕ × ℕ)) (handle : List ℕ) (v : ℕ) (gives : GivesFirst before pairs) where
+  abbrev pub is_short : List ℕ → Bool
+  is_short other = nat_le (length other) 31
+
+  -- a handle of another length is another handle
+  other_length : (other : List ℕ) → (is_short other ≡ is_short handle → ⊥) → same_bytes other handle ≡ false
+  other_length other apart = go (true_or_false (same_bytes other handle)) where
+    go : (same_bytes other handle ≡ true) ⊎ (same_bytes other handle ≡ false) → same_bytes other handle ≡ false
+    go (inl same) = absurd (apart (ap is_short (same_is other handle same)))
+    go (inr other) = other
+
+  joined : ((other : List ℕ) → found after other ≡ first_of (found before other) (lookup (same_bytes other) ((handle, v) ∷ []))) → GivesFirst after (pairs ++ (handle, v) ∷ [])
+  joined more other =
+      more other ∙ ap (λ (o : Option ℕ). first_of o (lookup (same_bytes other) ((handle, v) ∷ []))) (gives other)
       ∙ sym (lookup-append (same_bytes other) pairs ((handle, v) ∷ []))
+
+  pub short_noted : is_short handle ≡ true → Notes (λ key. key) before.short.entries after.short.entries handle v → after.long ≡ before.long → GivesFirst after (pairs ++ (handle, v) ∷ [])
+  short_noted short notes same = joined (λ other. go other (true_or_false (is_short other))) where
+    go : (other : List ℕ) → (is_short other ≡ true) ⊎ (is_short other ≡ false) → found after other ≡ first_of (found before other) (lookup (same_bytes other) ((handle, v) ∷ []))
+    go other (inl here) =
+        let at : (o : Objects) → found o other ≡ lookup (same_bytes other) o.short.entries = λ o. ap (λ (b : Bool). cond b (lookup (same_bytes other) o.short.entries) (lookup (λ key. same_bytes other key.items) o.long.entries)) here in
+        at after ∙ notes other ∙ ap (λ (o : Option ℕ). first_of o (lookup (same_bytes other) ((handle, v) ∷ []))) (sym (at before))
+    go other (inr there) =
+        let at : (o : Objects) → found o other ≡ lookup (λ key. same_bytes other key.items) o.long.entries = λ o. ap (λ (b : Bool). cond b (lookup (same_bytes other) o.short.entries) (lookup (λ key. same_bytes other key.items) o.long.entries)) there in
+        at after ∙ ap (λ l. lookup (λ key. same_bytes other key.items) l.entries) same ∙ sym (at before)
+        ∙ sym (alone other handle v (found before other) (other_length other (λ e. true≢false (sym (sym there ∙ e ∙ short)))))
+
+  pub long_noted : is_short handle ≡ false → Notes (λ key. key.items) before.long.entries after.long.entries handle v → after.short ≡ before.short → GivesFirst after (pairs ++ (handle, v) ∷ [])
+  long_noted long notes same = joined (λ other. go other (true_or_false (is_short other))) where
+    go : (other : List ℕ) → (is_short other ≡ true) ⊎ (is_short other ≡ false) → found after other ≡ first_of (found before other) (lookup (same_bytes other) ((handle, v) ∷ []))
+    go other (inr here) =
+        let at : (o : Objects) → found o other ≡ lookup (λ key. same_bytes other key.items) o.long.entries = λ o. ap (λ (b : Bool). cond b (lookup (same_bytes other) o.short.entries) (lookup (λ key. same_bytes other key.items) o.long.entries)) here in
+        at after ∙ notes other ∙ ap (λ (o : Option ℕ). first_of o (lookup (same_bytes other) ((handle, v) ∷ []))) (sym (at before))
+    go other (inl there) =
+        let at : (o : Objects) → found o other ≡ lookup (same_bytes other) o.short.entries = λ o. ap (λ (b : Bool). cond b (lookup (same_bytes other) o.short.entries) (lookup (λ key. same_bytes other key.items) o.long.entries)) there in
+        at after ∙ ap (λ l. lookup (same_bytes other) l.entries) same ∙ sym (at before)
+        ∙ sym (alone other handle v (found before other) (other_length other (λ e. true≢false (sym there ∙ e ∙ long))))

@@ -1,5 +1,5 @@
 -- what a file handle names: RFC 1813, `nfs_fh3`
-use Rattle.std.specs.Prelude.{◌≡◌, ℕ, Bool, List, nat_eq, ◌==◌, Option, Some, None, true, false, if◌then◌else◌}
+use Rattle.std.specs.Prelude.{ℕ, Bool, List, nat_eq, ◌==◌, Option, Some, None, true, false, if◌then◌else◌}
 use Rattle.std.specs.Option.{option_map_or}
 use Rattle.std.specs.Cmp.Lexicographic.{pointwise}
 use Rattle.std.specs.Map.{lookup}
@@ -25,7 +25,3 @@ is_bound binds handle object = option_map_or (λ named. named == object) (object
 abbrev pub gives_object : Bindings → Option (List ℕ) → ℕ → Bool
 gives_object binds None object = true
 gives_object binds (Some handle) object = is_bound binds handle object
-
--- the entries of a map by the bytes of its keys give each handle the object of its first pair
-abbrev pub GivesFirst : {Key : Type 0} → List (Key × ℕ) → (Key → List ℕ) → List (List ℕ × ℕ) → Type 0
-GivesFirst entries bytes pairs = (handle : List ℕ) → lookup (λ key. same_bytes handle (bytes key)) entries ≡ lookup (same_bytes handle) pairs

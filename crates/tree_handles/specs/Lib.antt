@@ -3,3 +3,4 @@ pub mod Kind
 pub mod Live
 pub mod Entry
 pub mod Standing
+pub mod Finding

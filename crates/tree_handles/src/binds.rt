@@ -1,10 +1,10 @@
 //! What the handles of a history name.
 
-ghost use Rattle.std.specs.Prelude.{◌≡◌, ℕ, List, [], ◌∷◌, ◌++◌, map, IfOk, OnOk, OnErr};
-ghost use Rattle.tree_handles.specs.Binding.{object_of, GivesFirst};
+ghost use Rattle.std.specs.Prelude.{◌≡◌, [], ◌∷◌, ◌++◌, map, IfOk, OnOk, OnErr};
+ghost use Rattle.tree_handles.specs.Binding.{object_of};
 
+use crate::objects::Objects;
 use crate::pairs::Pairs;
-use indexmap::IndexMap;
 use std::alloc::{AllocError, Global};
 use std::marker::Model;
 
@@ -13,7 +13,7 @@ pub struct Binds {
     alloc: Global,
     root: Vec<u8>,
     /// The object of each handle's first pair.
-    objects: IndexMap<Vec<u8>, u64>,
+    objects: Objects,
     /// All pairs, also the later ones of a handle, for contracts.
     pairs: Pairs,
 }
@@ -33,32 +33,14 @@ impl Drop for Binds {
 }
 
 impl Model for Binds {
-    ghost use Rattle.tree_handles.specs.Binding.{Bindings, GivesFirst};
+    ghost use Rattle.tree_handles.specs.Binding.{Bindings};
+    ghost use Rattle.tree_handles.specs.Finding.{GivesFirst};
 
     ghost Value = { Bindings };
 
     ghost view = { λ b. record { root = b.root.items; pairs = b.pairs.all } };
 
-    ghost invariant = { λ b. GivesFirst b.objects.entries (λ key. key.items) b.pairs.all };
-}
-
-/// Gives a handle its object, unless it has one.
-fn note(
-    alloc: Global,
-    objects: &mut IndexMap<Vec<u8>, u64>,
-    handle: &[u8],
-    object: u64,
-) -> Result<(), AllocError>
-    ensures ok { OnOk result ((pairs : List (List ℕ × ℕ)) → GivesFirst objects.old.entries (λ key. key.items) pairs
-        → GivesFirst objects.new.entries (λ key. key.items) (pairs ++ (handle.now, object) ∷ [])) }
-    ensures err { OnErr result (objects.new.entries ≡ objects.old.entries) }
-{
-    if objects.contains_key(handle) {
-        return Ok(());
-    }
-    let key = Vec::from_slice(alloc, handle)?;
-    objects.insert(key, object)?;
-    Ok(())
+    ghost invariant = { λ b. GivesFirst b.objects b.pairs.all };
 }
 
 impl Binds {
@@ -81,7 +63,7 @@ impl Binds {
         Ok(Binds {
             alloc,
             root: Vec::from_slice(alloc, root)?,
-            objects: IndexMap::new(alloc),
+            objects: Objects::new(alloc),
             pairs: Pairs::new(),
         })
     }
@@ -91,7 +73,7 @@ impl Binds {
         ensures ok { OnOk result (self.new ≡ record self.old { pairs = self.old.pairs ++ (handle.now, object) ∷ [] }) }
         ensures err { OnErr result (self.new ≡ self.old) }
     {
-        note(self.alloc, &mut self.objects, handle, object)?;
+        self.objects.note(self.alloc, handle, object)?;
         self.pairs = self.pairs.then(handle, object);
         Ok(())
     }
@@ -103,6 +85,6 @@ impl Binds {
         if handle == self.root.as_slice() {
             return Some(0);
         }
-        self.objects.get(handle).copied()
+        self.objects.get(handle)
     }
 }

@@ -5,7 +5,9 @@ mod binds;
 mod entry;
 mod kind;
 mod live;
+mod objects;
 mod pairs;
+mod short_handle;
 
 pub use binds::Binds;
 pub use entry::{entry_at, is_dot, is_plain, is_two_dots, named};

@@ -5,17 +5,19 @@ use Rattle.std.specs.Option.{option_map_or}
 use Rattle.std.proofs.lemmas.Bool.{eqb-true}
 use Rattle.std.specs.FinMap as map
 use Rattle.tree_nodes.specs.declared.node.Node.{Node}
-use Rattle.tree_nodes.specs.Tree.{Names, Tree, entry_of, is_bare, parent}
+use Rattle.tree_nodes.specs.Tree.{Names, Tree, entry_of, parent}
 use Rattle.tree_nodes.specs.Moved.{is_from}
 use Rattle.tree_nodes.specs.Moves.{IsOutside}
 use Rattle.tree_nodes.specs.Place.{object_above}
+use Rattle.tree_nodes.specs.Walk.{Steps, Holds, walk, seen, IsTree, IsBeyond}
 use Rattle.tree_nodes.specs.Numbered.{IsNumbered}
 use Rattle.tree_nodes.specs.Sound.{IsSound}
-use Rattle.tree_nodes.proofs.Chains.{chained, mapped, same_some, value_of, isnt, differ, decide}
+use Rattle.tree_nodes.proofs.Chains.{chained, mapped, same_some, value_of, isnt}
 use Rattle.tree_nodes.proofs.Soundness.{ahead_same}
-use Rattle.tree_nodes.proofs.Found.{ended, found_stands, found_passes, some_found, from_front, parts_of, bare_below}
+use Rattle.tree_nodes.proofs.Found.{ended, found_stands, found_passes, some_found, from_front, parts_of}
 use Rattle.tree_nodes.proofs.Beside.{no_longer, from_or_outside}
-use Rattle.tree_nodes.proofs.Looking.{parent_join}
+use Rattle.tree_nodes.proofs.Looking.{parent_join, reached}
+use Rattle.tree_nodes.proofs.Walks.{walk_on}
 
 -- how many names lead to an object
 abbrev pub depth : Tree → ℕ → ℕ
@@ -78,25 +80,13 @@ at_front t object front climbs e f is there =
     let same : g.0 ≡ f = same_some g.0 f (sym g.1 ∙ there) in
     sym (g.2 f there ∙ ap (λ (z : Names × Node). is_from z.0 f.0) same ∙ ap (λ (z : Names). is_from z f.0) (sym (append-nil f.0)) ∙ from_front f.0 [])
 
--- from an object with nothing below it on, that object alone lies
-pub bare_front : (t : Tree) (object front : ℕ) (e f : Names × Node) → entry_of t object ≡ Some e → entry_of t front ≡ Some f → is_bare t f.0 ≡ true → (object == front) ≡ is_from e.0 f.0
-bare_front t object front e f is there bare = go (decide (object == front)) where
-  at : (o : ℕ) (g : Names × Node) → entry_of t o ≡ Some g → (map.get t g.0 ≡ Some g.1) × (g.1.object ≡ o)
-  at o g s = (found_stands t (λ x. x.1.object == o) g s, eqb-true g.1.object o (found_passes t (λ x. x.1.object == o) g s))
-
-  alone : (rest : Names) → e.0 ≡ f.0 ++ rest → object ≡ front
-  alone [] path =
-      let here = at object e is in
-      let over = at front f there in
-      let same : e.1 ≡ f.1 = same_some e.1 f.1 (sym here.0 ∙ ap (map.get t) (path ∙ append-nil f.0) ∙ over.0) in
-      sym here.1 ∙ ap (λ (n : Node). n.object) same ∙ over.1
-  alone (n ∷ r) path = absurd (cc (sym (at object e is).0 ∙ ap (map.get t) path ∙ bare_below t f.0 bare n r))
-
-  go : ((object == front) ≡ true) ⊎ ((object == front) ≡ false) → (object == front) ≡ is_from e.0 f.0
-  go (inl same) =
-      let one : e ≡ f = same_some e f (sym is ∙ ap (entry_of t) (eqb-true object front same) ∙ there) in
-      same ∙ sym (ap (λ (z : Names × Node). is_from z.0 f.0) one ∙ ap (λ (z : Names). is_from z f.0) (sym (append-nil f.0)) ∙ from_front f.0 [])
-  go (inr other) = other ∙ sym (isnt _ (λ from. differ (object == front) (eq-eqb object front (alone (drop (length f.0) e.0) (parts_of e.0 f.0 from))) other))
+-- no path leads through a front to an object that no names lead to from there
+module _ (t : Tree) (c : Steps) (v : Holds) (tree : IsTree c v) (agrees : (path : Names) → map.get t path ≡ seen c v path) where
+  pub beyond_front : (object front : ℕ) → IsBeyond c object front → (e f : Names × Node) → entry_of t object ≡ Some e → entry_of t front ≡ Some f → is_from e.0 f.0 ≡ false
+  beyond_front object front beyond e f is there = isnt _ (λ from.
+      let rest = drop (length f.0) e.0 in
+      let leads = sym (walk_on c 0 f.0 rest front (reached t c v tree agrees front f there).0) ∙ ap (walk c 0) (sym (parts_of e.0 f.0 from)) ∙ (reached t c v tree agrees object e is).0 in
+      beyond rest leads)
 
 -- ---- in a tree
 

@@ -28,3 +28,4 @@ pub mod Backs
 pub mod Paths
 pub mod Prints
 pub mod Rooted
+pub mod Below

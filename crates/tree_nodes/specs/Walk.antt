@@ -34,3 +34,7 @@ pub record IsTree (step : Steps) (holds : Holds) : Type 0 where
   pub down : (object : ℕ) (name : List ℕ) (next : ℕ) → step object name ≡ Some next → (h : Held) × (holds next ≡ Some h) × (h.0 ≡ object) × (h.1 ≡ name)
   pub above : (object : ℕ) (name : List ℕ) → step object name ≡ Some 0 → ⊥
   pub hangs : (object : ℕ) → IsSome (holds object) → (path : Names) × (walk step 0 path ≡ Some object)
+
+-- no names lead from the front to an object
+abbrev pub IsBeyond : Steps → ℕ → ℕ → Type 0
+IsBeyond step object front = (names : Names) → walk step front names ≡ Some object → ⊥

@@ -25,13 +25,17 @@ use crate::bytes::{Bytes, Path};
 use crate::node::Node;
 use crate::print::{put_entry, put_word};
 use crate::table::{
-    Edit, Entry, cut, entry_in, is_bare, lists_all, node_at, parent_of, place_of, root_alone,
+    Edit, Entry, cut, entry_in, is_bare, lists_all, look_below, node_at, parent_of, place_of,
+    root_alone,
 };
 use crate::undo::{Step, Undo, edit, make, rename, take_back};
 use slots::Slots;
 use std::alloc::{AllocError, Global};
 use std::collections::{BTreeMap, BTreeSet};
 use std::marker::Model;
+
+/// How many objects below one that moves are looked at, before its new directory's way to the root is walked.
+const FEW: u32 = 8;
 
 /// The nodes of a tree. A contract sees the finite map from paths to nodes.
 pub struct Nodes {
@@ -135,12 +139,19 @@ impl Nodes {
         }
     }
 
-    /// Whether an object is the one in front, or lies below it. Where nothing lies below the front, it takes no walk.
+    /// Whether few objects lie from the front on, and an object isn't one of them.
+    fn is_beyond(&self, object: u64, front: u64) -> bool
+        ensures { result ≡ true → (e f : Names × Node) → entry_of self.now object ≡ Some e → entry_of self.now front ≡ Some f → is_from e.0 f.0 ≡ false }
+    {
+        look_below(&self.entries, object, front, FEW).is_some()
+    }
+
+    /// Whether an object is the one in front, or lies below it. Where few objects lie below the front, it takes no walk to the root.
     pub fn is_from(&self, object: u64, front: u64) -> bool
         ensures { (e f : Names × Node) → entry_of self.now object ≡ Some e → entry_of self.now front ≡ Some f → result ≡ is_from e.0 f.0 }
     {
-        if self.is_bare(front) {
-            return object == front;
+        if self.is_beyond(object, front) {
+            return false;
         }
         let mut at = object;
         while at != front {

@@ -1,6 +1,6 @@
 //! The table of a tree's objects.
 
-ghost use Rattle.std.specs.Prelude.{true, false, option_and_then, ◌≡◌, ◌+◌, ◌<◌, ◌^◌, ℕ, List, length, IsSome, IfOk, OnOk, OnErr, Some, None};
+ghost use Rattle.std.specs.Prelude.{true, false, option_and_then, ◌≡◌, ◌+◌, ◌<◌, ◌^◌, ℕ, List, length, IsSome, IfSome, IfOk, OnOk, OnErr, Some, None};
 ghost use Rattle.std.specs.Ordering.{nat_cmp};
 ghost use Rattle.std.specs.FinMap as map;
 ghost use Rattle.tree_nodes.specs.declared.node.File.{File};
@@ -12,7 +12,7 @@ ghost use Rattle.tree_nodes.specs.Changes.{Adds, Cuts, Sets, Shifts};
 ghost use Rattle.std.specs.Option.{option_copied, option_map};
 ghost use Rattle.std.specs.Cmp.Lexicographic.{slice_cmp};
 ghost use Rattle.std.specs.BTreeSet.{contains};
-ghost use Rattle.tree_nodes.specs.Walk.{Held, node_of, IsTree};
+ghost use Rattle.tree_nodes.specs.Walk.{Held, node_of, IsTree, IsBeyond};
 ghost use Rattle.tree_nodes.specs.Openings.{IsOpening};
 ghost use Rattle.tree_nodes.specs.Table.{name_in, child, placed, held};
 ghost use Rattle.tree_nodes.specs.TableChanges.{IsSame, HasName, HasPlace};
@@ -126,6 +126,25 @@ pub(crate) fn entry_in<'a>(
         return None;
     };
     node_at(entries, object)
+}
+
+/// Looks at an object, at those below it, and so on, no more than so many. Where all were seen, and another object isn't one of
+/// them, it gives how many more it would have looked at.
+pub(crate) fn look_below(entries: &Slots<Entry>, object: u64, front: u64, most: u32) -> Option<u32>
+    ensures outside { IsSome result → IsBeyond (child entries.now) object front }
+    ensures less { IfSome result (λ left. left < most) }
+{
+    if object == front || most == 0 {
+        return None;
+    }
+    let mut left = most - 1;
+    let Some(entry) = entries.get(front) else {
+        return Some(left);
+    };
+    for (_, next) in entry.body.names.iter() {
+        left = look_below(entries, object, next, left)?;
+    }
+    Some(left)
 }
 
 /// Whether the name of each of these objects is among others.

@@ -9,5 +9,5 @@ returns c =
     let inside = c.self.inside in
     let found : Option ℕ = lookup (same_bytes handle) inside.pairs.all in
     let not_root : same_bytes handle inside.root.items ≡ false = ap (same_bytes handle) (sym c.as_slice.ensures.value) ∙ sym c.eq.ensures ∙ c.if-eq.false in
-    c.copied.ensures ∙ c.get.ensures.value ∙ c.self.invariant handle
+    c.get.ensures ∙ c.self.invariant handle
     ∙ ap (λ (b : Bool). cond b (Some 0) found) (sym not_root) ∙ ap (λ (b : Bindings). object_of b handle) c.self.view_is

@@ -1,9 +1,9 @@
 use Rattle.std.proofs.Common.{ℕ, sym, ap, ◌∙◌, subst, Some}
-use Rattle.tree_nodes.proofs.Climbing.{Climbs, step_up, less_deep, at_front, at_top, no_top, bare_front}
+use Rattle.tree_nodes.proofs.Climbing.{Climbs, step_up, less_deep, at_front, at_top, no_top}
 use Rattle.tree_nodes.proofs.nodes.Nodes.is_from.Goals as goal
 
-pub returns-then-is_bare : goal.returns-then-is_bare
-returns-then-is_bare c = λ e f is there. bare_front c.args.self.now c.args.object c.args.front e f is there (sym (c.is_bare.ensures f there) ∙ c.if-is_bare.true)
+pub returns-then-is_beyond : goal.returns-then-is_beyond
+returns-then-is_beyond c = λ e f is there. sym (c.is_beyond.ensures c.if-is_beyond.true e f is there)
 
 pub returns-in_default : goal.returns-in_default
 returns-in_default c = λ e f is there.
