@@ -1,5 +1,5 @@
 -- What is said where a search found no certificate (words of this project's own).
-use Rattle.std.specs.Prelude.{◌⊎◌, ℕ, List, [], ◌∷◌, ◌++◌, codes, Option, Result, Ok, Err}
+use Rattle.std.specs.Prelude.{◌⊎◌, ℕ, List, [], ◌∷◌, ◌++◌, codes, Option}
 use Rattle.std.specs.Io.KnownBytes.{Appends}
 use Rattle.nfs_searching.specs.declared.search.Miss.{Miss}
 use Rattle.nfs_searching.specs.declared.search.Miss.TheVariants as misses
@@ -9,9 +9,8 @@ abbrev pub IsMissed : Option (List ℕ) → Option (List ℕ) → Type 0
 IsMissed old new = Appends old new (codes "not found" ++ 10 ∷ []) ⊎ Appends old new (codes "out of turns" ++ 10 ∷ [])
 
 -- the bytes were refused, or memory ran out
-abbrev pub IsRefused : {X : Type 0} → Result X Miss → Type 0
-IsRefused (Ok x) = ⊥
-IsRefused (Err (misses.BadHistory fault)) = Unit {0}
-IsRefused (Err misses.NoMemory) = Unit {0}
-IsRefused (Err misses.NotFound) = ⊥
-IsRefused (Err misses.OutOfTurns) = ⊥
+abbrev pub IsRefusal : Miss → Type 0
+IsRefusal (misses.BadHistory fault) = Unit {0}
+IsRefusal misses.NoMemory = Unit {0}
+IsRefusal misses.NotFound = ⊥
+IsRefusal misses.OutOfTurns = ⊥

@@ -1,12 +1,12 @@
 //! What is said of a search in the bytes of a history file.
 
-ghost use Rattle.std.specs.Prelude.{◌≡◌, ◌⊎◌, ◌≤◌, ◌<◌, ℕ, List, IfOk};
+ghost use Rattle.std.specs.Prelude.{◌≡◌, ◌⊎◌, ◌≤◌, ◌<◌, ℕ, List, IfOk, IsErrAnd};
 ghost use Rattle.std.specs.Io.KnownBytes.{Appends};
 ghost use Rattle.bench_streams.specs.Told.{Tells, memory_line};
 ghost use Rattle.nfs_history.specs.declared.fault.HistoryFault.{HistoryFault};
 ghost use Rattle.nfs_history.specs.FirstFault.{FirstFault};
 ghost use Rattle.witness_check.specs.Witness.{AreAccepted};
-ghost use Rattle.nfs_searching.specs.Missed.{IsMissed, IsRefused};
+ghost use Rattle.nfs_searching.specs.Missed.{IsMissed, IsRefusal};
 
 use crate::teller::Teller;
 use crate::words::{MOST_WORKERS, SearchRequest};
@@ -53,7 +53,7 @@ fn certificate_of<R: Host, G: SearchGate + Sync>(
 ) -> Result<Vec<u8>, Miss>
     requires { (1 ≤ workers) × (workers ≤ 64) }
     ensures found { IfOk result (λ text. AreAccepted history.now text.items) }
-    ensures refused { (fault : HistoryFault) → FirstFault history.now fault → IsRefused result }
+    ensures refused { (fault : HistoryFault) → FirstFault history.now fault → IsErrAnd result IsRefusal }
 {
     let alloc = rt.alloc();
     let known = match read_calls(alloc, history) {
