@@ -29,9 +29,9 @@ pub(crate) struct Front {
     /// Where the first reply stands, in the list of all, whose call may be unplaced.
     next_reply: usize,
     /// The number of the first call that begins too late to come next.
-    frontier: u64,
+    pub(crate) frontier: u64,
     /// How many handles are bound.
-    bound: usize,
+    pub(crate) bound: usize,
     pub(crate) digest: Digest,
 }
 
@@ -152,8 +152,11 @@ impl Desk {
         Ok(())
     }
 
-    /// Puts a call among those that may come next, if it can have a place.
+    /// Puts a call among those that may come next, if it can have a place and has none.
     fn offer(&mut self, problem: &Problem<'_, '_>, number: u64) -> Result<(), AllocError> {
+        if self.is_placed(number) {
+            return Ok(());
+        }
         match problem.nature(number) {
             Nature::Looking | Nature::Changing => {
                 if let Some(end) = problem.known.end(number) {
@@ -187,6 +190,50 @@ impl Desk {
         self.withdraw(problem, number);
         self.mark(number, true);
         self.front.digest = self.front.digest.with_call(number, is_taken, changes);
+        self.let_in(problem)
+    }
+
+    /// The answered calls that may come next, by their replies, from one of such a number on.
+    pub(crate) fn open_calls(&self, from: u64) -> Result<Vec<u64>, AllocError> {
+        let mut calls = Vec::new(self.alloc);
+        for (_, number) in self.open.iter() {
+            if *number >= from {
+                calls.push(*number)?;
+            }
+        }
+        Ok(calls)
+    }
+
+    /// The calls to which no reply came that may come next, by their numbers.
+    pub(crate) fn waiting_calls(&self) -> Result<Vec<u64>, AllocError> {
+        let mut calls = Vec::new(self.alloc);
+        for (number, _) in self.waiting.iter() {
+            calls.push(*number)?;
+        }
+        Ok(calls)
+    }
+
+    /// The answered call that may come next whose reply came first.
+    pub(crate) fn due(&self) -> Option<u64> {
+        self.open.iter().next().map(|(_, number)| *number)
+    }
+
+    /// Whether a call may come next.
+    pub(crate) fn is_open(&self, problem: &Problem<'_, '_>, number: u64) -> bool {
+        match problem.known.end(number) {
+            Some(end) => self.open.contains_key(&end),
+            None => self.waiting.contains_key(&number),
+        }
+    }
+
+    /// Goes on without a call.
+    pub(crate) fn give_up(
+        &mut self,
+        problem: &Problem<'_, '_>,
+        number: u64,
+    ) -> Result<(), AllocError> {
+        self.withdraw(problem, number);
+        self.mark(number, true);
         self.let_in(problem)
     }
 

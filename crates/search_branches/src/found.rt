@@ -6,9 +6,9 @@ use nfs3_types::{NfsCall, Outcome};
 use std::alloc::{AllocError, Global};
 
 /// A call that is placed, and how it came out.
-pub(crate) struct Found {
-    pub(crate) call: NfsCall,
-    pub(crate) outcome: Outcome,
+pub struct Found {
+    pub call: NfsCall,
+    pub outcome: Outcome,
 }
 
 impl Drop for Found {
@@ -44,7 +44,7 @@ fn with_outcome(call: NfsCall, received: Option<Outcome>, is_taken: bool) -> Opt
 }
 
 /// The call that a move places, where it places one.
-pub(crate) fn find(
+pub fn find(
     alloc: Global,
     known: &KnownCalls<'_>,
     chosen: Move,

@@ -12,5 +12,6 @@ mod trial;
 mod whole;
 
 pub use desk::Move;
-pub use problem::Problem;
+pub use found::{Found, find};
+pub use problem::{Nature, Problem};
 pub use state::State;

@@ -71,7 +71,7 @@ impl Desk {
 
     /// How many places of the era a crash can't take: up to the last stable one, and where a later era shows the era's write
     /// verifier up to the last WRITE.
-    fn least_cut(&self, problem: &Problem<'_, '_>) -> Result<usize, AllocError> {
+    pub(crate) fn least_cut(&self, problem: &Problem<'_, '_>) -> Result<usize, AllocError> {
         let is_shown_again = self.span(problem).is_shown_again;
         let mut stability = Stability::new(self.alloc);
         let mut last_write = 0;

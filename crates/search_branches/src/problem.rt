@@ -8,7 +8,7 @@ use std::collections::BTreeMap;
 
 /// What a call can do to the tree.
 #[derive(Clone, Copy, PartialEq, Eq)]
-pub(crate) enum Nature {
+pub enum Nature {
     /// It isn't judged, or has no reply and would change nothing.
     Unplaced,
     /// It was answered, and leaves the tree as it is.
@@ -222,7 +222,7 @@ impl<'s, 'a> Problem<'s, 'a> {
     }
 
     /// What a call can do.
-    pub(crate) fn nature(&self, number: u64) -> Nature {
+    pub fn nature(&self, number: u64) -> Nature {
         match self.natures.get((number as usize).saturating_sub(1)) {
             Some(nature) => *nature,
             None => Nature::Unplaced,
@@ -230,7 +230,7 @@ impl<'s, 'a> Problem<'s, 'a> {
     }
 
     /// Whether an era is the last one; eras are counted from 0.
-    pub(crate) fn is_last(&self, era: usize) -> bool {
+    pub fn is_last(&self, era: usize) -> bool {
         era.saturating_add(1) >= self.spans.len()
     }
 

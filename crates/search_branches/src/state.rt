@@ -7,9 +7,11 @@ use crate::desk::{Desk, Move, Step};
 use crate::found::{Found, find};
 use crate::problem::{Nature, Problem};
 use crate::trial::Trial;
+use nfs3_types::FileHandle;
 use seen_states::fingerprint;
 use std::alloc::{AllocError, Global};
 use tree_handles::Binds;
+use tree_nodes::Nodes;
 
 /// The branch that a worker is at.
 #[derive(Drop)]
@@ -140,7 +142,7 @@ impl State {
     }
 
     /// The move on the way to the branch behind so many others, where there is one.
-    fn move_at(&self, place: usize) -> Option<Move> {
+    pub fn move_at(&self, place: usize) -> Option<Move> {
         match self.desk.path.get(place) {
             Some(step) => Some(step.chosen),
             None => None,
@@ -229,6 +231,96 @@ impl State {
             Some(step) => Some(step.node),
             None => None,
         }
+    }
+
+    /// The nodes of the tree.
+    pub fn nodes(&self) -> &Nodes {
+        self.trial.nodes()
+    }
+
+    /// What the handles name that are bound so far.
+    pub fn binds(&self) -> &Binds {
+        &self.desk.binds
+    }
+
+    /// The number of the era, from 0 on.
+    pub fn era(&self) -> usize {
+        self.desk.front.era
+    }
+
+    /// How many places the era has so far.
+    pub fn places(&self) -> usize {
+        self.desk.path.len().saturating_sub(self.desk.front.era_start)
+    }
+
+    /// The move of a place of the era, counted from 0.
+    pub fn place_at(&self, place: usize) -> Option<Move> {
+        self.move_at(self.desk.front.era_start.saturating_add(place))
+    }
+
+    /// Whether the answered calls of the era are all placed, or given up.
+    pub fn is_era_done(&self) -> bool {
+        self.desk.is_era_done()
+    }
+
+    /// The answered calls that may come next, by their replies, from one of such a number on.
+    pub fn open_calls(&self, from: u64) -> Result<Vec<u64>, AllocError> {
+        self.desk.open_calls(from)
+    }
+
+    /// The calls to which no reply came that may come next, by their numbers.
+    pub fn waiting_calls(&self) -> Result<Vec<u64>, AllocError> {
+        self.desk.waiting_calls()
+    }
+
+    /// The answered call that may come next whose reply came first.
+    pub fn due(&self) -> Option<u64> {
+        self.desk.due()
+    }
+
+    /// Whether a call may come next.
+    pub fn is_open(&self, problem: &Problem<'_, '_>, number: u64) -> bool {
+        self.desk.is_open(problem, number)
+    }
+
+    /// The number of the first call that begins too late to come next.
+    pub fn frontier(&self) -> u64 {
+        self.desk.front.frontier
+    }
+
+    /// How many places of the era a crash can't take.
+    pub fn least_cut(&self, problem: &Problem<'_, '_>) -> Result<usize, AllocError> {
+        self.desk.least_cut(problem)
+    }
+
+    /// Goes on without a call, as if it were placed and did nothing. That isn't taken back.
+    pub fn give_up(&mut self, problem: &Problem<'_, '_>, number: u64) -> Result<(), AllocError>
+        requires { CanGoBack self.old }
+        ensures { CanGoBack self.new }
+    {
+        self.desk.give_up(problem, number)
+    }
+
+    /// Binds a handle to an object, unless it is bound. It is let go with the branch's last move.
+    pub fn bind(&mut self, handle: &FileHandle, object: u64) -> Result<(), AllocError>
+        requires { CanGoBack self.old }
+        ensures { CanGoBack self.new }
+    {
+        self.desk.bind(handle, object)
+    }
+
+    /// How many handles are bound.
+    pub fn bound(&self) -> usize {
+        self.desk.front.bound
+    }
+
+    /// Lets go the handles that were bound past so many.
+    pub fn let_go(&mut self, problem: &Problem<'_, '_>, bound: usize) -> Result<(), AllocError>
+        requires { CanGoBack self.old }
+        ensures { CanGoBack self.new }
+    {
+        self.desk.front.bound = self.desk.front.bound.min(bound);
+        self.desk.unbind(problem)
     }
 
     /// The moves that may come next, the likeliest first.
