@@ -46,7 +46,7 @@ pub(crate) fn is_stable(found: &Found, nature: Nature) -> bool {
     }
     match &found.outcome {
         Outcome::Received(NfsReply::Write(Answer::Done(success))) => {
-            success.count > 0 && !matches!(success.committed, StableHow::Unstable)
+            success.count > 0 && !matches!(success.level, StableHow::Unstable)
         }
         Outcome::Received(_) => true,
         Outcome::Taken(_) => false,

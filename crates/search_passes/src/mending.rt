@@ -15,6 +15,7 @@ const MOST_LESSONS: usize = 16;
 const SIZE_WEIGHT: u64 = 4;
 
 /// What a file's calls and decisions on them say of a reply.
+#[derive(Clone, Copy)]
 pub(crate) struct Mending<'m, 's, 'a> {
     pub(crate) alloc: Global,
     pub(crate) problem: &'m Problem<'s, 'a>,
@@ -91,7 +92,7 @@ impl<'m, 's, 'a> Mending<'m, 's, 'a> {
                 items.push(*item)?;
             }
         }
-        items.sort_by(order_of);
+        items.sort_by(order_of)?;
         Ok(items)
     }
 

@@ -21,6 +21,7 @@ enum SizeSeen {
 }
 
 /// What a reply shows of a file.
+#[derive(Clone, Copy)]
 pub(crate) struct Seen<'f> {
     pub(crate) file: &'f FileHandle,
     pub(crate) offset: u64,
