@@ -16,6 +16,7 @@ use crossbeam_deque::{Stealer, Worker};
 use nfs_history::{History, KnownCalls};
 use reply_order::reply_order;
 use search_branches::Problem;
+use search_passes::guide_of;
 use seen_states::{Claimer, SeenTable};
 use std::alloc::{AllocError, Global};
 use std::sync::{Mutex, Wait};
@@ -122,6 +123,18 @@ fn outcome_of(board: &mut Board) -> (Option<Certificate>, Lack) {
     (found, Lack::Branches)
 }
 
+/// What is to be known of a history, with the order that passes over it come to, where they come to one.
+fn guided<'s, 'a>(
+    alloc: Global,
+    known: &'s KnownCalls<'a>,
+) -> Result<Problem<'s, 'a>, AllocError> {
+    let problem = Problem::new(alloc, known)?;
+    match guide_of(alloc, &problem)? {
+        Some(guide) => Ok(problem.follow(guide)),
+        None => Ok(problem),
+    }
+}
+
 /// Has the workers search, and gives what they came to.
 fn run_workers<R: Host, G: SearchGate + Sync>(
     rt: &R,
@@ -131,7 +144,7 @@ fn run_workers<R: Host, G: SearchGate + Sync>(
     gate: &G,
 ) -> Result<(Option<Certificate>, Lack), AllocError> {
     let alloc = rt.alloc();
-    let problem = Problem::new(alloc, known)?;
+    let problem = guided(alloc, known)?;
     let Seats { seats, stealers } = Seats::new(alloc, workers)?;
     let (table, claimer) = SeenTable::new(alloc, TABLE_BITS)?;
     let board = Mutex::new(Board::new(alloc));

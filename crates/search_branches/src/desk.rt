@@ -32,6 +32,8 @@ pub(crate) struct Front {
     pub(crate) frontier: u64,
     /// How many handles are bound.
     pub(crate) bound: usize,
+    /// How many of the first moves are those of the order that is tried first.
+    followed: usize,
     pub(crate) digest: Digest,
 }
 
@@ -81,6 +83,7 @@ impl Desk {
                 next_reply: 0,
                 frontier: 1,
                 bound: 0,
+                followed: 0,
                 digest: Digest::of_era(tree_digest, [0; 2]),
             },
             placed: vec![in alloc; false; calls]?,
@@ -268,6 +271,19 @@ impl Desk {
         self.front.bound = self.bound.len();
         self.front.digest = self.front.digest.with_bind(bytes, object);
         Ok(())
+    }
+
+    /// Whether all moves are those of the order that is tried first.
+    pub(crate) fn is_guided(&self) -> bool {
+        self.front.followed == self.path.len()
+    }
+
+    /// Notes whether the last move is that of the order that is tried first.
+    pub(crate) fn note_guided(&mut self, problem: &Problem<'_, '_>, chosen: Move) {
+        let next = self.front.followed.saturating_add(1);
+        if next == self.path.len() && problem.guide_at(self.front.followed) == Some(chosen) {
+            self.front.followed = next;
+        }
     }
 
     /// Lets go the handles that aren't bound as far as the branch is.

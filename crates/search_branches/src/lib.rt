@@ -13,5 +13,5 @@ mod whole;
 
 pub use desk::Move;
 pub use found::{Found, find};
-pub use problem::{Nature, Problem};
+pub use problem::{Guide, Nature, Problem};
 pub use state::State;

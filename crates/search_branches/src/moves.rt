@@ -36,9 +36,9 @@ impl Desk {
         Ok(())
     }
 
-    /// The moves that may come next: calls that leave the tree first, then those that change it, each by their replies; where all
-    /// are placed the end of the era, with more places kept first; then calls to which no reply came. It takes n log n of them,
-    /// and at the end of an era reads its calls.
+    /// The moves that may come next: that of the order that is tried first, where all moves so far are its own; then calls that leave
+    /// the tree, then those that change it, each by their replies; where all are placed the end of the era, with more places kept
+    /// first; then calls to which no reply came. It takes n log n of them, and at the end of an era reads its calls.
     pub(crate) fn moves(&self, problem: &Problem<'_, '_>) -> Result<Vec<Move>, AllocError> {
         let mut moves = Vec::new(self.alloc);
         if self.is_era_done() && problem.is_last(self.front.era) {
@@ -52,7 +52,24 @@ impl Desk {
         for (number, _) in self.waiting.iter() {
             moves.push(Move::Take(*number))?;
         }
+        if self.is_guided() {
+            if let Some(first) = problem.guide_at(self.path.len()) {
+                return self.with_first(first, moves.as_slice());
+            }
+        }
         Ok(moves)
+    }
+
+    /// Some moves, with one of them first.
+    fn with_first(&self, first: Move, moves: &[Move]) -> Result<Vec<Move>, AllocError> {
+        let mut ordered = Vec::new(self.alloc);
+        ordered.push(first)?;
+        for chosen in moves {
+            if *chosen != first {
+                ordered.push(*chosen)?;
+            }
+        }
+        Ok(ordered)
     }
 
     /// Puts the ends of the era behind other moves.

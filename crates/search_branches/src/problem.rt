@@ -1,7 +1,8 @@
 //! What a search knows of a history ahead of its branches.
 
 use nfs_history::{CallKind, KnownCalls, RecordedCall};
-use nfs3_types::{Answer, NfsReply, Outcome, Verifier};
+use crate::desk::Move;
+use nfs3_types::{Answer, FileHandle, NfsReply, Outcome, Verifier};
 use reply_order::replies_in_order;
 use std::alloc::{AllocError, Global};
 use std::collections::BTreeMap;
@@ -39,6 +40,17 @@ pub struct Problem<'s, 'a> {
     pub(crate) replies: Vec<u64>,
     pub(crate) spans: Vec<EraSpan>,
     natures: Vec<Nature>,
+    /// The order that is tried first, if one is known.
+    guide: Option<Guide>,
+}
+
+/// An order of moves that is tried first.
+#[derive(Drop)]
+pub struct Guide {
+    /// From the branch without a move on.
+    pub moves: Vec<Move>,
+    /// The handles of what unanswered calls made, which no reply gave, by the numbers of these calls.
+    pub handles: BTreeMap<u64, FileHandle>,
 }
 
 impl<'s, 'a> Drop for Problem<'s, 'a> {
@@ -48,10 +60,12 @@ impl<'s, 'a> Drop for Problem<'s, 'a> {
             replies,
             spans,
             natures,
+            guide,
         } = self;
         drop(replies);
         drop(spans);
         drop(natures);
+        drop(guide);
     }
 }
 
@@ -218,7 +232,31 @@ impl<'s, 'a> Problem<'s, 'a> {
             replies,
             spans,
             natures,
+            guide: None,
         })
+    }
+
+    /// The same, with an order that is tried first.
+    pub fn follow(self, guide: Guide) -> Problem<'s, 'a> {
+        let mut problem = self;
+        problem.guide = Some(guide);
+        problem
+    }
+
+    /// The move of the order that is tried first behind so many of its moves.
+    pub(crate) fn guide_at(&self, depth: usize) -> Option<Move> {
+        match &self.guide {
+            Some(guide) => guide.moves.get(depth).copied(),
+            None => None,
+        }
+    }
+
+    /// The handle of what an unanswered call made, as the order that is tried first has it.
+    pub(crate) fn handle_made(&self, number: u64) -> Option<&FileHandle> {
+        match &self.guide {
+            Some(guide) => guide.handles.get(&number),
+            None => None,
+        }
     }
 
     /// What a call can do.

@@ -92,7 +92,24 @@ impl State {
         })?;
         let is_taken = matches!(chosen, Move::Take(_));
         self.desk.place(problem, number, is_taken)?;
+        self.desk.note_guided(problem, chosen);
+        if is_taken && self.desk.is_guided() {
+            self.bind_guided(problem, number)?;
+        }
         Ok(true)
+    }
+
+    /// Binds the handle of what an unanswered call made, as the order that is tried first has it.
+    fn bind_guided(&mut self, problem: &Problem<'_, '_>, number: u64) -> Result<(), AllocError>
+        requires { CanGoBack self.old }
+        ensures { CanGoBack self.new }
+    {
+        if let Some(handle) = problem.handle_made(number) {
+            if self.trial.nodes().node(number).is_some() {
+                self.desk.bind(handle, number)?;
+            }
+        }
+        Ok(())
     }
 
     /// Ends the era, and keeps so many of its places.
@@ -112,6 +129,7 @@ impl State {
         })?;
         let digest = digest_of(desk.alloc, &trial)?;
         desk.begin_era(problem, digest)?;
+        desk.note_guided(problem, Move::Cut(kept));
         Ok(State { trial, desk })
     }
 

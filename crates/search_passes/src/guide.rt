@@ -5,21 +5,12 @@ ghost use Rattle.search_branches.specs.Reversible.{CanGoBack};
 
 use crate::lessons::Lessons;
 use crate::pass::Pass;
-use nfs3_types::FileHandle;
-use search_branches::{Move, Problem};
+use search_branches::{Guide, Move, Problem};
 use std::alloc::{AllocError, Global};
+use std::collections::BTreeMap;
 
 /// How many passes are made.
 const MOST_PASSES: u32 = 30;
-
-/// An order in which each call can be placed.
-#[derive(Drop)]
-pub struct Guide {
-    /// The moves, one after the other.
-    pub moves: Vec<Move>,
-    /// The handles of what unanswered calls made, which no reply gave, with the numbers of these calls.
-    pub handles: Vec<(u64, FileHandle)>,
-}
 
 impl<'p, 's, 'a> Pass<'p, 's, 'a> {
     /// Places the calls of all eras.
@@ -42,14 +33,14 @@ impl<'p, 's, 'a> Pass<'p, 's, 'a> {
     /// The moves of the pass, and the handles that it guessed.
     fn guide(&self, lessons: &Lessons) -> Result<Guide, AllocError> {
         let mut moves = Vec::new(self.alloc);
-        let mut handles = Vec::new(self.alloc);
+        let mut handles = BTreeMap::new(self.alloc);
         for place in 0..self.state.depth() {
             let Some(chosen) = self.state.move_at(place) else {
                 break;
             };
             if let Move::Take(number) = chosen {
                 if let Some(handle) = lessons.handle_of(number) {
-                    handles.push((number, handle.clone()?))?;
+                    handles.insert(number, handle.clone()?)?;
                 }
             }
             moves.push(chosen)?;

@@ -14,4 +14,4 @@ mod pass;
 mod reading;
 mod stuck;
 
-pub use guide::{Guide, guide_of};
+pub use guide::guide_of;
