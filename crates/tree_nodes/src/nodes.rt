@@ -35,7 +35,7 @@ use std::collections::{BTreeMap, BTreeSet};
 use std::marker::Model;
 
 /// How many objects below one that moves are looked at, before its new directory's way to the root is walked.
-const FEW: u32 = 8;
+const FEW: u32 = 32;
 
 /// The nodes of a tree. A contract sees the finite map from paths to nodes.
 pub struct Nodes {
