@@ -1,4 +1,5 @@
 pub mod Lookups
+pub mod Losing
 pub mod Standing
 pub mod Paths
 pub mod Walks

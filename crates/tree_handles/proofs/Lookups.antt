@@ -8,10 +8,10 @@ use Rattle.tree_handles.specs.declared.objects.Objects.{Objects}
 use Rattle.tree_handles.specs.Finding.{found, first_of, GivesFirst, Notes}
 
 -- only equal byte strings are the same
-same_is : (x y : List ℕ) → same_bytes x y ≡ true → x ≡ y
+pub same_is : (x y : List ℕ) → same_bytes x y ≡ true → x ≡ y
 same_is x y = (bytes_decides x y).0
 
-true_or_false : (b : Bool) → (b ≡ true) ⊎ (b ≡ false)
+pub true_or_false : (b : Bool) → (b ≡ true) ⊎ (b ≡ false)
 true_or_false true = inl refl
 true_or_false false = inr refl
 

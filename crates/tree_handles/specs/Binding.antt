@@ -1,5 +1,5 @@
 -- what a file handle names: RFC 1813, `nfs_fh3`
-use Rattle.std.specs.Prelude.{ℕ, Bool, List, nat_eq, ◌==◌, Option, Some, None, true, false, if◌then◌else◌}
+use Rattle.std.specs.Prelude.{ℕ, Bool, List, filter, nat_eq, not, ◌==◌, Option, Some, None, true, false, if◌then◌else◌}
 use Rattle.std.specs.Option.{option_map_or}
 use Rattle.std.specs.Cmp.Lexicographic.{pointwise}
 use Rattle.std.specs.Map.{lookup}
@@ -16,6 +16,10 @@ same_bytes = pointwise nat_eq
 -- the root's handle names object 0, another one the object of its first pair, where it has one
 abbrev pub object_of : Bindings → List ℕ → Option ℕ
 object_of binds handle = if same_bytes handle binds.root then Some 0 else lookup (same_bytes handle) binds.pairs
+
+-- the pairs without those of a handle
+abbrev pub pairs_without : List ℕ → List (List ℕ × ℕ) → List (List ℕ × ℕ)
+pairs_without handle = filter (λ p. not (same_bytes handle p.0))
 
 -- whether a handle names this object
 abbrev pub is_bound : Bindings → List ℕ → ℕ → Bool

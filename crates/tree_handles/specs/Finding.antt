@@ -21,3 +21,8 @@ first_of (Some x) other = Some x
 abbrev pub Notes : {Key : Type 0} → (Key → List ℕ) → List (Key × ℕ) → List (Key × ℕ) → List ℕ → ℕ → Type 0
 Notes bytes before after handle object = (other : List ℕ) → lookup (λ key. same_bytes other (bytes key)) after
     ≡ first_of (lookup (λ key. same_bytes other (bytes key)) before) (lookup (same_bytes other) ((handle, object) ∷ []))
+
+-- a map by the bytes of its keys has lost a handle, where it had it, and else has what it had
+abbrev pub Loses : {Key : Type 0} → (Key → List ℕ) → List (Key × ℕ) → List (Key × ℕ) → List ℕ → Type 0
+Loses bytes before after handle = (other : List ℕ) → lookup (λ key. same_bytes other (bytes key)) after
+    ≡ (if same_bytes other handle then None else lookup (λ key. same_bytes other (bytes key)) before)

@@ -1,7 +1,7 @@
 //! What the handles of a history name.
 
 ghost use Rattle.std.specs.Prelude.{◌≡◌, [], ◌∷◌, ◌++◌, map, IfOk, OnOk, OnErr};
-ghost use Rattle.tree_handles.specs.Binding.{object_of};
+ghost use Rattle.tree_handles.specs.Binding.{object_of, pairs_without};
 
 use crate::objects::Objects;
 use crate::pairs::Pairs;
@@ -76,6 +76,14 @@ impl Binds {
         self.objects.note(self.alloc, handle, object)?;
         self.pairs = self.pairs.then(handle, object);
         Ok(())
+    }
+
+    /// Lets a handle go, so that it names nothing, unless it is the root's.
+    pub fn forget(&mut self, handle: &[u8])
+        ensures { self.new ≡ record self.old { pairs = pairs_without handle.now self.old.pairs } }
+    {
+        self.objects.lose(handle);
+        self.pairs = self.pairs.without(handle);
     }
 
     /// The object that a handle names.

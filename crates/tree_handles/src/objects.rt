@@ -1,7 +1,8 @@
 //! The objects of handles.
 
 ghost use Rattle.std.specs.Prelude.{◌≡◌, ◌≤◌, ℕ, List, [], ◌∷◌, ◌++◌, length, OnOk, OnErr};
-ghost use Rattle.tree_handles.specs.Finding.{found, GivesFirst, Notes};
+ghost use Rattle.tree_handles.specs.Finding.{found, GivesFirst, Loses, Notes};
+ghost use Rattle.tree_handles.specs.Binding.{pairs_without};
 
 use crate::short_handle::{SHORT_LIMIT, ShortHandle};
 use indexmap::IndexMap;
@@ -56,6 +57,21 @@ fn note_long(
     Ok(())
 }
 
+/// Takes a short handle away, where it is there.
+fn lose_short(short: &mut IndexMap<ShortHandle, u64>, handle: &[u8])
+    requires { length handle.now ≤ 31 }
+    ensures { Loses (λ key. key) short.old.entries short.new.entries handle.now }
+{
+    let _object = short.swap_remove(&ShortHandle::from_slice(handle));
+}
+
+/// Takes a long handle away, where it is there.
+fn lose_long(long: &mut IndexMap<Vec<u8>, u64>, handle: &[u8])
+    ensures { Loses (λ key. key.items) long.old.entries long.new.entries handle.now }
+{
+    let _object = long.swap_remove(handle);
+}
+
 impl Objects {
     /// No objects.
     pub(crate) fn new(alloc: Global) -> Objects
@@ -81,6 +97,17 @@ impl Objects {
             note_short(&mut self.short, handle, object)
         } else {
             note_long(alloc, &mut self.long, handle, object)
+        }
+    }
+
+    /// Takes the object of a handle away, where it has one.
+    pub(crate) fn lose(&mut self, handle: &[u8])
+        ensures { (pairs : List (List ℕ × ℕ)) → GivesFirst self.old pairs → GivesFirst self.new (pairs_without handle.now pairs) }
+    {
+        if handle.len() <= SHORT_LIMIT {
+            lose_short(&mut self.short, handle);
+        } else {
+            lose_long(&mut self.long, handle);
         }
     }
 

@@ -2,6 +2,7 @@
 
 ghost use Rattle.std.specs.Prelude.{◌≡◌, ℕ, List, [], ◌∷◌, ◌++◌};
 ghost use base.Fml.{ftrue};
+ghost use Rattle.tree_handles.specs.Binding.{pairs_without};
 
 use std::marker::Model;
 
@@ -27,6 +28,13 @@ impl Pairs {
     /// These, with one more behind them.
     pub(crate) fn then(&self, _handle: &[u8], _object: u64) -> Pairs
         ensures { result.all ≡ self.now.all ++ (_handle.now, _object) ∷ [] }
+    {
+        Pairs {}
+    }
+
+    /// These, without those of a handle.
+    pub(crate) fn without(&self, _handle: &[u8]) -> Pairs
+        ensures { result.all ≡ pairs_without _handle.now self.now.all }
     {
         Pairs {}
     }
