@@ -10,3 +10,6 @@ pub mod FileBytes
 pub mod Types
 pub mod LiveHandles
 pub mod Example
+pub mod Agreeing
+pub mod Newcomers
+pub mod Taking
