@@ -1,0 +1,13 @@
+pub mod Invariant
+pub mod Lists
+pub mod Shaped
+pub mod Ordered
+pub mod Running
+pub mod Stable
+pub mod Verified
+pub mod Handles
+pub mod Moving
+pub mod Bound
+pub mod Legal
+pub mod Kept
+pub mod EveryBook
