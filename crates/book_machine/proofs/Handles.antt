@@ -19,11 +19,11 @@ use Rattle.book_machine.specs.Steps.{with_object}
 same_handle : (n m : ℕ) → n < 2 ^ 64 → m < 2 ^ 64 → handle_of n ≡ handle_of m → n ≡ m
 same_handle n m lt lt' same = sym (long_spelled n lt).value ∙ ap long_of same ∙ (long_spelled m lt').value
 
-abbrev pair : ℕ → List ℕ × ℕ
+abbrev pub pair : ℕ → List ℕ × ℕ
 pair object = (handle_of object, object)
 
 -- whether a handle's pair is one of this object
-abbrev is_paired : List ℕ → ℕ → List ℕ → Bool
+abbrev pub is_paired : List ℕ → ℕ → List ℕ → Bool
 is_paired handle object made = option_map_or (λ named. named == object) (lookup (same_bytes handle) (map pair made)) false
 
 unequal : (n m : ℕ) → n ≢ m → (n == m) ≡ false
@@ -66,6 +66,41 @@ own_all handle number object apart lt [] others = tt
 own_all handle number object apart lt (first ∷ made) others = (own, own_all handle number object apart lt made others.1) where
   own : same_bytes handle (handle_of number) ≡ true → same_bytes handle (handle_of first) ≡ false
   own is = isnt (same_bytes handle (handle_of first)) (λ same. others.0.0 (same_handle first number others.0.1 lt (sym (same_is handle (handle_of first) same) ∙ same_is handle (handle_of number) is)))
+
+-- the handle of the new object is that of no object which was made
+pub without_own : (handle : List ℕ) (number object : ℕ) (made : List ℕ) → number < 2 ^ 64 → AllByRecursion (λ other. (other ≢ number) × (other < 2 ^ 64)) made
+    → same_bytes handle (handle_of number) ≡ true → is_paired handle object made ≡ false
+without_own handle number object [] lt others is = refl
+without_own handle number object (first ∷ made) lt others is =
+    ap (λ b. option_map_or (λ named. named == object) (cond b (Some first) (lookup (same_bytes handle) (map pair made))) false) apart ∙ without_own handle number object made lt others.1 is where
+      apart : same_bytes handle (handle_of first) ≡ false
+      apart = isnt (same_bytes handle (handle_of first)) (λ same. others.0.0 (same_handle first number others.0.1 lt (sym (same_is handle (handle_of first) same) ∙ same_is handle (handle_of number) is)))
+
+-- with the new object it names that one
+pub with_own : (handle : List ℕ) (number object : ℕ) (made : List ℕ) → number < 2 ^ 64 → AllByRecursion (λ other. (other ≢ number) × (other < 2 ^ 64)) made
+    → same_bytes handle (handle_of number) ≡ true → is_paired handle object (with_object number made) ≡ (number == object)
+with_own handle number object [] lt others is = ap (λ b. option_map_or (λ named. named == object) (cond b (Some number) None) false) is
+with_own handle number object (first ∷ made) lt others is = go (nat_lt number first) (with_own handle number object made lt others.1 is) where
+  apart : same_bytes handle (handle_of first) ≡ false
+  apart = isnt (same_bytes handle (handle_of first)) (λ same. others.0.0 (same_handle first number others.0.1 lt (sym (same_is handle (handle_of first) same) ∙ same_is handle (handle_of number) is)))
+
+  go : (b : Bool) → is_paired handle object (with_object number made) ≡ (number == object) → is_paired handle object (if b then number ∷ first ∷ made else first ∷ with_object number made) ≡ (number == object)
+  go true rest = ap (λ b. option_map_or (λ named. named == object) (cond b (Some number) (lookup (same_bytes handle) (map pair (first ∷ made)))) false) is
+  go false rest = ap (λ b. option_map_or (λ named. named == object) (cond b (Some first) (lookup (same_bytes handle) (map pair (with_object number made)))) false) apart ∙ rest
+
+-- another handle names what it did
+pub paired_apart : (handle : List ℕ) (number object : ℕ) (made : List ℕ) → same_bytes handle (handle_of number) ≡ false → is_paired handle object (with_object number made) ≡ is_paired handle object made
+paired_apart handle number object [] other = ap (λ b. option_map_or (λ named. named == object) (cond b (Some number) None) false) other
+paired_apart handle number object (first ∷ made) other = go (nat_lt number first) (paired_apart handle number object made other) where
+  go : (b : Bool) → is_paired handle object (with_object number made) ≡ is_paired handle object made
+      → is_paired handle object (if b then number ∷ first ∷ made else first ∷ with_object number made) ≡ is_paired handle object (first ∷ made)
+  go true rest = ap (λ b. option_map_or (λ named. named == object) (cond b (Some number) (lookup (same_bytes handle) (map pair (first ∷ made)))) false) other
+  go false rest = front (same_bytes handle (handle_of first)) rest where
+    front : (c : Bool) → is_paired handle object (with_object number made) ≡ is_paired handle object made
+        → option_map_or (λ named. named == object) (cond c (Some first) (lookup (same_bytes handle) (map pair (with_object number made)))) false
+        ≡ option_map_or (λ named. named == object) (cond c (Some first) (lookup (same_bytes handle) (map pair made))) false
+    front true rest = refl
+    front false rest = rest
 
 -- the other objects keep their handles
 pub bound_same : (number : ℕ) (made : List ℕ) → number < 2 ^ 64 → AllByRecursion (λ other. (other ≢ number) × (other < 2 ^ 64)) made → (handle : List ℕ) (object : ℕ) → object ≢ number

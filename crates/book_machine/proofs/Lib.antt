@@ -8,6 +8,7 @@ pub mod Verified
 pub mod Handles
 pub mod Moving
 pub mod Bound
+pub mod Pushed
 pub mod Legal
 pub mod Kept
 pub mod EveryBook
