@@ -2,3 +2,4 @@ pub mod Lookups
 pub mod Standing
 pub mod Paths
 pub mod Walks
+pub mod HandleOf
