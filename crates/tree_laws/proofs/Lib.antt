@@ -16,3 +16,4 @@ pub mod Lasting
 pub mod Living
 pub mod Unwritten
 pub mod Later
+pub mod Unheeded

@@ -9,4 +9,5 @@ pub mod ReadBack
 pub mod FileBytes
 pub mod Types
 pub mod LiveHandles
+pub mod LaterBinds
 pub mod Example

@@ -11,6 +11,7 @@ mod reading;
 mod removals;
 mod renames;
 mod runs;
+mod waiting;
 
 pub use bytes::each_byte_is_set_or_stays;
 pub use example::the_premises_are_met;
@@ -23,3 +24,4 @@ pub use runs::{
     a_live_handle_stays_live, an_object_keeps_its_type, every_tree_is_well_formed,
     only_directories_have_entries,
 };
+pub use waiting::a_handle_waits_for_its_object;
