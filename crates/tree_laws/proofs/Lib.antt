@@ -19,3 +19,4 @@ pub mod Later
 pub mod Agreeing
 pub mod Newcomers
 pub mod Taking
+pub mod Unheeded

@@ -13,6 +13,7 @@ mod removals;
 mod renames;
 mod runs;
 mod taken;
+mod waiting;
 
 pub use bytes::each_byte_is_set_or_stays;
 pub use example::the_premises_are_met;
@@ -27,3 +28,4 @@ pub use runs::{
     only_directories_have_entries,
 };
 pub use taken::a_success_may_be_taken;
+pub use waiting::a_handle_waits_for_its_object;
