@@ -8,7 +8,7 @@ use Rattle.nfs_history.specs.HistoryValue.{HistoryValue}
 use Rattle.tree_nodes.specs.Tree.{Tree, opening}
 use Rattle.tree_handles.specs.Binding.{Bindings}
 use Rattle.file_tree.specs.Success.{next_tree}
-use Rattle.book_machine.specs.Device.{Device}
+use Rattle.journal_device.specs.Device.{Device}
 use Rattle.book_machine.specs.Placing.{Placed, records_in}
 
 -- whether it takes calls; after a fault of its device it is down until a crash, and after one in a crash for good

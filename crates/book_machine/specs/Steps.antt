@@ -28,9 +28,10 @@ use Rattle.file_tree.specs.Success.{next_tree}
 use Rattle.cut_check.specs.Effect.{commit_success, effect_of}
 use Rattle.cut_check.specs.declared.effect.Effect.TheVariants.{Lasting}
 use Rattle.cut_check.specs.Verifier.{verifier_of}
-use Rattle.book_machine.specs.Device.{Device}
+use Rattle.journal_device.specs.Device.{Device}
+use Rattle.book_machine.specs.Served.{IsServed}
 use Rattle.book_machine.specs.Placing.{Placed, is_recorded, records_in, front_with}
-use Rattle.book_machine.specs.Book.{Book, Condition, handle_of, bindings_made, tree_of, records_kept}
+use Rattle.book_machine.specs.Book.{Book, Condition, handle_of, bindings, bindings_made, tree_of, records_kept}
 use Rattle.book_machine.specs.Book.Condition.{running, down, dead}
 
 -- ---- the history
@@ -158,6 +159,7 @@ pub record Places (old : Book) (number : ℕ) (reply : NfsReply) (new : Book) : 
   pub after : Tree
   pub stood : tree_of old ≡ Some before
   pub next : next_tree (bindings_made (with_made number after old.made)) before number call (outcomes.Received reply) ≡ Some after
+  pub served : IsServed (bindings old) before number call reply
   pub verifier : ShowsEra old call reply
   pub within : length (reply_message recorded.xid reply) ≤ record_limit
   pub done : new

@@ -1,6 +1,6 @@
 //! A device that fails once at a call of each kind.
 
-use recorder::{DevFault, JournalDevice, SimDevice};
+use journal_device::{DevFault, JournalDevice, SimDevice};
 use std::alloc::Global;
 use std::test::Fail;
 

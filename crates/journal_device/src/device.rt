@@ -1,7 +1,7 @@
 //! What a device for a journal does.
 
 ghost use Rattle.std.specs.Prelude.{◌≡◌, ◌≤◌, IsErrOf, length};
-ghost use Rattle.recorder.specs.Device.{Device, appended, settled, recovered, Leaves};
+ghost use Rattle.journal_device.specs.Device.{Device, appended, settled, recovered, Leaves};
 
 use std::alloc::{AllocError, AllocFailed};
 use std::fmt;
@@ -18,7 +18,7 @@ pub enum DevFault {
 
 impl fmt::Display for DevFault {
     ghost use Rattle.std.specs.Prelude.{Some};
-    ghost use Rattle.recorder.specs.FaultText.{fault_words};
+    ghost use Rattle.journal_device.specs.FaultText.{fault_words};
 
     ghost output = { λ fault. Some (fault_words fault) };
 
@@ -32,7 +32,7 @@ impl fmt::Display for DevFault {
 
 impl From<AllocError> for DevFault {
     ghost use Rattle.std.specs.Prelude.{◌≡◌};
-    ghost use Rattle.recorder.specs.declared.device.DevFault.TheVariants.{NoMemory};
+    ghost use Rattle.journal_device.specs.declared.device.DevFault.TheVariants.{NoMemory};
 
     ghost from_gives = { λ _ fault. fault ≡ NoMemory };
 
@@ -43,7 +43,7 @@ impl From<AllocError> for DevFault {
 
 impl<T: Drop> From<AllocFailed<T>> for DevFault {
     ghost use Rattle.std.specs.Prelude.{◌≡◌};
-    ghost use Rattle.recorder.specs.declared.device.DevFault.TheVariants.{NoMemory};
+    ghost use Rattle.journal_device.specs.declared.device.DevFault.TheVariants.{NoMemory};
 
     ghost from_gives = { λ _ fault. fault ≡ NoMemory };
 

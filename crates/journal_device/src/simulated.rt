@@ -1,8 +1,8 @@
 //! A device in memory.
 
 ghost use Rattle.std.specs.Prelude.{◌≡◌, ◌≤◌, ◌==◌, ◌↔◌, [], length, unwrap_or, IsErrOf};
-ghost use Rattle.recorder.specs.Device.{Device, appended, settled, recovered, Leaves};
-ghost use Rattle.recorder.specs.Simulated.{Simulated, next_due};
+ghost use Rattle.journal_device.specs.Device.{Device, appended, settled, recovered, Leaves};
+ghost use Rattle.journal_device.specs.Simulated.{Simulated, next_due};
 
 use crate::device::{DevFault, JournalDevice};
 use crate::journal_record::Record;
@@ -40,7 +40,7 @@ impl Drop for SimDevice {
 
 impl Model for SimDevice {
     ghost use Rattle.std.specs.Prelude.{◌≤◌, ◌+◌, min, length};
-    ghost use Rattle.recorder.specs.Simulated.{Simulated};
+    ghost use Rattle.journal_device.specs.Simulated.{Simulated};
 
     ghost Value = { Simulated };
 

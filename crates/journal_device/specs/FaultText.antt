@@ -1,7 +1,7 @@
 -- The words that are printed of a fault (words of this project's own).
 use Rattle.std.specs.Prelude.{ℕ, List, codes}
-use Rattle.recorder.specs.declared.device.DevFault.{DevFault}
-use Rattle.recorder.specs.declared.device.DevFault.TheVariants.{Failed, NoMemory}
+use Rattle.journal_device.specs.declared.device.DevFault.{DevFault}
+use Rattle.journal_device.specs.declared.device.DevFault.TheVariants.{Failed, NoMemory}
 
 abbrev pub fault_words : DevFault → List ℕ
 fault_words Failed = codes "the device failed"

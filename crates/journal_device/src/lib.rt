@@ -1,4 +1,4 @@
-//! The recorder of a server's changes: a device that keeps a journal of whole records over crashes.
+//! A device that keeps a journal: whole records, over crashes.
 #![tactic(auto)]
 
 mod device;

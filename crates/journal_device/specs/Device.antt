@@ -1,8 +1,8 @@
 -- a device that keeps a journal: whole records behind one another, of which a barrier makes safe what was appended ahead of it (this
 -- project's own, after the write and the flush of a disk)
 use Rattle.std.specs.Prelude.{◌≡◌, ℕ, ◌+◌, List, [], ◌∷◌, ◌++◌, length, take, Result, Ok, Err}
-use Rattle.recorder.specs.declared.device.DevFault.{DevFault}
-use Rattle.recorder.specs.declared.device.DevFault.TheVariants.{Failed, NoMemory}
+use Rattle.journal_device.specs.declared.device.DevFault.{DevFault}
+use Rattle.journal_device.specs.declared.device.DevFault.TheVariants.{Failed, NoMemory}
 
 -- its records, how many of them are safe from a crash, and how often it has failed
 pub record Device : Type 0 where

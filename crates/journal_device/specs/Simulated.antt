@@ -1,6 +1,6 @@
 -- a device in memory that fails when it is told to
 use Rattle.std.specs.Prelude.{ℕ, ◌-◌}
-use Rattle.recorder.specs.Device.{Device}
+use Rattle.journal_device.specs.Device.{Device}
 
 -- beside the device, which one of the coming calls of each kind fails, counted from 1; where it is 0, none does
 pub record Simulated : Type 0 where
