@@ -1,11 +1,12 @@
 -- A history with one event more.
-use Rattle.std.proofs.Common.{◌≡◌, ◌⊎◌, inl, inr, ◌==◌, ◌&&◌, ℕ, zero, suc, ◌+◌, ◌-◌, ◌<◌, ◌≤◌, Bool, true, false, cond, is_some, List, [], ◌∷◌, ◌++◌, length, map, get_or, set, Option, Some, None, option_map, Result, Ok, Err, refl, sym, ap, subst, ◌∙◌, arith, append_assoc, append-nil, add-zero}
+use Rattle.std.proofs.Common.{◌≡◌, ◌⊎◌, inl, inr, ◌==◌, ◌&&◌, ℕ, zero, suc, ◌+◌, ◌-◌, ◌<◌, ◌≤◌, Bool, true, false, cond, is_some, List, [], ◌∷◌, ◌++◌, length, map, get_or, set, Option, Some, None, option_map, Result, Ok, Err, refl, sym, ap, subst, ◌∙◌, arith, append_assoc, append-nil, add-zero, if◌then◌else◌, IfOk}
 use Rattle.std.specs.List.{AllByRecursion, list_any, slice_get}
 use Rattle.std.specs.HashMap.{get}
 use Rattle.std.proofs.lemmas.Bool.{eqb-true, eq-eqb, ne_eqb, false≢true}
 use Rattle.std.proofs.lemmas.List.{length-map, map_push}
 use Rattle.std.proofs.lemmas.Option.{slice_get-map, same_Some, get_or_from_slice_get}
 use Rattle.history_file.specs.declared.event.Event as owned
+use Rattle.history_file.specs.declared.event.Event.TheVariants as owns
 use Rattle.history_file.specs.Event.{Event, Recording}
 use Rattle.history_file.specs.Event.Event.{call, reply, close, crash}
 use Rattle.history_file.specs.Owning.{happened, all_happened}
@@ -19,7 +20,7 @@ use Rattle.nfs_history.specs.declared.judging.Stop.{Stop}
 use Rattle.nfs_history.specs.declared.judging.Stop.TheVariants as stops
 use Rattle.nfs_history.specs.HistoryValue.{CallsValue, HistoryValue}
 use Rattle.nfs_history.specs.Answers.{IsFineOrNoMemory, IsErrorOf, IsThatOrNoMemory}
-use Rattle.nfs_history.specs.Appending.{with_event, unanswered, AreCallsWith, Follows, Appends}
+use Rattle.nfs_history.specs.Appending.{with_event, unanswered, IsQuiet, AreCallsWith, Follows, Appends}
 use Rattle.nfs_history.specs.Calls.{ReplyEvent, CallEvent, calls_from, calls_of, eras_from, xid_of}
 use Rattle.nfs_history.specs.CallFaults.{IsCallFault, IsFine, FirstCallFault}
 use Rattle.nfs_history.specs.Checking.{is_place, AnswersWait, Knows, KnowsOneMore, KnowsAsMuch}
@@ -35,6 +36,8 @@ use Rattle.nfs_history.proofs.CallFaultLaws.{all_fine}
 use Rattle.nfs_history.proofs.CallFaultTable.{call_fault_found}
 use Rattle.nfs_history.proofs.FirstFaultLaws.{calls_readable, fault_or_calls, one_first_of}
 use Rattle.nfs_history.proofs.JudgingSteps.{AreRecorded-push}
+use Rattle.nfs_history.proofs.Lanes.{eras_few}
+use Rattle.nfs_history.proofs.Unanswered.{calls_from-quiet}
 use Rattle.nfs_history.proofs.Waiting.{one_further, new_call, calls_from-call, answered_if, calls_from-reply}
 
 -- ---- one event more
@@ -210,16 +213,16 @@ waits_there h known lane xid place is at =
     let same : place ≡ 0 + place = omega arith in
     subst (λ n. AnswersWait lane xid (Some n) 0 (calls_of (all_happened h.events))) same (subst (λ o. AnswersWait lane xid o 0 (calls_of (all_happened h.events))) at (is.knows.places lane xid))
 
-pub answered_found : (h : HistoryValue) (known : OpenCalls) (lane : ℕ) (message : List ℕ) (place : ℕ) (asked : CallEvent) (call : RecordedCall) → IsOpenAt h known
+pub answered_found : (h : HistoryValue) (known : OpenCalls) (lane : ℕ) (message : List ℕ) (place : ℕ) (asked : CallEvent) (now : RecordedCall) → IsOpenAt h known
     → get same_key known.unanswered (lane, xid_of message) ≡ Some place → Some asked ≡ option_map unanswered (slice_get (calls_of (all_happened h.events)) place)
-    → IsRecorded (answered_by (record { number = length h.events + 1; message = message }) asked) call
-    → AreCallsWith h (reply lane message) (set h.known.calls place call)
-answered_found h known lane message place asked call is at seen recorded =
+    → IsRecorded (answered_by (record { number = length h.events + 1; message = message }) asked) now
+    → AreCallsWith h (reply lane message) (set h.known.calls place now)
+answered_found h known lane message place asked now is at seen recorded =
     let r : ReplyEvent = record { number = length h.events + 1; message = message } in
     let found = seen_event_of (slice_get (calls_of (all_happened h.events)) place) asked seen in
-    let of : IsRecorded (answered_by r found.0) call = subst (λ (c : CallEvent). IsRecorded (answered_by r c) call) (sym found.2) recorded in
-    subst (λ es. AreRecorded es (set h.known.calls place call)) (sym (answered_calls h lane message))
-    (recorded_answered lane (xid_of message) 0 place r (calls_of (all_happened h.events)) h.known.calls found.0 call is.history.known.calls (waits_there h known lane (xid_of message) place is at) found.1 of)
+    let of : IsRecorded (answered_by r found.0) now = subst (λ (c : CallEvent). IsRecorded (answered_by r c) now) (sym found.2) recorded in
+    subst (λ es. AreRecorded es (set h.known.calls place now)) (sym (answered_calls h lane message))
+    (recorded_answered lane (xid_of message) 0 place r (calls_of (all_happened h.events)) h.known.calls found.0 now is.history.known.calls (waits_there h known lane (xid_of message) place is at) found.1 of)
 
 pub answered_stop : (h : HistoryValue) (known : OpenCalls) (lane : ℕ) (message : List ℕ) (place : ℕ) (asked : CallEvent) (stop : Stop) → IsOpenAt h known
     → get same_key known.unanswered (lane, xid_of message) ≡ Some place → Some asked ≡ option_map unanswered (slice_get (calls_of (all_happened h.events)) place)
@@ -275,6 +278,13 @@ began_at h place asked is =
       within = omega (arith, lt, at, length-map h.events happened);
       event = subst (λ n. slice_get (all_happened h.events) n ≡ Some (call is.event.lane is.event.message)) at stands.event;
     }
+
+-- it is a call
+pub no_other : (this : owned.Event) (lane : ℕ) (message : List ℕ) → happened this ≡ call lane message → ((l : ℕ) (m : List ℕ) → this ≡ owns.Call l m → ⊥) → ⊥
+no_other (owns.Call l m) lane message is not_call = not_call l m refl
+no_other (owns.Reply l m) lane message is not_call = absurd (cc)
+no_other (owns.Close l) lane message is not_call = absurd (cc)
+no_other owns.Crash lane message is not_call = absurd (cc)
 
 -- what happened there
 pub happened_there : (events : List owned.Event) (i : ℕ) (this : owned.Event) (e : Event) → slice_get (all_happened events) i ≡ Some e → this ≡ get_or events i this → happened this ≡ e
@@ -344,6 +354,61 @@ kept_as_much root known known' calls calls' events events' spare calls_are event
       history = subst (λ (h : HistoryValue). IsHistory (recording_of h) h) (sym same) is.history;
       knows = subst (λ (es : List owned.Event). Knows known' (all_happened es)) (sym events_are) knows';
     })
+
+-- a close and a crash leave the calls as they are
+pub quiet_recorded : (h : HistoryValue) (known : OpenCalls) (e : Event) → IsOpenAt h known → IsQuiet e → AreRecorded (calls_of (all_happened h.events ++ e ∷ [])) h.known.calls
+quiet_recorded h known e is quiet = subst (λ es. AreRecorded es h.known.calls) (sym (calls_from-quiet 1 1 (all_happened h.events) e quiet)) is.history.known.calls
+
+-- there are no more eras than events, but for the first
+pub era_within : (h : HistoryValue) (known : OpenCalls) → IsOpenAt h known → known.era ≤ 1 + length h.events
+era_within h known is = omega (arith, is.knows.era, eras_few 1 (all_happened h.events), length-map h.events happened)
+
+-- a call is pushed where there is room for it
+pub pushed_within : (calls before after : List RecordedCall) (one : RecordedCall) (fits : Bool) → before ≡ calls → after ≡ (if fits then before ++ one ∷ [] else before) → fits ≡ true → after ≡ calls ++ one ∷ []
+pushed_within calls before after one fits same pushed fit =
+    pushed ∙ ap (λ (b : Bool). if b then before ++ one ∷ [] else before) fit ∙ ap (λ (cs : List RecordedCall). cs ++ one ∷ []) same
+
+-- ---- what the functions that judge a call answer
+
+pub begun_ok : (h : HistoryValue) (known : OpenCalls) (lane : ℕ) (message : List ℕ) (begin era : ℕ) (old : HistoryValue) (r : Result RecordedCall Stop) → h ≡ old → IsOpenAt h known → begin ≡ length h.events + 1 → era ≡ known.era
+    → IfOk r (IsRecorded (new_call lane message begin era)) → IfOk r (λ begun. AreCallsWith old (call lane message) (old.known.calls ++ begun ∷ []))
+begun_ok h known lane message begin era old (Err stop) view is at of recorded = tt
+begun_ok h known lane message begin era old (Ok begun) view is at of recorded =
+    let there : IsRecorded (new_call lane message (length h.events + 1) known.era) begun = subst (λ n. IsRecorded (new_call lane message n known.era) begun) at (subst (λ n. IsRecorded (new_call lane message begin n) begun) of recorded) in
+    subst (λ (v : HistoryValue). AreCallsWith v (call lane message) (v.known.calls ++ begun ∷ [])) view (begun_found h known lane message begun is there)
+
+pub begun_err : (h : HistoryValue) (known : OpenCalls) (lane : ℕ) (message : List ℕ) (begin era number : ℕ) (old : HistoryValue) (r : Result RecordedCall Stop) → h ≡ old → IsOpenAt h known → begin ≡ length h.events + 1 → era ≡ known.era → number ≡ length h.known.calls + 1
+    → IsStopFor (IsFound number (new_call lane message begin era)) r → IsStopFor (FirstCallFault 1 (calls_of (all_happened old.events ++ call lane message ∷ []))) r
+begun_err h known lane message begin era number old (Ok begun) view is at of count stopped = tt
+begun_err h known lane message begin era number old (Err stops.NoMemory) view is at of count stopped = tt
+begun_err h known lane message begin era number old (Err (stops.Fault fault)) view is at of count stopped =
+    let there : IsFound number (new_call lane message (length h.events + 1) known.era) fault = subst (λ n. IsFound number (new_call lane message n known.era) fault) at (subst (λ n. IsFound number (new_call lane message begin n) fault) of stopped) in
+    subst (λ (v : HistoryValue). FirstCallFault 1 (calls_of (all_happened v.events ++ call lane message ∷ [])) fault) view (begun_stop h known lane message number (stops.Fault fault) is count there)
+
+pub answered_ok : (h : HistoryValue) (known : OpenCalls) (lane : ℕ) (message : List ℕ) (place number : ℕ) (asked : CallEvent) (now : RecordedCall) (old : HistoryValue) → h ≡ old → IsOpenAt h known → number ≡ length h.events + 1
+    → get same_key known.unanswered (lane, xid_of message) ≡ Some place → Some asked ≡ option_map unanswered (slice_get (calls_of (all_happened old.events)) place)
+    → IsRecorded (answered_by (record { number = number; message = message }) asked) now → (place < length old.known.calls) × AreCallsWith old (reply lane message) (set old.known.calls place now)
+answered_ok h known lane message place number asked now old view is count at seen recorded =
+    let there : Some asked ≡ option_map unanswered (slice_get (calls_of (all_happened h.events)) place) = subst (λ (v : HistoryValue). Some asked ≡ option_map unanswered (slice_get (calls_of (all_happened v.events)) place)) (sym view) seen in
+    subst (λ (v : HistoryValue). (place < length v.known.calls) × AreCallsWith v (reply lane message) (set v.known.calls place now)) view
+    (place_within h known lane (xid_of message) place is at,
+     answered_found h known lane message place asked now is at there (subst (λ n. IsRecorded (answered_by (record { number = n; message = message }) asked) now) count recorded))
+
+pub answered_err : (h : HistoryValue) (known : OpenCalls) (lane : ℕ) (message : List ℕ) (place number : ℕ) (asked : CallEvent) (stop : Stop) (old : HistoryValue) → h ≡ old → IsOpenAt h known → number ≡ length h.events + 1
+    → get same_key known.unanswered (lane, xid_of message) ≡ Some place → Some asked ≡ option_map unanswered (slice_get (calls_of (all_happened old.events)) place)
+    → IsStopFor {X = Unit {0}} (IsFound (place + 1) (answered_by (record { number = number; message = message }) asked)) (Err stop)
+    → IsStopFor {X = Unit {0}} (FirstCallFault 1 (calls_of (all_happened old.events ++ reply lane message ∷ []))) (Err stop)
+answered_err h known lane message place number asked stop old view is count at seen stopped =
+    let there : Some asked ≡ option_map unanswered (slice_get (calls_of (all_happened h.events)) place) = subst (λ (v : HistoryValue). Some asked ≡ option_map unanswered (slice_get (calls_of (all_happened v.events)) place)) (sym view) seen in
+    subst (λ (v : HistoryValue). IsStopFor {X = Unit {0}} (FirstCallFault 1 (calls_of (all_happened v.events ++ reply lane message ∷ []))) (Err stop)) view
+    (answered_stop h known lane message place asked stop is at there
+     (subst (λ n. IsStopFor {X = Unit {0}} (IsFound (place + 1) (answered_by (record { number = n; message = message }) asked)) (Err stop)) count stopped))
+
+pub readable_there : (h : HistoryValue) (known : OpenCalls) (lane : ℕ) (message : List ℕ) (place number : ℕ) (asked : CallEvent) (old : HistoryValue) → h ≡ old → IsOpenAt h known → MayFollow (all_happened old.events) (reply lane message)
+    → Some asked ≡ option_map unanswered (slice_get (calls_of (all_happened old.events)) place) → IsReadable (answered_by (record { number = number; message = message }) asked)
+readable_there h known lane message place number asked old view is may seen =
+    answered_readable h known lane message place number asked is (subst (λ (v : HistoryValue). MayFollow (all_happened v.events) (reply lane message)) (sym view) may)
+    (subst (λ (v : HistoryValue). Some asked ≡ option_map unanswered (slice_get (calls_of (all_happened v.events)) place)) (sym view) seen)
 
 -- ---- the answers
 

@@ -24,8 +24,8 @@ with_event history event = record { root = history.known.root; events = all_happ
 -- the calls of the events, and what these leave open
 abbrev pub IsReadOf : List ℕ → List Event → ReadCalls → Type 0
 IsReadOf root events read =
-    AreCallsOf (record { root = root; events = events }) (record { root = read.root; eras = read.«open».era; calls = read.calls.items })
-    × Knows read.«open» events
+    AreCallsOf (record { root = root; events = events }) (record { root = read.root; eras = read.open_calls.era; calls = read.calls.items })
+    × Knows read.open_calls events
 
 -- a close and a crash answer nothing, and are no calls
 abbrev pub IsQuiet : Event → Type 0

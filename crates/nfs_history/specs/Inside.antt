@@ -20,7 +20,7 @@ history_of root open_calls calls events spare =
     record { known = record { root = root; eras = open_calls.era; calls = calls }; events = events; spare = spare }
 
 abbrev pub value_of : history.Inside → HistoryValue
-value_of parts = history_of parts.root parts.«open» parts.calls.items parts.events.items parts.spare
+value_of parts = history_of parts.root parts.open_calls parts.calls.items parts.events.items parts.spare
 
 -- it is the history of its events, and it is known what they leave open
 pub record IsOpenAt (value : HistoryValue) (known : OpenCalls) : Type 0 where
@@ -29,4 +29,4 @@ pub record IsOpenAt (value : HistoryValue) (known : OpenCalls) : Type 0 where
 
 -- so it is, and the room that is set aside is there
 abbrev pub IsKept : history.Inside → Type 0
-IsKept parts = IsOpenAt (value_of parts) parts.«open» × (vec_len parts.events + parts.spare ≤ vec_capacity parts.events)
+IsKept parts = IsOpenAt (value_of parts) parts.open_calls × (vec_len parts.events + parts.spare ≤ vec_capacity parts.events)

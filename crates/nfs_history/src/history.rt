@@ -126,7 +126,7 @@ impl Drop for RecordedCall {
 struct ReadCalls {
     root: FileHandle,
     calls: Vec<RecordedCall>,
-    open: OpenCalls,
+    open_calls: OpenCalls,
 }
 
 /// A history without a fault.
@@ -135,7 +135,7 @@ pub struct History {
     calls: Vec<RecordedCall>,
     events: Vec<Event>,
     /// What of the events decides whether another may follow.
-    open: OpenCalls,
+    open_calls: OpenCalls,
     /// For how many events room is set aside.
     spare: usize,
 }
@@ -146,13 +146,13 @@ impl Drop for History {
             root,
             calls,
             events,
-            open,
+            open_calls,
             spare: _,
         } = self;
         drop(root);
         drop(calls);
         drop(events);
-        drop(open);
+        drop(open_calls);
     }
 }
 
@@ -213,33 +213,33 @@ fn read_among(alloc: Global, root: FileHandle, events: &[Event]) -> Result<ReadC
     ensures fault { IsErrorOf (FirstFaultOf (all_happened events.now)) result }
 {
     let seen = lend_events(alloc, events)?;
-    let open = follow_all(alloc, seen.as_slice())?;
+    let open_calls = follow_all(alloc, seen.as_slice())?;
     let known = KnownCalls::of_followed(alloc, root, seen)?;
     Ok(ReadCalls {
         root: known.root().clone()?,
         calls: all_calls(alloc, &known)?,
-        open,
+        open_calls,
     })
 }
 
 /// Puts an event behind the others, and takes in what it opens and closes.
 fn put_event(
     events: &mut Vec<Event>,
-    open: &mut OpenCalls,
+    open_calls: &mut OpenCalls,
     event: Event,
 ) -> Result<(), AllocError>
-    requires { open.old.era + 1 < 2 ^ 64 }
+    requires { open_calls.old.era + 1 < 2 ^ 64 }
     ensures put { OnOk result (events.new.items ≡ events.old.items ++ event ∷ []) }
-    ensures knows { OnOk result (KnowsOneMore open.old open.new (happened event)) }
+    ensures knows { OnOk result (KnowsOneMore open_calls.old open_calls.new (happened event)) }
     ensures kept { OnErr result (events.new.items ≡ events.old.items) }
-    ensures as_much { OnErr result (KnowsAsMuch open.old open.new) }
+    ensures as_much { OnErr result (KnowsAsMuch open_calls.old open_calls.new) }
     ensures len { OnErr result (vec_len events.new ≡ vec_len events.old) }
     ensures capacity { vec_capacity events.old ≤ vec_capacity events.new }
     // A crash needs no more than a place.
     ensures crashed { vec_len events.old + 1 ≤ vec_capacity events.old → happened event ≡ crash → IsOk result }
 {
     events.reserve(1)?;
-    open.follow(&event.as_seen())?;
+    open_calls.follow(&event.as_seen())?;
     events.push(event).unwrap();
     Ok(())
 }
@@ -263,12 +263,16 @@ impl History {
         ensures bare { IfOk result (λ history. history.spare ≡ 0) }
     {
         let known = read_among(alloc, root, events.as_slice())?;
-        let ReadCalls { root, calls, open } = known;
+        let ReadCalls {
+            root,
+            calls,
+            open_calls,
+        } = known;
         Ok(History {
             root,
             calls,
             events,
-            open,
+            open_calls,
             spare: 0,
         })
     }
@@ -279,7 +283,7 @@ impl History {
         ensures fault { IfErr result (IsAtFault (length (all_happened self.now.events) + 1) (all_happened self.now.events) (happened event.now)) }
     {
         let number = self.events.len() as u64 + 1;
-        match self.open.fault_of(number, &event.as_seen()) {
+        match self.open_calls.fault_of(number, &event.as_seen()) {
             Some(fault) => Err(fault),
             None => Ok(()),
         }
@@ -295,7 +299,7 @@ impl History {
             lane,
             message,
             begin: self.events.len() as u64 + 1,
-            era: self.open.era(),
+            era: self.open_calls.era(),
             answer: None,
         };
         judged_call(
@@ -329,7 +333,7 @@ impl History {
         ensures found { IfOk result (λ found. IsAnswered self.now lane message.now found.0 found.1) }
         ensures fault { IsStopFor (FirstCallFault 1 (calls_of (all_happened self.now.events ++ reply lane message.now ∷ []))) result }
     {
-        let Some(place) = self.open.place_of(lane, message) else {
+        let Some(place) = self.open_calls.place_of(lane, message) else {
             unreachable!();
         };
         let number = self.events.len() as u64 + 1;
@@ -353,7 +357,7 @@ impl History {
         ensures kept { OnErr result (self.new ≡ self.old) }
     {
         self.calls.reserve(1)?;
-        put_event(&mut self.events, &mut self.open, event)?;
+        put_event(&mut self.events, &mut self.open_calls, event)?;
         self.calls.push(call).unwrap();
         self.spare = 0;
         Ok(())
@@ -372,7 +376,7 @@ impl History {
         ensures taken { OnOk result (Follows self.old event self.new) }
         ensures kept { OnErr result (self.new ≡ self.old) }
     {
-        put_event(&mut self.events, &mut self.open, event)?;
+        put_event(&mut self.events, &mut self.open_calls, event)?;
         self.calls[place] = call;
         self.spare = 0;
         Ok(())
@@ -386,7 +390,7 @@ impl History {
         ensures kept { OnErr result (self.new ≡ self.old) }
         ensures crashed { 1 ≤ self.old.spare → happened event ≡ crash → IsOk result }
     {
-        put_event(&mut self.events, &mut self.open, event)?;
+        put_event(&mut self.events, &mut self.open_calls, event)?;
         self.spare = 0;
         Ok(())
     }
@@ -495,7 +499,7 @@ impl History {
     pub fn eras(&self) -> u64
         ensures { result ≡ self.now.known.eras }
     {
-        self.open.era()
+        self.open_calls.era()
     }
 
     /// How many calls it has.

@@ -1,4 +1,4 @@
-use Rattle.std.proofs.Common.{◌≡◌, ◌+◌, ℕ, List, Some, None, cond, refl, ap, rules, ◌∙◌}
+use Rattle.std.proofs.Common.{◌≡◌, ◌+◌, ℕ, Some, None, cond, refl, ap, rules, ◌∙◌}
 use Rattle.std.specs.HashMap.{get}
 use Rattle.nfs_history.specs.declared.checking.OpenCalls.{OpenCalls}
 use Rattle.nfs_history.specs.Matching.{same_key}
@@ -11,9 +11,10 @@ returns-in_ok-insert-in-Call-2-clause-ok c = λ before knows may.
     let lane = c.in-Call.lane in
     let new : OpenCalls = record { unanswered = c.insert-in-Call.new.self; calls = c.in-Some.calls; lanes = c.insert.new.self; era = old.era } in
     let follows = rw c.in-Call.is at may in
+    let kept : (q : ℕ × ℕ) → get same_key c.reserve.new.self q ≡ get same_key old.unanswered q = λ q. rw c.reserve.ensures.entries refl in
     rw c.in-Call.is (knows_call before old new lane c.in-Call.message.now refl c.in_ok-insert-in-Call.ensures.updates.0
     (λ q. c.in_ok-insert-in-Call-2.ensures.updates.0 q
-    ∙ ap (λ (es : List ((ℕ × ℕ) × ℕ)). cond (same_key (lane, c.transaction.result) q) (Some old.calls) (get same_key (record old.unanswered { entries = es }) q)) c.reserve.ensures.entries
+    ∙ ap (λ o. cond (same_key (lane, c.transaction.result) q) (Some old.calls) o) (kept q)
     ∙ ap (λ x. cond (same_key (lane, x) q) (Some old.calls) (get same_key old.unanswered q)) c.transaction.ensures)
     (search rules)
     knows follows)
