@@ -1,5 +1,5 @@
 -- A history with one event more.
-use Rattle.std.proofs.Common.{◌≡◌, ◌⊎◌, inl, inr, ◌==◌, ◌&&◌, ℕ, zero, suc, ◌+◌, ◌-◌, ◌<◌, ◌≤◌, Bool, true, false, cond, is_some, List, [], ◌∷◌, ◌++◌, length, map, get_or, set, Option, Some, None, option_map, Result, Ok, Err, refl, sym, ap, subst, ◌∙◌, arith, append_assoc, append-nil, add-zero, if◌then◌else◌, IfOk}
+use Rattle.std.proofs.Common.{◌≡◌, ◌⊎◌, inl, inr, ◌==◌, ◌&&◌, ℕ, zero, suc, ◌+◌, ◌-◌, ◌<◌, ◌≤◌, Bool, true, false, cond, is_some, List, [], ◌∷◌, ◌++◌, length, map, get_or, set, Option, Some, None, option_map, Result, Ok, Err, refl, sym, ap, subst, ◌∙◌, arith, append_assoc, append-nil, add-zero, if◌then◌else◌, IfOk, OnOk}
 use Rattle.std.specs.List.{AllByRecursion, list_any, slice_get}
 use Rattle.std.specs.HashMap.{get}
 use Rattle.std.proofs.lemmas.Bool.{eqb-true, eq-eqb, ne_eqb, false≢true}
@@ -418,6 +418,35 @@ appended_so old new event x follows = record { found = follows; kept = tt; fault
 -- a crash has no fault of its own
 pub refused_so : {X : Type 0} (old new : HistoryValue) (event : owned.Event) (fault : HistoryFault) → new ≡ old → (fault ≡ faults.NoMemory) ⊎ FirstFaultOf (with_event old event).events fault → (1 ≤ old.spare → happened event ≡ crash → ⊥) → Appends {X = X} old event (Err fault) new
 refused_so old new event fault same is no_crash = record { found = tt; kept = same; fault = is; crashed = λ room crashed. absurd (no_crash room crashed) }
+
+-- where its message can't be judged
+pub stopped_so : {X : Type 0} (old : HistoryValue) (event : owned.Event) (stop : Stop) → EachMayFollow [] (all_happened old.events) → MayFollow (all_happened old.events) (happened event) → (happened event ≡ crash → ⊥)
+    → IsStopFor {X = Unit {0}} (FirstCallFault 1 (calls_of (all_happened old.events ++ happened event ∷ []))) (Err stop) → Appends {X = X} old event (Err (of_stop stop)) old
+stopped_so old event stop all may no_crash stopped =
+    refused_so old old event (of_stop stop) refl (next_stop (all_happened old.events) (happened event) stop all may stopped) (λ _ crashed. no_crash crashed)
+
+-- where it may not follow
+pub unfollowed_so : {X : Type 0} (old : HistoryValue) (event : owned.Event) (fault : EventFault) → EachMayFollow [] (all_happened old.events)
+    → IsAtFault (length (all_happened old.events) + 1) (all_happened old.events) (happened event) fault → Appends {X = X} old event (Err (of_event fault)) old
+unfollowed_so old event fault all at =
+    refused_so old old event (of_event fault) refl (inr (next_fault (all_happened old.events) (happened event) fault all at))
+    (λ _ crashed. subst (λ (e : Event). IsAtFault (length (all_happened old.events) + 1) (all_happened old.events) e fault) crashed at)
+
+-- where memory is wanting
+pub wanting_so : {X : Type 0} (old new : HistoryValue) (event : owned.Event) → new ≡ old → (1 ≤ old.spare → happened event ≡ crash → ⊥) → Appends {X = X} old event (Err faults.NoMemory) new
+wanting_so old new event same no_crash = refused_so old new event faults.NoMemory same (inl refl) no_crash
+
+pub history_with : {X : Type 0} (old new : HistoryValue) (event : owned.Event) (r : Result X HistoryFault) → Appends old event r new → OnOk r (IsHistory (with_event old event) new)
+history_with old new event (Ok x) appends = appends.found.history
+history_with old new event (Err fault) appends = tt
+
+pub events_with : {X : Type 0} (old new : HistoryValue) (event : owned.Event) (r : Result X HistoryFault) → Appends old event r new → OnOk r (new.events ≡ old.events ++ event ∷ [])
+events_with old new event (Ok x) appends = appends.found.events
+events_with old new event (Err fault) appends = tt
+
+pub spare_with : {X : Type 0} (old new : HistoryValue) (event : owned.Event) (r : Result X HistoryFault) → Appends old event r new → OnOk r (new.spare ≡ 0)
+spare_with old new event (Ok x) appends = appends.found.spare
+spare_with old new event (Err fault) appends = tt
 
 pub only_memory_with : {X : Type 0} (seen : Recording) (r : Result X HistoryFault) (h : HistoryValue) → IsErrorOf (FirstFaultOf seen.events) r → IsHistory seen h → IsFineOrNoMemory r
 only_memory_with seen (Ok x) h fault is = tt

@@ -18,7 +18,7 @@ ghost use Rattle.nfs_history.specs.Checking.{KnowsOneMore, KnowsAsMuch};
 ghost use Rattle.nfs_history.specs.EventFaults.{IsAtFault};
 ghost use Rattle.nfs_history.specs.Judging.{IsStopFor};
 ghost use Rattle.nfs_history.specs.Matching.{seen_call};
-ghost use Rattle.nfs_history.specs.Standing.{MayFollow};
+ghost use Rattle.nfs_history.specs.Standing.{MayFollow, EachMayFollow};
 
 use crate::checking::{OpenCalls, follow_all};
 use crate::fault::{EventFault, HistoryFault};
@@ -279,6 +279,7 @@ impl History {
 
     // Why an event may not come next.
     fn check_next(&self, event: &Event) -> Result<(), EventFault>
+        ensures all { EachMayFollow [] (all_happened self.now.events) }
         ensures follows { OnOk result (MayFollow (all_happened self.now.events) (happened event.now)) }
         ensures fault { IfErr result (IsAtFault (length (all_happened self.now.events) + 1) (all_happened self.now.events) (happened event.now)) }
     {
@@ -396,7 +397,8 @@ impl History {
     }
 
     fn append_call(&mut self, lane: u32, message: Message) -> Result<(), HistoryFault>
-        requires { MayFollow (all_happened self.old.events) (call lane message) }
+        requires all { EachMayFollow [] (all_happened self.old.events) }
+        requires follows { MayFollow (all_happened self.old.events) (call lane message) }
         ensures { Appends self.old (events.Call lane message) result self.new }
     {
         let call = self.begun_call(lane, message.as_slice())?;
@@ -405,7 +407,8 @@ impl History {
     }
 
     fn append_reply(&mut self, lane: u32, message: Message) -> Result<(), HistoryFault>
-        requires { MayFollow (all_happened self.old.events) (reply lane message) }
+        requires all { EachMayFollow [] (all_happened self.old.events) }
+        requires follows { MayFollow (all_happened self.old.events) (reply lane message) }
         ensures { Appends self.old (events.Reply lane message) result self.new }
     {
         let (place, call) = self.answered_call(lane, message.as_slice())?;
