@@ -102,9 +102,10 @@ recorded_answered l x k zero r (c ∷ events) (d ∷ calls) e new all waits at i
     let same : c ≡ e = same_Some c e at in
     subst (λ es. AreRecorded es (new ∷ calls)) (sym (answered_one l x k r c events waits.0 waits.1))
     (subst (λ (x : CallEvent). IsRecorded (answered_by r x) new) (sym same) is, all.1)
-recorded_answered l x k (suc j) r (c ∷ events) (d ∷ calls) e new all waits at is =
-    (subst (λ (x : CallEvent). IsRecorded x d) (sym (other_one l x k j r c waits.0)) all.0,
-     recorded_answered l x (k + 1) j r events calls e new all.1 (waits_further l x k j events waits.1) at is)
+recorded_answered l x k (suc j) r (c ∷ events) (d ∷ calls) e new all waits at is = (
+  subst (λ (x : CallEvent). IsRecorded x d) (sym (other_one l x k j r c waits.0)) all.0,
+  recorded_answered l x (k + 1) j r events calls e new all.1 (waits_further l x k j events waits.1) at is,
+)
 
 fault_answered : (n l x k j : ℕ) (r : ReplyEvent) (events : List CallEvent) (e : CallEvent) (fault : CallFault) → AllByRecursion IsFine events → AnswersWait l x (Some (k + j)) k events
     → slice_get events j ≡ Some e → IsCallFault (n + j) (answered_by r e) fault → FirstCallFault n (map (answered_if l x r) events) fault
@@ -114,8 +115,10 @@ fault_answered n l x k zero r (c ∷ events) e fault fine waits at is =
     subst (λ es. FirstCallFault n es fault) (sym (answered_one l x k r c events waits.0 waits.1))
     (inl (subst (λ (x : CallEvent). IsCallFault n (answered_by r x) fault) (sym same) (subst (λ m. IsCallFault m (answered_by r e) fault) (add-zero n) is)))
 fault_answered n l x k (suc j) r (c ∷ events) e fault fine waits at is =
-    inr (subst IsFine (sym (other_one l x k j r c waits.0)) fine.0,
-         fault_answered (n + 1) l x (k + 1) j r events e fault fine.1 (waits_further l x k j events waits.1) at (subst (λ m. IsCallFault m (answered_by r e) fault) (sym (one_further n j)) is))
+    inr (
+      subst IsFine (sym (other_one l x k j r c waits.0)) fine.0,
+      fault_answered (n + 1) l x (k + 1) j r events e fault fine.1 (waits_further l x k j events waits.1) at (subst (λ m. IsCallFault m (answered_by r e) fault) (sym (one_further n j)) is),
+    )
 
 -- ---- where the calls stand
 
@@ -349,11 +352,13 @@ kept_as_much root known known' calls calls' events events' spare calls_are event
     let knows' = knows before is.knows in
     let era : known'.era ≡ known.era = knows'.era ∙ sym is.knows.era in
     let made : ℕ → List RecordedCall → List owned.Event → HistoryValue = λ n cs es. record { known = record { root = root; eras = n; calls = cs }; events = es; spare = spare } in
-    let same : made known'.era calls' events' ≡ made known.era calls events = rw (era, calls_are, events_are) refl in
-    (same, record {
-      history = subst (λ (h : HistoryValue). IsHistory (recording_of h) h) (sym same) is.history;
-      knows = subst (λ (es : List owned.Event). Knows known' (all_happened es)) (sym events_are) knows';
-    })
+    let same : made known'.era calls' events' ≡ made known.era calls events = rw (era, calls_are, events_are) refl in (
+      same,
+      record {
+        history = subst (λ (h : HistoryValue). IsHistory (recording_of h) h) (sym same) is.history;
+        knows = subst (λ (es : List owned.Event). Knows known' (all_happened es)) (sym events_are) knows';
+      },
+    )
 
 -- a close and a crash leave the calls as they are
 pub quiet_recorded : (h : HistoryValue) (known : OpenCalls) (e : Event) → IsOpenAt h known → IsQuiet e → AreRecorded (calls_of (all_happened h.events ++ e ∷ [])) h.known.calls
@@ -390,9 +395,10 @@ pub answered_ok : (h : HistoryValue) (known : OpenCalls) (lane : ℕ) (message :
     → IsRecorded (answered_by (record { number = number; message = message }) asked) now → (place < length old.known.calls) × AreCallsWith old (reply lane message) (set old.known.calls place now)
 answered_ok h known lane message place number asked now old view is count at seen recorded =
     let there : Some asked ≡ option_map unanswered (slice_get (calls_of (all_happened h.events)) place) = subst (λ (v : HistoryValue). Some asked ≡ option_map unanswered (slice_get (calls_of (all_happened v.events)) place)) (sym view) seen in
-    subst (λ (v : HistoryValue). (place < length v.known.calls) × AreCallsWith v (reply lane message) (set v.known.calls place now)) view
-    (place_within h known lane (xid_of message) place is at,
-     answered_found h known lane message place asked now is at there (subst (λ n. IsRecorded (answered_by (record { number = n; message = message }) asked) now) count recorded))
+    subst (λ (v : HistoryValue). (place < length v.known.calls) × AreCallsWith v (reply lane message) (set v.known.calls place now)) view (
+      place_within h known lane (xid_of message) place is at,
+      answered_found h known lane message place asked now is at there (subst (λ n. IsRecorded (answered_by (record { number = n; message = message }) asked) now) count recorded),
+    )
 
 pub answered_err : (h : HistoryValue) (known : OpenCalls) (lane : ℕ) (message : List ℕ) (place number : ℕ) (asked : CallEvent) (stop : Stop) (old : HistoryValue) → h ≡ old → IsOpenAt h known → number ≡ length h.events + 1
     → get same_key known.unanswered (lane, xid_of message) ≡ Some place → Some asked ≡ option_map unanswered (slice_get (calls_of (all_happened old.events)) place)
@@ -402,7 +408,7 @@ answered_err h known lane message place number asked stop old view is count at s
     let there : Some asked ≡ option_map unanswered (slice_get (calls_of (all_happened h.events)) place) = subst (λ (v : HistoryValue). Some asked ≡ option_map unanswered (slice_get (calls_of (all_happened v.events)) place)) (sym view) seen in
     subst (λ (v : HistoryValue). IsStopFor {X = Unit {0}} (FirstCallFault 1 (calls_of (all_happened v.events ++ reply lane message ∷ []))) (Err stop)) view
     (answered_stop h known lane message place asked stop is at there
-     (subst (λ n. IsStopFor {X = Unit {0}} (IsFound (place + 1) (answered_by (record { number = n; message = message }) asked)) (Err stop)) count stopped))
+    (subst (λ n. IsStopFor {X = Unit {0}} (IsFound (place + 1) (answered_by (record { number = n; message = message }) asked)) (Err stop)) count stopped))
 
 pub readable_there : (h : HistoryValue) (known : OpenCalls) (lane : ℕ) (message : List ℕ) (place number : ℕ) (asked : CallEvent) (old : HistoryValue) → h ≡ old → IsOpenAt h known → MayFollow (all_happened old.events) (reply lane message)
     → Some asked ≡ option_map unanswered (slice_get (calls_of (all_happened old.events)) place) → IsReadable (answered_by (record { number = number; message = message }) asked)

@@ -171,6 +171,7 @@ place_or_none false k place = sym (and_true (is_place k place))
 
 pub waits-answered : (l x lane xid k : ℕ) (r : ReplyEvent) (place : Option ℕ) (calls : List CallEvent) → AnswersWait lane xid place k calls → AnswersWait lane xid (cond (same_key (l, x) (lane, xid)) None place) k (map (answered_if l x r) calls)
 waits-answered l x lane xid k r place [] waits = tt
-waits-answered l x lane xid k r place (c ∷ calls) waits =
-    (answered_once l x lane xid r c ∙ ap (λ b. b && not (same_key (l, x) (lane, xid))) waits.0 ∙ sym (place_or_none (same_key (l, x) (lane, xid)) k place),
-     waits-answered l x lane xid (k + 1) r place calls waits.1)
+waits-answered l x lane xid k r place (c ∷ calls) waits = (
+  answered_once l x lane xid r c ∙ ap (λ b. b && not (same_key (l, x) (lane, xid))) waits.0 ∙ sym (place_or_none (same_key (l, x) (lane, xid)) k place),
+  waits-answered l x lane xid (k + 1) r place calls waits.1,
+)

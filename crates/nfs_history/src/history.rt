@@ -303,11 +303,7 @@ impl History {
             era: self.open_calls.era(),
             answer: None,
         };
-        judged_call(
-            *self.events.allocator(),
-            self.calls.len() as u64 + 1,
-            &seen,
-        )
+        judged_call(*self.events.allocator(), self.calls.len() as u64 + 1, &seen)
     }
 
     // A call, from 0 on, where its message stands, without a reply.

@@ -21,10 +21,11 @@ invariant_of-self-2 c =
     let pushed = pushed_within inside.calls.items c.reserve.new.self.items c.push.new.self.items c.args.call (is_ok c.push.result) c.in_ok-reserve.ensures.items c.push.ensures.items (c.push.ensures.succeeds room) in
     let may = subst (λ (v : HistoryValue). MayFollow (all_happened v.events) (happened c.args.event)) (sym c.self.view_is) c.requires.follows in
     let with_call = subst (λ (v : HistoryValue). AreRecorded (calls_of (all_happened v.events ++ happened c.args.event ∷ [])) (v.known.calls ++ c.args.call ∷ [])) (sym c.self.view_is) c.requires.recorded in
-    let recorded = subst (AreRecorded (calls_of (all_happened inside.events.items ++ happened c.args.event ∷ []))) (sym pushed) with_call in
-    (kept_more inside.root inside.open_calls c.put_event.new.open_calls inside.calls.items c.push.new.self.items inside.events.items c.put_event.new.events.items c.args.event inside.spare 0
-     c.in_ok-put_event.ensures.put c.self.invariant.0 may c.in_ok-put_event.ensures.knows recorded,
-     omega (arith, c.put_event.new.events.ok.1))
+    let recorded = subst (AreRecorded (calls_of (all_happened inside.events.items ++ happened c.args.event ∷ []))) (sym pushed) with_call in (
+      kept_more inside.root inside.open_calls c.put_event.new.open_calls inside.calls.items c.push.new.self.items inside.events.items c.put_event.new.events.items c.args.event inside.spare 0
+          c.in_ok-put_event.ensures.put c.self.invariant.0 may c.in_ok-put_event.ensures.knows recorded,
+      omega (arith, c.put_event.new.events.ok.1),
+    )
 
 pub returns-clause-taken : goal.returns-clause-taken
 returns-clause-taken c =

@@ -15,10 +15,11 @@ pub invariant_of-self-2 : goal.invariant_of-self-2
 invariant_of-self-2 c =
     let inside = c.self.inside in
     let may = subst (λ (v : HistoryValue). MayFollow (all_happened v.events) (happened c.args.event)) (sym c.self.view_is) c.requires.follows in
-    let recorded = quiet_recorded (value_of inside) inside.open_calls (happened c.args.event) c.self.invariant.0 c.requires.quiet in
-    (kept_more inside.root inside.open_calls c.put_event.new.open_calls inside.calls.items inside.calls.items inside.events.items c.put_event.new.events.items c.args.event inside.spare 0
-     c.in_ok-put_event.ensures.put c.self.invariant.0 may c.in_ok-put_event.ensures.knows recorded,
-     omega (arith, c.put_event.new.events.ok.1))
+    let recorded = quiet_recorded (value_of inside) inside.open_calls (happened c.args.event) c.self.invariant.0 c.requires.quiet in (
+      kept_more inside.root inside.open_calls c.put_event.new.open_calls inside.calls.items inside.calls.items inside.events.items c.put_event.new.events.items c.args.event inside.spare 0
+          c.in_ok-put_event.ensures.put c.self.invariant.0 may c.in_ok-put_event.ensures.knows recorded,
+      omega (arith, c.put_event.new.events.ok.1),
+    )
 
 pub returns-clause-taken : goal.returns-clause-taken
 returns-clause-taken c =
