@@ -10,7 +10,7 @@ use Rattle.rpc_reader.specs.Values.{CallValue}
 use Rattle.rpc_reader.specs.Values.Body.{success}
 use Rattle.rpc_reader.specs.Messages.{IsCall}
 use Rattle.rpc_reader.specs.Texts.{reply_text}
-use Rattle.xdr_records.specs.Texts.{long_text, opaque_text}
+use Rattle.journal_records.specs.Journal.{record_text}
 use Rattle.xdr_records.specs.Record.{record_limit}
 use Rattle.nfs3_msgs.specs.Messages.{result_text}
 use Rattle.history_file.specs.declared.event.Event.TheVariants as events
@@ -54,6 +54,7 @@ with_call history lane message call =
     record {
       known = record history.known { calls = history.known.calls ++ begun history lane message call ∷ [] };
       events = history.events ++ events.Call lane message ∷ [];
+      spare = 0;
     }
 
 -- a call that got this reply now
@@ -71,13 +72,14 @@ with_reply history number lane message outcome =
     record {
       known = record history.known { calls = change_at (answered_now history outcome) (number - 1) history.known.calls };
       events = history.events ++ events.Reply lane message ∷ [];
+      spare = 0;
     }
 
 abbrev pub with_close : HistoryValue → ℕ → HistoryValue
-with_close history lane = record history { events = history.events ++ events.Close lane ∷ [] }
+with_close history lane = record history { events = history.events ++ events.Close lane ∷ []; spare = 0 }
 
 abbrev pub with_crash : HistoryValue → HistoryValue
-with_crash history = record { known = record history.known { eras = history.known.eras + 1 }; events = history.events ++ events.Crash ∷ [] }
+with_crash history = record { known = record history.known { eras = history.known.eras + 1 }; events = history.events ++ events.Crash ∷ []; spare = 0 }
 
 -- ---- the steps
 
@@ -86,7 +88,7 @@ pub record IsRecordable (message : List ℕ) (call : NfsCall) : Type 0 where
   pub head : CallValue
   pub is_call : IsCall message head
   pub of_nfs : IsCallOfNfs head call
-  pub inside : (outcome : Option Outcome) → outside call outcome ≡ None
+  pub inside : outside call None ≡ None
 
 -- a lane on which calls may begin, and be placed and answered
 abbrev pub IsOpen : Book → ℕ → Type 0
@@ -124,9 +126,9 @@ with_made number after made = if is_some (entry_of after number) then with_objec
 abbrev pub reply_message : ℕ → NfsReply → List ℕ
 reply_message xid reply = reply_text xid (success (result_text reply))
 
--- the record of a call in the journal: its number, its message, and that of its reply
+-- the record of a call in the journal
 abbrev pub journal_record : ℕ → List ℕ → List ℕ → List ℕ
-journal_record number message reply = long_text number ++ (opaque_text message ++ opaque_text reply)
+journal_record number message reply = record_text (record { number = number; call = message; reply = reply })
 
 abbrev pub with_record : Bool → List ℕ → Device → Device
 with_record true bytes device = record device { records = device.records ++ bytes ∷ [] }
@@ -257,7 +259,7 @@ pub data Steps (old new : Book) : Type 0 where
 abbrev pub opening_book : Book
 opening_book =
     record {
-      history = record { known = record { root = handle_of 0; eras = 1; calls = [] }; events = [] };
+      history = record { known = record { root = handle_of 0; eras = 1; calls = [] }; events = []; spare = 0 };
       over = [];
       placed = [];
       made = [];
