@@ -19,15 +19,19 @@ use Rattle.book_machine.proofs.Kept.{kept}
 
 pub explained : (book : Book) → IsInvariant book → IsExplained book
 explained book i = record {
-  shape = has_shape book i;
-  order = respects_order book i;
-  runs = plan_runs book i;
-  cuts = cuts_keep_stable book (bindings_of book.history.known.root (plan_of book).binds) i;
-  verifiers = verifiers_show book i;
+  history = i.genuine.is_history;
+  witness = record {
+    shape = has_shape book i;
+    order = respects_order book i;
+    runs = plan_runs book i;
+    cuts = cuts_keep_stable book (bindings_of book.history.known.root (plan_of book).binds) i;
+    verifiers = verifiers_show book i;
+  };
 }
 
 pub opening_holds : IsInvariant opening_book
 opening_holds = record {
+  genuine = record { is_history = record { known = record { follow = tt; root = refl; eras = refl; calls = tt }; events = refl }; waiting = λ lane xid. record { place = None; waits = tt; within = λ p e. absurd (nothing_waits p e) } };
   root = refl;
   eras = refl;
   known = tt;
@@ -46,6 +50,9 @@ opening_holds = record {
   none : (n : ℕ) {call : RecordedCall} → call_at [] n ≡ Some call → ⊥
   none zero e = cc
   none (suc n) e = cc
+
+  nothing_waits : (p : ℕ) → None ≡ Some p → ⊥
+  nothing_waits p e = cc
 
   nothing : (ahead : List Placed) (step : Placed) (behind : List Placed) → [] ≡ ahead ++ step ∷ behind → ⊥
   nothing [] step behind f = cc

@@ -19,6 +19,7 @@ use Rattle.tree_laws.specs.Outcomes.{count_written}
 use Rattle.book_machine.specs.Placing.{Placed, is_recorded, records_in, front_with}
 use Rattle.book_machine.specs.Book.{Book, handle_of, bindings, records_kept}
 use Rattle.book_machine.specs.Steps.{IsDurable}
+use Rattle.book_machine.proofs.Growing.{IsGenuine}
 
 abbrev pub Over : Type 0
 Over = run.Era NfsCall Outcome
@@ -99,6 +100,7 @@ pub record IsCutSafely (calls : List RecordedCall) (era : Over) : Type 0 where
   pub durable : AreDurable calls 0 count era.steps
 
 pub record IsInvariant (book : Book) : Type 0 where
+  pub genuine : IsGenuine book.history
   pub root : book.history.known.root ≡ handle_of 0
   pub eras : book.history.known.eras ≡ length book.over + 1
   pub known : AllKnown book.history.known.calls 1 book.over book.placed

@@ -22,6 +22,14 @@ use Rattle.book_machine.specs.Steps.Steps.{begins, places, flushes, answers, clo
 use Rattle.book_machine.proofs.Invariant.{Over, IsKnown, AreKnown, AllKnown, IsPaired, AreDistinct, EachDistinct, IsPlacedIn, IsPlaced, AreInOrder, AllRun, AreDurable, IsCutSafely, IsInvariant}
 use Rattle.book_machine.proofs.Lists.{all_append, all_ahead, all_behind, all_each}
 use Rattle.cut_check.specs.Verifier.{verifier_of}
+use Rattle.nfs_history.specs.declared.history.Meaning.{Meaning}
+use Rattle.nfs_history.specs.Calls.{calls_of}
+use Rattle.nfs_history.specs.History.{IsJudged, IsKnownAs}
+use Rattle.nfs_history.specs.Outside.{outside}
+use Rattle.history_file.specs.Owning.{all_happened}
+use Rattle.std.specs.List.{slice_get}
+use Rattle.book_machine.specs.Steps.{IsOpen}
+use Rattle.book_machine.proofs.Growing.{IsGenuine, event_of, genuine_call, genuine_reply, genuine_close, genuine_crash}
 use Rattle.book_machine.proofs.Legal.{taking, opening_alone}
 use Rattle.book_machine.proofs.Stable.{records_append}
 use Rattle.book_machine.proofs.Moving.{call_stays, call_was, changed_call, other_call, all_changed, call_has, AreSame, AllSame, are_known_same, all_known_same, order_same, all_order_same, placed_more, placed_last, is_placed_by, is_placed_now, is_placed_over, distinct_more, each_distinct_by, each_distinct_over, known_over, order_over, order_more, LastParts, last_parts, same_parts, all_with_object, records_front, durable_same, cuts_same}
@@ -42,7 +50,7 @@ none_some e s = cc
 
 -- ---- a call begins
 
-module _ (book : Book) (i : IsInvariant book) (lane : ℕ) (message : List ℕ) (call : NfsCall) where
+module _ (book : Book) (i : IsInvariant book) (lane : ℕ) (message : List ℕ) (call : NfsCall) (genuine : IsGenuine (with_call book.history lane message call)) where
   abbrev calls : List RecordedCall
   calls = book.history.known.calls
 
@@ -69,6 +77,7 @@ module _ (book : Book) (i : IsInvariant book) (lane : ℕ) (message : List ℕ) 
 
   pub after_begin : IsInvariant (record book { history = with_call book.history lane message call })
   after_begin = record {
+    genuine = genuine;
     root = i.root;
     eras = i.eras;
     known = all_known_same calls begun_calls 1 book.over book.placed book.placed (all_same 1 book.over book.placed i.known)
@@ -225,6 +234,7 @@ module _ (book : Book) (i : IsInvariant book) (number : ℕ) (reply : NfsReply) 
 
   pub after_place : IsInvariant new
   after_place = subst IsInvariant (sym p.done) (record {
+    genuine = i.genuine;
     root = i.root;
     eras = i.eras;
     known = all_known_same old_calls old_calls 1 book.over book.placed (book.placed ++ this ∷ []) (all_refl book.over) (λ k. all_append _ book.placed (this ∷ []) k (known_step, tt)) i.known;
@@ -276,6 +286,9 @@ module _ (book : Book) (i : IsInvariant book) (number : ℕ) (new : Book) (a : A
 
   number_is : suc (number - 1) ≡ number
   number_is = positive number a.recorded a.of_now.recorded
+
+  here : slice_get said_calls (number - 1) ≡ Some a.recorded
+  here = ap (call_at said_calls) number_is ∙ a.of_now.recorded
 
   unchanged : (n : ℕ) → n ≢ number → call_at told_calls n ≡ call_at said_calls n
   unchanged n apart = other_call told said_calls (number - 1) n (λ same. apart (same ∙ number_is))
@@ -400,8 +413,28 @@ module _ (book : Book) (i : IsInvariant book) (number : ℕ) (new : Book) (a : A
         subst (λ (xs : List Placed). IsDurable (records_kept book) book.device.mark xs s) (sym p.ahead) (subst (IsDurable (records_kept book) book.device.mark a.ahead) (sym p.here) a.durable)
     go (inr apart) = i.durable ahead s behind parts (subst IsSome (ap (option_and_then (λ (c : RecordedCall). c.«end»)) (unchanged s.number apart)) ended)
 
+  -- the call is inside the model, as it was when it began
+  inside_still : outside a.call None ≡ None
+  inside_still =
+      let asked = event_of (calls_of (all_happened book.history.events)) said_calls (number - 1) a.recorded i.genuine.is_history.known.calls here in
+      let known : IsJudged asked.recorded.means.0 asked.recorded.means.1 a.call a.recorded.outcome =
+          subst (λ (m : Meaning). IsKnownAs asked.recorded.means.0 asked.recorded.means.1 m a.recorded.outcome) a.judged asked.recorded.means.4 in
+      ap (outside a.call) (sym silent) ∙ known.inside where
+        silent : a.recorded.outcome ≡ None
+        silent = go (call_has IsPaired said_calls number a.recorded i.paired a.of_now.recorded) where
+          go : IsPaired a.recorded → a.recorded.outcome ≡ None
+          go (inl quiet) = quiet.1
+          go (inr came) = absurd (none_some a.unanswered came.0)
+
+  genuine_now : IsGenuine (with_reply book.history number a.recorded.lane a.answer a.step.outcome)
+  genuine_now =
+      let told_so = genuine_reply book.history i.genuine (number - 1) a.recorded a.call a.message a.answer a.reply here a.judged a.unanswered a.of_now.is_open a.sent inside_still a.answers in
+      subst (λ (n : ℕ). IsGenuine (with_reply book.history n a.recorded.lane a.answer a.step.outcome)) (omega (arith, number_is))
+      (subst (λ (o : Outcome). IsGenuine (with_reply book.history (number - 1 + 1) a.recorded.lane a.answer o)) (sym a.received) told_so)
+
   pub after_answer : IsInvariant new
   after_answer = subst IsInvariant (sym a.done) (record {
+    genuine = genuine_now;
     root = i.root;
     eras = i.eras;
     known = all_known_same said_calls told_calls 1 book.over book.placed book.placed sames (known_now (1 + length book.over)) i.known;
@@ -422,6 +455,7 @@ module _ (book : Book) (i : IsInvariant book) (number : ℕ) (new : Book) (a : A
 
 after_flush : (book : Book) → IsInvariant book → IsInvariant (record book { device = record book.device { mark = length book.device.records } })
 after_flush book i = record {
+  genuine = i.genuine;
   root = i.root;
   eras = i.eras;
   known = i.known;
@@ -440,8 +474,9 @@ after_flush book i = record {
   further : {x y z : ℕ} → x ≤ y → y ≤ z → x ≤ z
   further f g = omega (arith, f, g)
 
-after_close : (book : Book) → IsInvariant book → (lane : ℕ) → IsInvariant (record book { history = with_close book.history lane })
-after_close book i lane = record {
+after_close : (book : Book) → IsInvariant book → (lane : ℕ) → IsOpen book lane → IsInvariant (record book { history = with_close book.history lane })
+after_close book i lane is_open = record {
+  genuine = genuine_close book.history lane i.genuine is_open;
   root = i.root;
   eras = i.eras;
   known = i.known;
@@ -496,6 +531,7 @@ module _ (book : Book) (i : IsInvariant book) (keep : ℕ) (new : Book) (c : Cra
 
   pub after_crash : IsInvariant new
   after_crash = subst IsInvariant (sym c.done) (record {
+    genuine = genuine_crash book.history i.genuine;
     root = i.root;
     eras = (let longer = length-append book.over (ended ∷ []) in omega (arith, i.eras, longer));
     known = known_over book.history.known.calls 1 book.over book.placed ended.kept i.known;
@@ -526,6 +562,7 @@ module _ (book : Book) (i : IsInvariant book) (keep : ℕ) (new : Book) (c : Cra
 
 after_refusal : (book new : Book) → IsInvariant book → Refuses book new → IsInvariant new
 after_refusal book new i r = subst IsInvariant (sym r.done) (record {
+  genuine = i.genuine;
   root = i.root;
   eras = i.eras;
   known = i.known;
@@ -545,10 +582,10 @@ after_refusal book new i r = subst IsInvariant (sym r.done) (record {
 -- ---- all steps
 
 pub kept : (book new : Book) → IsInvariant book → Steps book new → IsInvariant new
-kept book new i (begins lane message b) = subst IsInvariant (sym b.done) (after_begin book i lane message b.call)
+kept book new i (begins lane message b) = subst IsInvariant (sym b.done) (after_begin book i lane message b.call (genuine_call book.history lane message b.call i.genuine b.is_open b.free b.recordable))
 kept book new i (places number reply p) = after_place book i number reply new p
 kept book new i (flushes f) = subst IsInvariant (sym f.done) (after_flush book i)
 kept book new i (answers number a) = after_answer book i number new a
-kept book new i (closes lane c) = subst IsInvariant (sym c.done) (after_close book i lane)
+kept book new i (closes lane c) = subst IsInvariant (sym c.done) (after_close book i lane c.is_open)
 kept book new i (crashes keep c) = after_crash book i keep new c
 kept book new i (refuses r) = after_refusal book new i r

@@ -1,3 +1,4 @@
+pub mod Growing
 pub mod Invariant
 pub mod Lists
 pub mod Shaped

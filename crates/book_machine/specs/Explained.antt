@@ -1,14 +1,17 @@
 -- Every state of a book proves itself: its own certificate is a witness of its own history.
 use Rattle.std.specs.Prelude.{List}
 use Rattle.std.specs.List.{AllByRecursion}
+use Rattle.nfs_history.specs.History.{IsHistory, recording_of}
 use Rattle.witness_check.specs.Witness.{IsWitness}
 use Rattle.book_machine.specs.Book.{Book}
 use Rattle.book_machine.specs.Plan.{plan_of}
 use Rattle.book_machine.specs.Steps.{opening_book, IsRun}
 
--- the book's certificate is a witness of its history
-abbrev pub IsExplained : Book → Type 0
-IsExplained book = IsWitness book.history.known (plan_of book)
+pub record IsExplained (book : Book) : Type 0 where
+  -- what it recorded is a history
+  pub history : IsHistory (recording_of book.history) book.history
+  -- and its certificate is a witness of it
+  pub witness : IsWitness book.history.known (plan_of book)
 
 -- whatever steps it takes, with crashes, survivors, faults of the device and refusals between them
 abbrev pub EveryBookIsExplained : Type 0

@@ -8,11 +8,11 @@ use Rattle.nfs3_types.specs.declared.replies.Outcome.{Outcome}
 use Rattle.nfs3_types.specs.declared.replies.Outcome.TheVariants as outcomes
 use Rattle.rpc_reader.specs.Values.{CallValue}
 use Rattle.rpc_reader.specs.Values.Body.{success}
-use Rattle.rpc_reader.specs.Messages.{IsCall}
+use Rattle.rpc_reader.specs.Messages.{IsCall, IsReply}
 use Rattle.rpc_reader.specs.Texts.{reply_text}
 use Rattle.journal_records.specs.Journal.{record_text}
 use Rattle.xdr_records.specs.Record.{record_limit}
-use Rattle.nfs3_msgs.specs.Messages.{result_text}
+use Rattle.nfs3_msgs.specs.Messages.{IsResult, result_text}
 use Rattle.history_file.specs.declared.event.Event.TheVariants as events
 use Rattle.history_file.specs.Owning.{all_happened}
 use Rattle.nfs_history.specs.declared.history.Meaning.TheVariants as meanings
@@ -193,11 +193,25 @@ commits step = is_commit step.call && is_some (commit_success step.outcome)
 abbrev pub IsDurable : ℕ → ℕ → List Placed → Placed → Type 0
 IsDurable kept mark ahead step = (IsPromise step → kept + records_in (ahead ++ step ∷ []) ≤ mark) × (commits step ≡ true → kept + records_in ahead ≤ mark)
 
+-- a message with this reply, to the call of another message
+pub record IsAnswerTo (asked answer : List ℕ) (reply : NfsReply) : Type 0 where
+  pub head : CallValue
+  pub is_call : IsCall asked head
+  pub results : List ℕ
+  pub is_reply : IsReply answer (record { xid = head.xid; body = success results })
+  pub is_result : IsResult head.procedure results reply
+  pub xid : xid_of answer ≡ xid_of asked
+
 -- Answer: the history gets the reply that the call was placed with
 pub record Answers (old : Book) (number : ℕ) (new : Book) : Type 0 where
   pub running : old.condition ≡ running
   pub recorded : RecordedCall
+  pub call : NfsCall
+  pub message : List ℕ
+  pub answer : List ℕ
   pub of_now : IsOfNow old number recorded
+  pub judged : recorded.meaning ≡ meanings.Judged call
+  pub sent : HasMessage old recorded message
   pub unanswered : recorded.«end» ≡ None
   pub ahead : List Placed
   pub step : Placed
@@ -206,8 +220,9 @@ pub record Answers (old : Book) (number : ℕ) (new : Book) : Type 0 where
   pub named : step.number ≡ number
   pub reply : NfsReply
   pub received : step.outcome ≡ outcomes.Received reply
+  pub answers : IsAnswerTo message answer reply
   pub durable : IsDurable (records_kept old) old.device.mark ahead step
-  pub done : new ≡ record old { history = with_reply old.history number recorded.lane (reply_message recorded.xid reply) step.outcome }
+  pub done : new ≡ record old { history = with_reply old.history number recorded.lane answer step.outcome }
 
 -- Close: the history gets the close of a lane
 pub record Closes (old : Book) (lane : ℕ) (new : Book) : Type 0 where
