@@ -1,15 +1,27 @@
 //! What becomes of a history where events are put behind the others, one by one.
 
 use crate::reading::EXAMPLE;
-use nfs_history::{Event, History, HistoryFault, Meaning, Message, RecordedCall, Which, read_history};
+use nfs_history::{
+    Event, History, HistoryFault, Meaning, Message, RecordedCall, Which, read_history,
+};
 use nfs3_types::FileHandle;
 use std::alloc::{AllocError, Global};
 use std::test::Fail;
 
-/// The example's CREATE and WRITE, each with the reply to it.
-const CREATE: &[u8] = &EXAMPLE[32..116];
-const CREATED: &[u8] = &EXAMPLE[128..180];
-const WRITE: &[u8] = &EXAMPLE[192..264];
+/// The example's CREATE.
+fn create() -> &'static [u8] {
+    &EXAMPLE[32..116]
+}
+
+/// The reply to it.
+fn created() -> &'static [u8] {
+    &EXAMPLE[128..180]
+}
+
+/// The example's WRITE.
+fn write() -> &'static [u8] {
+    &EXAMPLE[192..264]
+}
 
 fn call(alloc: Global, lane: u32, bytes: &[u8]) -> Result<Event, AllocError> {
     let message = Message::from_slice(alloc, bytes)?;
@@ -60,7 +72,11 @@ fn are_same(history: &History, other: &History) -> bool {
         return false;
     }
     let (calls, others) = (history.recorded_calls(), other.recorded_calls());
-    calls.len() == others.len() && calls.iter().zip(others).all(|(call, other)| is_same(call, other))
+    calls.len() == others.len()
+        && calls
+            .iter()
+            .zip(others)
+            .all(|(call, other)| is_same(call, other))
 }
 
 /// Why an event isn't put behind the others, where the history stays as it was.
@@ -81,9 +97,12 @@ fn events_one_by_one_give_what_is_read(rt: HostRuntime) -> Result<(), Fail> {
     let read = read_history(alloc, EXAMPLE)?;
     let mut history = appended(alloc, &read)?;
     assert!(rt; are_same(&history, &read));
-    let other = changed(alloc, CREATED, 3, 9)?;
+    let other = changed(alloc, created(), 3, 9)?;
     let unasked = reply(alloc, 1, other.as_slice())?;
-    assert_eq!(rt; refusal(&mut history, unasked), Some(HistoryFault::NoSuchCall(7)));
+    assert_eq!(rt;
+        refusal(&mut history, unasked),
+        Some(HistoryFault::NoSuchCall(7))
+    );
     history.reserve()?;
     history.append(Event::Crash)?;
     assert_eq!(rt; history.eras(), 2);
@@ -94,24 +113,33 @@ fn events_one_by_one_give_what_is_read(rt: HostRuntime) -> Result<(), Fail> {
 fn an_event_at_fault_is_named(rt: HostRuntime) -> Result<(), Fail> {
     let alloc = rt.alloc();
     let mut history = empty(alloc)?;
-    history.append(call(alloc, 1, CREATE)?)?;
+    history.append(call(alloc, 1, create())?)?;
     history.append(Event::Close { lane: 2 })?;
-    let again = call(alloc, 1, CREATE)?;
-    assert_eq!(rt; refusal(&mut history, again), Some(HistoryFault::XidInUse(3)));
-    let late = call(alloc, 2, CREATE)?;
-    assert_eq!(rt; refusal(&mut history, late), Some(HistoryFault::LaneClosed(3)));
+    let again = call(alloc, 1, create())?;
+    assert_eq!(rt;
+        refusal(&mut history, again),
+        Some(HistoryFault::XidInUse(3))
+    );
+    let late = call(alloc, 2, create())?;
+    assert_eq!(rt;
+        refusal(&mut history, late),
+        Some(HistoryFault::LaneClosed(3))
+    );
     assert_eq!(rt;
         refusal(&mut history, Event::Close { lane: 2 }),
         Some(HistoryFault::LaneClosed(3))
     );
     let none = call(alloc, 1, &[])?;
     assert_eq!(rt; refusal(&mut history, none), Some(HistoryFault::BadRpc(3)));
-    let unasked = reply(alloc, 3, CREATED)?;
-    assert_eq!(rt; refusal(&mut history, unasked), Some(HistoryFault::NoSuchCall(3)));
+    let unasked = reply(alloc, 3, created())?;
+    assert_eq!(rt;
+        refusal(&mut history, unasked),
+        Some(HistoryFault::NoSuchCall(3))
+    );
     Ok(())
 }
 
-/// Why a call isn't put behind the example's CREATE, with one byte changed.
+/// Why a call isn't put behind the example's create(), with one byte changed.
 fn refused_call(
     alloc: Global,
     bytes: &[u8],
@@ -119,7 +147,7 @@ fn refused_call(
     byte: u8,
 ) -> Result<Option<HistoryFault>, HistoryFault> {
     let mut history = empty(alloc)?;
-    history.append(call(alloc, 1, CREATE)?)?;
+    history.append(call(alloc, 1, create())?)?;
     let bytes = changed(alloc, bytes, place, byte)?;
     let event = call(alloc, 1, bytes.as_slice())?;
     Ok(refusal(&mut history, event))
@@ -129,14 +157,17 @@ fn refused_call(
 fn a_call_at_fault_is_named(rt: HostRuntime) -> Result<(), Fail> {
     let alloc = rt.alloc();
     // Its flavor is that of RPCSEC_GSS.
-    let sealed = refused_call(alloc, WRITE, 27, 6)?;
+    let sealed = refused_call(alloc, write(), 27, 6)?;
     assert_eq!(rt; sealed, Some(HistoryFault::Sealed(2)));
     // Its data are cut off.
-    let cut = refused_call(alloc, &WRITE[..64], 0, 0)?;
+    let cut = refused_call(alloc, &EXAMPLE[192..256], 0, 0)?;
     assert_eq!(rt; cut, Some(HistoryFault::BadArgs(2)));
     // Its count isn't the length of its data.
-    let differs = refused_call(alloc, WRITE, 59, 2)?;
-    assert_eq!(rt; differs, Some(HistoryFault::Outside(2, Which::CountDiffers)));
+    let differs = refused_call(alloc, write(), 59, 2)?;
+    assert_eq!(rt;
+        differs,
+        Some(HistoryFault::Outside(2, Which::CountDiffers))
+    );
     Ok(())
 }
 
@@ -152,11 +183,14 @@ fn came_out(history: &History, number: u64) -> bool {
 fn a_call_with_a_bad_result_is_named(rt: HostRuntime) -> Result<(), Fail> {
     let alloc = rt.alloc();
     let mut history = empty(alloc)?;
-    history.append(call(alloc, 1, CREATE)?)?;
-    history.append(call(alloc, 1, WRITE)?)?;
-    let short = reply(alloc, 1, &CREATED[..28])?;
-    assert_eq!(rt; refusal(&mut history, short), Some(HistoryFault::BadResult(1)));
-    history.append(reply(alloc, 1, CREATED)?)?;
+    history.append(call(alloc, 1, create())?)?;
+    history.append(call(alloc, 1, write())?)?;
+    let short = reply(alloc, 1, &EXAMPLE[128..156])?;
+    assert_eq!(rt;
+        refusal(&mut history, short),
+        Some(HistoryFault::BadResult(1))
+    );
+    history.append(reply(alloc, 1, created())?)?;
     assert!(rt; came_out(&history, 1));
     assert!(rt; !came_out(&history, 2));
     Ok(())
@@ -167,11 +201,17 @@ fn long_event(alloc: Global, number: u8) -> Result<Event, AllocError> {
     let round = number / 4;
     let lane = u32::from(round / 10) + 1;
     match number % 4 {
-        0 => call(alloc, lane, changed(alloc, CREATE, 3, number)?.as_slice()),
-        1 => call(alloc, lane, changed(alloc, WRITE, 3, number)?.as_slice()),
-        2 => reply(alloc, lane, changed(alloc, CREATED, 3, number - 2)?.as_slice()),
+        0 => call(alloc, lane, changed(alloc, create(), 3, number)?.as_slice()),
+        1 => call(alloc, lane, changed(alloc, write(), 3, number)?.as_slice()),
+        2 => reply(
+            alloc,
+            lane,
+            changed(alloc, created(), 3, number - 2)?.as_slice(),
+        ),
         _ if round % 10 == 9 => Ok(Event::Crash),
-        _ => Ok(Event::Close { lane: 100 + u32::from(round) }),
+        _ => Ok(Event::Close {
+            lane: 100 + u32::from(round),
+        }),
     }
 }
 
@@ -185,7 +225,10 @@ fn many_events_give_what_is_built_of_them(rt: HostRuntime) -> Result<(), Fail> {
         events.push(long_event(alloc, number)?)?;
     }
     let built = History::build(alloc, FileHandle::from_slice(alloc, &[0])?, events)?;
-    assert_eq!(rt; (built.events().len(), built.calls(), built.eras()), (200, 100, 6));
+    assert_eq!(rt;
+        (built.events().len(), built.calls(), built.eras()),
+        (200, 100, 6)
+    );
     assert!(rt; are_same(&history, &built));
     Ok(())
 }
