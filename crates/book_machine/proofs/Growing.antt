@@ -1,44 +1,43 @@
 -- histories with one event more
-use Rattle.std.proofs.Common.{◌≡◌, ◌⊎◌, inl, inr, ◌==◌, ◌&&◌, ◌||◌, ℕ, zero, suc, ◌+◌, ◌-◌, ◌<◌, ◌≤◌, Bool, true, false, cond, List, [], ◌∷◌, ◌++◌, length, map, Option, Some, None, refl, sym, ap, subst, ◌∙◌, arith, append-nil, add-zero}
-use Rattle.std.specs.Prelude.{IsSome, is_none, option_map, nat_lt, not, unwrap_or, if◌then◌else◌}
+use Rattle.std.proofs.Common.{◌≡◌, ◌==◌, ◌&&◌, ◌||◌, ℕ, zero, suc, ◌+◌, ◌-◌, ◌<◌, Bool, true, false, cond, List, [], ◌∷◌, ◌++◌, length, map, Option, Some, None, refl, sym, ap, subst, ◌∙◌, arith, append-nil, add-zero}
+use Rattle.std.specs.Prelude.{is_none, option_map, nat_lt, not, unwrap_or, if◌then◌else◌}
 use Rattle.std.specs.List.{list_any, slice_get}
-use Rattle.std.proofs.lemmas.Bool.{eqb-true, eq-eqb, ne_eqb, false≢true}
+use Rattle.std.proofs.lemmas.Bool.{eqb-true, eq-eqb, ne_eqb}
 use Rattle.std.proofs.lemmas.List.{length-map, length-append, append_assoc}
 use Rattle.std.proofs.lemmas.Option.{slice_get-map, same_Some}
 use Rattle.nfs3_types.specs.declared.calls.NfsCall.{NfsCall}
 use Rattle.nfs3_types.specs.declared.replies.NfsReply.{NfsReply}
 use Rattle.nfs3_types.specs.declared.replies.Outcome.{Outcome}
 use Rattle.nfs3_types.specs.declared.replies.Outcome.TheVariants as outcomes
-use Rattle.rpc_reader.specs.Values.{CallValue, Body}
+use Rattle.rpc_reader.specs.Values.{CallValue}
 use Rattle.rpc_reader.specs.Values.Body.{success}
-use Rattle.rpc_reader.specs.Messages.{IsCall, IsReply}
+use Rattle.rpc_reader.specs.Messages.{IsCall}
 use Rattle.rpc_reader.proofs.OneMessage.{one_head}
 use Rattle.nfs3_msgs.specs.Messages.{IsResult}
 use Rattle.history_file.specs.declared.event.Event as owned
 use Rattle.history_file.specs.declared.event.Event.TheVariants as owns
-use Rattle.history_file.specs.Event.{Event, Recording}
-use Rattle.history_file.specs.Event.Event.{call, reply, close, crash}
+use Rattle.history_file.specs.Event.{Event}
+use Rattle.history_file.specs.Event.Event.{call, reply, close}
 use Rattle.history_file.specs.Owning.{happened, all_happened}
 use Rattle.nfs_history.specs.declared.history.Meaning.TheVariants as meanings
 use Rattle.nfs_history.specs.declared.history.RecordedCall.{RecordedCall}
 use Rattle.nfs_history.specs.declared.fault.Which.{Which}
 use Rattle.nfs_history.specs.HistoryValue.{CallsValue, HistoryValue}
 use Rattle.nfs_history.specs.Appending.{IsQuiet}
-use Rattle.nfs_history.specs.Calls.{ReplyEvent, CallEvent, calls_from, calls_of, eras_from, xid_of}
-use Rattle.nfs_history.specs.Checking.{is_place, is_crash, AnswersWait}
-use Rattle.nfs_history.specs.History.{IsJudged, IsKnownAs, Means, IsRecorded, AreRecorded, AreCallsOf, IsHistory, recording_of}
+use Rattle.nfs_history.specs.Calls.{ReplyEvent, CallEvent, calls_of, eras_from, xid_of}
+use Rattle.nfs_history.specs.Checking.{is_place, AnswersWait}
+use Rattle.nfs_history.specs.History.{IsJudged, IsKnownAs, Means, IsRecorded, AreRecorded, IsHistory, recording_of}
 use Rattle.nfs_history.specs.Matching.{same_key}
 use Rattle.nfs_history.specs.Outside.{outside, failed, asked_size}
 use Rattle.nfs_history.specs.declared.fault.Which.TheVariants as which
 use Rattle.nfs3_types.specs.declared.calls.NfsCall.TheVariants as calls
 use Rattle.nfs3_types.specs.Limits.{file_limit}
 use Rattle.nfs_history.specs.declared.history.Meaning.{Meaning}
-use Rattle.nfs_history.specs.Precedence.{call_at}
 use Rattle.nfs_history.specs.Standing.{IsClosed, is_unanswered, has_unanswered, MayFollow, EachMayFollow}
 use Rattle.nfs_history.proofs.JudgingSteps.{AreRecorded-push}
 use Rattle.nfs_history.proofs.Lanes.{eras_quiet, eras_crash}
 use Rattle.nfs_history.proofs.Unanswered.{calls_from-quiet, and_true}
-use Rattle.nfs_history.proofs.AppendSteps.{IsAsked, BeganAt, began_at, answered_by}
+use Rattle.nfs_history.proofs.AppendSteps.{IsAsked, began_at, answered_by}
 use Rattle.nfs_history.proofs.Waiting.{one_further, new_call, calls_from-call, answered_if, reply_at, calls_from-reply, waits-one, none_waits, waits-answered}
 use Rattle.book_machine.specs.Steps.{begun, with_call, answered_now, change_at, with_reply, with_close, with_crash, IsRecordable, IsAnswerTo}
 
@@ -144,7 +143,7 @@ genuine_call h lane message asked g is_open free r =
       begin = number;
       «end» = refl;
       era = g.is_history.known.eras;
-      means = (r.head, (None, r.is_call, refl, record { of_nfs = r.of_nfs; accepted = refl; came_out = refl; inside = r.inside }));
+      means = (r.head, None, r.is_call, refl, record { of_nfs = r.of_nfs; accepted = refl; came_out = refl; inside = r.inside });
     } in
     grown h (owns.Call lane message) (with_call h lane message asked).known g (is_open, (r.head, r.is_call), free) refl
     (g.is_history.known.eras ∙ sym (eras_quiet 1 before (call lane message) refl))
@@ -205,7 +204,7 @@ event_of (e ∷ events) (d ∷ calls) (suc j) c all at = let rest = event_of eve
 
 waits_at : (l x k j : ℕ) (place : Option ℕ) (events : List CallEvent) (e : CallEvent) → AnswersWait l x place k events → slice_get events j ≡ Some e → is_unanswered l x e ≡ is_place (k + j) place
 waits_at l x k j place [] e waits at = absurd (cc)
-waits_at l x k zero place (c ∷ events) e waits at = ap (is_unanswered l x) (sym (same_Some c e at)) ∙ waits.0 ∙ ap (λ n. is_place n place) (add-zero k)
+waits_at l x k zero place (c ∷ events) e waits at = ap (is_unanswered l x) (sym (same_Some c e at)) ∙ waits.0 ∙ ap (λ n. is_place n place) (sym (add-zero k))
 waits_at l x k (suc j) place (c ∷ events) e waits at = waits_at l x (k + 1) j place events e waits.1 at ∙ ap (λ n. is_place n place) (one_further k j)
 
 place_is : (n : ℕ) (place : Option ℕ) → is_place n place ≡ true → place ≡ Some n
@@ -309,16 +308,16 @@ module _ (h : HistoryValue) (g : IsGenuine h) (place : ℕ) (recorded : Recorded
   means m =
       let known : IsJudged m.0 m.1 asked recorded.outcome = subst (λ (n : Meaning). IsKnownAs m.0 m.1 n recorded.outcome) judged m.4 in (
         m.0,
-        (Some (success to.results),
+        Some (success to.results),
         m.2,
         (record { xid = to.head.xid; body = success to.results }, to.is_reply, refl),
         subst (λ (n : Meaning). IsKnownAs m.0 (Some (success to.results)) n (Some (outcomes.Received given))) (sym judged)
-        (record {
-          of_nfs = known.of_nfs;
-          accepted = refl;
-          came_out = (given, subst (λ (v : CallValue). IsResult v.procedure to.results given) (head_so m.0 m.2) to.is_result, refl);
-          inside = inside_still asked (Some (outcomes.Received given)) inside;
-        })),
+            (record {
+              of_nfs = known.of_nfs;
+              accepted = refl;
+              came_out = (given, subst (λ (v : CallValue). IsResult v.procedure to.results given) (head_so m.0 m.2) to.is_result, refl);
+              inside = inside_still asked (Some (outcomes.Received given)) inside;
+            }),
       )
 
   told : IsRecorded (answered_by r is_asked.event) (answered_now h (outcomes.Received given) recorded)

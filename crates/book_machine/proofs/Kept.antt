@@ -17,7 +17,8 @@ use Rattle.file_tree.specs.Success.{next_tree}
 use Rattle.replay_law.specs.Run.{state_after, kept_steps}
 use Rattle.book_machine.specs.Placing.{Placed, is_recorded, records_in, front_with}
 use Rattle.book_machine.specs.Book.{Book, bindings, bindings_made, records_kept}
-use Rattle.book_machine.specs.Steps.{begun, with_call, answered_now, change_at, with_close, with_made, with_object, with_record, journal_record, reply_message, step_of, IsDurable, Places, Answers, Crashes, Refuses, Steps}
+use Rattle.nfs3_types.specs.declared.replies.Outcome.{Outcome}
+use Rattle.book_machine.specs.Steps.{begun, with_reply, with_call, answered_now, change_at, with_close, with_made, with_object, with_record, journal_record, reply_message, step_of, IsDurable, Places, Answers, Crashes, Refuses, Steps}
 use Rattle.book_machine.specs.Steps.Steps.{begins, places, flushes, answers, closes, crashes, refuses}
 use Rattle.book_machine.proofs.Invariant.{Over, IsKnown, AreKnown, AllKnown, IsPaired, AreDistinct, EachDistinct, IsPlacedIn, IsPlaced, AreInOrder, AllRun, AreDurable, IsCutSafely, IsInvariant}
 use Rattle.book_machine.proofs.Lists.{all_append, all_ahead, all_behind, all_each}
@@ -418,7 +419,7 @@ module _ (book : Book) (i : IsInvariant book) (number : ℕ) (new : Book) (a : A
   inside_still =
       let asked = event_of (calls_of (all_happened book.history.events)) said_calls (number - 1) a.recorded i.genuine.is_history.known.calls here in
       let known : IsJudged asked.recorded.means.0 asked.recorded.means.1 a.call a.recorded.outcome =
-          subst (λ (m : Meaning). IsKnownAs asked.recorded.means.0 asked.recorded.means.1 m a.recorded.outcome) a.judged asked.recorded.means.4 in
+      subst (λ (m : Meaning). IsKnownAs asked.recorded.means.0 asked.recorded.means.1 m a.recorded.outcome) a.judged asked.recorded.means.4 in
       ap (outside a.call) (sym silent) ∙ known.inside where
         silent : a.recorded.outcome ≡ None
         silent = go (call_has IsPaired said_calls number a.recorded i.paired a.of_now.recorded) where

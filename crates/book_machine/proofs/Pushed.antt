@@ -1,11 +1,11 @@
 -- handles that were bound in another order
-use Rattle.std.proofs.Common.{◌≡◌, ◌≢◌, ◌⊎◌, inl, inr, ℕ, ◌<◌, ◌^◌, Bool, true, false, cond, List, [], ◌∷◌, ◌++◌, map, Option, Some, None, refl, sym, ap, ◌∙◌, subst, eq-eqb}
+use Rattle.std.proofs.Common.{◌≡◌, ◌≢◌, ◌⊎◌, inl, inr, ℕ, ◌<◌, ◌^◌, Bool, true, false, cond, List, [], ◌∷◌, ◌++◌, map, Option, Some, None, refl, sym, ap, ◌∙◌, eq-eqb}
 use Rattle.std.specs.Prelude.{◌==◌, if◌then◌else◌}
 use Rattle.std.specs.Option.{option_map_or}
 use Rattle.std.specs.List.{AllByRecursion}
 use Rattle.std.specs.Map.{lookup}
 use Rattle.tree_nodes.proofs.Chains.{decide, differ}
-use Rattle.tree_handles.specs.Binding.{Bindings, same_bytes, object_of, is_bound}
+use Rattle.tree_handles.specs.Binding.{Bindings, same_bytes, is_bound}
 use Rattle.tree_laws.proofs.Agreeing.{others_dont_matter}
 use Rattle.file_tree.specs.Success.{next_tree}
 use Rattle.book_machine.specs.Book.{handle_of, bindings_made}

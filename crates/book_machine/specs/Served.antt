@@ -1,6 +1,6 @@
 -- Which replies the bundled server gives: those that RFC 1813, section 3.3, allows, as full as can be (this project's own; that a READ
 -- gives at most so many bytes is too).
-use Rattle.std.specs.Prelude.{◌≡◌, ◌⊎◌, ◌<◌, ℕ, true, List, length, take, drop, Option, Some, None}
+use Rattle.std.specs.Prelude.{◌≡◌, ◌⊎◌, ◌<◌, ℕ, true, length, take, drop, Option, Some, None}
 use Rattle.nfs3_types.specs.declared.calls.NfsCall.{NfsCall}
 use Rattle.nfs3_types.specs.declared.calls.NfsCall.TheVariants as calls
 use Rattle.nfs3_types.specs.declared.replies.Answer.TheVariants.{Done}
