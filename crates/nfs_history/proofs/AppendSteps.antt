@@ -1,10 +1,10 @@
 -- A history with one event more.
-use Rattle.std.proofs.Common.{◌≡◌, ◌⊎◌, inl, inr, ◌==◌, ◌&&◌, ℕ, zero, suc, ◌+◌, ◌-◌, ◌<◌, ◌≤◌, Bool, true, false, cond, is_some, List, [], ◌∷◌, ◌++◌, length, map, get_or, set, Option, Some, None, option_map, Result, Ok, Err, refl, sym, ap, subst, ◌∙◌, arith, append_assoc, append-nil, add-zero, if◌then◌else◌, IfOk, OnOk}
-use Rattle.std.specs.List.{AllByRecursion, list_any, slice_get}
+use Rattle.std.proofs.Common.{◌≡◌, ◌⊎◌, inl, inr, ℕ, zero, suc, ◌+◌, ◌-◌, ◌<◌, ◌≤◌, Bool, true, false, cond, is_some, List, [], ◌∷◌, ◌++◌, length, map, get_or, set, Option, Some, None, option_map, Result, Ok, Err, refl, sym, ap, subst, ◌∙◌, arith, append_assoc, append-nil, add-zero, if◌then◌else◌, IfOk, OnOk}
+use Rattle.std.specs.List.{AllByRecursion, slice_get}
 use Rattle.std.specs.HashMap.{get}
-use Rattle.std.proofs.lemmas.Bool.{eqb-true, eq-eqb, ne_eqb, false≢true}
+use Rattle.std.proofs.lemmas.Bool.{eq-eqb, ne_eqb, false≢true}
 use Rattle.std.proofs.lemmas.List.{length-map, map_push}
-use Rattle.std.proofs.lemmas.Option.{slice_get-map, same_Some, get_or_from_slice_get}
+use Rattle.std.proofs.lemmas.Option.{same_Some}
 use Rattle.history_file.specs.declared.event.Event as owned
 use Rattle.history_file.specs.declared.event.Event.TheVariants as owns
 use Rattle.history_file.specs.Event.{Event, Recording}
@@ -18,7 +18,7 @@ use Rattle.nfs_history.specs.declared.fault.HistoryFault.TheVariants as faults
 use Rattle.nfs_history.specs.declared.history.RecordedCall.{RecordedCall}
 use Rattle.nfs_history.specs.declared.judging.Stop.{Stop}
 use Rattle.nfs_history.specs.declared.judging.Stop.TheVariants as stops
-use Rattle.nfs_history.specs.HistoryValue.{CallsValue, HistoryValue}
+use Rattle.nfs_history.specs.HistoryValue.{HistoryValue}
 use Rattle.nfs_history.specs.Answers.{IsFineOrNoMemory, IsErrorOf, IsThatOrNoMemory}
 use Rattle.nfs_history.specs.Appending.{with_event, unanswered, IsQuiet, AreCallsWith, Follows, Appends}
 use Rattle.nfs_history.specs.Calls.{ReplyEvent, CallEvent, calls_from, calls_of, eras_from, xid_of}
@@ -26,12 +26,12 @@ use Rattle.nfs_history.specs.CallFaults.{IsCallFault, IsFine, FirstCallFault}
 use Rattle.nfs_history.specs.Checking.{is_place, AnswersWait, Knows, KnowsOneMore, KnowsAsMuch}
 use Rattle.nfs_history.specs.EventFaults.{IsAtFault, FirstEventFault}
 use Rattle.nfs_history.specs.FirstFault.{FirstFaultOf}
-use Rattle.nfs_history.specs.History.{IsRecorded, AreRecorded, AreCallsOf, IsHistory, recording_of}
+use Rattle.nfs_history.specs.History.{IsRecorded, AreRecorded, IsHistory, recording_of}
 use Rattle.nfs_history.specs.Inside.{history_of, IsOpenAt}
-use Rattle.nfs_history.specs.JoinedFaults.{of_event, of_call}
+use Rattle.nfs_history.specs.JoinedFaults.{of_event}
 use Rattle.nfs_history.specs.Judging.{IsFound, IsReadable, AreReadable, IsStopFor, of_stop}
 use Rattle.nfs_history.specs.Matching.{same_key}
-use Rattle.nfs_history.specs.Standing.{is_unanswered, has_unanswered, MayFollow, EachMayFollow}
+use Rattle.nfs_history.specs.Standing.{is_unanswered, MayFollow, EachMayFollow}
 use Rattle.nfs_history.proofs.CallFaultLaws.{all_fine}
 use Rattle.nfs_history.proofs.CallFaultTable.{call_fault_found}
 use Rattle.nfs_history.proofs.FirstFaultLaws.{calls_readable, fault_or_calls, one_first_of}

@@ -1,6 +1,6 @@
 -- What becomes of a history where an event is put behind the others. When events are a history's, and which fault is the first, is
 -- said in History and FirstFault.
-use Rattle.std.specs.Prelude.{◌≡◌, ℕ, ◌+◌, ◌<◌, ◌≤◌, List, [], ◌∷◌, ◌++◌, length, slice_set, Option, Some, None, Result, IsOk, OnOk, OnErr}
+use Rattle.std.specs.Prelude.{◌≡◌, ℕ, ◌+◌, ◌<◌, ◌≤◌, List, [], ◌∷◌, ◌++◌, length, slice_set, None, Result, IsOk, OnOk, OnErr}
 use Rattle.history_file.specs.declared.event.Event as owned
 use Rattle.history_file.specs.Event.{Event, Recording}
 use Rattle.history_file.specs.Event.Event.{call, reply, close, crash}

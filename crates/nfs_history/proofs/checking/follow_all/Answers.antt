@@ -1,4 +1,4 @@
-use Rattle.std.proofs.Common.{inr, inl, take, arith, subst}
+use Rattle.std.proofs.Common.{inr, inl, take, arith}
 use Rattle.history_file.specs.Owning.{all_seen}
 use Rattle.nfs_history.proofs.CheckingSteps.{checked_more, first_here, all_checked, era_within}
 use Rattle.nfs_history.proofs.checking.follow_all.Goals as goal

@@ -1,4 +1,4 @@
-use Rattle.std.proofs.Common.{◌≡◌, ◌+◌, length, arith, ap, ◌∙◌}
+use Rattle.std.proofs.Common.{◌≡◌, ◌+◌, length, arith}
 use Rattle.nfs_history.specs.Inside.{value_of}
 use Rattle.nfs_history.proofs.AppendSteps.{begun_ok, begun_err}
 use Rattle.nfs_history.proofs.history.History.begun_call.Goals as goal
