@@ -1,5 +1,7 @@
-//! Tests of the recorder, through its public calls: a device that fails once, and goes on.
+//! Tests of a server's journal, through the public calls of its crates: a device that fails once and goes on, and records of changes.
 #![tactic(auto)]
 
 #[cfg(test)]
 mod devices;
+#[cfg(test)]
+mod records;
