@@ -120,6 +120,18 @@ all_run_more binds before after step next (first ∷ over) placed tree stood run
     ∙ ap (state_after (next_tree binds) tree) (sym (append_assoc kept (kept_steps over) placed)) ∙ stood in
     (runs.0, (base.0, base.1, all_run_more binds before after step next over placed base.0 behind base.2))
 
+-- what was kept, and placed since, runs as a whole
+pub tree_stands : (binds : Bindings) (over : List Over) (placed : List Placed) (tree : Tree) → AllRun binds tree over placed → IsSome (state_after (next_tree binds) tree (kept_steps over ++ placed))
+tree_stands binds [] placed tree runs = runs
+tree_stands binds (first ∷ over) placed tree runs =
+    let base = runs.1 in
+    let kept = take first.kept first.steps in
+    let same : state_after (next_tree binds) tree ((kept ++ kept_steps over) ++ placed) ≡ state_after (next_tree binds) base.0 (kept_steps over ++ placed) =
+    ap (state_after (next_tree binds) tree) (append_assoc kept (kept_steps over) placed)
+    ∙ state_after-append (next_tree binds) tree kept (kept_steps over ++ placed)
+    ∙ ap (option_and_then (λ t. state_after (next_tree binds) t (kept_steps over ++ placed))) base.1 in
+    subst IsSome (sym same) (tree_stands binds over placed base.0 base.2)
+
 -- ---- an era that is over
 
 pub front_runs : (binds : Bindings) (n : ℕ) (steps : List Placed) (tree : Tree) → IsSome (state_after (next_tree binds) tree steps) → (base : Tree) × (state_after (next_tree binds) tree (take n steps) ≡ Some base)

@@ -5,7 +5,8 @@ use Rattle.nfs_history.specs.declared.history.RecordedCall.{RecordedCall}
 use Rattle.nfs_history.specs.Precedence.{call_at}
 use Rattle.cut_check.specs.Places.{bindings_of}
 use Rattle.book_machine.specs.Placing.{Placed}
-use Rattle.book_machine.specs.Book.{Book}
+use Rattle.tree_nodes.specs.Tree.{opening}
+use Rattle.book_machine.specs.Book.{Book, bindings}
 use Rattle.book_machine.specs.Plan.{plan_of}
 use Rattle.book_machine.specs.Steps.{opening_book, IsRun}
 use Rattle.book_machine.specs.Explained.{IsExplained, EveryBookIsExplained}
@@ -15,6 +16,7 @@ use Rattle.book_machine.proofs.Ordered.{respects_order}
 use Rattle.book_machine.proofs.Running.{plan_runs}
 use Rattle.book_machine.proofs.Stable.{cuts_keep_stable}
 use Rattle.book_machine.proofs.Verified.{verifiers_show}
+use Rattle.book_machine.proofs.Bound.{tree_stands}
 use Rattle.book_machine.proofs.Kept.{kept}
 
 pub explained : (book : Book) → IsInvariant book → IsExplained book
@@ -27,10 +29,11 @@ explained book i = record {
     cuts = cuts_keep_stable book (bindings_of book.history.known.root (plan_of book).binds) i;
     verifiers = verifiers_show book i;
   };
+  tree = tree_stands (bindings book) book.over book.placed opening i.runs;
 }
 
-pub opening_holds : IsInvariant opening_book
-opening_holds = record {
+pub opening_holds : (faults : ℕ) → IsInvariant (opening_book faults)
+opening_holds faults = record {
   genuine = record { is_history = record { known = record { follow = tt; root = refl; eras = refl; calls = tt }; events = refl }; waiting = λ lane xid. record { place = None; waits = tt; within = λ p e. absurd (nothing_waits p e) } };
   root = refl;
   eras = refl;
@@ -63,4 +66,4 @@ run_explained book [] i run = tt
 run_explained book (next ∷ books) i run = let after = kept book next i run.0 in (explained next after, run_explained next books after run.1)
 
 pub every_book : EveryBookIsExplained
-every_book books run = (explained opening_book opening_holds, run_explained opening_book books opening_holds run)
+every_book faults books run = (explained (opening_book faults) (opening_holds faults), run_explained (opening_book faults) books (opening_holds faults) run)

@@ -563,7 +563,7 @@ module _ (book : Book) (i : IsInvariant book) (keep : ℕ) (new : Book) (c : Cra
 
 after_refusal : (book new : Book) → IsInvariant book → Refuses book new → IsInvariant new
 after_refusal book new i r = subst IsInvariant (sym r.done) (record {
-  genuine = i.genuine;
+  genuine = record { is_history = record { known = i.genuine.is_history.known; events = i.genuine.is_history.events }; waiting = i.genuine.waiting };
   root = i.root;
   eras = i.eras;
   known = i.known;

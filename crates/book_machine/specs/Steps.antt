@@ -1,5 +1,5 @@
 -- What a book may do: its steps, one after the other. A journal server takes each under one lock.
-use Rattle.std.specs.Prelude.{◌≡◌, ◌≢◌, ℕ, zero, suc, ◌+◌, ◌-◌, ◌<◌, ◌≤◌, ◌^◌, ◌&&◌, nat_lt, Bool, true, false, if◌then◌else◌, List, [], ◌∷◌, ◌++◌, length, take, slice_get, Some, None, IfSome, is_some}
+use Rattle.std.specs.Prelude.{◌≡◌, ◌≢◌, ◌⊎◌, ℕ, zero, suc, ◌+◌, ◌-◌, ◌<◌, ◌≤◌, ◌^◌, ◌&&◌, nat_lt, Bool, true, false, if◌then◌else◌, List, [], ◌∷◌, ◌++◌, length, take, slice_get, Some, None, IfSome, is_some}
 use Rattle.std.specs.List.{AllByRecursion}
 use Rattle.nfs3_types.specs.declared.calls.NfsCall.{NfsCall}
 use Rattle.nfs3_types.specs.declared.calls.NfsCall.TheVariants as calls
@@ -83,8 +83,9 @@ with_crash history = record { known = record history.known { eras = history.know
 
 -- ---- the steps
 
--- a message of a judged call that a history takes whatever is answered
+-- a message of a judged call that a history takes whatever is answered, and that a history file can hold
 pub record IsRecordable (message : List ℕ) (call : NfsCall) : Type 0 where
+  pub within : length message ≤ record_limit
   pub head : CallValue
   pub is_call : IsCall message head
   pub of_nfs : IsCallOfNfs head call
@@ -221,6 +222,8 @@ pub record Answers (old : Book) (number : ℕ) (new : Book) : Type 0 where
   pub reply : NfsReply
   pub received : step.outcome ≡ outcomes.Received reply
   pub answers : IsAnswerTo message answer reply
+  -- the same bytes as in the journal
+  pub spelled : answer ≡ reply_message recorded.xid reply
   pub durable : IsDurable (records_kept old) old.device.mark ahead step
   pub done : new ≡ record old { history = with_reply old.history number recorded.lane answer step.outcome }
 
@@ -252,13 +255,20 @@ MayBecome down condition = Unit {0}
 MayBecome dead dead = Unit {0}
 MayBecome dead condition = ⊥
 
--- a refusal changes nothing but the condition, and how often the device has failed
+-- a refusal changes nothing but the condition, how often the device has failed, and the room that is set aside for a crash; a book whose
+-- device has just failed doesn't run
 pub record Refuses (old new : Book) : Type 0 where
   pub condition : Condition
   pub faults : ℕ
+  pub spare : ℕ
   pub may_become : MayBecome old.condition condition
-  pub later : old.device.faults ≤ faults
-  pub done : new ≡ record old { condition = condition; device = record old.device { faults = faults } }
+  pub counted : (faults ≡ old.device.faults) ⊎ ((faults ≡ old.device.faults + 1) × (condition ≢ running))
+  pub done : new
+      ≡ record old {
+        history = record old.history { spare = spare };
+        device = record old.device { faults = faults };
+        condition = condition;
+      }
 
 -- one of these steps
 pub data Steps (old new : Book) : Type 0 where
@@ -270,15 +280,15 @@ pub data Steps (old new : Book) : Type 0 where
   crashes : (keep : ℕ) → Crashes old keep new → Steps old new
   refuses : Refuses old new → Steps old new
 
--- a book ahead of its first step
-abbrev pub opening_book : Book
-opening_book =
+-- a book ahead of its first step, over an empty device that has failed so often
+abbrev pub opening_book : ℕ → Book
+opening_book faults =
     record {
       history = record { known = record { root = handle_of 0; eras = 1; calls = [] }; events = []; spare = 0 };
       over = [];
       placed = [];
       made = [];
-      device = record { records = []; mark = 0; faults = 0 };
+      device = record { records = []; mark = 0; faults = faults };
       condition = running;
     }
 
