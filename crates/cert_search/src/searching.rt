@@ -15,6 +15,7 @@ use certificate::Certificate;
 use crossbeam_deque::{Stealer, Worker};
 use nfs_history::{History, KnownCalls};
 use reply_order::reply_order;
+use search_passes::plan_of;
 use search_problem::Problem;
 use seen_states::{Claimer, SeenTable};
 use std::alloc::{AllocError, Global};
@@ -163,6 +164,17 @@ fn if_witness(
     }
 }
 
+/// The plan that passes over the history come to, if it is a witness.
+fn pass_over(alloc: Global, known: &KnownCalls<'_>) -> Result<Option<Certificate>, AllocError>
+    ensures { IfOk result (λ found. IfSome found (λ plan. IsWitness known.now plan)) }
+{
+    let problem = Problem::new(alloc, known)?;
+    match plan_of(alloc, &problem)? {
+        Some(plan) => if_witness(alloc, known, plan),
+        None => Ok(None),
+    }
+}
+
 /// The plan that the workers found, or the one that follows the replies, if it is a witness.
 fn settle(
     alloc: Global,
@@ -227,7 +239,10 @@ pub fn search_calls<R: Host, G: SearchGate + Sync>(
     // Where the plan that follows the replies is a witness, one is found, memory aside.
     ensures follows { (plan : Certificate) → IsReplyOrder known.now plan → IsWitness known.now plan → IsFoundOrNoMemory result }
 {
-    search_by_branches(rt, known, workers, turns, gate)
+    match pass_over(rt.alloc(), known) {
+        Ok(Some(passed)) => SearchEnd::Found(passed),
+        Ok(None) | Err(AllocError) => search_by_branches(rt, known, workers, turns, gate),
+    }
 }
 
 /// Searches a certificate of a history, as [`search_calls`].
