@@ -9,6 +9,9 @@ use search_lessons::{Lessons, found_of, is_stable, move_of};
 use search_problem::{Found, Move, Nature, Problem};
 use std::alloc::{AllocError, Global};
 
+/// How many calls passes may fail to place, beside one in eight of all.
+const FEWEST_CONFLICTS: u64 = 200;
+
 /// How many calls may go ahead of one another in a row.
 const DEEPEST: u32 = 8;
 
@@ -271,7 +274,13 @@ impl<'p, 's, 'a> Pass<'p, 's, 'a> {
         self.look()
     }
 
-    /// Places the calls of the era.
+    /// Whether more calls couldn't be placed than passes are likely to explain.
+    pub(crate) fn is_hopeless(&self) -> bool {
+        let calls = self.problem.known().count() as u64;
+        self.notes.conflicts > FEWEST_CONFLICTS.saturating_add(calls / 8)
+    }
+
+    /// Places the calls of the era, unless it is hopeless.
     pub(crate) fn run_era(&mut self) -> Result<(), AllocError>
         requires { CanGoBack self.old.state }
         ensures { CanGoBack self.new.state }
@@ -281,6 +290,9 @@ impl<'p, 's, 'a> Pass<'p, 's, 'a> {
             let Some(number) = self.state.due() else {
                 break;
             };
+            if self.is_hopeless() {
+                break;
+            }
             self.place_due(number)?;
         }
         Ok(())

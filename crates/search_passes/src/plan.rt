@@ -12,13 +12,16 @@ use std::alloc::{AllocError, Global};
 const MOST_PASSES: u32 = 8;
 
 impl<'p, 's, 'a> Pass<'p, 's, 'a> {
-    /// Places the calls of all eras.
+    /// Places the calls of all eras, unless it is hopeless.
     fn run(&mut self) -> Result<(), AllocError>
         requires { CanGoBack self.old.state }
         ensures { CanGoBack self.new.state }
     {
         for _ in 0..self.problem.known().eras() {
             self.run_era()?;
+            if self.is_hopeless() {
+                break;
+            }
             if !self.end_era()? {
                 break;
             }
@@ -51,6 +54,9 @@ pub fn plan_of(
     for _ in 0..MOST_PASSES {
         let mut pass = Pass::begin(alloc, problem, lessons)?;
         pass.run()?;
+        if pass.is_hopeless() {
+            return Ok(None);
+        }
         if pass.notes.conflicts == 0 {
             return Ok(Some(pass.state.certificate(problem)?));
         }
