@@ -1,9 +1,10 @@
 -- what is read is the only meaning
-use Rattle.std.proofs.Common.{◌≡◌, ◌≢◌, ◌⊎◌, inl, inr, ℕ, Bool, true, false, cond, Bor, List, Option, Some, None, Result, Ok, Err, refl, sym, ap, ◌∙◌, subst}
-use Rattle.std.specs.Prelude.{◌==◌, ◌&&◌, ◌||◌, ◌<◌, ◌^◌, not, length, IfOk, OnOk, IsOkAnd}
+use Rattle.std.proofs.Common.{◌≡◌, ◌≢◌, ◌⊎◌, inl, inr, ℕ, Bool, true, false, cond, Bor, List, Option, Some, None, Result, Ok, Err, refl, sym, ap, ◌∙◌, subst, arith}
+use Rattle.std.specs.Prelude.{◌==◌, ◌&&◌, ◌||◌, ◌<◌, ◌≤◌, ◌^◌, not, length, IfOk, OnOk, IsOkAnd}
 use Rattle.std.proofs.lemmas.Bool.{eqb-true, eq-eqb}
 use Rattle.xdr_records.specs.Spelling.{Spells}
 use Rattle.xdr_records.specs.Reading.{all_of}
+use Rattle.xdr_records.specs.Record.{record_limit}
 use Rattle.xdr_records.proofs.Answering.{answered_found, answered_only}
 use Rattle.rpc_reader.specs.declared.fault.RpcFault.{RpcFault}
 use Rattle.rpc_reader.specs.declared.call.CallHead.{CallHead}
@@ -235,6 +236,9 @@ module _ (call reply : List ℕ) where
             all_pass _ _ _ _ (eq-eqb change.head.program 100003 nfs.program) (eq-eqb change.head.version 3 nfs.version) (isnt_eq change.head.flavor 6 nfs.credential) change.changing;
       }
 
+  pub too_long : record_limit < length call → MeansNothing Changes
+  too_long over c change = omega (arith, over, change.within)
+
   pub none_asked : MeansNothing (AsksChange call) → MeansNothing Changes
   none_asked none c change = none change.head (asks c change)
 
@@ -265,14 +269,15 @@ module _ (call reply : List ℕ) where
       pub no_success_answered : MeansNothing (IsSuccess head.procedure results) → MeansNothing Changes
       no_success_answered none c change = none c.1 (answered_so c change)
 
-      pub changed_so : (asked : NfsCall) (answer : NfsReply) → IsOnly (IsAsked head.procedure head.args) asked → IsOnly (IsSuccess head.procedure results) answer → IsOnly Changes (asked, answer)
-      changed_so asked answer a b = record { means = made; only = λ c change. (λ i. (a.only c.0 (asked_so c change) i, b.only c.1 (answered_so c change) i)) } where
+      pub changed_so : (asked : NfsCall) (answer : NfsReply) → length call ≤ record_limit → IsOnly (IsAsked head.procedure head.args) asked → IsOnly (IsSuccess head.procedure results) answer → IsOnly Changes (asked, answer)
+      changed_so asked answer fits a b = record { means = made; only = λ c change. (λ i. (a.only c.0 (asked_so c change) i, b.only c.1 (answered_so c change) i)) } where
         made : Changes (asked, answer)
         made =
             let all = both_pass _ _ is.means.change in
             let three = both_pass _ _ all.0 in
             let two = both_pass _ _ three.0 in
             record {
+              within = fits;
               head = head;
               asked = is.means.asked;
               of_nfs = record {

@@ -1,9 +1,10 @@
 -- A record of a server's journal: a call that changed the tree, with its reply (this project's own, in the items of RFC 4506).
-use Rattle.std.specs.Prelude.{◌≡◌, ◌==◌, ◌||◌, ℕ, ◌<◌, ◌^◌, Bool, true, List, ◌++◌, length, None}
+use Rattle.std.specs.Prelude.{◌≡◌, ◌==◌, ◌||◌, ℕ, ◌<◌, ◌≤◌, ◌^◌, Bool, true, List, ◌++◌, length, None}
 use Rattle.xdr_records.specs.Grammar.{Grammar, ◌>>=◌}
 use Rattle.xdr_records.specs.Grammar.Grammar.{one_long, nothing}
 use Rattle.xdr_records.specs.Spelling.{Spells}
 use Rattle.xdr_records.specs.Texts.{long_text, opaque_text}
+use Rattle.xdr_records.specs.Record.{record_limit}
 use Rattle.rpc_reader.specs.Values.{CallValue}
 use Rattle.rpc_reader.specs.Values.Body.{success}
 use Rattle.rpc_reader.specs.Messages.{IsCall, IsReply}
@@ -37,9 +38,10 @@ abbrev pub is_changing : ℕ → Bool
 is_changing procedure =
     procedure == 2 || procedure == 7 || procedure == 8 || procedure == 9 || procedure == 10 || procedure == 12 || procedure == 13 || procedure == 14
 
--- the messages are a call that changes the tree, of which a history can be read whatever its reply, and a reply to it that is a
--- success of its procedure
+-- the messages are a call that changes the tree, which a history file can hold and of which a history can be read whatever its reply, and a
+-- reply to it that is a success of its procedure
 pub record IsChange (call_message reply_message : List ℕ) (call : NfsCall) (reply : NfsReply) : Type 0 where
+  pub within : length call_message ≤ record_limit
   pub head : CallValue
   pub asked : IsCall call_message head
   pub of_nfs : IsCallOfNfs head call

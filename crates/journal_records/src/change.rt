@@ -9,6 +9,7 @@ use crate::parts::{call_of, head_of, reply_of, results_of};
 use crate::text::{JournalRecord, read_text};
 use nfs3_types::{NfsCall, NfsReply};
 use std::alloc::Global;
+use xdr_records::RECORD_LIMIT;
 
 /// A call that changed the tree, with its reply.
 #[derive(Drop)]
@@ -23,6 +24,9 @@ pub struct Change {
 fn change_of(alloc: Global, call: &[u8], reply: &[u8]) -> Result<(NfsCall, NfsReply), RecordFault>
     ensures { Exactly (λ c. IsChange call.now reply.now c.0 c.1) result }
 {
+    if call.len() > RECORD_LIMIT {
+        return Err(RecordFault::NoRecord);
+    }
     let Some(head) = head_of(call) else {
         return Err(RecordFault::NoRecord);
     };

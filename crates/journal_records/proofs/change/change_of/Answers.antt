@@ -1,6 +1,7 @@
+use Rattle.std.proofs.Common.{arith}
 use Rattle.rpc_reader.specs.Views.{call_value}
 use Rattle.journal_records.specs.Parts.{IsSuccess}
-use Rattle.journal_records.proofs.Meanings.{Changes, fault_on, none_answered, no_success_answered, changed_so}
+use Rattle.journal_records.proofs.Meanings.{Changes, fault_on, none_answered, no_success_answered, changed_so, too_long}
 use Rattle.journal_records.proofs.change.change_of.Goals as goal
 
 pub returns-in_default-results_of : goal.returns-in_default-results_of
@@ -19,4 +20,7 @@ returns-in-Err c =
 pub returns-in-Ok : goal.returns-in-Ok
 returns-in-Ok c =
     changed_so c.args.call.now c.args.reply.now (call_value c.in-Some.head) c.in-Some.ensures c.in-Some-results_of.results.now c.in-Some-results_of.ensures c.in_ok-asked.asked
-    c.in-Ok.answer c.in_ok-asked.ensures c.in-Ok.ensures
+    c.in-Ok.answer (omega (arith, c.if-call-gt-RECORD_LIMIT.false)) c.in_ok-asked.ensures c.in-Ok.ensures
+
+pub returns-then-call-gt-RECORD_LIMIT : goal.returns-then-call-gt-RECORD_LIMIT
+returns-then-call-gt-RECORD_LIMIT c = too_long c.args.call.now c.args.reply.now (omega (arith, c.if-call-gt-RECORD_LIMIT.true))
