@@ -1,30 +1,38 @@
 #!/usr/bin/env python3
-"""Writes the cases of crates/stored_searches: make_searches.py ROWS FOLDER.
+"""Writes the cases of crates/stored_searches: make_searches.py HISTORIES FOLDER.
 
-ROWS is a folder of histories NAME.hist. What is wanted of each is said here: by the profile rows 1, 3, 5 and 12 have a witness, and
-row 4 has none; crashes-120-4 and lanes-200-3 were made with a certificate each, by clients of a model of a server. The order of the
-replies explains neither of these two, and one turn is too few to search either by branches.
+HISTORIES is a folder of history files NAME.hist. What is wanted of each is said here, by the profile:
+
+read-back               a WRITE, and a READ by another client behind it: it has a witness
+overlapping-read        a WRITE on its way while a READ shows the bytes ahead of it: it has one
+stale-read              a READ that begins behind the WRITE's reply, and shows the bytes ahead of it: it has none
+unstable-write-lost     a crash that took a WRITE answered UNSTABLE: it has one, which the order of the replies isn't
+unanswered-remove-lost  a REMOVE without a reply ahead of a crash, and the file behind it: it has one
+crashes-120-4, lanes-200-3  made with a certificate each, by clients of a model of a server. The order of the replies explains neither,
+                        and eight turns are too few to search either by branches
 """
 import pathlib
 import sys
 
+FOUND = ("read-back", "overlapping-read", "unstable-write-lost", "unanswered-remove-lost")
 CASES = [
     # name, history, workers, turns, wanted
-    *((f"{row}-{workers}", row, workers, 100_000, "found") for row in ("row-01", "row-03a", "row-05", "row-12a") for workers in (1, 4)),
-    ("row-04a-1", "row-04a", 1, 100_000, "not found"),
-    ("row-04a-4", "row-04a", 4, 100_000, "not found"),
-    ("crashes-120-4", "crashes-120-4", 1, 1, "found"),
-    ("lanes-200-3", "lanes-200-3", 4, 1, "found"),
-    ("row-04a-one-turn", "row-04a", 1, 1, "out of turns"),
+    *((f"{history}-{workers}", history, workers, 100_000, "found") for history in FOUND for workers in (1, 4)),
+    ("stale-read-1", "stale-read", 1, 100_000, "not found"),
+    ("stale-read-4", "stale-read", 4, 100_000, "not found"),
+    ("unstable-write-lost-one-turn", "unstable-write-lost", 1, 1, "out of turns"),
+    ("stale-read-one-turn", "stale-read", 1, 1, "out of turns"),
+    ("crashes-120-4", "crashes-120-4", 1, 8, "found"),
+    ("lanes-200-3", "lanes-200-3", 4, 8, "found"),
 ]
 
 
 def main() -> None:
-    rows, folder = map(pathlib.Path, sys.argv[1:3])
+    histories, folder = map(pathlib.Path, sys.argv[1:3])
     with open(folder / "stdin", "w") as given, open(folder / "stdout", "w") as wanted:
-        for name, row, workers, turns, answer in CASES:
-            history = (rows / f"{row}.hist").read_bytes().hex()
-            given.write(f"{name} {workers} {turns} {history}\n")
+        for name, history, workers, turns, answer in CASES:
+            events = (histories / f"{history}.hist").read_bytes().hex()
+            given.write(f"{name} {workers} {turns} {events}\n")
             wanted.write(f"{name}: {answer}\n")
 
 

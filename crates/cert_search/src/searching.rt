@@ -164,12 +164,16 @@ fn if_witness(
     }
 }
 
-/// The plan that passes over the history come to, if it is a witness.
-fn pass_over(alloc: Global, known: &KnownCalls<'_>) -> Result<Option<Certificate>, AllocError>
+/// The plan that at most so many passes over the history come to, if it is a witness.
+fn pass_over(
+    alloc: Global,
+    known: &KnownCalls<'_>,
+    turns: u64,
+) -> Result<Option<Certificate>, AllocError>
     ensures { IfOk result (λ found. IfSome found (λ plan. IsWitness known.now plan)) }
 {
     let problem = Problem::new(alloc, known)?;
-    match plan_of(alloc, &problem)? {
+    match plan_of(alloc, &problem, turns)? {
         Some(plan) => if_witness(alloc, known, plan),
         None => Ok(None),
     }
@@ -224,8 +228,8 @@ pub fn search_by_branches<R: Host, G: SearchGate + Sync>(
     }
 }
 
-/// Searches a certificate of the history that these calls are of: by passes over it, and where these come to none by branches, as
-/// [`search_by_branches`].
+/// Searches a certificate of the history that these calls are of: by passes over it, eight at most and no more than `turns`, and where
+/// these come to none by branches, as [`search_by_branches`].
 pub fn search_calls<R: Host, G: SearchGate + Sync>(
     rt: &R,
     known: &KnownCalls<'_>,
@@ -239,7 +243,7 @@ pub fn search_calls<R: Host, G: SearchGate + Sync>(
     // Where the plan that follows the replies is a witness, one is found, memory aside.
     ensures follows { (plan : Certificate) → IsReplyOrder known.now plan → IsWitness known.now plan → IsFoundOrNoMemory result }
 {
-    match pass_over(rt.alloc(), known) {
+    match pass_over(rt.alloc(), known, turns) {
         Ok(Some(passed)) => SearchEnd::Found(passed),
         Ok(None) | Err(AllocError) => search_by_branches(rt, known, workers, turns, gate),
     }

@@ -8,8 +8,8 @@ use search_lessons::Lessons;
 use search_problem::Problem;
 use std::alloc::{AllocError, Global};
 
-/// How many passes are made.
-const MOST_PASSES: u32 = 8;
+/// How many passes are made, at most.
+const MOST_PASSES: u64 = 8;
 
 impl<'p, 's, 'a> Pass<'p, 's, 'a> {
     /// Places the calls of all eras, unless it is hopeless.
@@ -45,13 +45,14 @@ impl<'p, 's, 'a> Pass<'p, 's, 'a> {
     }
 }
 
-/// A plan in which each call of a history has a place that was legal, where the passes come to one.
+/// A plan in which each call of a history has a place that was legal, where so many passes come to one, or eight, whichever are fewer.
 pub fn plan_of(
     alloc: Global,
     problem: &Problem<'_, '_>,
+    turns: u64,
 ) -> Result<Option<Certificate>, AllocError> {
     let mut lessons = Lessons::new(alloc);
-    for _ in 0..MOST_PASSES {
+    for _ in 0..turns.min(MOST_PASSES) {
         let mut pass = Pass::begin(alloc, problem, lessons)?;
         pass.run()?;
         if pass.is_hopeless() {
