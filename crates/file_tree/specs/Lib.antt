@@ -3,4 +3,5 @@ pub mod Written
 pub mod Removed
 pub mod Change
 pub mod Success
+pub mod Allows
 pub mod Planning

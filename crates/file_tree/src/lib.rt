@@ -1,6 +1,7 @@
 //! The file tree that the calls of NFS version 3 act on, and the tree after a call with its outcome.
 #![tactic(auto)]
 
+mod allowed;
 mod create;
 mod naming;
 mod plan;

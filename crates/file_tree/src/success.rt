@@ -213,7 +213,7 @@ fn change_received<'a>(
 }
 
 /// The call is taken as done.
-fn change_taken<'a>(
+pub(crate) fn change_taken<'a>(
     alloc: Global,
     view: &View<'_>,
     number: u64,

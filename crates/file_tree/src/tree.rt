@@ -1,14 +1,16 @@
 //! The file tree, stepped by the calls of a history and taken back.
 
-ghost use Rattle.std.specs.Prelude.{◌≡◌, OnOk, OnErr, IfOk};
+ghost use Rattle.std.specs.Prelude.{◌≡◌, ◌↔◌, OnOk, OnErr, IfOk, IsTrue};
 ghost use Rattle.tree_nodes.specs.Tree.{opening};
 ghost use Rattle.tree_nodes.specs.Undo.{TakesBack, held_nodes};
+ghost use Rattle.file_tree.specs.Allows.{AllowsSuccess};
 ghost use Rattle.file_tree.specs.Change.{Change};
 ghost use Rattle.file_tree.specs.Planning.{Does};
 ghost use Rattle.file_tree.specs.Success.{changed, next_tree};
 ghost use Rattle.tree_nodes.specs.Printed.{tree_text, IsPrintable};
 ghost use Rattle.tree_nodes.specs.Unprinted.{same_text};
 
+use crate::allowed::may_succeed;
 use crate::plan::Plan;
 use crate::success::change_of;
 use nfs3_types::{NfsCall, Outcome};
@@ -77,6 +79,19 @@ impl FileTree {
 }
 
 impl FileTree {
+    /// Whether call number `number` may succeed: some success of its procedure has a next tree. For a LOOKUP of an
+    /// object whose handle isn't its number in eight bytes it goes over all handles; what else it takes doesn't grow
+    /// with them.
+    pub fn allows(&self, binds: &Binds, number: u64, call: &NfsCall) -> Result<bool, AllocError>
+        ensures { IfOk result (λ allowed. IsTrue allowed ↔ AllowsSuccess binds.now self.now number call.now) }
+    {
+        let view = View {
+            binds,
+            nodes: &self.nodes,
+        };
+        may_succeed(self.alloc, &view, number, call)
+    }
+
     /// Its nodes.
     pub fn nodes(&self) -> &Nodes
         ensures { result.now ≡ self.now }

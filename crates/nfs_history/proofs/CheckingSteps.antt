@@ -1,10 +1,9 @@
 -- Events are checked one after the other.
-use Rattle.std.proofs.Common.{◌≡◌, ◌==◌, ◌||◌, ◌&&◌, inl, inr, ℕ, ◌+◌, length-take-le, ◌<◌, ◌≤◌, Bool, true, false, not, cond, nat_eq, List, [], ◌∷◌, ◌++◌, length, take, drop, get_or, Option, Some, None, is_some, refl, sym, ap, subst, ◌∙◌, arith, drop-cons, add-one}
+use Rattle.std.proofs.Common.{◌≡◌, ◌==◌, ◌||◌, ◌&&◌, inl, inr, ℕ, ◌+◌, length-take-le, ◌<◌, ◌≤◌, Bool, true, false, not, cond, nat_eq, List, [], ◌∷◌, ◌++◌, length, take, drop, get_or, Option, Some, None, is_some, refl, sym, ap, subst, ◌∙◌, arith, drop-cons, add-one, map, length-append}
 use Rattle.std.specs.List.{list_any}
 use Rattle.std.specs.HashMap.{get}
-use Rattle.std.specs.HashSet.{contains}
 use Rattle.std.proofs.lemmas.Bool.{eqb-true, eq-eqb, ne_eqb}
-use Rattle.std.proofs.lemmas.List.{length-map, take_more, map_push, drop_all}
+use Rattle.std.proofs.lemmas.List.{length-map, take_more, map_push, drop_all, take_all}
 use Rattle.history_file.specs.declared.event.SeenEvent.{SeenEvent}
 use Rattle.history_file.specs.Owning.{seen_event, all_seen}
 use Rattle.history_file.specs.Event.{Event}
@@ -13,12 +12,14 @@ use Rattle.nfs_history.specs.declared.fault.EventFault.{EventFault}
 use Rattle.nfs_history.specs.declared.checking.LaneUse.{LaneUse}
 use Rattle.nfs_history.specs.declared.checking.LaneUse.TheVariants as uses
 use Rattle.nfs_history.specs.declared.checking.OpenCalls.{OpenCalls}
-use Rattle.nfs_history.specs.Calls.{xid_of, eras_from}
+use Rattle.nfs_history.specs.Appending.{IsQuiet}
+use Rattle.nfs_history.specs.Calls.{CallEvent, xid_of, calls_of, eras_from}
 use Rattle.nfs_history.specs.Matching.{same_key}
-use Rattle.nfs_history.specs.Standing.{is_unanswered, MayFollow, EachMayFollow}
+use Rattle.nfs_history.specs.Standing.{is_unanswered, has_unanswered, MayFollow, EachMayFollow}
 use Rattle.nfs_history.specs.EventFaults.{IsAtFault, FirstEventFault}
-use Rattle.nfs_history.specs.Checking.{is_on, is_close_of, is_crash, was_closed, is_shut, is_known_closed, Knows}
-use Rattle.nfs_history.proofs.Unanswered.{any-call, any-reply, calls_from-quiet, cond_or, cond_and, or_false, and_true}
+use Rattle.nfs_history.specs.Checking.{is_on, is_close_of, is_crash, was_closed, is_shut, is_known_closed, is_place, AnswersWait, Knows, AreKnownToFollow}
+use Rattle.nfs_history.proofs.Unanswered.{any-call, any-reply, calls_from-quiet, or_false, and_true}
+use Rattle.nfs_history.proofs.Waiting.{new_call, calls_from-call, answered_if, reply_at, calls_from-reply, waits-one, none_waits, waits-answered}
 use Rattle.nfs_history.proofs.Lanes.{or_true, any_push, closed_push, eras_quiet, eras_crash, eras_few, is_open}
 
 -- ---- the lanes behind one more event
@@ -34,7 +35,7 @@ quiet_or a c x k e f = rw (e, f) (go a x) where
   go false true = refl
   go false false = refl
 
-some_or : (b : Bool) (u : LaneUse) (o : Option LaneUse) → is_some (cond b (Some u) o) ≡ is_some o || b
+some_or : {A : Type 0} → (b : Bool) (u : A) (o : Option A) → is_some (cond b (Some u) o) ≡ is_some o || b
 some_or true u o = sym (or_true (is_some o))
 some_or false u o = sym (or_false (is_some o))
 
@@ -72,33 +73,122 @@ in_order_used before old new lane era updates knows l last is = go (nat_eq lane 
 era_more : (before : List Event) (old new : OpenCalls) (e : Event) → new.era ≡ old.era → is_crash e ≡ false → Knows old before → new.era ≡ eras_from 1 (before ++ e ∷ [])
 era_more before old new e era quiet knows = era ∙ knows.era ∙ sym (eras_quiet 1 before e quiet)
 
+-- ---- where the unanswered calls stand
+
+-- the place of an unanswered call once another one stands, or none, at a key
+abbrev PlacedSo : OpenCalls → OpenCalls → ℕ × ℕ → Option ℕ → Type 0
+PlacedSo old new key place = (q : ℕ × ℕ) → get same_key new.unanswered q ≡ cond (same_key key q) place (get same_key old.unanswered q)
+
+none_or : {A : Type 0} → (b : Bool) (o : Option A) → is_some (cond b None o) ≡ is_some o && not b
+none_or true o = sym (and_false (is_some o)) where
+  and_false : (b : Bool) → b && false ≡ false
+  and_false true = refl
+  and_false false = refl
+none_or false o = sym (and_true (is_some o))
+
+same_parts : (lane xid l x : ℕ) → same_key (lane, xid) (l, x) ≡ true → (lane ≡ l) × (xid ≡ x)
+same_parts lane xid l x is = go (lane == l) refl is where
+  go : (b : Bool) → (lane == l) ≡ b → b && (xid == x) ≡ true → (lane ≡ l) × (xid ≡ x)
+  go true on of = (eqb-true lane l on, eqb-true xid x of)
+  go false on of = absurd (cc)
+
+not_there : (k : ℕ) (o : Option ℕ) → ((place : ℕ) → o ≡ Some place → place < k) → is_place k o ≡ false
+not_there k None within = refl
+not_there k (Some place) within = let lt : place < k = within place refl in ne_eqb k place (λ same. omega arith)
+
+places_call : (before : List Event) (old new : OpenCalls) (lane : ℕ) (message : List ℕ) → PlacedSo old new (lane, xid_of message) (Some old.calls)
+    → Knows old before → has_unanswered lane (xid_of message) before ≡ false
+    → (l x : ℕ) → AnswersWait l x (get same_key new.unanswered (l, x)) 0 (calls_of (before ++ call lane message ∷ []))
+places_call before old new lane message updates knows free l x =
+    subst (AnswersWait l x (get same_key new.unanswered (l, x)) 0) (sym (calls_from-call 1 1 before lane message))
+    (subst (λ o. AnswersWait l x o 0 (calls_of before ++ new_call lane message (1 + length before) (eras_from 1 before) ∷ [])) (sym (updates (l, x))) (go (same_key (lane, xid_of message) (l, x)) refl)) where
+      behind : 0 + length (calls_of before) ≡ old.calls
+      behind = omega (arith, knows.calls)
+
+      go : (b : Bool) → same_key (lane, xid_of message) (l, x) ≡ b → AnswersWait l x (cond b (Some old.calls) (get same_key old.unanswered (l, x))) 0 (calls_of before ++ new_call lane message (1 + length before) (eras_from 1 before) ∷ [])
+      go true is =
+          let parts = same_parts lane (xid_of message) l x is in
+          let none : has_unanswered l x before ≡ false = subst (λ n. has_unanswered n x before ≡ false) parts.0 (subst (λ n. has_unanswered lane n before ≡ false) parts.1 free) in
+          waits-one l x 0 (Some old.calls) (calls_of before) (new_call lane message (1 + length before) (eras_from 1 before)) (none_waits l x 0 old.calls (calls_of before) none (omega (arith, behind)))
+          (and_true (same_key (lane, xid_of message) (l, x)) ∙ is ∙ sym (eq-eqb (0 + length (calls_of before)) old.calls behind))
+      go false is =
+          waits-one l x 0 (get same_key old.unanswered (l, x)) (calls_of before) (new_call lane message (1 + length before) (eras_from 1 before)) (knows.places l x)
+          (and_true (same_key (lane, xid_of message) (l, x)) ∙ is
+          ∙ sym (not_there (0 + length (calls_of before)) (get same_key old.unanswered (l, x)) (λ place at. omega (arith, behind, knows.within l x place at))))
+
+within_call : (before : List Event) (old new : OpenCalls) (key : ℕ × ℕ) → PlacedSo old new key (Some old.calls) → new.calls ≡ old.calls + 1 → Knows old before
+    → (l x place : ℕ) → get same_key new.unanswered (l, x) ≡ Some place → place < new.calls
+within_call before old new key updates more knows l x place is = go (same_key key (l, x)) (sym (updates (l, x)) ∙ is) where
+  go : (b : Bool) → cond b (Some old.calls) (get same_key old.unanswered (l, x)) ≡ Some place → place < new.calls
+  go true at = let last : old.calls ≡ place = cc in omega (arith, last, more)
+  go false at = omega (arith, knows.within l x place at, more)
+
+places_reply : (before : List Event) (old new : OpenCalls) (lane : ℕ) (message : List ℕ) → PlacedSo old new (lane, xid_of message) None → Knows old before
+    → (l x : ℕ) → AnswersWait l x (get same_key new.unanswered (l, x)) 0 (calls_of (before ++ reply lane message ∷ []))
+places_reply before old new lane message updates knows l x =
+    subst (AnswersWait l x (get same_key new.unanswered (l, x)) 0) (sym (calls_from-reply 1 1 before lane message))
+    (subst (λ o. AnswersWait l x o 0 (map (answered_if lane (xid_of message) (reply_at (1 + length before) message)) (calls_of before))) (sym (updates (l, x)))
+    (waits-answered lane (xid_of message) l x 0 (reply_at (1 + length before) message) (get same_key old.unanswered (l, x)) (calls_of before) (knows.places l x)))
+
+within_reply : (before : List Event) (old new : OpenCalls) (key : ℕ × ℕ) → PlacedSo old new key None → new.calls ≡ old.calls → Knows old before
+    → (l x place : ℕ) → get same_key new.unanswered (l, x) ≡ Some place → place < new.calls
+within_reply before old new key updates same knows l x place is = go (same_key key (l, x)) (sym (updates (l, x)) ∙ is) where
+  go : (b : Bool) → cond b None (get same_key old.unanswered (l, x)) ≡ Some place → place < new.calls
+  go true at = absurd (cc)
+  go false at = omega (arith, knows.within l x place at, same)
+
 -- ---- one more event is known
 
 pub knows_call : (before : List Event) (old new : OpenCalls) (lane : ℕ) (message : List ℕ) → new.era ≡ old.era → UsedSo old new lane (uses.InEra old.era)
-    → ((q : ℕ × ℕ) → contains same_key new.unanswered q ≡ cond (same_key (lane, xid_of message) q) true (contains same_key old.unanswered q))
+    → PlacedSo old new (lane, xid_of message) (Some old.calls) → new.calls ≡ old.calls + 1
     → Knows old before → MayFollow before (call lane message) → Knows new (before ++ call lane message ∷ [])
-knows_call before old new lane message era used updates knows may = record {
-  unanswered = λ l x. updates (l, x) ∙ cond_or (same_key (lane, xid_of message) (l, x)) (contains same_key old.unanswered (l, x))
+knows_call before old new lane message era used updates more knows may = record {
+  unanswered = λ l x. ap is_some (updates (l, x)) ∙ some_or (same_key (lane, xid_of message) (l, x)) old.calls (get same_key old.unanswered (l, x))
       ∙ ap (λ b. b || same_key (lane, xid_of message) (l, x)) (knows.unanswered l x)
       ∙ sym (any-call l x 1 1 before lane message);
+  places = places_call before old new lane message updates knows may.2;
+  within = within_call before old new (lane, xid_of message) updates more knows;
+  calls = more ∙ ap (λ n. n + 1) knows.calls ∙ sym (ap length (calls_from-call 1 1 before lane message) ∙ length_push (calls_of before));
   closed = open_more before old new lane (call lane message) era used (λ l. refl) refl (is_open lane before may.0) knows;
   used = used_more before old new lane (uses.InEra old.era) (call lane message) used (λ l. refl) knows;
   in_order = in_order_used before old new lane era used knows;
   era = era_more before old new (call lane message) era refl knows;
-}
+} where
+  length_push : (calls : List CallEvent) → length (calls ++ new_call lane message (1 + length before) (eras_from 1 before) ∷ []) ≡ length calls + 1
+  length_push calls = length-append calls (new_call lane message (1 + length before) (eras_from 1 before) ∷ [])
 
 pub knows_reply : (before : List Event) (old new : OpenCalls) (lane : ℕ) (message : List ℕ) → new.era ≡ old.era → UsedSo old new lane (uses.InEra old.era)
-    → ((q : ℕ × ℕ) → contains same_key new.unanswered q ≡ cond (same_key (lane, xid_of message) q) false (contains same_key old.unanswered q))
+    → PlacedSo old new (lane, xid_of message) None → new.calls ≡ old.calls
     → Knows old before → MayFollow before (reply lane message) → Knows new (before ++ reply lane message ∷ [])
-knows_reply before old new lane message era used updates knows may = record {
-  unanswered = λ l x. updates (l, x) ∙ cond_and (same_key (lane, xid_of message) (l, x)) (contains same_key old.unanswered (l, x))
+knows_reply before old new lane message era used updates same knows may = record {
+  unanswered = λ l x. ap is_some (updates (l, x)) ∙ none_or (same_key (lane, xid_of message) (l, x)) (get same_key old.unanswered (l, x))
       ∙ ap (λ b. b && not (same_key (lane, xid_of message) (l, x))) (knows.unanswered l x)
       ∙ sym (any-reply l x 1 1 before lane message);
+  places = places_reply before old new lane message updates knows;
+  within = within_reply before old new (lane, xid_of message) updates same knows;
+  calls = same ∙ knows.calls ∙ sym (ap length (calls_from-reply 1 1 before lane message) ∙ length-map (calls_of before) (answered_if lane (xid_of message) (reply_at (1 + length before) message)));
   closed = open_more before old new lane (reply lane message) era used (λ l. refl) refl (is_open lane before may.0) knows;
   used = used_more before old new lane (uses.InEra old.era) (reply lane message) used (λ l. refl) knows;
   in_order = in_order_used before old new lane era used knows;
   era = era_more before old new (reply lane message) era refl knows;
 }
+
+-- a close and a crash leave the calls as they are
+places_quiet : (before : List Event) (old new : OpenCalls) (e : Event) → IsQuiet e → new.unanswered ≡ old.unanswered → Knows old before
+    → (l x : ℕ) → AnswersWait l x (get same_key new.unanswered (l, x)) 0 (calls_of (before ++ e ∷ []))
+places_quiet before old new e quiet same knows l x =
+    subst (AnswersWait l x (get same_key new.unanswered (l, x)) 0) (sym (calls_from-quiet 1 1 before e quiet))
+    (subst (λ s. AnswersWait l x (get same_key s (l, x)) 0 (calls_of before)) (sym same) (knows.places l x))
+
+within_quiet : (before : List Event) (old new : OpenCalls) → new.unanswered ≡ old.unanswered → new.calls ≡ old.calls → Knows old before
+    → (l x place : ℕ) → get same_key new.unanswered (l, x) ≡ Some place → place < new.calls
+within_quiet before old new same count knows l x place is =
+    omega (arith, count, knows.within l x place (ap (λ s. get same_key s (l, x)) (sym same) ∙ is))
+
+unanswered_quiet : (before : List Event) (old new : OpenCalls) (e : Event) → IsQuiet e → new.unanswered ≡ old.unanswered → Knows old before
+    → (l x : ℕ) → is_some (get same_key new.unanswered (l, x)) ≡ has_unanswered l x (before ++ e ∷ [])
+unanswered_quiet before old new e quiet same knows l x =
+    ap (λ s. is_some (get same_key s (l, x))) same ∙ knows.unanswered l x ∙ ap (list_any (is_unanswered l x)) (sym (calls_from-quiet 1 1 before e quiet))
 
 -- the lane that is closed, and no other
 shut_more : (before : List Event) (old new : OpenCalls) (lane : ℕ) → new.era ≡ old.era → UsedSo old new lane uses.Closed → Knows old before
@@ -121,10 +211,13 @@ in_order_shut before old new lane era updates knows l last is = go (nat_eq lane 
   go true same = absurd (cc)
   go false same = omega (arith, knows.in_order l last same, era)
 
-pub knows_close : (before : List Event) (old new : OpenCalls) (lane : ℕ) → new.era ≡ old.era → new.unanswered ≡ old.unanswered → UsedSo old new lane uses.Closed
+pub knows_close : (before : List Event) (old new : OpenCalls) (lane : ℕ) → new.era ≡ old.era → new.unanswered ≡ old.unanswered → new.calls ≡ old.calls → UsedSo old new lane uses.Closed
     → Knows old before → Knows new (before ++ close lane ∷ [])
-knows_close before old new lane era same used knows = record {
-  unanswered = λ l x. ap (λ s. contains same_key s (l, x)) same ∙ knows.unanswered l x ∙ ap (list_any (is_unanswered l x)) (sym (calls_from-quiet 1 1 before (close lane) tt));
+knows_close before old new lane era same count used knows = record {
+  unanswered = unanswered_quiet before old new (close lane) tt same knows;
+  places = places_quiet before old new (close lane) tt same knows;
+  within = within_quiet before old new same count knows;
+  calls = count ∙ knows.calls ∙ ap length (sym (calls_from-quiet 1 1 before (close lane) tt));
   closed = shut_more before old new lane era used knows;
   used = used_more before old new lane uses.Closed (close lane) used (λ l. refl) knows;
   in_order = in_order_shut before old new lane era used knows;
@@ -149,9 +242,12 @@ cut_more before old new era same knows l =
     ∙ ap (λ b. was_closed l before || b) (sym (and_true (list_any (is_on l) before)))
     ∙ sym (closed_push l before crash)
 
-pub knows_crash : (before : List Event) (old new : OpenCalls) → new.era ≡ old.era + 1 → new.unanswered ≡ old.unanswered → new.lanes ≡ old.lanes → Knows old before → Knows new (before ++ crash ∷ [])
-knows_crash before old new era same lanes knows = record {
-  unanswered = λ l x. ap (λ s. contains same_key s (l, x)) same ∙ knows.unanswered l x ∙ ap (list_any (is_unanswered l x)) (sym (calls_from-quiet 1 1 before crash tt));
+pub knows_crash : (before : List Event) (old new : OpenCalls) → new.era ≡ old.era + 1 → new.unanswered ≡ old.unanswered → new.calls ≡ old.calls → new.lanes ≡ old.lanes → Knows old before → Knows new (before ++ crash ∷ [])
+knows_crash before old new era same count lanes knows = record {
+  unanswered = unanswered_quiet before old new crash tt same knows;
+  places = places_quiet before old new crash tt same knows;
+  within = within_quiet before old new same count knows;
+  calls = count ∙ knows.calls ∙ ap length (sym (calls_from-quiet 1 1 before crash tt));
   closed = cut_more before old new era lanes knows;
   used = λ l. ap (λ m. is_some (get nat_eq m l)) lanes ∙ knows.used l ∙ sym (any_push (is_on l) before crash ∙ or_false (list_any (is_on l) before));
   in_order = λ l last is. let so_far : last ≤ old.era = knows.in_order l last (ap (λ m. get nat_eq m l) (sym lanes) ∙ is) in omega (arith, era);
@@ -183,8 +279,9 @@ checked_more events i d old new lt follows knows so_far =
       knows = rw taken knows;
     }
 
-pub all_checked : (events : List SeenEvent) (i : ℕ) (known : OpenCalls) → length events ≤ i → IsCheckedTo events i known → EachMayFollow [] (all_seen events)
-all_checked events i known le so_far = so_far.others (rw (drop_all i events le) tt)
+pub all_checked : (events : List SeenEvent) (i : ℕ) (known : OpenCalls) → length events ≤ i → IsCheckedTo events i known → AreKnownToFollow (all_seen events) known
+all_checked events i known le so_far =
+    (so_far.others (rw (drop_all i events le) tt), subst (λ es. Knows known (all_seen es)) (take_all i events le) so_far.knows)
 
 -- the event behind those that were checked is at fault
 pub first_here : (events : List SeenEvent) (i : ℕ) (d : SeenEvent) (known : OpenCalls) (fault : EventFault) → i < length events

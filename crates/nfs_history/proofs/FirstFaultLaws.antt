@@ -55,7 +55,7 @@ pub fault_or_calls : (seen : Recording) (fault : HistoryFault) (known : CallsVal
 fault_or_calls seen fault known (inl h) is = first_fault_or_fine [] seen.events h.0 h.1 is.follow
 fault_or_calls seen fault known (inr h) is = first_call_fault_or_fine 1 (calls_of seen.events) h.0 h.2 (all_fine (calls_of seen.events) known.calls is.calls)
 
-one_first_of : (events : List Event) (f g : HistoryFault) → FirstFaultOf events f → FirstFaultOf events g → f ≡ g
+pub one_first_of : (events : List Event) (f g : HistoryFault) → FirstFaultOf events f → FirstFaultOf events g → f ≡ g
 one_first_of events f g (inl x) (inl y) = x.2 ∙ ap of_event (one_first_fault [] events x.0 y.0 x.1 y.1) ∙ sym y.2
 one_first_of events f g (inl x) (inr y) = absurd (first_fault_or_fine [] events x.0 x.1 y.1)
 one_first_of events f g (inr x) (inl y) = absurd (first_fault_or_fine [] events y.0 y.1 x.1)
@@ -100,6 +100,10 @@ named_of calls bytes (Err other) found (inr is) fault first = inr (one_first byt
 pub found_in : {X : Type 0} → (IsOf : Recording → X → Type 0) (bytes : List ℕ) (seen : Recording) (r : Result X HistoryFault) → HistoryFile bytes seen → IfOk r (IsOf seen) → IfOk r (λ x. (s : Recording) × HistoryFile bytes s × IsOf s x)
 found_in IsOf bytes seen (Ok x) file found = (seen, file, found)
 found_in IsOf bytes seen (Err fault) file found = tt
+
+pub history_found : (bytes : List ℕ) (seen : Recording) (r : Result HistoryValue HistoryFault) → HistoryFile bytes seen → IfOk r (IsHistory seen) → IfOk r (λ h. h.spare ≡ 0) → IfOk r (IsHistoryFile bytes)
+history_found bytes seen (Ok h) file found bare = (seen, file, found, bare)
+history_found bytes seen (Err fault) file found bare = tt
 
 pub calls_found : (seen : Recording) (r : Result HistoryValue HistoryFault) → IfOk r (IsHistory seen) → IfOk r (λ h. AreCallsOf seen h.known)
 calls_found seen (Ok x) found = found.known

@@ -15,7 +15,7 @@ use Rattle.nfs_history.specs.Reread.{known_call, call_kind, IsReadAs, AreReadTo}
 use Rattle.nfs_history.specs.Judging.{IsFound, IsReadable, AreReadable, IsStopFor}
 use Rattle.nfs_history.proofs.CallFaultTable.{call_fault_found}
 
-AreRecorded-push : (events : List CallEvent) (calls : List RecordedCall) (event : CallEvent) (call : RecordedCall) → AreRecorded events calls → IsRecorded event call → AreRecorded (events ++ event ∷ []) (calls ++ call ∷ [])
+pub AreRecorded-push : (events : List CallEvent) (calls : List RecordedCall) (event : CallEvent) (call : RecordedCall) → AreRecorded events calls → IsRecorded event call → AreRecorded (events ++ event ∷ []) (calls ++ call ∷ [])
 AreRecorded-push [] [] event call all one = (one, tt)
 AreRecorded-push [] (c ∷ calls) event call all one = absurd all
 AreRecorded-push (e ∷ events) [] event call all one = absurd all

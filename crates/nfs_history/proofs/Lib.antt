@@ -1,5 +1,6 @@
 pub mod MatchingSteps
 pub mod Unanswered
+pub mod Waiting
 pub mod Lanes
 pub mod CheckingSteps
 pub mod EventFaultLaws
@@ -9,5 +10,6 @@ pub mod JudgingSteps
 pub mod FirstFaultLaws
 pub mod HistoryLaws
 pub mod OneHistory
+pub mod AppendSteps
 pub mod EitherWay
 pub mod Rereading

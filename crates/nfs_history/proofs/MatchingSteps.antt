@@ -17,7 +17,8 @@ use Rattle.nfs_history.specs.Calls.{ReplyEvent, CallEvent, first_reply, calls_fr
 use Rattle.nfs_history.specs.Checking.{is_crash}
 use Rattle.nfs_history.specs.Matching.{seen_reply, seen_call, same_key}
 use Rattle.nfs_history.specs.Standing.{is_unanswered, has_unanswered, MayFollow, EachMayFollow}
-use Rattle.nfs_history.proofs.Unanswered.{any-call, any-reply, IsQuiet, calls_from-quiet}
+use Rattle.nfs_history.specs.Appending.{IsQuiet}
+use Rattle.nfs_history.proofs.Unanswered.{any-call, any-reply, calls_from-quiet}
 use Rattle.nfs_history.proofs.Lanes.{eras_quiet, eras_crash}
 
 -- the replies that were met

@@ -125,17 +125,17 @@ pub known_once : (seen : Recording) (h g : CallsValue) → AreCallsOf seen h →
 known_once seen h g x y =
     same_known h g (x.root ∙ sym y.root) (x.eras ∙ sym y.eras) (one_list (calls_of seen.events) h.calls g.calls x.calls y.calls)
 
-held : CallsValue → List owned.Event → HistoryValue
-held known events = record { known = known; events = events }
+held : CallsValue → List owned.Event → ℕ → HistoryValue
+held known events spare = record { known = known; events = events; spare = spare }
 
-same_history : (h g : HistoryValue) → h.known ≡ g.known → h.events ≡ g.events → h ≡ g
+same_history : (h g : HistoryValue) → h.known ≡ g.known → h.events ≡ g.events → h.spare ≡ g.spare → h ≡ g
 unfolding held
-same_history h g known events =
-    let all : held h.known h.events ≡ held g.known g.events = rw (known, events) refl in
+same_history h g known events spare =
+    let all : held h.known h.events h.spare ≡ held g.known g.events g.spare = rw (known, events, spare) refl in
     all
 
-one_of_recording : (seen : Recording) (h g : HistoryValue) → IsHistory seen h → IsHistory seen g → h ≡ g
-one_of_recording seen h g x y = same_history h g (known_once seen h.known g.known x.known y.known) (one_sequence h.events g.events (x.events ∙ sym y.events))
+one_of_recording : (seen : Recording) (h g : HistoryValue) → IsHistory seen h → IsHistory seen g → h.spare ≡ g.spare → h ≡ g
+one_of_recording seen h g x y spare = same_history h g (known_once seen h.known g.known x.known y.known) (one_sequence h.events g.events (x.events ∙ sym y.events)) spare
 
 pub one_calls : (bytes : List ℕ) (h g : CallsValue) → IsCallsFile bytes h → IsCallsFile bytes g → h ≡ g
 one_calls bytes h g x y =
@@ -145,4 +145,4 @@ one_calls bytes h g x y =
 pub one_history : (bytes : List ℕ) (h g : HistoryValue) → IsHistoryFile bytes h → IsHistoryFile bytes g → h ≡ g
 one_history bytes h g x y =
     let same = one_recording bytes x.0 y.0 x.1 y.1 in
-    one_of_recording y.0 h g (subst (λ (seen : Recording). IsHistory seen h) same x.2) y.2
+    one_of_recording y.0 h g (subst (λ (seen : Recording). IsHistory seen h) same x.2) y.2 (x.3 ∙ sym y.3)

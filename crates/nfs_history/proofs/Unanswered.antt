@@ -4,11 +4,12 @@ use Rattle.std.specs.List.{list_any}
 use Rattle.std.proofs.lemmas.Bool.{eqb-true}
 use Rattle.history_file.specs.Event.{Event}
 use Rattle.history_file.specs.Event.Event.{call, reply, close, crash}
+use Rattle.nfs_history.specs.Appending.{IsQuiet}
 use Rattle.nfs_history.specs.Calls.{ReplyEvent, CallEvent, first_reply, calls_from, xid_of}
 use Rattle.nfs_history.specs.Standing.{is_unanswered}
 
 -- a call answers nothing
-first_reply-call : (lane xid i : ℕ) (events : List Event) (l : ℕ) (m : List ℕ) → first_reply lane xid i (events ++ call l m ∷ []) ≡ first_reply lane xid i events
+pub first_reply-call : (lane xid i : ℕ) (events : List Event) (l : ℕ) (m : List ℕ) → first_reply lane xid i (events ++ call l m ∷ []) ≡ first_reply lane xid i events
 first_reply-call lane xid i [] l m = refl
 first_reply-call lane xid i (call on n ∷ events) l m = first_reply-call lane xid (i + 1) events l m
 first_reply-call lane xid i (close on ∷ events) l m = first_reply-call lane xid (i + 1) events l m
@@ -91,12 +92,7 @@ any-reply lane xid i era (call on n ∷ events) l m =
     ∙ ap (λ x. x || (rest && hit)) (same_or_other on (xid_of n) lane xid l (xid_of m) unmet)
     ∙ or_and (same && unmet) rest hit
 
--- a close and a crash answer nothing, and are no calls
-abbrev pub IsQuiet : Event → Type 0
-IsQuiet (call lane message) = ⊥
-IsQuiet (reply lane message) = ⊥
-IsQuiet (close lane) = Unit {0}
-IsQuiet crash = Unit {0}
+-- ---- a close and a crash
 
 first_reply-quiet : (lane xid i : ℕ) (events : List Event) (e : Event) → IsQuiet e → first_reply lane xid i (events ++ e ∷ []) ≡ first_reply lane xid i events
 first_reply-quiet lane xid i [] (call l m) quiet = absurd quiet
@@ -121,15 +117,3 @@ calls_from-quiet i era (call on n ∷ events) e quiet =
     let here : Option ReplyEvent → CallEvent = λ a. record { lane = on; message = n; begin = i; era = era; answer = a } in
     ap (λ a. here a ∷ calls_from (i + 1) era (events ++ e ∷ [])) (first_reply-quiet on (xid_of n) (i + 1) events e quiet)
     ∙ ap (λ cs. here (first_reply on (xid_of n) (i + 1) events) ∷ cs) (calls_from-quiet (i + 1) era events e quiet)
-
-pub cond_or : (b c : Bool) → cond b true c ≡ c || b
-cond_or true true = refl
-cond_or true false = refl
-cond_or false true = refl
-cond_or false false = refl
-
-pub cond_and : (b c : Bool) → cond b false c ≡ c && not b
-cond_and true true = refl
-cond_and true false = refl
-cond_and false true = refl
-cond_and false false = refl

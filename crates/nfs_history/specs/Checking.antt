@@ -1,18 +1,17 @@
 -- What the program knows of the events that it has checked: what the code's private functions say to the prover.
-use Rattle.std.specs.Prelude.{◌≡◌, ◌==◌, ◌&&◌, ◌||◌, not, ◌≤◌, ℕ, nat_eq, Bool, true, false, List, [], ◌∷◌, ◌++◌, Option, Some, None, is_some}
+use Rattle.std.specs.Prelude.{◌≡◌, ◌==◌, ◌&&◌, ◌||◌, not, ◌≤◌, ◌<◌, ℕ, ◌+◌, length, nat_eq, Bool, true, false, List, [], ◌∷◌, ◌++◌, Option, Some, None, is_some}
 use Rattle.std.specs.List.{list_any}
 use Rattle.std.specs.HashMap.{get}
-use Rattle.std.specs.HashSet.{contains}
 use Rattle.history_file.specs.Event.{Event}
 use Rattle.history_file.specs.Event.Event.{call, reply, close, crash}
 use Rattle.nfs_history.specs.declared.fault.EventFault.{EventFault}
 use Rattle.nfs_history.specs.declared.checking.LaneUse.{LaneUse}
 use Rattle.nfs_history.specs.declared.checking.LaneUse.TheVariants as uses
 use Rattle.nfs_history.specs.declared.checking.OpenCalls.{OpenCalls}
-use Rattle.nfs_history.specs.Calls.{eras_from}
+use Rattle.nfs_history.specs.Calls.{CallEvent, calls_of, eras_from}
 use Rattle.nfs_history.specs.Matching.{same_key}
-use Rattle.nfs_history.specs.Standing.{has_unanswered, MayFollow, EachMayFollow}
-use Rattle.nfs_history.specs.EventFaults.{IsAtFault, FirstEventFault}
+use Rattle.nfs_history.specs.Standing.{is_unanswered, has_unanswered, MayFollow, EachMayFollow}
+use Rattle.nfs_history.specs.EventFaults.{IsAtFault}
 
 -- the events of a lane, the closes of it, and the crashes, each as a test
 abbrev pub is_on : ℕ → Event → Bool
@@ -52,9 +51,22 @@ is_shut era (Some (uses.InEra last)) = not (last == era)
 abbrev pub is_known_closed : OpenCalls → ℕ → Bool
 is_known_closed known lane = is_shut known.era (get nat_eq known.lanes lane)
 
--- it knows the calls that are unanswered, the lanes that are closed, and the era
+-- whether this is the place
+abbrev pub is_place : ℕ → Option ℕ → Bool
+is_place k None = false
+is_place k (Some place) = k == place
+
+-- of calls that stand from place k on, the one at this place is unanswered on the lane with the transaction number, and no other
+abbrev pub AnswersWait : ℕ → ℕ → Option ℕ → ℕ → List CallEvent → Type 0
+AnswersWait lane xid place k [] = Unit {0}
+AnswersWait lane xid place k (c ∷ calls) = (is_unanswered lane xid c ≡ is_place k place) × AnswersWait lane xid place (k + 1) calls
+
+-- it knows the calls that are unanswered, where they stand, how many calls there are, the lanes that are closed, and the era
 pub record Knows (known : OpenCalls) (before : List Event) : Type 0 where
-  pub unanswered : (lane xid : ℕ) → contains same_key known.unanswered (lane, xid) ≡ has_unanswered lane xid before
+  pub unanswered : (lane xid : ℕ) → is_some (get same_key known.unanswered (lane, xid)) ≡ has_unanswered lane xid before
+  pub places : (lane xid : ℕ) → AnswersWait lane xid (get same_key known.unanswered (lane, xid)) 0 (calls_of before)
+  pub within : (lane xid place : ℕ) → get same_key known.unanswered (lane, xid) ≡ Some place → place < known.calls
+  pub calls : known.calls ≡ length (calls_of before)
   pub closed : (lane : ℕ) → is_known_closed known lane ≡ was_closed lane before
   pub used : (lane : ℕ) → is_some (get nat_eq known.lanes lane) ≡ list_any (is_on lane) before
   pub in_order : (lane last : ℕ) → get nat_eq known.lanes lane ≡ Some (uses.InEra last) → last ≤ known.era
@@ -77,7 +89,6 @@ KnowsOneMore old new e = (before : List Event) → Knows old before → MayFollo
 abbrev pub KnowsAsMuch : OpenCalls → OpenCalls → Type 0
 KnowsAsMuch old new = (before : List Event) → Knows old before → Knows new before
 
--- the first fault of the events, or none where each may follow
-abbrev pub IsFirstFault : List Event → Option EventFault → Type 0
-IsFirstFault events (Some fault) = FirstEventFault [] events fault
-IsFirstFault events None = EachMayFollow [] events
+-- the events may follow one another, and this is known of them
+abbrev pub AreKnownToFollow : List Event → OpenCalls → Type 0
+AreKnownToFollow events known = EachMayFollow [] events × Knows known events

@@ -87,6 +87,6 @@ recording_of history = record { root = history.known.root; events = all_happened
 abbrev pub IsCallsFile : List ℕ → CallsValue → Type 0
 IsCallsFile bytes known = (seen : Recording) × HistoryFile bytes seen × AreCallsOf seen known
 
--- the bytes are the file of the history
+-- the bytes are the file of the history, in which no room is set aside
 abbrev pub IsHistoryFile : List ℕ → HistoryValue → Type 0
-IsHistoryFile bytes history = (seen : Recording) × HistoryFile bytes seen × IsHistory seen history
+IsHistoryFile bytes history = (seen : Recording) × HistoryFile bytes seen × IsHistory seen history × (history.spare ≡ 0)

@@ -1,5 +1,5 @@
 -- The fault of a call, item by item: what the code's private functions say to the prover.
-use Rattle.std.specs.Prelude.{◌≡◌, ◌==◌, nat_lt, ℕ, if◌then◌else◌, List, [], length, map, Option, Some, None, option_map, Result, Ok, Err}
+use Rattle.std.specs.Prelude.{◌≡◌, ◌==◌, nat_lt, ℕ, if◌then◌else◌, List, [], length, Option, Some, None, option_map, Result, Ok, Err}
 use Rattle.std.specs.List.{AllByRecursion}
 use Rattle.nfs3_types.specs.declared.calls.NfsCall.{NfsCall}
 use Rattle.nfs3_types.specs.declared.replies.NfsReply.{NfsReply}
@@ -21,8 +21,6 @@ use Rattle.nfs_history.specs.declared.history.RecordedCall.{RecordedCall}
 use Rattle.nfs_history.specs.JoinedFaults.{of_call}
 use Rattle.history_file.specs.Event.{Event}
 use Rattle.nfs_history.specs.Calls.{CallEvent, calls_of}
-use Rattle.nfs_history.specs.declared.matching.SeenCall.{SeenCall}
-use Rattle.nfs_history.specs.Matching.{seen_call}
 use Rattle.nfs_history.specs.Standing.{EachMayFollow}
 use Rattle.nfs_history.specs.Effects.{Says, results_of, is_judged, has_no_effect}
 use Rattle.nfs_history.specs.History.{AreRecorded}
@@ -88,10 +86,6 @@ IsStopFor Is (Err stops.NoMemory) = Unit {0}
 abbrev pub of_stop : Stop → joined.HistoryFault
 of_stop (stops.Fault fault) = of_call fault
 of_stop stops.NoMemory = joined_faults.NoMemory
-
--- the events may follow one another, and these are their calls
-abbrev pub AreFollowed : List Event → List SeenCall → Type 0
-AreFollowed events calls = EachMayFollow [] events × (map seen_call calls ≡ calls_of events)
 
 -- what the calls of events were
 abbrev pub AreKnown : List Event → List RecordedCall → Type 0

@@ -16,3 +16,4 @@ pub mod Checking
 pub mod Judging
 pub mod Reread
 pub mod FaultText
+pub mod Appending

@@ -1,14 +1,19 @@
 //! Whether the events of a recording may follow one another.
 
-ghost use Rattle.std.specs.Prelude.{◌+◌, ◌<◌, ◌^◌, ◌≡◌, [], OnOk, OnErr, IfOk};
-ghost use Rattle.history_file.specs.Event.Event.{call, reply};
+ghost use Rattle.std.specs.Prelude.{◌+◌, ◌<◌, ◌^◌, ◌≡◌, [], IsOk, OnOk, OnErr, IfOk};
+ghost use Rattle.std.specs.HashMap.{get};
+ghost use Rattle.history_file.specs.Event.Event.{call, reply, crash};
 ghost use Rattle.history_file.specs.Owning.{seen_event, all_seen};
-ghost use Rattle.nfs_history.specs.Checking.{is_known_closed, Knows, IsFaultBehind, KnowsOneMore, KnowsAsMuch, IsFirstFault};
+ghost use Rattle.nfs_history.specs.Answers.{IsErrorOf};
+ghost use Rattle.nfs_history.specs.Calls.{xid_of};
+ghost use Rattle.nfs_history.specs.FirstFault.{FirstFaultOf};
+ghost use Rattle.nfs_history.specs.Matching.{same_key};
+ghost use Rattle.nfs_history.specs.Checking.{is_known_closed, Knows, IsFaultBehind, KnowsOneMore, KnowsAsMuch, AreKnownToFollow};
 
-use crate::fault::EventFault;
+use crate::fault::{EventFault, HistoryFault};
 use crate::matching::transaction;
 use history_file::SeenEvent;
-use indexmap::{IndexMap, IndexSet};
+use indexmap::IndexMap;
 use rpc_reader::{read_call, read_reply};
 use std::alloc::{AllocError, Global};
 
@@ -24,9 +29,11 @@ pub enum LaneUse {
 /// What of the events so far decides whether another may follow.
 #[derive(Drop)]
 pub struct OpenCalls {
-    /// The calls that are unanswered, each by its lane and transaction number. Those of an era that has ended stay:
-    /// their lanes are closed.
-    unanswered: IndexSet<(u32, u32)>,
+    /// The calls that are unanswered, each by its lane and transaction number, with how many calls came before it. Those of
+    /// an era that has ended stay: their lanes are closed.
+    unanswered: IndexMap<(u32, u32), u64>,
+    /// How many calls there are.
+    calls: u64,
     /// The lanes with an event.
     lanes: IndexMap<u32, LaneUse>,
     /// The era, from 1 on.
@@ -39,7 +46,8 @@ impl OpenCalls {
         ensures { Knows result [] }
     {
         OpenCalls {
-            unanswered: IndexSet::new(alloc),
+            unanswered: IndexMap::new(alloc),
+            calls: 0,
             lanes: IndexMap::new(alloc),
             era: 1,
         }
@@ -66,7 +74,7 @@ impl OpenCalls {
         if read_call(message).is_err() {
             return Some(EventFault::BadRpc(number));
         }
-        if self.unanswered.contains(&(lane, transaction(message))) {
+        if self.unanswered.contains_key(&(lane, transaction(message))) {
             return Some(EventFault::XidInUse(number));
         }
         None
@@ -82,7 +90,7 @@ impl OpenCalls {
         if read_reply(message).is_err() {
             return Some(EventFault::BadRpc(number));
         }
-        if !self.unanswered.contains(&(lane, transaction(message))) {
+        if !self.unanswered.contains_key(&(lane, transaction(message))) {
             return Some(EventFault::NoSuchCall(number));
         }
         None
@@ -105,17 +113,38 @@ impl OpenCalls {
         }
     }
 
-    /// Takes in the next event.
+    /// The era, from 1 on.
+    pub(crate) fn era(&self) -> u64
+        ensures { result ≡ self.now.era }
+    {
+        self.era
+    }
+
+    /// How many calls came before the unanswered one of this lane that a message has the transaction number of.
+    pub(crate) fn place_of(&self, lane: u32, message: &[u8]) -> Option<u64>
+        ensures { result ≡ get same_key self.now.unanswered (lane, xid_of message.now) }
+    {
+        self.unanswered.get(&(lane, transaction(message))).copied()
+    }
+
+    /// Takes in the next event. 2 ^ 64 calls count as want of memory.
     pub fn follow(&mut self, event: &SeenEvent<'_>) -> Result<(), AllocError>
         requires { self.old.era + 1 < 2 ^ 64 }
         ensures ok { OnOk result (KnowsOneMore self.old self.new (seen_event event.now)) }
         ensures err { OnErr result (KnowsAsMuch self.old self.new) }
+        // A crash needs no memory.
+        ensures crashed { seen_event event.now ≡ crash → IsOk result }
     {
         match event {
             SeenEvent::Call { lane, message } => {
+                let Some(calls) = self.calls.checked_add(1) else {
+                    return Err(AllocError);
+                };
                 self.unanswered.reserve(1)?;
                 self.lanes.insert(*lane, LaneUse::InEra(self.era))?;
-                self.unanswered.insert((*lane, transaction(*message)))?;
+                self.unanswered
+                    .insert((*lane, transaction(*message)), self.calls)?;
+                self.calls = calls;
             }
             SeenEvent::Reply { lane, message } => {
                 self.lanes.insert(*lane, LaneUse::InEra(self.era))?;
@@ -130,19 +159,17 @@ impl OpenCalls {
     }
 }
 
-/// The fault of the first event that may not follow those before it, where there is one.
-pub fn first_event_fault(
-    alloc: Global,
-    events: &[SeenEvent<'_>],
-) -> Result<Option<EventFault>, AllocError>
-    ensures { IfOk result (IsFirstFault (all_seen events.now)) }
+/// What the events leave open, where each may follow those before it.
+pub fn follow_all(alloc: Global, events: &[SeenEvent<'_>]) -> Result<OpenCalls, HistoryFault>
+    ensures found { IfOk result (AreKnownToFollow (all_seen events.now)) }
+    ensures fault { IsErrorOf (FirstFaultOf (all_seen events.now)) result }
 {
     let mut calls = OpenCalls::new(alloc);
     for (index, event) in events.iter().enumerate() {
         if let Some(fault) = calls.fault_of(index as u64 + 1, event) {
-            return Ok(Some(fault));
+            return Err(HistoryFault::from(fault));
         }
         calls.follow(event)?;
     }
-    Ok(None)
+    Ok(calls)
 }

@@ -1,18 +1,31 @@
 //! What a history means: its calls, with what each one was, when it began and ended, and how it came out.
 
-ghost use Rattle.std.specs.Prelude.{◌≡◌, ◌≤◌, length, IfOk, Some, option_map, option_and_then};
+ghost use Rattle.std.specs.Prelude.{◌≡◌, ◌+◌, ◌≤◌, ◌<◌, ◌^◌, [], ◌∷◌, ◌++◌, length, slice_get, slice_set, vec_len, vec_capacity, IfOk, IfErr, IsOk, OnOk, OnErr, Some, option_map, option_and_then};
 ghost use Rattle.std.specs.Option.{option_copied};
-ghost use Rattle.history_file.specs.Owning.{all_happened};
+ghost use Rattle.history_file.specs.Event.Event.{call, reply, crash};
+ghost use Rattle.history_file.specs.Owning.{happened, all_happened};
+ghost use Rattle.history_file.specs.declared.event.Event.TheVariants as events;
 ghost use Rattle.nfs_history.specs.declared.fault.HistoryFault.{HistoryFault};
 ghost use Rattle.nfs_history.specs.declared.history.History.{History};
 ghost use Rattle.nfs_history.specs.Precedence.{call_at, begin_of, end_of};
-ghost use Rattle.nfs_history.specs.History.{recording_of, AreCallsOf, IsHistory};
+ghost use Rattle.nfs_history.specs.History.{recording_of, AreRecorded, AreCallsOf, IsHistory};
 ghost use Rattle.nfs_history.specs.FirstFault.{FirstFaultOf};
 ghost use Rattle.nfs_history.specs.Answers.{IsFineOrNoMemory, IsErrorOf, IsThatOrNoMemory};
+ghost use Rattle.nfs_history.specs.Appending.{with_event, unanswered, IsReadOf, IsQuiet, IsBegun, IsAnswered, Follows, Appends};
+ghost use Rattle.nfs_history.specs.Calls.{calls_of};
+ghost use Rattle.nfs_history.specs.CallFaults.{FirstCallFault};
+ghost use Rattle.nfs_history.specs.Checking.{KnowsOneMore, KnowsAsMuch};
+ghost use Rattle.nfs_history.specs.EventFaults.{IsAtFault};
+ghost use Rattle.nfs_history.specs.Judging.{IsStopFor};
+ghost use Rattle.nfs_history.specs.Matching.{seen_call};
+ghost use Rattle.nfs_history.specs.Standing.{MayFollow, EachMayFollow};
 
-use crate::fault::HistoryFault;
+use crate::checking::{OpenCalls, follow_all};
+use crate::fault::{EventFault, HistoryFault};
+use crate::judging::{Stop, judged_call};
 use crate::knowing::KnownCalls;
-use history_file::{Event, lend_events};
+use crate::matching::{SeenCall, SeenReply};
+use history_file::{Event, Message, lend_events};
 use nfs3_types::{FileHandle, NfsCall, Outcome};
 use std::alloc::{AllocError, Global};
 use std::marker::Model;
@@ -109,46 +122,37 @@ impl Drop for RecordedCall {
     }
 }
 
-/// What a history is judged by, with its calls as they were read.
+/// What is read of events: the calls, and what the events leave open.
 struct ReadCalls {
     root: FileHandle,
-    eras: u64,
     calls: Vec<RecordedCall>,
-}
-
-impl Drop for ReadCalls {
-    fn drop(self) {
-        let ReadCalls {
-            root,
-            eras: _,
-            calls,
-        } = self;
-        drop(root);
-        drop(calls);
-    }
-}
-
-impl Model for ReadCalls {
-    ghost use Rattle.nfs_history.specs.HistoryValue.{CallsValue};
-
-    ghost Value = { CallsValue };
-
-    ghost use Rattle.nfs_history.specs.Inside.{calls_within};
-
-    ghost view = { calls_within };
+    open_calls: OpenCalls,
 }
 
 /// A history without a fault.
 pub struct History {
-    known: ReadCalls,
+    root: FileHandle,
+    calls: Vec<RecordedCall>,
     events: Vec<Event>,
+    /// What of the events decides whether another may follow.
+    open_calls: OpenCalls,
+    /// For how many events room is set aside.
+    spare: usize,
 }
 
 impl Drop for History {
     fn drop(self) {
-        let History { known, events } = self;
-        drop(known);
+        let History {
+            root,
+            calls,
+            events,
+            open_calls,
+            spare: _,
+        } = self;
+        drop(root);
+        drop(calls);
         drop(events);
+        drop(open_calls);
     }
 }
 
@@ -157,13 +161,12 @@ impl Model for History {
 
     ghost Value = { HistoryValue };
 
-    ghost use Rattle.nfs_history.specs.History.{recording_of, IsHistory};
-    ghost use Rattle.nfs_history.specs.Inside.{value_of};
+    ghost use Rattle.nfs_history.specs.Inside.{value_of, IsKept};
 
     ghost view = { value_of };
 
-    // It is the history of its events.
-    ghost invariant = { λ h. IsHistory (recording_of (value_of h)) (value_of h) };
+    // It is the history of its events, and it is known what may come next.
+    ghost invariant = { IsKept };
 }
 
 /// Call n of a list of calls, from 1 on, where there is one.
@@ -204,17 +207,41 @@ fn all_calls(alloc: Global, known: &KnownCalls<'_>) -> Result<Vec<RecordedCall>,
     Ok(calls)
 }
 
-/// The calls among these events, read.
+/// The calls among these events, read, and what the events leave open.
 fn read_among(alloc: Global, root: FileHandle, events: &[Event]) -> Result<ReadCalls, HistoryFault>
-    ensures found { IfOk result (AreCallsOf (record { root = root; events = all_happened events.now })) }
+    ensures found { IfOk result (IsReadOf root (all_happened events.now)) }
     ensures fault { IsErrorOf (FirstFaultOf (all_happened events.now)) result }
 {
-    let known = calls_among(alloc, root, events)?;
+    let seen = lend_events(alloc, events)?;
+    let open_calls = follow_all(alloc, seen.as_slice())?;
+    let known = KnownCalls::of_followed(alloc, root, seen)?;
     Ok(ReadCalls {
         root: known.root().clone()?,
-        eras: known.eras(),
         calls: all_calls(alloc, &known)?,
+        open_calls,
     })
+}
+
+/// Puts an event behind the others, and takes in what it opens and closes.
+fn put_event(
+    events: &mut Vec<Event>,
+    open_calls: &mut OpenCalls,
+    event: Event,
+) -> Result<(), AllocError>
+    requires { open_calls.old.era + 1 < 2 ^ 64 }
+    ensures put { OnOk result (events.new.items ≡ events.old.items ++ event ∷ []) }
+    ensures knows { OnOk result (KnowsOneMore open_calls.old open_calls.new (happened event)) }
+    ensures kept { OnErr result (events.new.items ≡ events.old.items) }
+    ensures as_much { OnErr result (KnowsAsMuch open_calls.old open_calls.new) }
+    ensures len { OnErr result (vec_len events.new ≡ vec_len events.old) }
+    ensures capacity { vec_capacity events.old ≤ vec_capacity events.new }
+    // A crash needs no more than a place.
+    ensures crashed { vec_len events.old + 1 ≤ vec_capacity events.old → happened event ≡ crash → IsOk result }
+{
+    events.reserve(1)?;
+    open_calls.follow(&event.as_seen())?;
+    events.push(event).unwrap();
+    Ok(())
 }
 
 impl History {
@@ -232,9 +259,212 @@ impl History {
         // The first fault is named, memory aside.
         ensures named { (fault : HistoryFault) → FirstFaultOf (all_happened events.items) fault
             → IsThatOrNoMemory fault result }
+        // No room is set aside.
+        ensures bare { IfOk result (λ history. history.spare ≡ 0) }
     {
         let known = read_among(alloc, root, events.as_slice())?;
-        Ok(History { known, events })
+        let ReadCalls {
+            root,
+            calls,
+            open_calls,
+        } = known;
+        Ok(History {
+            root,
+            calls,
+            events,
+            open_calls,
+            spare: 0,
+        })
+    }
+
+    // Why an event may not come next.
+    fn check_next(&self, event: &Event) -> Result<(), EventFault>
+        ensures all { EachMayFollow [] (all_happened self.now.events) }
+        ensures follows { OnOk result (MayFollow (all_happened self.now.events) (happened event.now)) }
+        ensures fault { IfErr result (IsAtFault (length (all_happened self.now.events) + 1) (all_happened self.now.events) (happened event.now)) }
+    {
+        let number = self.events.len() as u64 + 1;
+        match self.open_calls.fault_of(number, &event.as_seen()) {
+            Some(fault) => Err(fault),
+            None => Ok(()),
+        }
+    }
+
+    // The call that comes next, without a reply.
+    fn begun_call(&self, lane: u32, message: &[u8]) -> Result<RecordedCall, Stop>
+        requires { MayFollow (all_happened self.now.events) (call lane message.now) }
+        ensures found { IfOk result (IsBegun self.now lane message.now) }
+        ensures fault { IsStopFor (FirstCallFault 1 (calls_of (all_happened self.now.events ++ call lane message.now ∷ []))) result }
+    {
+        let seen = SeenCall {
+            lane,
+            message,
+            begin: self.events.len() as u64 + 1,
+            era: self.open_calls.era(),
+            answer: None,
+        };
+        judged_call(*self.events.allocator(), self.calls.len() as u64 + 1, &seen)
+    }
+
+    // A call, from 0 on, where its message stands, without a reply.
+    fn seen_at(&self, place: usize) -> SeenCall<'_>
+        requires { place < length self.now.known.calls }
+        ensures { Some (seen_call result) ≡ option_map unanswered (slice_get (calls_of (all_happened self.now.events)) place) }
+    {
+        let asked = &self.calls[place];
+        let Event::Call { lane, message } = &self.events[asked.begin as usize - 1] else {
+            unreachable!();
+        };
+        SeenCall {
+            lane: *lane,
+            message: message.as_slice(),
+            begin: asked.begin,
+            era: asked.era,
+            answer: None,
+        }
+    }
+
+    // The call, and its place, that the reply answers which comes next.
+    fn answered_call(&self, lane: u32, message: &[u8]) -> Result<(usize, RecordedCall), Stop>
+        requires { MayFollow (all_happened self.now.events) (reply lane message.now) }
+        ensures found { IfOk result (λ found. IsAnswered self.now lane message.now found.0 found.1) }
+        ensures fault { IsStopFor (FirstCallFault 1 (calls_of (all_happened self.now.events ++ reply lane message.now ∷ []))) result }
+    {
+        let Some(place) = self.open_calls.place_of(lane, message) else {
+            unreachable!();
+        };
+        let number = self.events.len() as u64 + 1;
+        let asked = self.seen_at(place as usize);
+        let seen = SeenCall {
+            lane: asked.lane,
+            message: asked.message,
+            begin: asked.begin,
+            era: asked.era,
+            answer: Some(SeenReply { number, message }),
+        };
+        let call = judged_call(*self.events.allocator(), place + 1, &seen)?;
+        Ok((place as usize, call))
+    }
+
+    // Puts a call behind the other events.
+    fn take_call(&mut self, event: Event, call: RecordedCall) -> Result<(), AllocError>
+        requires follows { MayFollow (all_happened self.old.events) (happened event) }
+        requires recorded { AreRecorded (calls_of (with_event self.old event).events) (self.old.known.calls ++ call ∷ []) }
+        ensures taken { OnOk result (Follows self.old event self.new) }
+        ensures kept { OnErr result (self.new ≡ self.old) }
+    {
+        self.calls.reserve(1)?;
+        put_event(&mut self.events, &mut self.open_calls, event)?;
+        self.calls.push(call).unwrap();
+        self.spare = 0;
+        Ok(())
+    }
+
+    // Puts a reply behind the other events, where the call at this place becomes this one.
+    fn take_reply(
+        &mut self,
+        event: Event,
+        place: usize,
+        call: RecordedCall,
+    ) -> Result<(), AllocError>
+        requires follows { MayFollow (all_happened self.old.events) (happened event) }
+        requires within { place < length self.old.known.calls }
+        requires recorded { AreRecorded (calls_of (with_event self.old event).events) (slice_set self.old.known.calls place call) }
+        ensures taken { OnOk result (Follows self.old event self.new) }
+        ensures kept { OnErr result (self.new ≡ self.old) }
+    {
+        put_event(&mut self.events, &mut self.open_calls, event)?;
+        self.calls[place] = call;
+        self.spare = 0;
+        Ok(())
+    }
+
+    // Puts a close or a crash behind the other events.
+    fn take_quiet(&mut self, event: Event) -> Result<(), AllocError>
+        requires follows { MayFollow (all_happened self.old.events) (happened event) }
+        requires quiet { IsQuiet (happened event) }
+        ensures taken { OnOk result (Follows self.old event self.new) }
+        ensures kept { OnErr result (self.new ≡ self.old) }
+        ensures crashed { 1 ≤ self.old.spare → happened event ≡ crash → IsOk result }
+    {
+        put_event(&mut self.events, &mut self.open_calls, event)?;
+        self.spare = 0;
+        Ok(())
+    }
+
+    fn append_call(&mut self, lane: u32, message: Message) -> Result<(), HistoryFault>
+        requires all { EachMayFollow [] (all_happened self.old.events) }
+        requires follows { MayFollow (all_happened self.old.events) (call lane message) }
+        ensures { Appends self.old (events.Call lane message) result self.new }
+    {
+        let call = self.begun_call(lane, message.as_slice())?;
+        self.take_call(Event::Call { lane, message }, call)?;
+        Ok(())
+    }
+
+    fn append_reply(&mut self, lane: u32, message: Message) -> Result<(), HistoryFault>
+        requires all { EachMayFollow [] (all_happened self.old.events) }
+        requires follows { MayFollow (all_happened self.old.events) (reply lane message) }
+        ensures { Appends self.old (events.Reply lane message) result self.new }
+    {
+        let (place, call) = self.answered_call(lane, message.as_slice())?;
+        self.take_reply(Event::Reply { lane, message }, place, call)?;
+        Ok(())
+    }
+
+    fn append_quiet(&mut self, event: Event) -> Result<(), HistoryFault>
+        requires follows { MayFollow (all_happened self.old.events) (happened event) }
+        requires quiet { IsQuiet (happened event) }
+        ensures { Appends self.old event result self.new }
+    {
+        self.take_quiet(event)?;
+        Ok(())
+    }
+
+    fn append_next(&mut self, event: Event) -> Result<(), HistoryFault>
+        ensures { Appends self.old event result self.new }
+    {
+        self.check_next(&event)?;
+        match event {
+            Event::Call { lane, message } => self.append_call(lane, message),
+            Event::Reply { lane, message } => self.append_reply(lane, message),
+            Event::Close { lane } => self.append_quiet(Event::Close { lane }),
+            Event::Crash => self.append_quiet(Event::Crash),
+        }
+    }
+
+    /// Puts an event behind the others, and answers as `build` does of all of them. What it costs doesn't grow with the events
+    /// that there are: a call is found by its lane and transaction number.
+    pub fn append(&mut self, event: Event) -> Result<(), HistoryFault>
+        // It is the history of the events with this one behind them.
+        ensures found { OnOk result (IsHistory (with_event self.old event) self.new) }
+        ensures behind { OnOk result (self.new.events ≡ self.old.events ++ event ∷ []) }
+        // Else it stays as it was.
+        ensures kept { OnErr result (self.new ≡ self.old) }
+        // Where the events are a history's, it is put there, memory aside.
+        ensures only { (history : History) → IsHistory (with_event self.old event) history → IsFineOrNoMemory result }
+        ensures fault { IsErrorOf (FirstFaultOf (with_event self.old event).events) result }
+        // The first fault is named, memory aside.
+        ensures named { (fault : HistoryFault) → FirstFaultOf (with_event self.old event).events fault
+            → IsThatOrNoMemory fault result }
+        // Where room is set aside, a crash needs no memory. It takes the room.
+        ensures crashed { 1 ≤ self.old.spare → happened event ≡ crash → IsOk result }
+        ensures taken { OnOk result (self.new.spare ≡ 0) }
+    {
+        self.append_next(event)
+    }
+
+    /// Sets room aside for a crash, until the next event is put behind the others.
+    pub fn reserve(&mut self) -> Result<(), AllocError>
+        ensures room { OnOk result (1 ≤ self.new.spare) }
+        ensures known { self.new.known ≡ self.old.known }
+        ensures events { self.new.events ≡ self.old.events }
+        // Else it stays as it was.
+        ensures kept { OnErr result (self.new ≡ self.old) }
+    {
+        self.events.reserve(1)?;
+        self.spare = 1;
+        Ok(())
     }
 
     /// What it is judged by: its events are read again. They have no fault, so memory alone can be wanting.
@@ -252,7 +482,7 @@ impl History {
     pub fn root(&self) -> &FileHandle
         ensures { result.now ≡ self.now.known.root }
     {
-        &self.known.root
+        &self.root
     }
 
     /// What happened, in order, numbered from 1.
@@ -268,7 +498,7 @@ impl History {
     pub fn eras(&self) -> u64
         ensures { result ≡ self.now.known.eras }
     {
-        self.known.eras
+        self.open_calls.era()
     }
 
     /// How many calls it has.
@@ -282,7 +512,7 @@ impl History {
     pub fn recorded_calls(&self) -> &[RecordedCall]
         ensures { result.now ≡ self.now.known.calls }
     {
-        self.known.calls.as_slice()
+        self.calls.as_slice()
     }
 
     /// Call `number`, from 1 on, where there is one.

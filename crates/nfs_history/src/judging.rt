@@ -317,7 +317,7 @@ fn body_of<'a>(answer: &Option<SeenReply<'a>>) -> Option<ReplyBody<'a>>
 }
 
 /// What is known of call `number`.
-fn judged_call(alloc: Global, number: u64, seen: &SeenCall<'_>) -> Result<RecordedCall, Stop>
+pub fn judged_call(alloc: Global, number: u64, seen: &SeenCall<'_>) -> Result<RecordedCall, Stop>
     requires { IsReadable (seen_call seen.now) }
     ensures found { IfOk result (IsRecorded (seen_call seen.now)) }
     ensures fault { IsStopFor (IsFound number (seen_call seen.now)) result }

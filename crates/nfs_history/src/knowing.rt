@@ -1,18 +1,18 @@
 //! What is known of the calls of a recording, or its first fault.
 
-ghost use Rattle.std.specs.Prelude.{◌≡◌, IfOk, IfSome, length, option_map};
+ghost use Rattle.std.specs.Prelude.{◌≡◌, [], map, IfOk, IfSome, length, option_map};
 ghost use Rattle.std.specs.Option.{option_copied};
 ghost use Rattle.history_file.specs.Owning.{all_seen};
-ghost use Rattle.nfs_history.specs.Calls.{eras_from};
+ghost use Rattle.nfs_history.specs.Calls.{calls_of, eras_from};
 ghost use Rattle.nfs_history.specs.Matching.{seen_call};
 ghost use Rattle.nfs_history.specs.Answers.{IsErrorOf};
 ghost use Rattle.nfs_history.specs.FirstFault.{FirstFaultOf};
 ghost use Rattle.nfs_history.specs.History.{IsRecorded, AreCallsOf};
-ghost use Rattle.nfs_history.specs.Judging.{AreFollowed};
 ghost use Rattle.nfs_history.specs.Precedence.{call_at, begin_of, end_of};
 ghost use Rattle.nfs_history.specs.Reread.{item_at, known_as, call_kind};
+ghost use Rattle.nfs_history.specs.Standing.{EachMayFollow};
 
-use crate::checking::first_event_fault;
+use crate::checking::follow_all;
 use crate::fault::HistoryFault;
 use crate::history::{CallKind, RecordedCall};
 use crate::judging::{kinds_of, read_again};
@@ -60,19 +60,16 @@ impl<'a> Model for KnownCalls<'a> {
     ghost invariant = { λ k. AreReadTo (map seen_call k.seen.items) k.kinds.items };
 }
 
-/// The calls among events of so many eras, where they may follow one another. The events are let go.
+/// The calls among events of so many eras, which may follow one another. The events are let go.
 fn followed_calls<'a>(
     alloc: Global,
     events: Vec<SeenEvent<'a>>,
     eras: u64,
-) -> Result<Vec<SeenCall<'a>>, HistoryFault>
-    requires { eras ≡ eras_from 1 (all_seen events.items) }
-    ensures found { IfOk result (λ v. AreFollowed (all_seen events.entry.items) v.items) }
-    ensures fault { IsErrorOf (FirstFaultOf (all_seen events.entry.items)) result }
+) -> Result<Vec<SeenCall<'a>>, AllocError>
+    requires count { eras ≡ eras_from 1 (all_seen events.items) }
+    requires follow { EachMayFollow [] (all_seen events.items) }
+    ensures { IfOk result (λ v. map seen_call v.items ≡ calls_of (all_seen events.entry.items)) }
 {
-    if let Some(fault) = first_event_fault(alloc, events.as_slice())? {
-        return Err(HistoryFault::from(fault));
-    }
     let mut calls = matched_calls(alloc, events.as_slice(), eras)?;
     calls.reverse();
     Ok(calls)
@@ -105,6 +102,20 @@ impl<'a> KnownCalls<'a> {
         root: FileHandle,
         events: Vec<SeenEvent<'a>>,
     ) -> Result<KnownCalls<'a>, HistoryFault>
+        ensures found { IfOk result (AreCallsOf (record { root = root; events = all_seen events.entry.items })) }
+        ensures fault { IsErrorOf (FirstFaultOf (all_seen events.entry.items)) result }
+    {
+        follow_all(alloc, events.as_slice())?;
+        KnownCalls::of_followed(alloc, root, events)
+    }
+
+    /// What is known of the calls among these events, which may follow one another, and are let go before the calls are read.
+    pub(crate) fn of_followed(
+        alloc: Global,
+        root: FileHandle,
+        events: Vec<SeenEvent<'a>>,
+    ) -> Result<KnownCalls<'a>, HistoryFault>
+        requires { EachMayFollow [] (all_seen events.items) }
         ensures found { IfOk result (AreCallsOf (record { root = root; events = all_seen events.entry.items })) }
         ensures fault { IsErrorOf (FirstFaultOf (all_seen events.entry.items)) result }
     {

@@ -3,3 +3,4 @@ pub mod Losing
 pub mod Standing
 pub mod Paths
 pub mod Walks
+pub mod HandleOf

@@ -1,7 +1,8 @@
 -- what a file handle names: RFC 1813, `nfs_fh3`
-use Rattle.std.specs.Prelude.{ℕ, Bool, List, filter, nat_eq, not, ◌==◌, Option, Some, None, true, false, if◌then◌else◌}
+use Rattle.std.specs.Prelude.{ℕ, Bool, List, filter, nat_eq, not, ◌==◌, ◌||◌, Option, Some, None, true, false, if◌then◌else◌}
 use Rattle.std.specs.Option.{option_map_or}
 use Rattle.std.specs.Cmp.Lexicographic.{pointwise}
+use Rattle.std.specs.List.{list_any}
 use Rattle.std.specs.Map.{lookup}
 
 -- the root's handle, and the objects of other handles
@@ -29,3 +30,7 @@ is_bound binds handle object = option_map_or (λ named. named == object) (object
 abbrev pub gives_object : Bindings → Option (List ℕ) → ℕ → Bool
 gives_object binds None object = true
 gives_object binds (Some handle) object = is_bound binds handle object
+
+-- whether some handle names this object: the root's, or that of a pair
+abbrev pub is_named : Bindings → ℕ → Bool
+is_named binds object = is_bound binds binds.root object || list_any (λ pair. is_bound binds pair.0 object) binds.pairs

@@ -1,10 +1,13 @@
 //! What the handles of a history name.
 
-ghost use Rattle.std.specs.Prelude.{◌≡◌, [], ◌∷◌, ◌++◌, map, IfOk, OnOk, OnErr};
-ghost use Rattle.tree_handles.specs.Binding.{object_of, pairs_without};
+ghost use Rattle.std.specs.Prelude.{◌≡◌, ◌||◌, [], ◌∷◌, ◌++◌, map, IfOk, OnOk, OnErr};
+ghost use Rattle.std.specs.List.{list_any};
+ghost use Rattle.tree_handles.specs.Binding.{object_of, is_bound, is_named, pairs_without};
 
 use crate::objects::Objects;
 use crate::pairs::Pairs;
+use crate::short_handle::ShortHandle;
+use indexmap::IndexMap;
 use std::alloc::{AllocError, Global};
 use std::marker::Model;
 
@@ -94,5 +97,64 @@ impl Binds {
             return Some(0);
         }
         self.objects.get(handle)
+    }
+}
+
+/// Whether these bytes are a handle that names the object.
+fn names_it(binds: &Binds, handle: &[u8], object: u64) -> bool
+    ensures { result ≡ is_bound binds.now handle.now object }
+{
+    match binds.object(handle) {
+        Some(named) => named == object,
+        None => false,
+    }
+}
+
+/// Whether one of these short handles names the object.
+fn any_short_names_it(binds: &Binds, short: &IndexMap<ShortHandle, u64>, object: u64) -> bool
+    ensures { result ≡ list_any (λ e. is_bound binds.now e.0 object) short.now.entries }
+{
+    for (handle, _) in short.iter() {
+        if names_it(binds, handle.as_slice(), object) {
+            return true;
+        }
+    }
+    false
+}
+
+/// Whether one of these long handles names the object.
+fn any_long_names_it(binds: &Binds, long: &IndexMap<Vec<u8>, u64>, object: u64) -> bool
+    ensures { result ≡ list_any (λ e. is_bound binds.now e.0.items object) long.now.entries }
+{
+    for (handle, _) in long.iter() {
+        if names_it(binds, handle.as_slice(), object) {
+            return true;
+        }
+    }
+    false
+}
+
+/// Whether one of these handles names the object.
+fn any_names_it(binds: &Binds, objects: &Objects, object: u64) -> bool
+    ensures { result ≡ (list_any (λ e. is_bound binds.now e.0 object) objects.now.short.entries
+        || list_any (λ e. is_bound binds.now e.0.items object) objects.now.long.entries) }
+{
+    any_short_names_it(binds, &objects.short, object)
+        || any_long_names_it(binds, &objects.long, object)
+}
+
+impl Binds {
+    /// Whether some handle names the object. It takes one look-up where the object's number in eight bytes, the
+    /// first byte the greatest, is a handle of it, and none for the root; else it goes over all handles.
+    pub fn names(&self, object: u64) -> bool
+        ensures { result ≡ is_named self.now object }
+    {
+        if object == 0 {
+            return true;
+        }
+        if names_it(self, object.to_be_bytes().as_slice(), object) {
+            return true;
+        }
+        any_names_it(self, &self.objects, object)
     }
 }

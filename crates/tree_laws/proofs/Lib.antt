@@ -16,3 +16,7 @@ pub mod Lasting
 pub mod Living
 pub mod Unwritten
 pub mod Later
+pub mod Agreeing
+pub mod Newcomers
+pub mod Taking
+pub mod Unheeded

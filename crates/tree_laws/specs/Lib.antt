@@ -9,4 +9,8 @@ pub mod ReadBack
 pub mod FileBytes
 pub mod Types
 pub mod LiveHandles
+pub mod LaterBinds
 pub mod Example
+pub mod Agreeing
+pub mod Newcomers
+pub mod Taking

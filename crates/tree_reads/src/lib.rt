@@ -7,5 +7,5 @@ mod name_set;
 mod read;
 
 pub use listing::{listed, listed_plus};
-pub use look::{committed, got_attributes, got_text, looked_up};
+pub use look::{committed, got_attributes, got_text, looked_up, object_named};
 pub use read::got_bytes;

@@ -55,8 +55,8 @@ fn object_at(node: Option<&Node>) -> Option<u64>
     }
 }
 
-/// The object that a name leads to from a directory.
-fn object_named(nodes: &Nodes, directory: u64, name: &[u8]) -> Option<u64>
+/// The object that a name leads to from a directory: `.` is the directory itself, `..` the one that it lies in.
+pub fn object_named(nodes: &Nodes, directory: u64, name: &[u8]) -> Option<u64>
     ensures { result ≡ option_and_then (λ path. object_named nodes.now path name.now) (path_of nodes.now directory) }
 {
     if is_dot(name) {

@@ -3,6 +3,8 @@
 #![tactic(auto)]
 
 #[cfg(test)]
+mod allowing;
+#[cfg(test)]
 mod holes;
 #[cfg(test)]
 mod printing;

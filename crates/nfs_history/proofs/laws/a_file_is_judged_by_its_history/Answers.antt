@@ -9,4 +9,4 @@ returns-clause-of_each c = calls_in
 
 pub returns-clause-of_one : goal.returns-clause-of_one
 returns-clause-of_one c = λ bytes known is.
-    (record { known = known; events = map owned_of is.0.events }, (is.0, is.1, record { known = is.2; events = happened_again is.0.events }), refl)
+    (record { known = known; events = map owned_of is.0.events; spare = 0 }, (is.0, is.1, record { known = is.2; events = happened_again is.0.events }, refl), refl)

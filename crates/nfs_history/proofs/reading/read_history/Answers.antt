@@ -2,10 +2,10 @@ use Rattle.std.proofs.Common.{Err, ap, ◌∙◌}
 use Rattle.std.proofs.lemmas.Result.{err_from_is_err_and}
 use Rattle.history_file.specs.Owning.{all_seen, recording_value}
 use Rattle.nfs_history.specs.HistoryValue.{HistoryValue}
-use Rattle.nfs_history.specs.History.{AreCallsOf, IsHistory}
+use Rattle.nfs_history.specs.History.{AreCallsOf}
 use Rattle.nfs_history.specs.JoinedFaults.{of_file}
 use Rattle.nfs_history.proofs.HistoryLaws.{root_small}
-use Rattle.nfs_history.proofs.FirstFaultLaws.{only_memory_of, named_of, calls_in, calls_found, found_in, fault_in, file_stop}
+use Rattle.nfs_history.proofs.FirstFaultLaws.{only_memory_of, named_of, calls_in, history_found, calls_found, found_in, fault_in, file_stop}
 use Rattle.nfs_history.proofs.reading.read_history.Goals as goal
 
 pub returns-in_err-recording-clause-fault : goal.returns-in_err-recording-clause-fault
@@ -32,7 +32,7 @@ pub returns-clause-found : goal.returns-clause-found
 returns-clause-found c =
     let root = c.in_ok-root.ensures in
     let events = c.in_ok-events.ensures ∙ ap all_seen c.as_slice.ensures.value in
-    found_in IsHistory c.args.bytes.now (recording_value c.in_ok-recording.recording) c.build.result c.in_ok-recording.ensures.found (rw (root, events) at c.build.ensures.found)
+    history_found c.args.bytes.now (recording_value c.in_ok-recording.recording) c.build.result c.in_ok-recording.ensures.found (rw (root, events) at c.build.ensures.found) c.build.ensures.bare
 
 pub returns-clause-fault : goal.returns-clause-fault
 returns-clause-fault c =

@@ -22,4 +22,5 @@ pub returns-clause-named : goal.returns-clause-named
 returns-clause-named c = λ fault first.
     let events = ap all_happened c.as_slice.ensures.value in
     let known = rw events at c.in_ok-known.ensures.found in
-    fault_or_calls (record { root = c.args.root; events = all_happened c.args.events.items }) fault c.in_ok-known.known first known
+    fault_or_calls (record { root = c.args.root; events = all_happened c.args.events.items }) fault
+    (record { root = c.in_ok-known.known.root; eras = c.in_ok-known.known.open_calls.era; calls = c.in_ok-known.known.calls.items }) first known.0

@@ -1,0 +1,15 @@
+pub mod Growing
+pub mod Invariant
+pub mod Lists
+pub mod Shaped
+pub mod Ordered
+pub mod Running
+pub mod Stable
+pub mod Verified
+pub mod Handles
+pub mod Moving
+pub mod Bound
+pub mod Pushed
+pub mod Legal
+pub mod Kept
+pub mod EveryBook

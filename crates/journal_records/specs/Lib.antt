@@ -1,0 +1,5 @@
+pub mod Journal
+pub mod Exactly
+pub mod Parts
+pub mod SpelledRecord
+pub mod FaultText

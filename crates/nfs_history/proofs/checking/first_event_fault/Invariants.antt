@@ -1,5 +1,0 @@
-use Rattle.nfs_history.proofs.CheckingSteps.{IsCheckedTo}
-use Rattle.nfs_history.proofs.checking.first_event_fault.Given as goal
-
-abbrev pub invariant-loop-index : goal.invariant-loop-index
-invariant-loop-index l = IsCheckedTo l.events l.index l.calls

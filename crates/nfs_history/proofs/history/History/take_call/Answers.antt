@@ -1,0 +1,39 @@
+use Rattle.std.proofs.Common.{◌<◌, [], ◌∷◌, ◌++◌, arith, sym, subst}
+use Rattle.std.specs.Prelude.{vec_len, vec_capacity, is_ok}
+use Rattle.history_file.specs.Owning.{happened, all_happened}
+use Rattle.nfs_history.specs.Calls.{calls_of}
+use Rattle.nfs_history.specs.History.{AreRecorded}
+use Rattle.nfs_history.specs.HistoryValue.{HistoryValue}
+use Rattle.nfs_history.specs.Inside.{value_of}
+use Rattle.nfs_history.specs.Standing.{MayFollow}
+use Rattle.nfs_history.proofs.AppendSteps.{pushed_within, era_within, kept_more, follows_more}
+use Rattle.nfs_history.proofs.history.History.take_call.Goals as goal
+
+pub put_event-requires : goal.put_event-requires
+put_event-requires c =
+    let inside = c.self.inside in
+    omega (arith, era_within (value_of inside) inside.open_calls c.self.invariant.0, inside.events.ok.0, inside.events.ok.1, inside.events.small)
+
+pub invariant_of-self-2 : goal.invariant_of-self-2
+invariant_of-self-2 c =
+    let inside = c.self.inside in
+    let room : vec_len c.reserve.new.self < vec_capacity c.reserve.new.self = omega (arith, c.in_ok-reserve.ensures.ok) in
+    let pushed = pushed_within inside.calls.items c.reserve.new.self.items c.push.new.self.items c.args.call (is_ok c.push.result) c.in_ok-reserve.ensures.items c.push.ensures.items (c.push.ensures.succeeds room) in
+    let may = subst (λ (v : HistoryValue). MayFollow (all_happened v.events) (happened c.args.event)) (sym c.self.view_is) c.requires.follows in
+    let with_call = subst (λ (v : HistoryValue). AreRecorded (calls_of (all_happened v.events ++ happened c.args.event ∷ [])) (v.known.calls ++ c.args.call ∷ [])) (sym c.self.view_is) c.requires.recorded in
+    let recorded = subst (AreRecorded (calls_of (all_happened inside.events.items ++ happened c.args.event ∷ []))) (sym pushed) with_call in (
+      kept_more inside.root inside.open_calls c.put_event.new.open_calls inside.calls.items c.push.new.self.items inside.events.items c.put_event.new.events.items c.args.event inside.spare 0
+          c.in_ok-put_event.ensures.put c.self.invariant.0 may c.in_ok-put_event.ensures.knows recorded,
+      omega (arith, c.put_event.new.events.ok.1),
+    )
+
+pub returns-clause-taken : goal.returns-clause-taken
+returns-clause-taken c =
+    let inside = c.self.inside in
+    let room : vec_len c.reserve.new.self < vec_capacity c.reserve.new.self = omega (arith, c.in_ok-reserve.ensures.ok) in
+    let pushed = pushed_within inside.calls.items c.reserve.new.self.items c.push.new.self.items c.args.call (is_ok c.push.result) c.in_ok-reserve.ensures.items c.push.ensures.items (c.push.ensures.succeeds room) in
+    let may = subst (λ (v : HistoryValue). MayFollow (all_happened v.events) (happened c.args.event)) (sym c.self.view_is) c.requires.follows in
+    let with_call = subst (λ (v : HistoryValue). AreRecorded (calls_of (all_happened v.events ++ happened c.args.event ∷ [])) (v.known.calls ++ c.args.call ∷ [])) (sym c.self.view_is) c.requires.recorded in
+    let recorded = subst (AreRecorded (calls_of (all_happened inside.events.items ++ happened c.args.event ∷ []))) (sym pushed) with_call in
+    follows_more inside.root inside.open_calls c.put_event.new.open_calls inside.calls.items c.push.new.self.items inside.events.items c.put_event.new.events.items c.args.event inside.spare c.args.self.now
+    c.self.view_is c.in_ok-put_event.ensures.put c.self.invariant.0 may c.in_ok-put_event.ensures.knows recorded

@@ -1,0 +1,143 @@
+-- objects that some handle names
+use Rattle.std.proofs.Common.{◌≡◌, ◌⊎◌, inl, inr, ℕ, Bool, true, false, cond, List, [], ◌∷◌, Option, Some, None, refl, sym, ap, ◌∙◌}
+use Rattle.std.specs.Prelude.{◌==◌, ◌||◌, nat_le, length}
+use Rattle.std.specs.List.{list_any}
+use Rattle.std.specs.Option.{option_map_or}
+use Rattle.std.specs.Cmp.Lexicographic.{bytes_decides}
+use Rattle.std.specs.Map.{lookup}
+use Rattle.std.proofs.lemmas.Bool.{eqb-true, eq-eqb}
+use Rattle.tree_handles.specs.Binding.{Bindings, same_bytes, object_of, is_bound, is_named}
+use Rattle.tree_handles.specs.declared.objects.Objects.{Objects}
+use Rattle.tree_handles.specs.Finding.{found, GivesFirst}
+
+either_of : (a b : Bool) → (a || b) ≡ true → (a ≡ true) ⊎ (b ≡ true)
+either_of true b e = inl refl
+either_of false b e = inr e
+
+first_holds : (a b : Bool) → a ≡ true → (a || b) ≡ true
+first_holds true b e = refl
+first_holds false b e = absurd (cc)
+
+second_holds : (a b : Bool) → b ≡ true → (a || b) ≡ true
+second_holds true b e = refl
+second_holds false b e = e
+
+-- the item that passes
+pub any_item : {X : Type 0} (test : X → Bool) (xs : List X) → list_any test xs ≡ true → (x : X) × (test x ≡ true)
+any_item test [] e = absurd (cc)
+any_item {X} test (x ∷ xs) e = go (either_of (test x) (list_any test xs) e) (any_item test xs) where
+  go : (test x ≡ true) ⊎ (list_any test xs ≡ true) → (list_any test xs ≡ true → (y : X) × (test y ≡ true)) → (y : X) × (test y ≡ true)
+  go (inl here) later = (x, here)
+  go (inr there) later = later there
+
+-- what is found of a handle has an entry with its bytes
+found_any : {Key : Type 0} (bytes : Key → List ℕ) (test : List ℕ → Bool) (handle : List ℕ) (object : ℕ) (es : List (Key × ℕ))
+    → lookup (λ key. same_bytes handle (bytes key)) es ≡ Some object → test handle ≡ true → list_any (λ e. test (bytes e.0)) es ≡ true
+found_any bytes test handle object [] e passes = absurd (cc)
+found_any {Key} bytes test handle object (x ∷ es) e passes = go (same_bytes handle (bytes x.0)) refl e (λ is. found_any bytes test handle object es is passes) where
+  go : (b : Bool) → same_bytes handle (bytes x.0) ≡ b → cond b (Some x.1) (lookup (λ key. same_bytes handle (bytes key)) es) ≡ Some object
+      → (lookup (λ key. same_bytes handle (bytes key)) es ≡ Some object → list_any (λ e. test (bytes e.0)) es ≡ true)
+      → (test (bytes x.0) || list_any (λ e. test (bytes e.0)) es) ≡ true
+  go true same is later = first_holds _ _ (ap test (sym ((bytes_decides handle (bytes x.0)).0 same)) ∙ passes)
+  go false apart is later = second_holds _ _ (later is)
+
+-- a handle that names an object names the one that is found of it
+bound_object : (o : Option ℕ) (object : ℕ) → option_map_or (λ named. named == object) o false ≡ true → o ≡ Some object
+bound_object None object e = absurd (cc)
+bound_object (Some named) object e = ap Some (eqb-true named object e)
+
+pub is_object : (binds : Bindings) (handle : List ℕ) (object : ℕ) → is_bound binds handle object ≡ true → object_of binds handle ≡ Some object
+is_object binds handle object e = bound_object (object_of binds handle) object e
+
+pub object_is : (binds : Bindings) (handle : List ℕ) (object : ℕ) → object_of binds handle ≡ Some object → is_bound binds handle object ≡ true
+object_is binds handle object e = ap (λ o. option_map_or (λ named. named == object) o false) e ∙ eq-eqb object object refl
+
+-- some handle names an object exactly where the rule says so
+pub handle_of : (binds : Bindings) (object : ℕ) → is_named binds object ≡ true → (handle : List ℕ) × (is_bound binds handle object ≡ true)
+handle_of binds object e = go (either_of (is_bound binds binds.root object) (list_any (λ pair. is_bound binds pair.0 object) binds.pairs) e) where
+  go : (is_bound binds binds.root object ≡ true) ⊎ (list_any (λ pair. is_bound binds pair.0 object) binds.pairs ≡ true) → (handle : List ℕ) × (is_bound binds handle object ≡ true)
+  go (inl root) = (binds.root, root)
+  go (inr pair) = let it = any_item (λ pair. is_bound binds pair.0 object) binds.pairs pair in (it.0.0, it.1)
+
+-- the root, or what is found among the pairs
+module _ (binds : Bindings) (handle : List ℕ) (object : ℕ) (bound : is_bound binds handle object ≡ true) where
+  pub root_or_pair : (same_bytes handle binds.root ≡ true) ⊎ (lookup (same_bytes handle) binds.pairs ≡ Some object)
+  root_or_pair = go (same_bytes handle binds.root) refl where
+    go : (b : Bool) → same_bytes handle binds.root ≡ b → (same_bytes handle binds.root ≡ true) ⊎ (lookup (same_bytes handle) binds.pairs ≡ Some object)
+    go true same = inl same
+    go false apart = inr (ap (λ b. cond b (Some 0) (lookup (same_bytes handle) binds.pairs)) (sym apart) ∙ is_object binds handle object bound)
+
+  pub is_among_names : is_named binds object ≡ true
+  is_among_names = go root_or_pair where
+    go : (same_bytes handle binds.root ≡ true) ⊎ (lookup (same_bytes handle) binds.pairs ≡ Some object) → is_named binds object ≡ true
+    go (inl same) = first_holds _ _ (ap (λ h. is_bound binds h object) (sym ((bytes_decides handle binds.root).0 same)) ∙ bound)
+    go (inr found) = second_holds _ _ (found_any (λ (h : List ℕ). h) (λ h. is_bound binds h object) handle object binds.pairs found bound)
+
+  -- the root's object is 0
+  root_is_first : same_bytes handle binds.root ≡ true → (object == 0) ≡ true
+  root_is_first same =
+      let is : Some 0 ≡ Some object = ap (λ b. cond b (Some 0) (lookup (same_bytes handle) binds.pairs)) (sym same) ∙ is_object binds handle object bound in
+      let zero : object ≡ 0 = cc in
+      eq-eqb object 0 zero
+
+  -- in the maps it is found too
+  pub in_maps : (objects : Objects) → GivesFirst objects binds.pairs
+      → ((object == 0) ≡ true) ⊎ ((list_any (λ e. is_bound binds e.0 object) objects.short.entries ≡ true) ⊎ (list_any (λ e. is_bound binds e.0.items object) objects.long.entries ≡ true))
+  in_maps objects gives = go root_or_pair where
+    by_length : (b : Bool) → nat_le (length handle) 31 ≡ b → found objects handle ≡ Some object
+        → (list_any (λ e. is_bound binds e.0 object) objects.short.entries ≡ true) ⊎ (list_any (λ e. is_bound binds e.0.items object) objects.long.entries ≡ true)
+    by_length true short is =
+        let there : lookup (same_bytes handle) objects.short.entries ≡ Some object =
+        ap (λ b. cond b (lookup (same_bytes handle) objects.short.entries) (lookup (λ key. same_bytes handle key.items) objects.long.entries)) (sym short) ∙ is in
+        inl (found_any (λ (h : List ℕ). h) (λ h. is_bound binds h object) handle object objects.short.entries there bound)
+    by_length false long is =
+        let there : lookup (λ key. same_bytes handle key.items) objects.long.entries ≡ Some object =
+        ap (λ b. cond b (lookup (same_bytes handle) objects.short.entries) (lookup (λ key. same_bytes handle key.items) objects.long.entries)) (sym long) ∙ is in
+        inr (found_any (λ key. key.items) (λ h. is_bound binds h object) handle object objects.long.entries there bound)
+
+    go : (same_bytes handle binds.root ≡ true) ⊎ (lookup (same_bytes handle) binds.pairs ≡ Some object)
+        → ((object == 0) ≡ true) ⊎ ((list_any (λ e. is_bound binds e.0 object) objects.short.entries ≡ true) ⊎ (list_any (λ e. is_bound binds e.0.items object) objects.long.entries ≡ true))
+    go (inl same) = inl (root_is_first same)
+    go (inr pair) = inr (by_length (nat_le (length handle) 31) refl (gives handle ∙ pair))
+
+same_bools : (a b : Bool) → (a ≡ true → b ≡ true) → (b ≡ true → a ≡ true) → a ≡ b
+same_bools true b f g = sym (f refl)
+same_bools false true f g = g refl
+same_bools false false f g = refl
+
+-- the root names object 0
+pub zero_is_named : (binds : Bindings) (object : ℕ) → (object == 0) ≡ true → is_named binds object ≡ true
+zero_is_named binds object e = is_among_names binds binds.root object (object_is binds binds.root object at) where
+  at : object_of binds binds.root ≡ Some object
+  at = ap (λ b. cond b (Some 0) (lookup (same_bytes binds.root) binds.pairs)) ((bytes_decides binds.root binds.root).1 refl) ∙ ap Some (sym (eqb-true object 0 e))
+
+-- another object is named by a short handle or by a long one
+module _ (binds : Bindings) (objects : Objects) (gives : GivesFirst objects binds.pairs) (object : ℕ) (other : (object == 0) ≡ false) where
+  abbrev pub any_short : Bool
+  any_short = list_any (λ e. is_bound binds e.0 object) objects.short.entries
+
+  abbrev pub any_long : Bool
+  any_long = list_any (λ e. is_bound binds e.0.items object) objects.long.entries
+
+  yes : (any_short || any_long) ≡ true → is_named binds object ≡ true
+  yes e = go (either_of any_short any_long e) where
+    go : (any_short ≡ true) ⊎ (any_long ≡ true) → is_named binds object ≡ true
+    go (inl short) = let it = any_item (λ e. is_bound binds e.0 object) objects.short.entries short in is_among_names binds it.0.0 object it.1
+    go (inr long) = let it = any_item (λ e. is_bound binds e.0.items object) objects.long.entries long in is_among_names binds it.0.0.items object it.1
+
+  no : is_named binds object ≡ true → (any_short || any_long) ≡ true
+  no e = go (in_maps binds it.0 object it.1 objects gives) where
+    it : (handle : List ℕ) × (is_bound binds handle object ≡ true)
+    it = handle_of binds object e
+
+    clash : (b : Bool) → b ≡ true → b ≡ false → ⊥
+    clash true e f = absurd (cc)
+    clash false e f = absurd (cc)
+
+    go : ((object == 0) ≡ true) ⊎ ((any_short ≡ true) ⊎ (any_long ≡ true)) → (any_short || any_long) ≡ true
+    go (inl zero) = absurd (clash (object == 0) zero other)
+    go (inr (inl short)) = first_holds any_short any_long short
+    go (inr (inr long)) = second_holds any_short any_long long
+
+  pub other_is_named : (any_short || any_long) ≡ is_named binds object
+  other_is_named = same_bools (any_short || any_long) (is_named binds object) yes no

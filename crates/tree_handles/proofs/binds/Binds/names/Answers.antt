@@ -1,0 +1,20 @@
+use Rattle.std.proofs.Common.{◌≡◌, false, sym, ◌∙◌, subst, rules}
+use Rattle.std.specs.Prelude.{◌==◌}
+use Rattle.std.proofs.lemmas.Bool.{eq-eqb}
+use Rattle.tree_handles.specs.Binding.{Bindings}
+use Rattle.tree_handles.specs.Finding.{GivesFirst}
+use Rattle.tree_handles.proofs.HandleOf.{zero_is_named, is_among_names, other_is_named}
+use Rattle.tree_handles.proofs.binds.Binds.names.Goals as goal
+
+pub returns-then-object-eq0 : goal.returns-then-object-eq0
+returns-then-object-eq0 c = sym (zero_is_named c.args.self.now c.args.object (eq-eqb c.args.object 0 c.if-object-eq0.true))
+
+pub returns-then-names_it : goal.returns-then-names_it
+returns-then-names_it c = sym (is_among_names c.args.self.now c.as_slice.result.now c.args.object (sym c.names_it.ensures ∙ c.if-names_it.true))
+
+pub returns : goal.returns
+returns c =
+    let objects = c.self.inside.objects in
+    let other : (c.args.object == 0) ≡ false = search rules in
+    let gives = subst (λ (b : Bindings). GivesFirst objects b.pairs) c.self.view_is c.self.invariant in
+    c.any_names_it.ensures ∙ other_is_named c.args.self.now objects gives c.args.object other

@@ -1,0 +1,8 @@
+use Rattle.std.proofs.Common.{◌≡◌}
+use Rattle.std.specs.List.{list_any}
+use Rattle.tree_handles.specs.Binding.{is_bound}
+use Rattle.tree_handles.proofs.binds.any_long_names_it.Given as goal
+
+-- no handle that was looked at names it
+abbrev pub invariant-loop-handle : goal.invariant-loop-handle
+invariant-loop-handle l = list_any (λ e. is_bound l.binds e.0.items l.object) l.long.entries ≡ list_any (λ e. is_bound l.binds e.0.items l.object) l.handle-iterator
