@@ -29,6 +29,18 @@ pub struct Book<D: JournalDevice> {
     device: D,
 }
 
+impl<D: JournalDevice> Model for Book<D> {
+    ghost use Rattle.book_machine.specs.Book as machine;
+    ghost use Rattle.recorder.specs.Inside.{book_of, AreTied};
+
+    ghost Value = { machine.Book };
+
+    ghost view = { λ b. book_of b.ledger (D.device b.device) };
+
+    // A run of steps leads to it, and its parts belong together.
+    ghost invariant = { λ b. AreTied b.ledger (D.device b.device) };
+}
+
 impl<D: JournalDevice> Drop for Book<D> {
     fn drop(self) {
         let Book { ledger, device } = self;
@@ -53,7 +65,7 @@ impl<D: JournalDevice> Book<D> {
 
     /// Begins a call, and gives what names it.
     pub fn begin(&mut self, lane: u32, message: &[u8]) -> Result<Token, BeginFault>
-        ensures begun { IfOk result (λ token. Begins self.old lane message.now self.new × (token ≡ length self.new.history.known.calls)) }
+        ensures begun { IfOk result (λ token. Begins self.old lane message.now self.new × (token.number ≡ length self.new.history.known.calls)) }
         ensures refused { BeginRefused self.old lane message.now result self.new }
     {
         self.ledger.begin(lane, message)
@@ -86,8 +98,8 @@ impl<D: JournalDevice> Book<D> {
 
     /// Gives a call the next place in the serial order, with its reply.
     pub fn place(&mut self, token: Token, reply: NfsReply) -> Result<(), PlaceFault>
-        ensures placed { OnOk result (Places self.old token reply.entry self.new) }
-        ensures refused { PlaceRefused self.old token reply.entry result self.new }
+        ensures placed { OnOk result (Places self.old token.number reply.entry self.new) }
+        ensures refused { PlaceRefused self.old token.number reply.entry result self.new }
     {
         self.ledger.check_unplaced(token.number())?;
         match self.put_place(token.number(), Outcome::Received(reply)) {
@@ -121,8 +133,8 @@ impl<D: JournalDevice> Book<D> {
 
     /// Answers a call with the reply that it was placed with, as a message.
     pub fn answer(&mut self, token: Token) -> Result<Vec<u8>, AnswerFault>
-        ensures answered { OnOk result (Answers self.old token self.new) }
-        ensures refused { AnswerRefused self.old token result self.new }
+        ensures answered { OnOk result (Answers self.old token.number self.new) }
+        ensures refused { AnswerRefused self.old token.number result self.new }
     {
         self.ledger.answer(token.number(), self.device.mark())
     }

@@ -1,0 +1,6 @@
+pub mod FaultText
+pub mod JoinedFaults
+pub mod Recordable
+pub mod Refusals
+pub mod Rebuilding
+pub mod Inside
