@@ -13,9 +13,13 @@ use Rattle.nfs_history.specs.declared.history.Meaning.TheVariants as meanings
 use Rattle.nfs_history.specs.declared.history.RecordedCall.{RecordedCall}
 use Rattle.nfs_history.specs.Precedence.{call_at}
 use Rattle.replay_law.specs.Run as run
+use Rattle.replay_law.specs.Undone.{UndoesAll}
+use Rattle.tree_nodes.specs.declared.undo.Undo.{Undo}
+use Rattle.tree_nodes.specs.Tree.{Tree}
+use Rattle.tree_nodes.specs.Undo.{TakesBack}
 use Rattle.tree_handles.specs.Binding.{object_of}
 use Rattle.journal_device.specs.Device.{Device}
-use Rattle.book_machine.specs.Placing.{Placed, records_in}
+use Rattle.book_machine.specs.Placing.{Placed, records_in, front_with}
 use Rattle.book_machine.specs.Book.{Book, Condition, bindings, tree_of, records_kept}
 use Rattle.book_machine.specs.Book.Condition as conditions
 use Rattle.book_machine.specs.Steps.{opening_book, IsRun}
@@ -82,6 +86,10 @@ AreCounted ahead recorded [] = Unit {0}
 AreCounted ahead recorded (placed ∷ rest) =
     (placed.records ≡ ahead + records_in (placed_in recorded placed ∷ [])) × AreCounted placed.records recorded rest
 
+-- the tree behind the calls that a crash keeps with so many records
+abbrev pub tree_behind : Book → ℕ → Option Tree
+tree_behind book keep = tree_of (record book { placed = take (front_with (keep - records_kept book) book.placed) book.placed })
+
 -- a call of the era now that has a place stands there, and what stands there has it
 pub record ArePlaced (ledger : Ledger) : Type 0 where
   pub count : length ledger.calls.items ≡ length ledger.history.known.calls
@@ -107,3 +115,6 @@ pub record AreTied (ledger : Ledger) (device : Device) : Type 0 where
   pub stands : ledger.condition ≡ codes.Running → IsSome ledger.tree
   -- there is a value to take back each record past the mark
   pub undos : IsSome ledger.tree → length ledger.undos.items + device.mark ≡ length device.records
+  -- the last ones lead back to the tree behind the records ahead of theirs
+  pub undone : (earlier later : List Undo) (tree before : Tree) → ledger.undos.items ≡ earlier ++ later → ledger.tree ≡ Some tree
+      → tree_behind (book_of ledger device) (length device.records - length later) ≡ Some before → UndoesAll TakesBack later tree before
