@@ -3,7 +3,9 @@ use Rattle.std.specs.Prelude.{◌≡◌, ◌==◌, ◌&&◌, not, ◌≤◌, ℕ
 use Rattle.xdr_records.specs.Record.{record_limit}
 use Rattle.rpc_reader.specs.Values.{CallValue}
 use Rattle.nfs3_types.specs.declared.calls.NfsCall.{NfsCall}
+use Rattle.nfs3_types.specs.declared.replies.Outcome.{Outcome}
 use Rattle.nfs_history.specs.Effects.{is_judged}
+use Rattle.book_machine.specs.Placing.{Placed}
 use Rattle.book_machine.specs.Steps.{IsRecordable}
 use Rattle.recorder.specs.declared.fault.BeginFault.{BeginFault}
 use Rattle.recorder.specs.declared.fault.BeginFault.TheVariants as faults
@@ -25,3 +27,7 @@ IsKeptAsked message (Ok _) = IsRecord message
 IsKeptAsked message (Err faults.BadRecord) = ¬ IsRecord message
 IsKeptAsked message (Err faults.NoMemory) = ⊤
 IsKeptAsked message (Err fault) = ⊥
+
+-- a call that came out so, whatever its number
+abbrev pub step_so : NfsCall → Outcome → Placed
+step_so call outcome = record { number = 0; call = call; outcome = outcome }

@@ -1,19 +1,15 @@
 //! What a call and its reply are to a book.
 
-ghost use Rattle.std.specs.Prelude.{◌≡◌, ◌<◌, not, is_some, Option, Some, None};
-ghost use Rattle.std.specs.Option.{option_copied};
-ghost use Rattle.nfs3_types.specs.declared.calls.NfsCall.{NfsCall};
-ghost use Rattle.nfs3_types.specs.declared.replies.Outcome.TheVariants as outcomes;
-ghost use Rattle.nfs_history.specs.Effects.{is_judged};
+ghost use Rattle.std.specs.Prelude.{◌≡◌, ◌↔◌, ◌⊎◌, not, true, None, IsTrue, option_map};
 ghost use Rattle.rpc_reader.specs.Views.{call_value};
-ghost use Rattle.cut_check.specs.Effect.{succeeded, effect_of, commit_success};
+ghost use Rattle.cut_check.specs.Effect.{succeeded, effect_of, write_success, commit_success};
 ghost use Rattle.cut_check.specs.declared.effect.Effect.TheVariants.{Lasting};
 ghost use Rattle.cut_check.specs.Verifier.{verifier_of};
 ghost use Rattle.tree_laws.specs.Leaving.{only_looks};
 ghost use Rattle.tree_laws.specs.Outcomes.{count_written};
 ghost use Rattle.book_machine.specs.Placing.{is_recorded};
-ghost use Rattle.book_machine.specs.Steps.{is_commit, step_of, IsPromise};
-ghost use Rattle.recorder.specs.Recordable.{asks_judged, IsNoRecord, IsKeptAsked};
+ghost use Rattle.book_machine.specs.Steps.{commits};
+ghost use Rattle.recorder.specs.Recordable.{asks_judged, step_so, IsKeptAsked};
 
 use crate::fault::BeginFault;
 use journal_records::is_inside;
@@ -98,13 +94,14 @@ fn succeeded(call: &NfsCall, outcome: &Outcome) -> bool
 
 /// Whether a call that came out so has a record in the journal.
 pub(crate) fn is_recorded(call: &NfsCall, outcome: &Outcome) -> bool
-    ensures { result ≡ is_recorded (record { number = 0; call = call.now; outcome = outcome.now }) }
+    ensures { result ≡ is_recorded (step_so call.now outcome.now) }
 {
     may_change(call) && succeeded(call, outcome)
 }
 
 /// The level at which a WRITE was answered, with the bytes that it counts and the verifier, where it succeeded.
 fn write_answer(outcome: &Outcome) -> Option<(StableHow, u32, u64)>
+    ensures { result ≡ option_map (λ success. (success.level, success.count, success.verifier.value)) (write_success outcome.now) }
 {
     let Outcome::Received(reply) = outcome else {
         return None;
@@ -120,6 +117,7 @@ fn write_answer(outcome: &Outcome) -> Option<(StableHow, u32, u64)>
 
 /// The verifier of a COMMIT that succeeded.
 fn commit_verifier(outcome: &Outcome) -> Option<u64>
+    ensures { result ≡ option_map (λ success. success.verifier.value) (commit_success outcome.now) }
 {
     let Outcome::Received(reply) = outcome else {
         return None;
@@ -135,6 +133,7 @@ fn commit_verifier(outcome: &Outcome) -> Option<u64>
 
 /// Whether a reply promises that the call outlives a crash (RFC 1813, section 4.7), or, of a COMMIT, that what is placed ahead does.
 pub(crate) fn promises(call: &NfsCall, outcome: &Outcome) -> bool
+    ensures { IsTrue result ↔ ((effect_of None call.now outcome.now ≡ Lasting) ⊎ (commits (step_so call.now outcome.now) ≡ true)) }
 {
     match call {
         NfsCall::Write(_) => {
@@ -161,8 +160,12 @@ pub(crate) fn verifier_of(call: &NfsCall, outcome: &Outcome) -> Option<u64>
 
 /// How many bytes a WRITE wrote, by its reply.
 pub(crate) fn count_written(outcome: &Outcome) -> Option<u32>
+    ensures { result ≡ count_written outcome.now }
 {
-    write_answer(outcome).map(|answer| answer.1)
+    match outcome {
+        Outcome::Received(_) => write_answer(outcome).map(|answer| answer.1),
+        Outcome::Taken(count) => *count,
+    }
 }
 
 /// Whether a call makes an object where it succeeds.

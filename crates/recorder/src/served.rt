@@ -1,8 +1,8 @@
 //! Which replies the server may give.
 
-ghost use Rattle.std.specs.Prelude.{◌≡◌, ◌↔◌, IfOk, IsTrue};
-ghost use Rattle.file_tree.specs.Allows.{AllowsSuccess};
-ghost use Rattle.book_machine.specs.Served.{IsFull, IsFailed, IsServed, HasLongText};
+ghost use Rattle.std.specs.Prelude.{◌↔◌, IfOk, IsTrue};
+ghost use Rattle.book_machine.specs.Served.{IsFull, IsServed};
+ghost use Rattle.recorder.specs.Serving.{IsAllowed, IsFree};
 
 use file_tree::{Binds, FileTree};
 use nfs3_types::{Answer, Failure, NfsCall, NfsReply, ReadArguments, ReadSuccess};
@@ -29,7 +29,10 @@ fn is_whole(binds: &Binds, tree: &FileTree, call: &ReadArguments, success: &Read
 }
 
 /// Whether a success does all that was asked for. That it is right is the tree's matter.
-fn is_full(binds: &Binds, tree: &FileTree, call: &NfsCall, reply: &NfsReply) -> bool {
+fn is_full(binds: &Binds, tree: &FileTree, call: &NfsCall, reply: &NfsReply) -> bool
+    ensures full { IsTrue result → IsAllowed binds.now tree.now call.now reply.now → IsFull binds.now tree.now call.now reply.now }
+    ensures not_full { IsFull binds.now tree.now call.now reply.now → IsTrue result }
+{
     match (call, reply) {
         (NfsCall::Write(call), NfsReply::Write(Answer::Done(success))) => {
             success.count as usize == call.bytes.as_slice().len()
@@ -42,7 +45,9 @@ fn is_full(binds: &Binds, tree: &FileTree, call: &NfsCall, reply: &NfsReply) -> 
 }
 
 /// Whether a failure may be given whatever else holds: a list that is too small, a text that is too long.
-fn is_free(call: &NfsCall, failure: Failure) -> bool {
+fn is_free(call: &NfsCall, failure: Failure) -> bool
+    ensures { IsTrue result ↔ IsFree call.now failure }
+{
     match call {
         NfsCall::ReadDir(_) | NfsCall::ReadDirPlus(_) => failure == Failure::TooSmall,
         NfsCall::SymLink(call) => {
@@ -59,7 +64,10 @@ pub(crate) fn is_served(
     number: u64,
     call: &NfsCall,
     reply: &NfsReply,
-) -> Result<bool, AllocError> {
+) -> Result<bool, AllocError>
+    ensures served { IfOk result (λ served. IsTrue served → IsAllowed binds.now tree.now call.now reply.now → IsServed binds.now tree.now number call.now reply.now) }
+    ensures refused { IfOk result (λ served. IsServed binds.now tree.now number call.now reply.now → IsTrue served) }
+{
     match reply.failure() {
         None => Ok(is_full(binds, tree, call, reply)),
         Some(failure) => {
