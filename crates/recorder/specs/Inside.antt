@@ -118,3 +118,11 @@ pub record AreTied (ledger : Ledger) (device : Device) : Type 0 where
   -- the last ones lead back to the tree behind the records ahead of theirs
   pub undone : (earlier later : List Undo) (tree before : Tree) → ledger.undos.items ≡ earlier ++ later → ledger.tree ≡ Some tree
       → tree_behind (book_of ledger device) (length device.records - length later) ≡ Some before → UndoesAll TakesBack later tree before
+
+-- over any device that belongs to the old parts, the new ones belong to it too, and the books stand so
+abbrev pub Goes : (Book → Book → Type 0) → Ledger → Ledger → Type 0
+Goes Step old new = (device : Device) → AreTied old device → AreTied new device × Step (book_of old device) (book_of new device)
+
+-- over any device that belongs to the parts, this holds of the book
+abbrev pub Holds : (Book → Type 0) → Ledger → Type 0
+Holds P ledger = (device : Device) → AreTied ledger device → P (book_of ledger device)

@@ -1,5 +1,10 @@
 //! Replies that go out.
 
+ghost use Rattle.std.specs.Prelude.{◌≡◌, OnOk, IfErr};
+ghost use Rattle.book_machine.specs.Steps.{Answers};
+ghost use Rattle.recorder.specs.Inside.{Goes};
+ghost use Rattle.recorder.specs.Refusals.{AnswerStops};
+
 use crate::calls::promises;
 use crate::fault::AnswerFault;
 use crate::ledger::Ledger;
@@ -25,7 +30,10 @@ impl Ledger {
     }
 
     /// Answers a call that was placed.
-    pub(crate) fn answer(&mut self, number: u64, mark: u64) -> Result<Vec<u8>, AnswerFault> {
+    pub(crate) fn answer(&mut self, number: u64, mark: u64) -> Result<Vec<u8>, AnswerFault>
+        ensures answered { OnOk result (Goes (λ old new. old.device.mark ≡ mark → Answers old number new) self.old self.new) }
+        ensures refused { IfErr result (λ fault. Goes (λ old new. (old.device.mark ≡ mark → AnswerStops old number fault) × (new ≡ old)) self.old self.new) }
+    {
         let place = self.check_placed(number)?;
         if !self.is_durable(number, place, mark) {
             return Err(AnswerFault::NotDurable(mark));

@@ -1,5 +1,10 @@
 //! Calls that begin.
 
+ghost use Rattle.std.specs.Prelude.{◌≡◌, IfOk, IfErr, length};
+ghost use Rattle.book_machine.specs.Steps.{Begins};
+ghost use Rattle.recorder.specs.Inside.{Goes};
+ghost use Rattle.recorder.specs.Refusals.{BeginStops};
+
 use crate::calls::check_recordable;
 use crate::fault::BeginFault;
 use crate::ledger::Ledger;
@@ -27,7 +32,10 @@ impl Ledger {
     }
 
     /// Begins a call.
-    pub(crate) fn begin(&mut self, lane: u32, message: &[u8]) -> Result<Token, BeginFault> {
+    pub(crate) fn begin(&mut self, lane: u32, message: &[u8]) -> Result<Token, BeginFault>
+        ensures begun { IfOk result (λ token. Goes (λ old new. Begins old lane message.now new × (token.number ≡ length new.history.known.calls)) self.old self.new) }
+        ensures refused { IfErr result (λ fault. Goes (λ old new. BeginStops old lane message.now fault × (new ≡ old)) self.old self.new) }
+    {
         if self.condition != Condition::Running {
             return Err(BeginFault::Down);
         }

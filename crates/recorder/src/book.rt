@@ -10,11 +10,10 @@ ghost use Rattle.book_machine.specs.Steps.{opening_book, Begins, Places, Flushes
 ghost use Rattle.recorder.specs.Refusals.{BeginRefused, PlaceRefused, FlushRefused, AnswerRefused, CloseRefused, CrashRefused};
 
 use crate::fault::{
-    AnswerFault, BeginFault, CloseFault, CrashFault, FlushFault, PlaceFault, TokenFault,
+    AnswerFault, BeginFault, CloseFault, CrashFault, FlushFault, PlaceFault,
 };
 use crate::ledger::Ledger;
 use crate::placed::Condition;
-use crate::placing::TreeStep;
 use crate::token::Token;
 use certificate::Certificate;
 use journal_device::{DevFault, JournalDevice};

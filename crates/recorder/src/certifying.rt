@@ -1,5 +1,9 @@
 //! The certificate of a book.
 
+ghost use Rattle.std.specs.Prelude.{◌≡◌, IfOk};
+ghost use Rattle.book_machine.specs.Plan.{plan_of};
+ghost use Rattle.recorder.specs.Inside.{Holds};
+
 use crate::calls::{count_written, is_recorded};
 use crate::ledger::Ledger;
 use crate::lookups::call_asked;
@@ -79,7 +83,9 @@ impl Ledger {
     }
 
     /// Its own commit order.
-    pub(crate) fn certificate(&self) -> Result<Certificate, AllocError> {
+    pub(crate) fn certificate(&self) -> Result<Certificate, AllocError>
+        ensures { IfOk result (λ certificate. Holds (λ book. certificate ≡ plan_of book) self.now) }
+    {
         let binds = binds_made(self.alloc, self.calls.as_slice())?;
         Ok(Certificate {
             binds: BindList::new(binds),

@@ -1,9 +1,15 @@
 //! All of a book but its device.
 
-use crate::fault::{BeginFault, CloseFault, TokenFault};
+ghost use Rattle.std.specs.Prelude.{◌≡◌, IfOk, OnOk, IfErr};
+ghost use Rattle.book_machine.specs.Book.Condition.{down, dead};
+ghost use Rattle.book_machine.specs.Steps.{opening_book, Closes};
+ghost use Rattle.recorder.specs.Inside.{book_of, AreTied, Goes};
+ghost use Rattle.recorder.specs.Refusals.{CloseStops};
+
+use crate::fault::CloseFault;
 use crate::placed::{CallState, Condition, EraOver, PlacedCall};
 use file_tree::{Binds, FileTree, Undo};
-use nfs_history::{Event, History, HistoryFault, LaneState};
+use nfs_history::{Event, History, LaneState};
 use nfs3_types::FileHandle;
 use replay_law::Replayable;
 use std::alloc::{AllocError, Global};
@@ -64,7 +70,9 @@ fn empty_history(alloc: Global) -> Result<History, AllocError> {
 
 impl Ledger {
     /// Ahead of the first step.
-    pub(crate) fn new(alloc: Global) -> Result<Ledger, AllocError> {
+    pub(crate) fn new(alloc: Global) -> Result<Ledger, AllocError>
+        ensures { IfOk result (λ ledger. AreTied ledger opening_book.device × (book_of ledger opening_book.device ≡ opening_book)) }
+    {
         let binds = Binds::of_root(alloc, 0u64.to_be_bytes().as_slice())?;
         let tree = FileTree::opening(alloc, &binds)?;
         Ok(Ledger {
@@ -82,12 +90,16 @@ impl Ledger {
     }
 
     /// It takes no calls until a crash.
-    pub(crate) fn go_down(&mut self) {
+    pub(crate) fn go_down(&mut self)
+        ensures { Goes (λ old new. new ≡ record old { condition = down }) self.old self.new }
+    {
         self.condition = Condition::Down;
     }
 
     /// It takes no calls any more.
-    pub(crate) fn die(&mut self) {
+    pub(crate) fn die(&mut self)
+        ensures { Goes (λ old new. new ≡ record old { condition = dead }) self.old self.new }
+    {
         self.condition = Condition::Dead;
     }
 
@@ -97,7 +109,10 @@ impl Ledger {
     }
 
     /// Closes a lane.
-    pub(crate) fn close_lane(&mut self, lane: u32) -> Result<(), CloseFault> {
+    pub(crate) fn close_lane(&mut self, lane: u32) -> Result<(), CloseFault>
+        ensures closed { OnOk result (Goes (λ old new. Closes old lane new) self.old self.new) }
+        ensures refused { IfErr result (λ fault. Goes (λ old new. CloseStops old lane fault × (new ≡ old)) self.old self.new) }
+    {
         match self.history.lane(lane) {
             LaneState::Open => {}
             LaneState::EraOver => return Err(CloseFault::EraOver(self.history.eras())),

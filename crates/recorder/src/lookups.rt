@@ -2,7 +2,7 @@
 
 use crate::fault::TokenFault;
 use crate::ledger::Ledger;
-use crate::placed::{Condition, PlacedCall};
+use crate::placed::Condition;
 use nfs_history::{Event, History, LaneState, Meaning, RecordedCall};
 use nfs3_types::NfsCall;
 
