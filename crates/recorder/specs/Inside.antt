@@ -18,7 +18,7 @@ use Rattle.tree_nodes.specs.declared.undo.Undo.{Undo}
 use Rattle.tree_nodes.specs.Tree.{Tree}
 use Rattle.tree_nodes.specs.Undo.{TakesBack}
 use Rattle.tree_handles.specs.Binding.{object_of}
-use Rattle.journal_device.specs.Device.{Device}
+use Rattle.journal_device.specs.Device.{Device, settled}
 use Rattle.book_machine.specs.Placing.{Placed, records_in, front_with}
 use Rattle.book_machine.specs.Book.{Book, Condition, bindings, tree_of, records_kept}
 use Rattle.book_machine.specs.Book.Condition as conditions
@@ -126,3 +126,9 @@ Goes Step old new = (device : Device) → AreTied old device → AreTied new dev
 -- over any device that belongs to the parts, this holds of the book
 abbrev pub Holds : (Book → Type 0) → Ledger → Type 0
 Holds P ledger = (device : Device) → AreTied ledger device → P (book_of ledger device)
+
+-- the same where all records of the device were put on stable storage
+abbrev pub Settles : Ledger → Ledger → Type 0
+Settles old new =
+    (device : Device) → AreTied old device
+    → AreTied new (settled device) × (book_of new (settled device) ≡ record (book_of old device) { device = settled device })

@@ -3,7 +3,7 @@
 ghost use Rattle.std.specs.Prelude.{◌≡◌, IfOk, OnOk, IfErr};
 ghost use Rattle.book_machine.specs.Book.Condition.{down, dead};
 ghost use Rattle.book_machine.specs.Steps.{opening_book, Closes};
-ghost use Rattle.recorder.specs.Inside.{book_of, AreTied, Goes};
+ghost use Rattle.recorder.specs.Inside.{book_of, AreTied, Goes, Settles};
 ghost use Rattle.recorder.specs.Refusals.{CloseStops};
 
 use crate::fault::CloseFault;
@@ -104,7 +104,9 @@ impl Ledger {
     }
 
     /// All records are on stable storage.
-    pub(crate) fn settle(&mut self) {
+    pub(crate) fn settle(&mut self)
+        ensures { Settles self.old self.new }
+    {
         self.undos.clear();
     }
 
