@@ -8,4 +8,5 @@ mod text;
 
 pub use change::{Change, read_record};
 pub use fault::RecordFault;
+pub use parts::is_inside;
 pub use text::{JournalRecord, put_record};

@@ -60,7 +60,7 @@ fn size_asked(mode: &CreateMode) -> u64
 }
 
 /// Whether a call lies inside the model whatever its reply.
-fn is_inside(call: &NfsCall) -> bool
+pub fn is_inside(call: &NfsCall) -> bool
     ensures { result ≡ is_none (outside call.now None) }
 {
     match call {

@@ -17,10 +17,10 @@ use Rattle.nfs_history.specs.Calls.{CallEvent, xid_of, calls_of, eras_from}
 use Rattle.nfs_history.specs.Matching.{same_key}
 use Rattle.nfs_history.specs.Standing.{is_unanswered, has_unanswered, MayFollow, EachMayFollow}
 use Rattle.nfs_history.specs.EventFaults.{IsAtFault, FirstEventFault}
-use Rattle.nfs_history.specs.Checking.{is_on, is_close_of, is_crash, was_closed, is_shut, is_known_closed, is_place, AnswersWait, Knows, AreKnownToFollow}
+use Rattle.nfs_history.specs.Checking.{is_on, is_close_of, is_crash, was_cut_off, was_closed, is_shut, is_over, last_era, is_known_closed, is_place, AnswersWait, Knows, AreKnownToFollow}
 use Rattle.nfs_history.proofs.Unanswered.{any-call, any-reply, calls_from-quiet, or_false, and_true}
 use Rattle.nfs_history.proofs.Waiting.{new_call, calls_from-call, answered_if, reply_at, calls_from-reply, waits-one, none_waits, waits-answered}
-use Rattle.nfs_history.proofs.Lanes.{or_true, any_push, closed_push, eras_quiet, eras_crash, eras_few, is_open}
+use Rattle.nfs_history.proofs.Lanes.{or_true, any_push, cut_off_push, closed_push, eras_quiet, eras_crash, eras_few, is_open}
 
 -- ---- the lanes behind one more event
 
@@ -63,12 +63,34 @@ open_more before old new lane e era updates no_close no_crash open_lane knows l 
       go true is = chosen true is ∙ not_itself old.era ∙ sym (subst (λ k. was_closed k before ≡ false) (eqb-true lane l is) open_lane)
       go false is = chosen false is ∙ knows.closed l
 
-in_order_used : (before : List Event) (old new : OpenCalls) (lane : ℕ) → new.era ≡ old.era → UsedSo old new lane (uses.InEra old.era) → Knows old before
-    → (l last : ℕ) → get nat_eq new.lanes l ≡ Some (uses.InEra last) → last ≤ new.era
-in_order_used before old new lane era updates knows l last is = go (nat_eq lane l) (sym (updates l) ∙ is) where
-  go : (b : Bool) → cond b (Some (uses.InEra old.era)) (get nat_eq old.lanes l) ≡ Some (uses.InEra last) → last ≤ new.era
-  go true same = let one : old.era ≡ last = cc in omega (arith, one, era)
-  go false same = omega (arith, knows.in_order l last same, era)
+in_order_used : (before : List Event) (old new : OpenCalls) (lane : ℕ) (u : LaneUse) → new.era ≡ old.era → last_era u ≡ old.era → UsedSo old new lane u → Knows old before
+    → (l : ℕ) (v : LaneUse) → get nat_eq new.lanes l ≡ Some v → last_era v ≤ new.era
+in_order_used before old new lane u era now updates knows l v is = go (nat_eq lane l) (sym (updates l) ∙ is) where
+  go : (b : Bool) → cond b (Some u) (get nat_eq old.lanes l) ≡ Some v → last_era v ≤ new.era
+  go true same = let one : u ≡ v = cc in omega (arith, ap last_era one, now, era)
+  go false same = omega (arith, knows.in_order l v same, era)
+
+not_second : (a b : Bool) → a || b ≡ false → b ≡ false
+not_second true b h = absurd (cc)
+not_second false b h = h
+
+-- an event but a crash cuts no lane off
+cut_off_used : (before : List Event) (old new : OpenCalls) (lane : ℕ) (u : LaneUse) (e : Event) → new.era ≡ old.era → is_over old.era (Some u) ≡ false → UsedSo old new lane u
+    → is_crash e ≡ false → was_closed lane before ≡ false → Knows old before
+    → (l : ℕ) → is_over new.era (get nat_eq new.lanes l) ≡ was_cut_off l (before ++ e ∷ [])
+cut_off_used before old new lane u e era now updates no_crash open_lane knows l =
+    ap (λ n. is_over n (get nat_eq new.lanes l)) era ∙ ap (is_over old.era) (updates l) ∙ go (nat_eq lane l) refl
+    ∙ sym (cut_off_push l before e ∙ ap (λ b. was_cut_off l before || (list_any (is_on l) before && b)) no_crash ∙ nothing (was_cut_off l before) (list_any (is_on l) before)) where
+      nothing : (a x : Bool) → a || (x && false) ≡ a
+      nothing true x = refl
+      nothing false true = refl
+      nothing false false = refl
+
+      go : (b : Bool) → nat_eq lane l ≡ b → is_over old.era (cond (nat_eq lane l) (Some u) (get nat_eq old.lanes l)) ≡ was_cut_off l before
+      go true is =
+          ap (λ b. is_over old.era (cond b (Some u) (get nat_eq old.lanes l))) is ∙ now
+          ∙ sym (subst (λ k. was_cut_off k before ≡ false) (eqb-true lane l is) (not_second (list_any (is_close_of lane) before) (was_cut_off lane before) open_lane))
+      go false is = ap (λ b. is_over old.era (cond b (Some u) (get nat_eq old.lanes l))) is ∙ knows.cut_off l
 
 era_more : (before : List Event) (old new : OpenCalls) (e : Event) → new.era ≡ old.era → is_crash e ≡ false → Knows old before → new.era ≡ eras_from 1 (before ++ e ∷ [])
 era_more before old new e era quiet knows = era ∙ knows.era ∙ sym (eras_quiet 1 before e quiet)
@@ -151,7 +173,8 @@ knows_call before old new lane message era used updates more knows may = record 
   calls = more ∙ ap (λ n. n + 1) knows.calls ∙ sym (ap length (calls_from-call 1 1 before lane message) ∙ length_push (calls_of before));
   closed = open_more before old new lane (call lane message) era used (λ l. refl) refl (is_open lane before may.0) knows;
   used = used_more before old new lane (uses.InEra old.era) (call lane message) used (λ l. refl) knows;
-  in_order = in_order_used before old new lane era used knows;
+  cut_off = cut_off_used before old new lane (uses.InEra old.era) (call lane message) era (not_itself old.era) used refl (is_open lane before may.0) knows;
+  in_order = in_order_used before old new lane (uses.InEra old.era) era refl used knows;
   era = era_more before old new (call lane message) era refl knows;
 } where
   length_push : (calls : List CallEvent) → length (calls ++ new_call lane message (1 + length before) (eras_from 1 before) ∷ []) ≡ length calls + 1
@@ -169,7 +192,8 @@ knows_reply before old new lane message era used updates same knows may = record
   calls = same ∙ knows.calls ∙ sym (ap length (calls_from-reply 1 1 before lane message) ∙ length-map (calls_of before) (answered_if lane (xid_of message) (reply_at (1 + length before) message)));
   closed = open_more before old new lane (reply lane message) era used (λ l. refl) refl (is_open lane before may.0) knows;
   used = used_more before old new lane (uses.InEra old.era) (reply lane message) used (λ l. refl) knows;
-  in_order = in_order_used before old new lane era used knows;
+  cut_off = cut_off_used before old new lane (uses.InEra old.era) (reply lane message) era (not_itself old.era) used refl (is_open lane before may.0) knows;
+  in_order = in_order_used before old new lane (uses.InEra old.era) era refl used knows;
   era = era_more before old new (reply lane message) era refl knows;
 }
 
@@ -191,11 +215,11 @@ unanswered_quiet before old new e quiet same knows l x =
     ap (λ s. is_some (get same_key s (l, x))) same ∙ knows.unanswered l x ∙ ap (list_any (is_unanswered l x)) (sym (calls_from-quiet 1 1 before e quiet))
 
 -- the lane that is closed, and no other
-shut_more : (before : List Event) (old new : OpenCalls) (lane : ℕ) → new.era ≡ old.era → UsedSo old new lane uses.Closed → Knows old before
+shut_more : (before : List Event) (old new : OpenCalls) (lane : ℕ) → new.era ≡ old.era → UsedSo old new lane (uses.Closed old.era) → Knows old before
     → (l : ℕ) → is_known_closed new l ≡ was_closed l (before ++ close lane ∷ [])
 shut_more before old new lane era updates knows l = go (nat_eq lane l) refl ∙ sym (closed_push l before (close lane)) where
-  chosen : (b : Bool) → nat_eq lane l ≡ b → is_known_closed new l ≡ is_shut old.era (cond b (Some uses.Closed) (get nat_eq old.lanes l))
-  chosen b is = ap (λ n. is_shut n (get nat_eq new.lanes l)) era ∙ ap (is_shut old.era) (updates l ∙ ap (λ x. cond x (Some uses.Closed) (get nat_eq old.lanes l)) is)
+  chosen : (b : Bool) → nat_eq lane l ≡ b → is_known_closed new l ≡ is_shut old.era (cond b (Some (uses.Closed old.era)) (get nat_eq old.lanes l))
+  chosen b is = ap (λ n. is_shut n (get nat_eq new.lanes l)) era ∙ ap (is_shut old.era) (updates l ∙ ap (λ x. cond x (Some (uses.Closed old.era)) (get nat_eq old.lanes l)) is)
 
   unused : (a x : Bool) → a || (false || (x && false)) ≡ a
   unused a x = quiet_or a false x false refl refl
@@ -204,33 +228,47 @@ shut_more before old new lane era updates knows l = go (nat_eq lane l) refl ∙ 
   go true is = chosen true is ∙ sym (ap (λ b. was_closed l before || (b || (list_any (is_on l) before && false))) is ∙ or_true (was_closed l before))
   go false is = chosen false is ∙ knows.closed l ∙ sym (ap (λ b. was_closed l before || (b || (list_any (is_on l) before && false))) is ∙ unused (was_closed l before) (list_any (is_on l) before))
 
-in_order_shut : (before : List Event) (old new : OpenCalls) (lane : ℕ) → new.era ≡ old.era → UsedSo old new lane uses.Closed → Knows old before
-    → (l last : ℕ) → get nat_eq new.lanes l ≡ Some (uses.InEra last) → last ≤ new.era
-in_order_shut before old new lane era updates knows l last is = go (nat_eq lane l) (sym (updates l) ∙ is) where
-  go : (b : Bool) → cond b (Some uses.Closed) (get nat_eq old.lanes l) ≡ Some (uses.InEra last) → last ≤ new.era
-  go true same = absurd (cc)
-  go false same = omega (arith, knows.in_order l last same, era)
-
-pub knows_close : (before : List Event) (old new : OpenCalls) (lane : ℕ) → new.era ≡ old.era → new.unanswered ≡ old.unanswered → new.calls ≡ old.calls → UsedSo old new lane uses.Closed
-    → Knows old before → Knows new (before ++ close lane ∷ [])
-knows_close before old new lane era same count used knows = record {
+pub knows_close : (before : List Event) (old new : OpenCalls) (lane : ℕ) → new.era ≡ old.era → new.unanswered ≡ old.unanswered → new.calls ≡ old.calls → UsedSo old new lane (uses.Closed old.era)
+    → Knows old before → MayFollow before (close lane) → Knows new (before ++ close lane ∷ [])
+knows_close before old new lane era same count used knows may = record {
   unanswered = unanswered_quiet before old new (close lane) tt same knows;
   places = places_quiet before old new (close lane) tt same knows;
   within = within_quiet before old new same count knows;
   calls = count ∙ knows.calls ∙ ap length (sym (calls_from-quiet 1 1 before (close lane) tt));
   closed = shut_more before old new lane era used knows;
-  used = used_more before old new lane uses.Closed (close lane) used (λ l. refl) knows;
-  in_order = in_order_shut before old new lane era used knows;
+  used = used_more before old new lane (uses.Closed old.era) (close lane) used (λ l. refl) knows;
+  cut_off = cut_off_used before old new lane (uses.Closed old.era) (close lane) era (not_itself old.era) used refl (is_open lane before may) knows;
+  in_order = in_order_used before old new lane (uses.Closed old.era) era refl used knows;
   era = era_more before old new (close lane) era refl knows;
 }
 
 -- a crash closes each lane that was used
-crash_shuts : (era : ℕ) (o : Option LaneUse) → ((last : ℕ) → o ≡ Some (uses.InEra last) → last ≤ era) → is_shut (era + 1) o ≡ is_shut era o || is_some o
+crash_shuts : (era : ℕ) (o : Option LaneUse) → ((u : LaneUse) → o ≡ Some u → last_era u ≤ era) → is_shut (era + 1) o ≡ is_shut era o || is_some o
 crash_shuts era None in_order = refl
-crash_shuts era (Some uses.Closed) in_order = refl
+crash_shuts era (Some (uses.Closed last)) in_order = refl
 crash_shuts era (Some (uses.InEra last)) in_order =
-    let within : last ≤ era = in_order last refl in
+    let within : last ≤ era = in_order (uses.InEra last) refl in
     ap not (ne_eqb last (era + 1) (λ same. omega arith)) ∙ sym (or_true (not (last == era)))
+
+-- it cuts each of them off
+crash_ends : (era : ℕ) (o : Option LaneUse) → ((u : LaneUse) → o ≡ Some u → last_era u ≤ era) → is_over (era + 1) o ≡ is_over era o || is_some o
+crash_ends era None in_order = refl
+crash_ends era (Some (uses.Closed last)) in_order =
+    let within : last ≤ era = in_order (uses.Closed last) refl in
+    ap not (ne_eqb last (era + 1) (λ same. omega arith)) ∙ sym (or_true (not (last == era)))
+crash_ends era (Some (uses.InEra last)) in_order =
+    let within : last ≤ era = in_order (uses.InEra last) refl in
+    ap not (ne_eqb last (era + 1) (λ same. omega arith)) ∙ sym (or_true (not (last == era)))
+
+cut_off_more : (before : List Event) (old new : OpenCalls) → new.era ≡ old.era + 1 → new.lanes ≡ old.lanes → Knows old before
+    → (l : ℕ) → is_over new.era (get nat_eq new.lanes l) ≡ was_cut_off l (before ++ crash ∷ [])
+cut_off_more before old new era same knows l =
+    ap (λ n. is_over n (get nat_eq new.lanes l)) era ∙ ap (λ m. is_over (old.era + 1) (get nat_eq m l)) same
+    ∙ crash_ends old.era (get nat_eq old.lanes l) (knows.in_order l)
+    ∙ ap (λ b. b || is_some (get nat_eq old.lanes l)) (knows.cut_off l)
+    ∙ ap (λ b. was_cut_off l before || b) (knows.used l)
+    ∙ ap (λ b. was_cut_off l before || b) (sym (and_true (list_any (is_on l) before)))
+    ∙ sym (cut_off_push l before crash)
 
 cut_more : (before : List Event) (old new : OpenCalls) → new.era ≡ old.era + 1 → new.lanes ≡ old.lanes → Knows old before
     → (l : ℕ) → is_known_closed new l ≡ was_closed l (before ++ crash ∷ [])
@@ -250,7 +288,8 @@ knows_crash before old new era same count lanes knows = record {
   calls = count ∙ knows.calls ∙ ap length (sym (calls_from-quiet 1 1 before crash tt));
   closed = cut_more before old new era lanes knows;
   used = λ l. ap (λ m. is_some (get nat_eq m l)) lanes ∙ knows.used l ∙ sym (any_push (is_on l) before crash ∙ or_false (list_any (is_on l) before));
-  in_order = λ l last is. let so_far : last ≤ old.era = knows.in_order l last (ap (λ m. get nat_eq m l) (sym lanes) ∙ is) in omega (arith, era);
+  cut_off = cut_off_more before old new era lanes knows;
+  in_order = λ l u is. let so_far : last_era u ≤ old.era = knows.in_order l u (ap (λ m. get nat_eq m l) (sym lanes) ∙ is) in omega (arith, era);
   era = era ∙ ap (λ n. n + 1) knows.era ∙ sym (eras_crash 1 before);
 }
 

@@ -47,7 +47,7 @@ regroup true false false cut false = refl
 pub any_push : (p : Event → Bool) (events : List Event) (e : Event) → list_any p (events ++ e ∷ []) ≡ list_any p events || p e
 any_push p events e = list_any-append p events (e ∷ []) ∙ ap (λ b. list_any p events || b) (or_false (p e))
 
-cut_off_push : (lane : ℕ) (events : List Event) (e : Event) → was_cut_off lane (events ++ e ∷ []) ≡ was_cut_off lane events || (list_any (is_on lane) events && is_crash e)
+pub cut_off_push : (lane : ℕ) (events : List Event) (e : Event) → was_cut_off lane (events ++ e ∷ []) ≡ was_cut_off lane events || (list_any (is_on lane) events && is_crash e)
 cut_off_push lane [] e = first_one (is_on lane e) (is_crash e)
 cut_off_push lane (f ∷ events) e =
     ap (λ b. (is_on lane f && b) || was_cut_off lane (events ++ e ∷ [])) (any_push is_crash events e)
@@ -95,7 +95,7 @@ there p x events one h =
 found : (p : Event → Bool) (x : Event) (events : List Event) → p x ≡ true → Contains events x → list_any p events ≡ true
 found p x events passes h = list_any_at p events h.0 x h.1 (ap p h.2 ∙ passes)
 
-cut_off_is : (lane : ℕ) (events : List Event) → was_cut_off lane events ≡ true → IsCutOff lane events
+pub cut_off_is : (lane : ℕ) (events : List Event) → was_cut_off lane events ≡ true → IsCutOff lane events
 cut_off_is lane [] h = absurd (false≢true h)
 cut_off_is lane (e ∷ events) h = elim (or_cases (is_on lane e && list_any is_crash events) (was_cut_off lane events) h) [
   | inl here ↦
@@ -111,6 +111,11 @@ cut_off_there lane [] last behind on crashed = rw (on, crashed) refl
 cut_off_there lane (e ∷ ahead) last behind on crashed =
     ap (λ b. (is_on lane e && list_any is_crash (ahead ++ last ∷ behind)) || b) (cut_off_there lane ahead last behind on crashed) ∙ or_true (is_on lane e && list_any is_crash (ahead ++ last ∷ behind))
 
+pub is_cut_off : (lane : ℕ) (events : List Event) → IsCutOff lane events → was_cut_off lane events ≡ true
+is_cut_off lane events cut =
+    let there : was_cut_off lane (cut.ahead ++ cut.last ∷ cut.behind) ≡ true = cut_off_there lane cut.ahead cut.last cut.behind (is_on_is lane cut.last cut.on) (found is_crash crash cut.behind refl cut.crashed) in
+    ap (was_cut_off lane) cut.parts ∙ there
+
 pub closed_is : (lane : ℕ) (events : List Event) → was_closed lane events ≡ true → IsClosed lane events
 closed_is lane events h = elim (or_cases (list_any (is_close_of lane) events) (was_cut_off lane events) h) [
   | inl closed ↦ inl (there (is_close_of lane) (close lane) events (close_is lane) closed)
@@ -120,8 +125,7 @@ closed_is lane events h = elim (or_cases (list_any (is_close_of lane) events) (w
 is_closed : (lane : ℕ) (events : List Event) → IsClosed lane events → was_closed lane events ≡ true
 is_closed lane events (inl closed) = ap (λ b. b || was_cut_off lane events) (found (is_close_of lane) (close lane) events (eq-eqb lane lane refl) closed)
 is_closed lane events (inr cut) =
-    let there : was_cut_off lane (cut.ahead ++ cut.last ∷ cut.behind) ≡ true = cut_off_there lane cut.ahead cut.last cut.behind (is_on_is lane cut.last cut.on) (found is_crash crash cut.behind refl cut.crashed) in
-    ap (λ b. list_any (is_close_of lane) events || b) (ap (was_cut_off lane) cut.parts ∙ there) ∙ or_true (list_any (is_close_of lane) events)
+    ap (λ b. list_any (is_close_of lane) events || b) (is_cut_off lane events cut) ∙ or_true (list_any (is_close_of lane) events)
 
 pub open_is : (lane : ℕ) (events : List Event) → was_closed lane events ≡ false → ¬ IsClosed lane events
 open_is lane events h = λ closed. absurd (false≢true (sym h ∙ is_closed lane events closed))

@@ -2,6 +2,7 @@ pub mod MatchingSteps
 pub mod Unanswered
 pub mod Waiting
 pub mod Lanes
+pub mod LaneStates
 pub mod CheckingSteps
 pub mod EventFaultLaws
 pub mod CallFaultTable

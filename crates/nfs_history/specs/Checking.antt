@@ -1,10 +1,12 @@
 -- What the program knows of the events that it has checked: what the code's private functions say to the prover.
-use Rattle.std.specs.Prelude.{◌≡◌, ◌==◌, ◌&&◌, ◌||◌, not, ◌≤◌, ◌<◌, ℕ, ◌+◌, length, nat_eq, Bool, true, false, List, [], ◌∷◌, ◌++◌, Option, Some, None, is_some}
+use Rattle.std.specs.Prelude.{◌≡◌, ◌==◌, ◌&&◌, ◌||◌, not, ◌≤◌, ◌<◌, ℕ, ◌+◌, length, nat_eq, Bool, true, false, List, [], ◌∷◌, ◌++◌, Option, Some, None, is_some, if◌then◌else◌}
 use Rattle.std.specs.List.{list_any}
 use Rattle.std.specs.HashMap.{get}
 use Rattle.history_file.specs.Event.{Event}
 use Rattle.history_file.specs.Event.Event.{call, reply, close, crash}
 use Rattle.nfs_history.specs.declared.fault.EventFault.{EventFault}
+use Rattle.nfs_history.specs.declared.checking.LaneState.{LaneState}
+use Rattle.nfs_history.specs.declared.checking.LaneState.TheVariants as states
 use Rattle.nfs_history.specs.declared.checking.LaneUse.{LaneUse}
 use Rattle.nfs_history.specs.declared.checking.LaneUse.TheVariants as uses
 use Rattle.nfs_history.specs.declared.checking.OpenCalls.{OpenCalls}
@@ -44,12 +46,31 @@ was_closed lane events = list_any (is_close_of lane) events || was_cut_off lane 
 -- whether a lane that was last used so is closed in an era
 abbrev pub is_shut : ℕ → Option LaneUse → Bool
 is_shut era None = false
-is_shut era (Some uses.Closed) = true
+is_shut era (Some (uses.Closed last)) = true
 is_shut era (Some (uses.InEra last)) = not (last == era)
 
 -- whether a lane is closed, as the program knows it
 abbrev pub is_known_closed : OpenCalls → ℕ → Bool
 is_known_closed known lane = is_shut known.era (get nat_eq known.lanes lane)
+
+-- how a lane that was last used so stands in an era
+abbrev pub state_in : ℕ → Option LaneUse → LaneState
+state_in era None = states.Open
+state_in era (Some (uses.Closed last)) = if last == era then states.Closed else states.EraOver
+state_in era (Some (uses.InEra last)) = if last == era then states.Open else states.EraOver
+
+abbrev pub known_state : OpenCalls → ℕ → LaneState
+known_state known lane = state_in known.era (get nat_eq known.lanes lane)
+
+-- whether an era ended since a lane was last used so
+abbrev pub is_over : ℕ → Option LaneUse → Bool
+is_over era None = false
+is_over era (Some (uses.Closed last)) = not (last == era)
+is_over era (Some (uses.InEra last)) = not (last == era)
+
+abbrev pub last_era : LaneUse → ℕ
+last_era (uses.Closed last) = last
+last_era (uses.InEra last) = last
 
 -- whether this is the place
 abbrev pub is_place : ℕ → Option ℕ → Bool
@@ -69,7 +90,8 @@ pub record Knows (known : OpenCalls) (before : List Event) : Type 0 where
   pub calls : known.calls ≡ length (calls_of before)
   pub closed : (lane : ℕ) → is_known_closed known lane ≡ was_closed lane before
   pub used : (lane : ℕ) → is_some (get nat_eq known.lanes lane) ≡ list_any (is_on lane) before
-  pub in_order : (lane last : ℕ) → get nat_eq known.lanes lane ≡ Some (uses.InEra last) → last ≤ known.era
+  pub cut_off : (lane : ℕ) → is_over known.era (get nat_eq known.lanes lane) ≡ was_cut_off lane before
+  pub in_order : (lane : ℕ) (used : LaneUse) → get nat_eq known.lanes lane ≡ Some used → last_era used ≤ known.era
   pub era : known.era ≡ eras_from 1 before
 
 -- the fault of event i, or none where it may follow

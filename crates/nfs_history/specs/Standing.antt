@@ -7,6 +7,8 @@ use Rattle.rpc_reader.specs.Values.{CallValue, ReplyValue}
 use Rattle.rpc_reader.specs.Messages.{IsCall, IsReply}
 use Rattle.history_file.specs.Event.{Event}
 use Rattle.history_file.specs.Event.Event.{call, reply, close, crash}
+use Rattle.nfs_history.specs.declared.checking.LaneState.{LaneState}
+use Rattle.nfs_history.specs.declared.checking.LaneState.TheVariants as states
 use Rattle.nfs_history.specs.Calls.{CallEvent, calls_of, xid_of}
 
 -- the bytes are the message of a call, or of a reply (RFC 5531, section 9)
@@ -42,6 +44,12 @@ pub record IsCutOff (lane : ℕ) (events : List Event) : Type 0 where
 -- the lane is closed: there is a close of it, or an event of it with a crash behind it
 abbrev pub IsClosed : ℕ → List Event → Type 0
 IsClosed lane before = Contains before (close lane) ⊎ IsCutOff lane before
+
+-- whether events may still come on the lane, and why not
+abbrev pub IsLaneState : ℕ → List Event → LaneState → Type 0
+IsLaneState lane before states.Open = ¬ IsClosed lane before
+IsLaneState lane before states.EraOver = IsCutOff lane before
+IsLaneState lane before states.Closed = (¬ IsCutOff lane before) × Contains before (close lane)
 
 -- the event may follow those before it
 abbrev pub MayFollow : List Event → Event → Type 0

@@ -8,7 +8,7 @@ ghost use Rattle.nfs_history.specs.Answers.{IsErrorOf};
 ghost use Rattle.nfs_history.specs.Calls.{xid_of};
 ghost use Rattle.nfs_history.specs.FirstFault.{FirstFaultOf};
 ghost use Rattle.nfs_history.specs.Matching.{same_key};
-ghost use Rattle.nfs_history.specs.Checking.{is_known_closed, Knows, IsFaultBehind, KnowsOneMore, KnowsAsMuch, AreKnownToFollow};
+ghost use Rattle.nfs_history.specs.Checking.{is_known_closed, known_state, Knows, IsFaultBehind, KnowsOneMore, KnowsAsMuch, AreKnownToFollow};
 
 use crate::fault::{EventFault, HistoryFault};
 use crate::matching::transaction;
@@ -22,7 +22,18 @@ use std::alloc::{AllocError, Global};
 pub enum LaneUse {
     /// By a call or a reply, in this era.
     InEra(u64),
-    /// By its close.
+    /// By its close, in this era.
+    Closed(u64),
+}
+
+/// Whether events may still come on a lane.
+#[derive(Clone, Copy, Debug, PartialEq, Eq)]
+pub enum LaneState {
+    /// They may.
+    Open,
+    /// It was used in an era that has ended.
+    EraOver,
+    /// It was closed in the era now.
     Closed,
 }
 
@@ -59,8 +70,20 @@ impl OpenCalls {
     {
         match self.lanes.get(&lane).copied() {
             None => false,
-            Some(LaneUse::Closed) => true,
+            Some(LaneUse::Closed(_)) => true,
             Some(LaneUse::InEra(era)) => era != self.era,
+        }
+    }
+
+    /// How a lane stands.
+    pub(crate) fn lane(&self, lane: u32) -> LaneState
+        ensures { result ≡ known_state self.now lane }
+    {
+        match self.lanes.get(&lane).copied() {
+            None => LaneState::Open,
+            Some(LaneUse::Closed(era)) if era == self.era => LaneState::Closed,
+            Some(LaneUse::InEra(era)) if era == self.era => LaneState::Open,
+            Some(_) => LaneState::EraOver,
         }
     }
 
@@ -151,7 +174,7 @@ impl OpenCalls {
                 self.unanswered.swap_remove(&(*lane, transaction(*message)));
             }
             SeenEvent::Close { lane } => {
-                self.lanes.insert(*lane, LaneUse::Closed)?;
+                self.lanes.insert(*lane, LaneUse::Closed(self.era))?;
             }
             SeenEvent::Crash => self.era += 1,
         }

@@ -18,9 +18,9 @@ ghost use Rattle.nfs_history.specs.Checking.{KnowsOneMore, KnowsAsMuch};
 ghost use Rattle.nfs_history.specs.EventFaults.{IsAtFault};
 ghost use Rattle.nfs_history.specs.Judging.{IsStopFor};
 ghost use Rattle.nfs_history.specs.Matching.{seen_call};
-ghost use Rattle.nfs_history.specs.Standing.{MayFollow, EachMayFollow};
+ghost use Rattle.nfs_history.specs.Standing.{IsLaneState, MayFollow, EachMayFollow};
 
-use crate::checking::{OpenCalls, follow_all};
+use crate::checking::{LaneState, OpenCalls, follow_all};
 use crate::fault::{EventFault, HistoryFault};
 use crate::judging::{Stop, judged_call};
 use crate::knowing::KnownCalls;
@@ -499,6 +499,13 @@ impl History {
         ensures { result ≡ self.now.known.eras }
     {
         self.open_calls.era()
+    }
+
+    /// Whether events may still come on a lane. It is found in constant time.
+    pub fn lane(&self, lane: u32) -> LaneState
+        ensures { IsLaneState lane (all_happened self.now.events) result }
+    {
+        self.open_calls.lane(lane)
     }
 
     /// How many calls it has.

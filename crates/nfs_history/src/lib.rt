@@ -10,7 +10,7 @@ mod laws;
 mod matching;
 mod reading;
 
-pub use checking::OpenCalls;
+pub use checking::{LaneState, OpenCalls};
 pub use fault::{CallFault, EventFault, HistoryFault, Which};
 pub use history::{CallKind, History, Meaning, RecordedCall, find_call};
 pub use history_file::{Event, FileFault, Message, WriteFault, write_history};

@@ -33,7 +33,7 @@ pub returns-in_ok-insert-in-Close-clause-ok : goal.returns-in_ok-insert-in-Close
 returns-in_ok-insert-in-Close-clause-ok c = λ before knows may.
     let old = c.args.self.now in
     let new : OpenCalls = record { unanswered = old.unanswered; calls = old.calls; lanes = c.insert-in-Close.new.self; era = old.era } in
-    rw c.in-Close.is (knows_close before old new c.in-Close.lane refl refl refl c.in_ok-insert-in-Close.ensures.updates.0 knows)
+    rw c.in-Close.is (knows_close before old new c.in-Close.lane refl refl refl c.in_ok-insert-in-Close.ensures.updates.0 knows (rw c.in-Close.is at may))
 
 pub returns-in-Crash-clause-ok : goal.returns-in-Crash-clause-ok
 returns-in-Crash-clause-ok c = λ before knows may.
