@@ -2,7 +2,7 @@
 
 use crate::end::Progress;
 use certificate::Certificate;
-use search_branches::Move;
+use search_problem::Move;
 use std::alloc::{AllocError, Global};
 
 /// A branch that is known, by the move that led to it.

@@ -15,7 +15,8 @@ use certificate::Certificate;
 use crossbeam_deque::{Stealer, Worker};
 use nfs_history::{History, KnownCalls};
 use reply_order::reply_order;
-use search_branches::Problem;
+use search_passes::plan_of;
+use search_problem::Problem;
 use seen_states::{Claimer, SeenTable};
 use std::alloc::{AllocError, Global};
 use std::sync::{Mutex, Wait};
@@ -163,6 +164,21 @@ fn if_witness(
     }
 }
 
+/// The plan that at most so many passes over the history come to, if it is a witness.
+fn pass_over(
+    alloc: Global,
+    known: &KnownCalls<'_>,
+    turns: u64,
+) -> Result<Option<Certificate>, AllocError>
+    ensures { IfOk result (λ found. IfSome found (λ plan. IsWitness known.now plan)) }
+{
+    let problem = Problem::new(alloc, known)?;
+    match plan_of(alloc, &problem, turns)? {
+        Some(plan) => if_witness(alloc, known, plan),
+        None => Ok(None),
+    }
+}
+
 /// The plan that the workers found, or the one that follows the replies, if it is a witness.
 fn settle(
     alloc: Global,
@@ -184,7 +200,7 @@ fn settle(
 /// Searches a certificate of the history that these calls are of, with so many workers, each of which takes so many branches at most.
 /// A worker works in a thread of its own, or on the caller's where none can be made. Where the workers end without a witness, the
 /// plan that follows the replies is judged.
-pub fn search_calls<R: Host, G: SearchGate + Sync>(
+pub fn search_by_branches<R: Host, G: SearchGate + Sync>(
     rt: &R,
     known: &KnownCalls<'_>,
     workers: u32,
@@ -209,6 +225,27 @@ pub fn search_calls<R: Host, G: SearchGate + Sync>(
             Lack::Memory => SearchEnd::NoMemory,
         },
         Err(AllocError) => SearchEnd::NoMemory,
+    }
+}
+
+/// Searches a certificate of the history that these calls are of: by passes over it, eight at most and no more than `turns`, and where
+/// these come to none by branches, as [`search_by_branches`].
+pub fn search_calls<R: Host, G: SearchGate + Sync>(
+    rt: &R,
+    known: &KnownCalls<'_>,
+    workers: u32,
+    turns: u64,
+    gate: &G,
+) -> SearchEnd
+    requires { (1 ≤ workers) × (workers ≤ 64) }
+    // What is found is a witness.
+    ensures found { IsFoundOnly result (λ plan. IsWitness known.now plan) }
+    // Where the plan that follows the replies is a witness, one is found, memory aside.
+    ensures follows { (plan : Certificate) → IsReplyOrder known.now plan → IsWitness known.now plan → IsFoundOrNoMemory result }
+{
+    match pass_over(rt.alloc(), known, turns) {
+        Ok(Some(passed)) => SearchEnd::Found(passed),
+        Ok(None) | Err(AllocError) => search_by_branches(rt, known, workers, turns, gate),
     }
 }
 

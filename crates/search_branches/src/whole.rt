@@ -1,16 +1,14 @@
 //! The certificate of a branch in which every era has its places.
 
-use crate::desk::Move;
-use crate::found::{find, full_count};
-use crate::problem::Problem;
 use crate::state::State;
 use certificate::{Bind, BindList, Certificate, EraPlan, EraPlanList, Place, PlaceList};
+use search_problem::{Move, Problem, find, full_count};
 use std::alloc::{AllocError, Global};
 use std::collections::BTreeMap;
 
 /// The place of a call to which no reply came.
 fn taken_place(alloc: Global, problem: &Problem<'_, '_>, number: u64) -> Result<Place, AllocError> {
-    match find(alloc, problem.known, Move::Take(number))? {
+    match find(alloc, problem.known(), Move::Take(number))? {
         Some(found) => Ok(Place::Taken(number, full_count(&found.call))),
         None => Ok(Place::Taken(number, None)),
     }

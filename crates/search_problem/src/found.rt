@@ -1,14 +1,14 @@
 //! The call of a move, read from its messages.
 
-use crate::desk::Move;
+use crate::moves::Move;
 use nfs_history::KnownCalls;
 use nfs3_types::{NfsCall, Outcome};
 use std::alloc::{AllocError, Global};
 
 /// A call that is placed, and how it came out.
-pub(crate) struct Found {
-    pub(crate) call: NfsCall,
-    pub(crate) outcome: Outcome,
+pub struct Found {
+    pub call: NfsCall,
+    pub outcome: Outcome,
 }
 
 impl Drop for Found {
@@ -20,7 +20,7 @@ impl Drop for Found {
 }
 
 /// How many bytes a WRITE writes that is done in full.
-pub(crate) fn full_count(call: &NfsCall) -> Option<u32> {
+pub fn full_count(call: &NfsCall) -> Option<u32> {
     match call {
         NfsCall::Write(write) => Some(write.count),
         _ => None,
@@ -44,7 +44,7 @@ fn with_outcome(call: NfsCall, received: Option<Outcome>, is_taken: bool) -> Opt
 }
 
 /// The call that a move places, where it places one.
-pub(crate) fn find(
+pub fn find(
     alloc: Global,
     known: &KnownCalls<'_>,
     chosen: Move,

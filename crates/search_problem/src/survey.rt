@@ -1,14 +1,13 @@
-//! What a search knows of a history ahead of its branches.
+//! What one pass over the calls of a history gathers.
 
 use nfs_history::{CallKind, KnownCalls, RecordedCall};
 use nfs3_types::{Answer, NfsReply, Outcome, Verifier};
-use reply_order::replies_in_order;
 use std::alloc::{AllocError, Global};
 use std::collections::BTreeMap;
 
 /// What a call can do to the tree.
 #[derive(Clone, Copy, PartialEq, Eq)]
-pub(crate) enum Nature {
+pub enum Nature {
     /// It isn't judged, or has no reply and would change nothing.
     Unplaced,
     /// It was answered, and leaves the tree as it is.
@@ -21,38 +20,26 @@ pub(crate) enum Nature {
 
 /// The calls and the replies of an era.
 #[derive(Clone, Copy)]
-pub(crate) struct EraSpan {
+pub struct EraSpan {
     /// The number of its first call, and one more than that of its last.
-    pub(crate) first_call: u64,
-    pub(crate) end_call: u64,
+    pub first_call: u64,
+    pub end_call: u64,
     /// Where its replies begin and end in the list of all.
-    pub(crate) first_reply: usize,
-    pub(crate) end_reply: usize,
+    pub first_reply: usize,
+    pub end_reply: usize,
     /// Whether a later era shows the write verifier that it shows.
-    pub(crate) is_shown_again: bool,
+    pub is_shown_again: bool,
 }
 
-/// A history, with what is asked again and again of its calls.
-pub struct Problem<'s, 'a> {
-    pub(crate) known: &'s KnownCalls<'a>,
-    /// The answered judged calls by their replies.
-    pub(crate) replies: Vec<u64>,
-    pub(crate) spans: Vec<EraSpan>,
-    natures: Vec<Nature>,
-}
-
-impl<'s, 'a> Drop for Problem<'s, 'a> {
-    fn drop(self) {
-        let Problem {
-            known: _,
-            replies,
-            spans,
-            natures,
-        } = self;
-        drop(replies);
-        drop(spans);
-        drop(natures);
-    }
+impl EraSpan {
+    /// Of an era without a call.
+    pub(crate) const NONE: EraSpan = EraSpan {
+        first_call: 1,
+        end_call: 1,
+        first_reply: 0,
+        end_reply: 0,
+        is_shown_again: false,
+    };
 }
 
 /// Whether a procedure may change the tree (RFC 1813, section 3.3).
@@ -90,28 +77,21 @@ fn shown_by(recorded: &RecordedCall) -> Option<u64> {
 
 /// What one pass over the calls gathers.
 #[derive(Drop)]
-struct Survey {
-    natures: Vec<Nature>,
-    spans: Vec<EraSpan>,
+pub(crate) struct Survey {
+    pub(crate) natures: Vec<Nature>,
+    pub(crate) spans: Vec<EraSpan>,
     /// The write verifier that each era shows, the last one that was met.
-    shown: Vec<Option<u64>>,
+    pub(crate) shown: Vec<Option<u64>>,
     /// The last era that shows a write verifier.
-    last_shown: BTreeMap<u64, u64>,
+    pub(crate) last_shown: BTreeMap<u64, u64>,
 }
 
 impl Survey {
     /// Of so many eras.
-    fn new(alloc: Global, eras: usize) -> Result<Survey, AllocError> {
-        let none = EraSpan {
-            first_call: 1,
-            end_call: 1,
-            first_reply: 0,
-            end_reply: 0,
-            is_shown_again: false,
-        };
+    pub(crate) fn new(alloc: Global, eras: usize) -> Result<Survey, AllocError> {
         Ok(Survey {
             natures: Vec::new(alloc),
-            spans: vec![in alloc; none; eras]?,
+            spans: vec![in alloc; EraSpan::NONE; eras]?,
             shown: vec![in alloc; None; eras]?,
             last_shown: BTreeMap::new(alloc),
         })
@@ -128,7 +108,7 @@ impl Survey {
     }
 
     /// Notes a reply's place in its era.
-    fn extend_replies(&mut self, era: u64, place: usize) {
+    pub(crate) fn extend_replies(&mut self, era: u64, place: usize) {
         if let Some(span) = self.spans.get_mut(place_of_era(era)) {
             if span.first_reply == span.end_reply {
                 span.first_reply = place;
@@ -147,7 +127,7 @@ impl Survey {
     }
 
     /// Notes what a call can do, and what its reply shows.
-    fn note(
+    pub(crate) fn note(
         &mut self,
         alloc: Global,
         known: &KnownCalls<'_>,
@@ -176,7 +156,7 @@ impl Survey {
     }
 
     /// Notes which eras show a write verifier that a later one shows.
-    fn look_ahead(&mut self) {
+    pub(crate) fn look_ahead(&mut self) {
         let mut era = 0u64;
         for (span, shown) in self.spans.iter_mut().zip(self.shown.iter()) {
             era = era.saturating_add(1);
@@ -191,51 +171,6 @@ impl Survey {
 }
 
 /// Where an era stands in a list of all.
-fn place_of_era(era: u64) -> usize {
+pub(crate) fn place_of_era(era: u64) -> usize {
     (era as usize).saturating_sub(1)
-}
-
-impl<'s, 'a> Problem<'s, 'a> {
-    /// What is to be known of a history. Each answered call that may change the tree is read once.
-    pub fn new(alloc: Global, known: &'s KnownCalls<'a>) -> Result<Problem<'s, 'a>, AllocError> {
-        let replies = replies_in_order(alloc, known)?;
-        let mut survey = Survey::new(alloc, known.eras() as usize)?;
-        for index in 0..known.count() {
-            survey.note(alloc, known, index as u64 + 1)?;
-        }
-        for (place, number) in replies.iter().enumerate() {
-            survey.extend_replies(known.era(*number).unwrap_or(0), place);
-        }
-        survey.look_ahead();
-        let Survey {
-            natures,
-            spans,
-            shown: _,
-            last_shown: _,
-        } = survey;
-        Ok(Problem {
-            known,
-            replies,
-            spans,
-            natures,
-        })
-    }
-
-    /// What a call can do.
-    pub(crate) fn nature(&self, number: u64) -> Nature {
-        match self.natures.get((number as usize).saturating_sub(1)) {
-            Some(nature) => *nature,
-            None => Nature::Unplaced,
-        }
-    }
-
-    /// Whether an era is the last one; eras are counted from 0.
-    pub(crate) fn is_last(&self, era: usize) -> bool {
-        era.saturating_add(1) >= self.spans.len()
-    }
-
-    /// The calls of the history.
-    pub fn known(&self) -> &'s KnownCalls<'a> {
-        self.known
-    }
 }

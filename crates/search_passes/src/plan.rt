@@ -1,0 +1,67 @@
+//! The plan that the passes come to.
+
+ghost use Rattle.search_branches.specs.Reversible.{CanGoBack};
+
+use crate::pass::Pass;
+use certificate::Certificate;
+use search_lessons::Lessons;
+use search_problem::Problem;
+use std::alloc::{AllocError, Global};
+
+/// How many passes are made, at most.
+const MOST_PASSES: u64 = 8;
+
+impl<'p, 's, 'a> Pass<'p, 's, 'a> {
+    /// Places the calls of all eras, unless it is hopeless.
+    fn run(&mut self) -> Result<(), AllocError>
+        requires { CanGoBack self.old.state }
+        ensures { CanGoBack self.new.state }
+    {
+        for _ in 0..self.problem.known().eras() {
+            self.run_era()?;
+            if self.is_hopeless() {
+                break;
+            }
+            if !self.end_era()? {
+                break;
+            }
+        }
+        Ok(())
+    }
+
+    /// What was learned, for the next pass.
+    fn into_lessons(self) -> Lessons {
+        let Pass {
+            alloc: _,
+            problem: _,
+            state,
+            lessons,
+            notes,
+        } = self;
+        drop(state);
+        let mut lessons = lessons;
+        lessons.committed = notes.into_committed();
+        lessons
+    }
+}
+
+/// A plan in which each call of a history has a place that was legal, where so many passes come to one, or eight, whichever are fewer.
+pub fn plan_of(
+    alloc: Global,
+    problem: &Problem<'_, '_>,
+    turns: u64,
+) -> Result<Option<Certificate>, AllocError> {
+    let mut lessons = Lessons::new(alloc);
+    for _ in 0..turns.min(MOST_PASSES) {
+        let mut pass = Pass::begin(alloc, problem, lessons)?;
+        pass.run()?;
+        if pass.is_hopeless() {
+            return Ok(None);
+        }
+        if pass.notes.conflicts == 0 {
+            return Ok(Some(pass.state.certificate(problem)?));
+        }
+        lessons = pass.into_lessons();
+    }
+    Ok(None)
+}
