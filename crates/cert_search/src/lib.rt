@@ -4,6 +4,7 @@
 mod board;
 mod end;
 mod searching;
+mod telling;
 mod watch;
 mod worker;
 

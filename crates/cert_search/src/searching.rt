@@ -10,6 +10,7 @@ ghost use Rattle.cert_search.specs.End.{IsFoundOnly, IsFoundOrNoMemory};
 
 use crate::board::{Board, Branch};
 use crate::end::{SearchEnd, SearchGate};
+use crate::telling::PassTeller;
 use crate::worker::{Seat, Team, work};
 use certificate::Certificate;
 use crossbeam_deque::{Stealer, Worker};
@@ -24,8 +25,13 @@ use std::thread::{Threads, join};
 use std::time::Clock;
 use witness_check::{Verdict, check_calls};
 
-/// The table of seen states has 2^16 words.
-const TABLE_BITS: u32 = 16;
+/// The table of seen states has at least 2^16 words, and at most 2^22.
+const FEWEST_BITS: u32 = 16;
+
+const MOST_BITS: u32 = 22;
+
+/// How many branches each worker takes ahead of the passes, at most.
+const FIRST_BRANCHES: u64 = 1_000;
 
 /// How many branches a worker's own list has room for at first.
 const FIRST_ROOM: usize = 256;
@@ -123,6 +129,19 @@ fn outcome_of(board: &mut Board) -> (Option<Certificate>, Lack) {
     (found, Lack::Branches)
 }
 
+/// Of how many bits the number of a table's words is that has room for twice so many states.
+fn bits_for(states: u64) -> u32
+    ensures least { FEWEST_BITS ≤ result }
+    ensures most { result ≤ MOST_BITS }
+{
+    for bits in FEWEST_BITS..MOST_BITS {
+        if states <= 1u64 << (bits - 1) {
+            return bits;
+        }
+    }
+    MOST_BITS
+}
+
 /// Has the workers search, and gives what they came to.
 fn run_workers<R: Host, G: SearchGate + Sync>(
     rt: &R,
@@ -134,7 +153,8 @@ fn run_workers<R: Host, G: SearchGate + Sync>(
     let alloc = rt.alloc();
     let problem = Problem::new(alloc, known)?;
     let Seats { seats, stealers } = Seats::new(alloc, workers)?;
-    let (table, claimer) = SeenTable::new(alloc, TABLE_BITS)?;
+    let bits = bits_for(turns.saturating_mul(u64::from(workers)));
+    let (table, claimer) = SeenTable::new(alloc, bits)?;
     let board = Mutex::new(Board::new(alloc));
     let team = Team {
         alloc,
@@ -165,15 +185,18 @@ fn if_witness(
 }
 
 /// The plan that at most so many passes over the history come to, if it is a witness.
-fn pass_over(
-    alloc: Global,
+fn pass_over<R: Host, G: SearchGate>(
+    rt: &R,
     known: &KnownCalls<'_>,
     turns: u64,
+    gate: &G,
 ) -> Result<Option<Certificate>, AllocError>
     ensures { IfOk result (λ found. IfSome found (λ plan. IsWitness known.now plan)) }
 {
+    let alloc = rt.alloc();
     let problem = Problem::new(alloc, known)?;
-    match plan_of(alloc, &problem, turns)? {
+    let mut teller = PassTeller::new(rt, gate, known.count());
+    match plan_of(alloc, &problem, turns, &mut teller)? {
         Some(plan) => if_witness(alloc, known, plan),
         None => Ok(None),
     }
@@ -228,8 +251,26 @@ pub fn search_by_branches<R: Host, G: SearchGate + Sync>(
     }
 }
 
-/// Searches a certificate of the history that these calls are of: by passes over it, eight at most and no more than `turns`, and where
-/// these come to none by branches, as [`search_by_branches`].
+/// Searches a certificate by passes over the history, eight at most and no more than `turns`, and where these come to none by branches.
+fn search_on<R: Host, G: SearchGate + Sync>(
+    rt: &R,
+    known: &KnownCalls<'_>,
+    workers: u32,
+    turns: u64,
+    gate: &G,
+) -> SearchEnd
+    requires { (1 ≤ workers) × (workers ≤ 64) }
+    ensures found { IsFoundOnly result (λ plan. IsWitness known.now plan) }
+    ensures follows { (plan : Certificate) → IsReplyOrder known.now plan → IsWitness known.now plan → IsFoundOrNoMemory result }
+{
+    match pass_over(rt, known, turns, gate) {
+        Ok(Some(passed)) => SearchEnd::Found(passed),
+        Ok(None) | Err(AllocError) => search_by_branches(rt, known, workers, turns, gate),
+    }
+}
+
+/// Searches a certificate of the history that these calls are of: by branches, half of `turns` and 1,000 at most a worker; then by passes
+/// over the history; then by branches with the turns that are left, as [`search_by_branches`].
 pub fn search_calls<R: Host, G: SearchGate + Sync>(
     rt: &R,
     known: &KnownCalls<'_>,
@@ -243,9 +284,10 @@ pub fn search_calls<R: Host, G: SearchGate + Sync>(
     // Where the plan that follows the replies is a witness, one is found, memory aside.
     ensures follows { (plan : Certificate) → IsReplyOrder known.now plan → IsWitness known.now plan → IsFoundOrNoMemory result }
 {
-    match pass_over(rt.alloc(), known, turns) {
-        Ok(Some(passed)) => SearchEnd::Found(passed),
-        Ok(None) | Err(AllocError) => search_by_branches(rt, known, workers, turns, gate),
+    let first = (turns / 2).min(FIRST_BRANCHES);
+    match search_by_branches(rt, known, workers, first, gate) {
+        SearchEnd::OutOfTurns => search_on(rt, known, workers, turns - first, gate),
+        end => end,
     }
 }
 

@@ -1,7 +1,6 @@
 //! What is known of a branch beside its tree: its calls, its binds, and which calls may come next.
 
 use crate::digest::Digest;
-use certificate::Bind;
 use nfs3_types::FileHandle;
 use search_problem::{EraSpan, Move, Nature, Problem};
 use std::alloc::{AllocError, Global};
@@ -34,6 +33,14 @@ pub(crate) struct Step {
     pub(crate) before: Front,
 }
 
+/// A handle that was bound.
+#[derive(Drop)]
+pub(crate) struct BoundHandle {
+    pub(crate) handle: FileHandle,
+    /// What it is bound to, where it wasn't let go for good.
+    pub(crate) object: Option<u64>,
+}
+
 /// What is known of a branch beside its tree.
 #[derive(Drop)]
 pub(crate) struct Desk {
@@ -42,7 +49,9 @@ pub(crate) struct Desk {
     pub(crate) is_hashed: bool,
     pub(crate) binds: Binds,
     /// The handles that are bound, in the order in which they were.
-    pub(crate) bound: Vec<Bind>,
+    pub(crate) bound: Vec<BoundHandle>,
+    /// The objects that handles are bound to, each with how many.
+    named: BTreeMap<u64, u64>,
     pub(crate) path: Vec<Step>,
     pub(crate) front: Front,
     /// By the call's number.
@@ -67,6 +76,7 @@ impl Desk {
             is_hashed,
             binds: Binds::of_root(alloc, problem.known().root().as_slice())?,
             bound: Vec::new(alloc),
+            named: BTreeMap::new(alloc),
             path: Vec::new(alloc),
             front: Front {
                 era: 0,
@@ -240,18 +250,47 @@ impl Desk {
         Ok(())
     }
 
+    /// Notes that one handle more is bound to an object.
+    fn note_named(&mut self, object: u64) -> Result<(), AllocError> {
+        if let Some(handles) = self.named.get_mut(&object) {
+            *handles = handles.saturating_add(1);
+            return Ok(());
+        }
+        self.named.insert(object, 1)?;
+        Ok(())
+    }
+
+    /// Notes that one handle fewer is bound to an object.
+    fn note_unnamed(&mut self, object: u64) {
+        if let Some(handles) = self.named.get_mut(&object) {
+            *handles = handles.saturating_sub(1);
+        }
+    }
+
+    /// Lets go the handles of an object, for good: going back doesn't bind them again.
+    pub(crate) fn release(&mut self, object: u64) {
+        for bind in self.bound.iter_mut() {
+            if bind.object == Some(object) {
+                self.binds.forget(bind.handle.as_slice());
+                bind.object = None;
+            }
+        }
+        self.named.remove(&object);
+    }
+
     /// Binds a handle to an object, unless it is bound.
     pub(crate) fn bind(&mut self, handle: &FileHandle, object: u64) -> Result<(), AllocError> {
         let bytes = handle.as_slice();
         if bytes.is_empty() || self.binds.object(bytes).is_some() {
             return Ok(());
         }
-        let kept = Bind {
+        let kept = BoundHandle {
             handle: handle.clone()?,
-            object,
+            object: Some(object),
         };
         self.bound.push(kept)?;
         self.binds.push(bytes, object)?;
+        self.note_named(object)?;
         self.front.bound = self.bound.len();
         if self.is_hashed {
             self.front.digest = self.front.digest.with_bind(bytes, object);
@@ -264,13 +303,19 @@ impl Desk {
         for _ in self.front.bound..self.bound.len() {
             if let Some(bind) = self.bound.pop() {
                 self.binds.forget(bind.handle.as_slice());
+                if let Some(object) = bind.object {
+                    self.note_unnamed(object);
+                }
             }
         }
     }
 
     /// Whether a handle is bound to an object.
     pub(crate) fn is_named(&self, object: u64) -> bool {
-        self.bound.iter().any(|bind| bind.object == object)
+        match self.named.get(&object) {
+            Some(handles) => *handles > 0,
+            None => false,
+        }
     }
 
     /// Whether the last move bound no handle.

@@ -373,6 +373,14 @@ impl State {
         self.desk.unbind();
     }
 
+    /// Lets go the handles of an object for good: they aren't bound again where the branch is left.
+    pub fn release(&mut self, object: u64)
+        requires { CanGoBack self.old }
+        ensures { CanGoBack self.new }
+    {
+        self.desk.release(object);
+    }
+
     /// The moves that may come next, the likeliest first.
     pub fn moves(&self, problem: &Problem<'_, '_>) -> Result<Vec<Move>, AllocError> {
         self.desk.moves(problem)

@@ -1,5 +1,6 @@
 //! The certificate of a branch in which every era has its places.
 
+use crate::desk::BoundHandle;
 use crate::state::State;
 use certificate::{Bind, BindList, Certificate, EraPlan, EraPlanList, Place, PlaceList};
 use search_problem::{Move, Problem, find, full_count};
@@ -15,15 +16,17 @@ fn taken_place(alloc: Global, problem: &Problem<'_, '_>, number: u64) -> Result<
 }
 
 /// The binds in the order of their handles.
-fn sorted_binds(alloc: Global, bound: &[Bind]) -> Result<BindList, AllocError> {
+fn sorted_binds(alloc: Global, bound: &[BoundHandle]) -> Result<BindList, AllocError> {
     let mut objects = BTreeMap::new(alloc);
     for bind in bound {
-        let key = Vec::from_slice(alloc, bind.handle.as_slice())?;
-        let kept = Bind {
-            handle: bind.handle.clone()?,
-            object: bind.object,
-        };
-        objects.insert(key, kept)?;
+        if let Some(object) = bind.object {
+            let key = Vec::from_slice(alloc, bind.handle.as_slice())?;
+            let kept = Bind {
+                handle: bind.handle.clone()?,
+                object,
+            };
+            objects.insert(key, kept)?;
+        }
     }
     let mut binds = Vec::new(alloc);
     for (_, bind) in objects.iter() {

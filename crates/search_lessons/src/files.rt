@@ -129,6 +129,24 @@ impl FileLog {
         }
     }
 
+    /// Whether a call has a say in so many bytes from an offset on, or in the size of a file that is so large without it.
+    pub(crate) fn has_a_say(&self, item: &Item, from: u64, count: usize, size: u64) -> bool {
+        let Some(writer) = self.writers.get(item.index) else {
+            return false;
+        };
+        match &writer.change {
+            Change::Wrote {
+                offset,
+                count: written,
+                ..
+            } => {
+                let end = offset.saturating_add(*written);
+                end > size || (*offset < from.saturating_add(count as u64) && end > from)
+            }
+            Change::Sized(_) => true,
+        }
+    }
+
     /// The bytes from an offset on, as these calls of the log make them.
     pub(crate) fn fold(
         &self,

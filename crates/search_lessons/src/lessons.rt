@@ -149,17 +149,17 @@ impl Lessons {
         }
     }
 
-    /// Takes back that the first of some objects was made by an unanswered call of which that was guessed, and says whether there is one.
-    pub fn refute_first(&mut self, objects: &[Option<u64>]) -> Result<bool, AllocError> {
+    /// Takes back that the first of some objects was made by an unanswered call of which that was guessed, and gives it, where there is one.
+    pub fn refute_first(&mut self, objects: &[Option<u64>]) -> Result<Option<u64>, AllocError> {
         for object in objects {
             if let Some(number) = object {
                 if self.handles.contains_key(number) {
                     self.refute_handle(*number)?;
-                    return Ok(true);
+                    return Ok(Some(*number));
                 }
             }
         }
-        Ok(false)
+        Ok(None)
     }
 
     /// Takes back that an unanswered call made what its handle names, unless that was known before.

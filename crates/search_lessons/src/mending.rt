@@ -220,16 +220,24 @@ impl<'m, 's, 'a> Mending<'m, 's, 'a> {
         Ok(Some(self.mended(log, more, lesson, item)?))
     }
 
+    /// Whether a call that is gone may have been kept, and has a say in what the reply shows of a file that is so large.
+    fn may_mend(&self, log: &FileLog, item: &Item, size: u64) -> bool {
+        !self.lessons.is_kept(item.number)
+            && self.lessons.may_be_kept(item.number)
+            && log.has_a_say(item, self.seen.offset, self.seen.bytes.len(), size)
+    }
+
     /// The newest call that is gone and would mend the bytes or the size: it was kept.
     fn keep_gone(
         &self,
         log: &FileLog,
         items: &[Item],
-        score: Score,
+        folded: &Folded,
     ) -> Result<Option<Mended>, AllocError> {
+        let score = Score::of(self.seen, folded);
         let gone = log.items(self.alloc, true)?;
         for item in gone.iter().rev() {
-            if self.lessons.is_kept(item.number) || !self.lessons.may_be_kept(item.number) {
+            if !self.may_mend(log, item, folded.size) {
                 continue;
             }
             if let Some(mended) = self.try_gone(log, items, item, score)? {
@@ -413,7 +421,7 @@ impl<'m, 's, 'a> Mending<'m, 's, 'a> {
         folded: &Folded,
     ) -> Result<Option<Mended>, AllocError> {
         let score = Score::of(self.seen, folded);
-        if let Some(mended) = self.keep_gone(log, items, score)? {
+        if let Some(mended) = self.keep_gone(log, items, folded)? {
             return Ok(Some(mended));
         }
         if let Some(mended) = self.blame_owners(log, items, folded)? {

@@ -11,5 +11,7 @@ mod notes;
 mod pass;
 mod plan;
 mod stuck;
+mod watch;
 
 pub use plan::plan_of;
+pub use watch::PassWatch;

@@ -221,8 +221,9 @@ impl<'p, 's, 'a> Pass<'p, 's, 'a> {
         self.state.binds().object(handle?.as_slice())
     }
 
-    /// Takes back that unanswered calls made what a call's handles name, or what stands at its names, and says whether that was guessed.
-    pub(crate) fn refute_makers(&mut self, found: &Found) -> Result<bool, AllocError>
+    /// Takes back that an unanswered call made what a call's handles name, or what stands at its names, and guesses another one. It says
+    /// whether that was guessed.
+    pub(crate) fn refute_makers(&mut self, number: u64, found: &Found) -> Result<bool, AllocError>
         requires { CanGoBack self.old.state }
         ensures { CanGoBack self.new.state }
     {
@@ -231,7 +232,16 @@ impl<'p, 's, 'a> Pass<'p, 's, 'a> {
         let one = self.object_of(one);
         let other = self.object_of(other);
         let given = self.object_of(given_by(found));
-        self.lessons
-            .refute_first([one, other, from, to, given].as_slice())
+        let refuted = self
+            .lessons
+            .refute_first([one, other, from, to, given].as_slice())?;
+        match refuted {
+            Some(object) => {
+                self.state.release(object);
+                self.find_maker(number, found)?;
+                Ok(true)
+            }
+            None => Ok(false),
+        }
     }
 }

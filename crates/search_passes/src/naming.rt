@@ -128,7 +128,7 @@ impl<'p, 's, 'a> Pass<'p, 's, 'a> {
         if self.find_left_out_at(number, to)? {
             return Ok(());
         }
-        if self.refute_makers(found)? {
+        if self.refute_makers(number, found)? {
             return Ok(());
         }
         if self.turn_at(from)? {

@@ -4,6 +4,7 @@ ghost use Rattle.std.specs.Prelude.{IfOk};
 ghost use Rattle.search_branches.specs.Reversible.{CanGoBack};
 
 use crate::notes::{Notes, Placed};
+use crate::watch::PassWatch;
 use search_branches::State;
 use search_lessons::{Lessons, found_of, is_stable, move_of};
 use search_problem::{Found, Move, Nature, Problem};
@@ -281,7 +282,7 @@ impl<'p, 's, 'a> Pass<'p, 's, 'a> {
     }
 
     /// Places the calls of the era, unless it is hopeless.
-    pub(crate) fn run_era(&mut self) -> Result<(), AllocError>
+    pub(crate) fn run_era<W: PassWatch>(&mut self, watch: &mut W) -> Result<(), AllocError>
         requires { CanGoBack self.old.state }
         ensures { CanGoBack self.new.state }
     {
@@ -294,6 +295,7 @@ impl<'p, 's, 'a> Pass<'p, 's, 'a> {
                 break;
             }
             self.place_due(number)?;
+            watch.at(self.state.depth());
         }
         Ok(())
     }

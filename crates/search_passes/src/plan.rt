@@ -3,6 +3,7 @@
 ghost use Rattle.search_branches.specs.Reversible.{CanGoBack};
 
 use crate::pass::Pass;
+use crate::watch::PassWatch;
 use certificate::Certificate;
 use search_lessons::Lessons;
 use search_problem::Problem;
@@ -13,12 +14,12 @@ const MOST_PASSES: u64 = 8;
 
 impl<'p, 's, 'a> Pass<'p, 's, 'a> {
     /// Places the calls of all eras, unless it is hopeless.
-    fn run(&mut self) -> Result<(), AllocError>
+    fn run<W: PassWatch>(&mut self, watch: &mut W) -> Result<(), AllocError>
         requires { CanGoBack self.old.state }
         ensures { CanGoBack self.new.state }
     {
         for _ in 0..self.problem.known().eras() {
-            self.run_era()?;
+            self.run_era(watch)?;
             if self.is_hopeless() {
                 break;
             }
@@ -46,15 +47,16 @@ impl<'p, 's, 'a> Pass<'p, 's, 'a> {
 }
 
 /// A plan in which each call of a history has a place that was legal, where so many passes come to one, or eight, whichever are fewer.
-pub fn plan_of(
+pub fn plan_of<W: PassWatch>(
     alloc: Global,
     problem: &Problem<'_, '_>,
     turns: u64,
+    watch: &mut W,
 ) -> Result<Option<Certificate>, AllocError> {
     let mut lessons = Lessons::new(alloc);
     for _ in 0..turns.min(MOST_PASSES) {
         let mut pass = Pass::begin(alloc, problem, lessons)?;
-        pass.run()?;
+        pass.run(watch)?;
         if pass.is_hopeless() {
             return Ok(None);
         }

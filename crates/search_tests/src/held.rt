@@ -1,7 +1,7 @@
 //! A worker that is held at its first branch until another worker has taken one.
 
 use crate::samples::READ_BESIDE_WRITE;
-use cert_search::{Host, SearchEnd, SearchGate, search_by_branches};
+use cert_search::{Host, SearchEnd, SearchGate, search_calls};
 use nfs_history::read_calls;
 use std::alloc::Global;
 use std::sync::atomic::{AtomicU64, Ordering};
@@ -62,7 +62,7 @@ fn is_found_by_two<R: Host>(rt: &R, alloc: Global) -> Result<bool, Fail> {
     let bytes = hex::decode(alloc, READ_BESIDE_WRITE)?;
     let known = read_calls(alloc, bytes.as_slice())?;
     let gate = HoldFirst::new(rt);
-    let end = search_by_branches(rt, &known, 2, 10_000, &gate);
+    let end = search_calls(rt, &known, 2, 10_000, &gate);
     let is_found = matches!(end, SearchEnd::Found(_));
     Ok(is_found && gate.gave_up.load(Ordering::SeqCst) == 0)
 }
