@@ -105,6 +105,11 @@ impl Board {
         self.states = self.states.saturating_add(1);
     }
 
+    /// Whether fewer branches than so many were claimed as new.
+    pub(crate) fn has_room(&self, room: u64) -> bool {
+        self.states < room
+    }
+
     /// A certificate was found that is a witness.
     pub(crate) fn succeed(&mut self, certificate: Certificate) {
         self.found = Some(certificate);

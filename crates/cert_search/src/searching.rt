@@ -163,6 +163,7 @@ fn run_workers<R: Host, G: SearchGate + Sync>(
         stealers: stealers.as_slice(),
         gate,
         turns,
+        room: (1u64 << bits) / 4 * 3,
     };
     work_all(rt, &team, &table, claimer, seats, workers.saturating_sub(1));
     let mut ended = board.lock(rt);

@@ -26,6 +26,8 @@ pub(crate) struct Team<'s, 'a, G> {
     pub(crate) gate: &'s G,
     /// How many branches each may take.
     pub(crate) turns: u64,
+    /// How many states are claimed, at most. A table that is nearly full takes long to look through.
+    pub(crate) room: u64,
 }
 
 /// A worker's own things.
@@ -131,13 +133,13 @@ fn judge_whole<R: Wait, G>(
     Ok(())
 }
 
-/// Claims a branch by its fingerprint; 0 stands for no fingerprint, so one with that isn't claimed.
-fn claim_state(table: &SeenTable, claimer: &mut Claimer, state: &State) -> Claim
+/// Claims a branch by its fingerprint, where there is room; 0 stands for no fingerprint, so one with that isn't claimed.
+fn claim_state(table: &SeenTable, claimer: &mut Claimer, state: &State, has_room: bool) -> Claim
     requires { IsOf claimer.old table.now }
     ensures { IsOf claimer.new table.now }
 {
     let fingerprint = state.fingerprint();
-    if fingerprint == 0 {
+    if fingerprint == 0 || !has_room {
         return Claim::Full;
     }
     table.claim(claimer, fingerprint)
@@ -204,7 +206,8 @@ fn take_branch<R: Wait, G: SearchGate>(
     }
     let is_last = rank.saturating_add(1) >= moves.len() || state.is_free(team.problem);
     let rest = rest_of(branch, rank, is_last);
-    let claim = claim_state(table, claimer, state);
+    let has_room = team.board.lock(rt).has_room(team.room);
+    let claim = claim_state(table, claimer, state, has_room);
     let next = next_of(node, depth, note_claim(rt, team, claim));
     grow(rt, team, seat, rest, next)
 }
