@@ -270,7 +270,17 @@ fn search_on<R: Host, G: SearchGate + Sync>(
     }
 }
 
-/// Searches a certificate of the history that these calls are of: by branches, half of `turns` and 1,000 at most a worker; then by passes
+/// How many branches each of so many workers takes ahead of the passes: in all five for each four calls, but no more than half of its
+/// turns, and 1,000.
+fn first_turns(turns: u64, calls: u64, workers: u32) -> u64
+    ensures { result ≤ turns }
+{
+    let share = calls / u64::from(workers.max(1));
+    let fair = share.saturating_add(share / 4).saturating_add(1);
+    fair.min(turns / 2).min(FIRST_BRANCHES)
+}
+
+/// Searches a certificate of the history that these calls are of: by branches, as many as five for each four calls; then by passes
 /// over the history; then by branches with the turns that are left, as [`search_by_branches`].
 pub fn search_calls<R: Host, G: SearchGate + Sync>(
     rt: &R,
@@ -285,7 +295,7 @@ pub fn search_calls<R: Host, G: SearchGate + Sync>(
     // Where the plan that follows the replies is a witness, one is found, memory aside.
     ensures follows { (plan : Certificate) → IsReplyOrder known.now plan → IsWitness known.now plan → IsFoundOrNoMemory result }
 {
-    let first = (turns / 2).min(FIRST_BRANCHES);
+    let first = first_turns(turns, known.count() as u64, workers);
     match search_by_branches(rt, known, workers, first, gate) {
         SearchEnd::OutOfTurns => search_on(rt, known, workers, turns - first, gate),
         end => end,
