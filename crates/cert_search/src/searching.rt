@@ -131,15 +131,12 @@ fn outcome_of(board: &mut Board) -> (Option<Certificate>, Lack) {
 
 /// Of how many bits the number of a table's words is that has room for twice so many states.
 fn bits_for(states: u64) -> u32
-    ensures least { FEWEST_BITS ≤ result }
-    ensures most { result ≤ MOST_BITS }
+    ensures { result ≤ MOST_BITS }
 {
-    for bits in FEWEST_BITS..MOST_BITS {
-        if states <= 1u64 << (bits - 1) {
-            return bits;
-        }
-    }
-    MOST_BITS
+    65u32
+        .saturating_sub(states.leading_zeros())
+        .max(FEWEST_BITS)
+        .min(MOST_BITS)
 }
 
 /// Has the workers search, and gives what they came to.
@@ -272,10 +269,8 @@ fn search_on<R: Host, G: SearchGate + Sync>(
 
 /// How many branches each of so many workers takes ahead of the passes: in all five for each four calls, but no more than half of its
 /// turns, and 1,000.
-fn first_turns(turns: u64, calls: u64, workers: u32) -> u64
-    ensures { result ≤ turns }
-{
-    let share = calls / u64::from(workers.max(1));
+fn first_turns(turns: u64, calls: u64, workers: u32) -> u64 {
+    let share = calls.checked_div(u64::from(workers)).unwrap_or(calls);
     let fair = share.saturating_add(share / 4).saturating_add(1);
     fair.min(turns / 2).min(FIRST_BRANCHES)
 }
@@ -297,7 +292,7 @@ pub fn search_calls<R: Host, G: SearchGate + Sync>(
 {
     let first = first_turns(turns, known.count() as u64, workers);
     match search_by_branches(rt, known, workers, first, gate) {
-        SearchEnd::OutOfTurns => search_on(rt, known, workers, turns - first, gate),
+        SearchEnd::OutOfTurns => search_on(rt, known, workers, turns.saturating_sub(first), gate),
         end => end,
     }
 }
