@@ -27,11 +27,12 @@ pub(crate) struct Pass<'p, 's, 'a> {
 }
 
 impl<'p, 's, 'a> Pass<'p, 's, 'a> {
-    /// At the history's start, with what was learned before.
+    /// At the history's start, with what was learned before, where no object has more than one handle or each may.
     pub(crate) fn begin(
         alloc: Global,
         problem: &'p Problem<'s, 'a>,
         lessons: Lessons,
+        has_one_handle: bool,
     ) -> Result<Pass<'p, 's, 'a>, AllocError>
         ensures { IfOk result (λ pass. CanGoBack pass.state) }
     {
@@ -39,7 +40,7 @@ impl<'p, 's, 'a> Pass<'p, 's, 'a> {
         Ok(Pass {
             alloc,
             problem,
-            state: State::begin_plain(alloc, problem)?,
+            state: State::begin_plain(alloc, problem, has_one_handle)?,
             lessons,
             notes: Notes::new(alloc, eras)?,
         })
