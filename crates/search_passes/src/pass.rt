@@ -6,7 +6,7 @@ ghost use Rattle.search_branches.specs.Reversible.{CanGoBack};
 use crate::notes::{Notes, Placed};
 use crate::watch::PassWatch;
 use search_branches::State;
-use search_lessons::{Lessons, found_of, is_stable, move_of};
+use search_lessons::{Lessons, NamesGiven, found_of, is_stable, move_of};
 use search_problem::{Found, Move, Nature, Problem};
 use std::alloc::{AllocError, Global};
 
@@ -21,6 +21,7 @@ const DEEPEST: u32 = 8;
 pub(crate) struct Pass<'p, 's, 'a> {
     pub(crate) alloc: Global,
     pub(crate) problem: &'p Problem<'s, 'a>,
+    pub(crate) names: &'p NamesGiven,
     pub(crate) state: State,
     pub(crate) lessons: Lessons,
     pub(crate) notes: Notes,
@@ -31,6 +32,7 @@ impl<'p, 's, 'a> Pass<'p, 's, 'a> {
     pub(crate) fn begin(
         alloc: Global,
         problem: &'p Problem<'s, 'a>,
+        names: &'p NamesGiven,
         lessons: Lessons,
         has_one_handle: bool,
     ) -> Result<Pass<'p, 's, 'a>, AllocError>
@@ -40,6 +42,7 @@ impl<'p, 's, 'a> Pass<'p, 's, 'a> {
         Ok(Pass {
             alloc,
             problem,
+            names,
             state: State::begin_plain(alloc, problem, has_one_handle)?,
             lessons,
             notes: Notes::new(alloc, eras)?,

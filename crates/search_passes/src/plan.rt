@@ -5,7 +5,7 @@ ghost use Rattle.search_branches.specs.Reversible.{CanGoBack};
 use crate::pass::Pass;
 use crate::watch::PassWatch;
 use certificate::Certificate;
-use search_lessons::Lessons;
+use search_lessons::{Lessons, NamesGiven};
 use search_problem::Problem;
 use std::alloc::{AllocError, Global};
 
@@ -35,6 +35,7 @@ impl<'p, 's, 'a> Pass<'p, 's, 'a> {
         let Pass {
             alloc: _,
             problem: _,
+            names: _,
             state,
             lessons,
             notes,
@@ -50,13 +51,14 @@ impl<'p, 's, 'a> Pass<'p, 's, 'a> {
 fn plan_with<W: PassWatch>(
     alloc: Global,
     problem: &Problem<'_, '_>,
+    names: &NamesGiven,
     turns: u64,
     has_one_handle: bool,
     watch: &mut W,
 ) -> Result<Option<Certificate>, AllocError> {
     let mut lessons = Lessons::new(alloc);
     for _ in 0..turns.min(MOST_PASSES) {
-        let mut pass = Pass::begin(alloc, problem, lessons, has_one_handle)?;
+        let mut pass = Pass::begin(alloc, problem, names, lessons, has_one_handle)?;
         pass.run(watch)?;
         if pass.is_hopeless() {
             return Ok(None);
@@ -78,8 +80,9 @@ pub fn plan_of<W: PassWatch>(
     turns: u64,
     watch: &mut W,
 ) -> Result<Option<Certificate>, AllocError> {
-    match plan_with(alloc, problem, turns, true, watch)? {
+    let names = NamesGiven::of(alloc, problem)?;
+    match plan_with(alloc, problem, &names, turns, true, watch)? {
         Some(plan) => Ok(Some(plan)),
-        None => plan_with(alloc, problem, turns, false, watch),
+        None => plan_with(alloc, problem, &names, turns, false, watch),
     }
 }
