@@ -47,6 +47,8 @@ pub(crate) struct Desk {
     pub(crate) alloc: Global,
     /// Whether fingerprints are asked of the branch.
     pub(crate) is_hashed: bool,
+    /// Whether no object has more than one handle.
+    pub(crate) has_one_handle: bool,
     pub(crate) binds: Binds,
     /// The handles that are bound, in the order in which they were.
     pub(crate) bound: Vec<BoundHandle>,
@@ -74,6 +76,7 @@ impl Desk {
         let mut desk = Desk {
             alloc,
             is_hashed,
+            has_one_handle: false,
             binds: Binds::of_root(alloc, problem.known().root().as_slice())?,
             bound: Vec::new(alloc),
             named: BTreeMap::new(alloc),
@@ -278,10 +281,15 @@ impl Desk {
         self.named.remove(&object);
     }
 
-    /// Binds a handle to an object, unless it is bound.
+    /// Whether one handle more may name an object.
+    fn may_name(&self, object: u64) -> bool {
+        !self.has_one_handle || !self.is_named(object)
+    }
+
+    /// Binds a handle to an object, unless it is bound, or no more than one may name that.
     pub(crate) fn bind(&mut self, handle: &FileHandle, object: u64) -> Result<(), AllocError> {
         let bytes = handle.as_slice();
-        if bytes.is_empty() || self.binds.object(bytes).is_some() {
+        if bytes.is_empty() || self.binds.object(bytes).is_some() || !self.may_name(object) {
             return Ok(());
         }
         let kept = BoundHandle {

@@ -48,15 +48,22 @@ impl State {
         })
     }
 
-    /// At the branch without a move, where no fingerprints are asked for.
-    pub fn begin_plain(alloc: Global, problem: &Problem<'_, '_>) -> Result<State, AllocError>
+    /// At the branch without a move, where no fingerprints are asked for. Where objects have one handle each, a call whose reply gives
+    /// another one is no legal move.
+    pub fn begin_plain(
+        alloc: Global,
+        problem: &Problem<'_, '_>,
+        has_one_handle: bool,
+    ) -> Result<State, AllocError>
         ensures { IfOk result CanGoBack }
     {
         let binds = Binds::of_root(alloc, problem.known().root().as_slice())?;
         let trial = Trial::begin(alloc, &binds)?;
+        let mut desk = Desk::new(alloc, problem, false, 0)?;
+        desk.has_one_handle = has_one_handle;
         Ok(State {
             trial: Some(trial),
-            desk: Desk::new(alloc, problem, false, 0)?,
+            desk,
         })
     }
 

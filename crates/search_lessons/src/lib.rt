@@ -6,6 +6,7 @@ mod by_name;
 mod changes;
 mod facts;
 mod files;
+mod given;
 mod lessons;
 mod marks;
 mod mending;
@@ -19,6 +20,7 @@ pub use facts::{
     precedes, shows_file,
 };
 pub use files::{Files, NO_PLACE, Writer};
+pub use given::NamesGiven;
 pub use lessons::{Lesson, Lessons, Step};
 pub use marks::{Kept, Marks};
 pub use mending::Mending;

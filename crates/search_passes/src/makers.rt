@@ -8,6 +8,19 @@ use search_lessons::{Lesson, found_of, given_by, handles_of, is_failed, made_by,
 use search_problem::Found;
 use std::alloc::AllocError;
 
+/// What speaks for an unanswered call as the maker of what a handle names.
+#[derive(Clone, Copy, PartialEq, Eq)]
+enum Chance {
+    /// It is known to have made that.
+    Known,
+    /// What it made stands, and has no handle.
+    Standing,
+    /// A reply shows the handle under the name of what it would make.
+    Named,
+    /// Nothing.
+    Free,
+}
+
 /// How many makers are tried for a handle.
 const MOST_MAKERS: usize = 64;
 
@@ -169,34 +182,43 @@ impl<'p, 's, 'a> Pass<'p, 's, 'a> {
         }
     }
 
-    /// The unanswered calls that may have made what a handle names, of the eras that ended: the one that is known first, then those
-    /// whose objects stand, then the others, the newest first.
-    fn makers_of(&self, handle: &FileHandle) -> Result<Vec<u64>, AllocError> {
-        let mut known = Vec::new(self.alloc);
-        let mut standing = Vec::new(self.alloc);
-        let mut others = Vec::new(self.alloc);
-        for (maker, _) in self.notes.makers.iter().rev() {
-            if !self.is_free_maker(*maker) {
-                continue;
-            }
-            match self.lessons.handle_of(*maker) {
-                Some(made) => {
-                    if made.as_slice() == handle.as_slice() {
-                        known.push(*maker)?;
-                    }
-                }
-                None => {
-                    if self.state.stands(*maker) {
-                        standing.push(*maker)?;
-                    } else {
-                        others.push(*maker)?;
-                    }
-                }
+    /// What speaks for an unanswered call as the maker of what a handle names, where it may be that.
+    fn chance_of(&self, maker: u64, name: &[u8], handle: &FileHandle) -> Option<Chance> {
+        if !self.is_free_maker(maker) {
+            return None;
+        }
+        match self.lessons.handle_of(maker) {
+            Some(made) if made.as_slice() == handle.as_slice() => Some(Chance::Known),
+            Some(_) => None,
+            None if self.state.stands(maker) => Some(Chance::Standing),
+            None if self.names.has(handle, name) => Some(Chance::Named),
+            None => Some(Chance::Free),
+        }
+    }
+
+    /// Puts the unanswered calls for which so much speaks behind others, the newest first.
+    fn put_makers(
+        &self,
+        makers: &mut Vec<u64>,
+        handle: &FileHandle,
+        chance: Chance,
+    ) -> Result<(), AllocError> {
+        for (maker, name) in self.notes.makers.iter().rev() {
+            if self.chance_of(*maker, name.as_slice(), handle) == Some(chance) {
+                makers.push(*maker)?;
             }
         }
-        known.extend_from_slice(standing.as_slice())?;
-        known.extend_from_slice(others.as_slice())?;
-        Ok(known)
+        Ok(())
+    }
+
+    /// The unanswered calls that may have made what a handle names, of the eras that ended, the likeliest first.
+    fn makers_of(&self, handle: &FileHandle) -> Result<Vec<u64>, AllocError> {
+        let mut makers = Vec::new(self.alloc);
+        self.put_makers(&mut makers, handle, Chance::Known)?;
+        self.put_makers(&mut makers, handle, Chance::Standing)?;
+        self.put_makers(&mut makers, handle, Chance::Named)?;
+        self.put_makers(&mut makers, handle, Chance::Free)?;
+        Ok(makers)
     }
 
     /// Finds a maker for a handle of a call that names nothing, and says whether it did.

@@ -10,6 +10,7 @@ use std::collections::BTreeMap;
 /// What a pass knows beside its branch.
 #[derive(Drop)]
 pub(crate) struct Notes {
+    alloc: Global,
     pub(crate) files: Files,
     pub(crate) marks: Marks,
     /// The calls that couldn't be placed, and the decisions that didn't go together.
@@ -18,8 +19,9 @@ pub(crate) struct Notes {
     pub(crate) changes: CallsByName,
     /// The unanswered calls that weren't kept, by the names in them.
     pub(crate) left_out: CallsByName,
-    /// The unanswered calls that could make something, of the eras that ended and of this one where they are placed.
-    pub(crate) makers: BTreeMap<u64, ()>,
+    /// The unanswered calls that could make something, of the eras that ended and of this one where they are placed, each with the name of
+    /// what it would make.
+    pub(crate) makers: BTreeMap<u64, Vec<u8>>,
     /// The unanswered calls of earlier eras that weren't kept and were placed since.
     pub(crate) revived: BTreeMap<u64, ()>,
 }
@@ -40,6 +42,7 @@ impl Notes {
     /// Of so many eras.
     pub(crate) fn new(alloc: Global, eras: usize) -> Result<Notes, AllocError> {
         Ok(Notes {
+            alloc,
             files: Files::new(alloc),
             marks: Marks::new(alloc, eras)?,
             conflicts: 0,
@@ -53,6 +56,7 @@ impl Notes {
     /// The WRITEs that a COMMIT kept.
     pub(crate) fn into_committed(self) -> BTreeMap<u64, ()> {
         let Notes {
+            alloc: _,
             files,
             marks,
             conflicts: _,
@@ -102,11 +106,20 @@ impl Notes {
         Ok(())
     }
 
+    /// Notes that an unanswered call may have made something, if it can.
+    fn put_maker(&mut self, number: u64, found: &Found) -> Result<(), AllocError> {
+        if let Some(place) = made_by(&found.call) {
+            let name = Vec::from_slice(self.alloc, place.name.as_slice())?;
+            self.makers.insert(number, name)?;
+        }
+        Ok(())
+    }
+
     /// Notes a call that is placed.
     pub(crate) fn place(&mut self, placed: Placed, found: &Found) -> Result<(), AllocError> {
         self.place_names(placed, found)?;
-        if placed.nature == Nature::Unanswered && made_by(&found.call).is_some() {
-            self.makers.insert(placed.number, ())?;
+        if placed.nature == Nature::Unanswered {
+            self.put_maker(placed.number, found)?;
         }
         if let Some((handle, change)) = change_of(found)? {
             let writer = Writer {
@@ -124,9 +137,7 @@ impl Notes {
 
     /// Notes the names in an unanswered call that isn't kept, and that it may have made something.
     fn leave_out_names(&mut self, number: u64, found: &Found) -> Result<(), AllocError> {
-        if made_by(&found.call).is_some() {
-            self.makers.insert(number, ())?;
-        }
+        self.put_maker(number, found)?;
         let (from, to) = places_of(&found.call);
         if let Some(place) = from {
             self.left_out.put(place.name.as_slice(), number)?;

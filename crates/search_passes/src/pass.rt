@@ -6,7 +6,7 @@ ghost use Rattle.search_branches.specs.Reversible.{CanGoBack};
 use crate::notes::{Notes, Placed};
 use crate::watch::PassWatch;
 use search_branches::State;
-use search_lessons::{Lessons, found_of, is_stable, move_of};
+use search_lessons::{Lessons, NamesGiven, found_of, is_stable, move_of};
 use search_problem::{Found, Move, Nature, Problem};
 use std::alloc::{AllocError, Global};
 
@@ -21,17 +21,20 @@ const DEEPEST: u32 = 8;
 pub(crate) struct Pass<'p, 's, 'a> {
     pub(crate) alloc: Global,
     pub(crate) problem: &'p Problem<'s, 'a>,
+    pub(crate) names: &'p NamesGiven,
     pub(crate) state: State,
     pub(crate) lessons: Lessons,
     pub(crate) notes: Notes,
 }
 
 impl<'p, 's, 'a> Pass<'p, 's, 'a> {
-    /// At the history's start, with what was learned before.
+    /// At the history's start, with what was learned before, where no object has more than one handle or each may.
     pub(crate) fn begin(
         alloc: Global,
         problem: &'p Problem<'s, 'a>,
+        names: &'p NamesGiven,
         lessons: Lessons,
+        has_one_handle: bool,
     ) -> Result<Pass<'p, 's, 'a>, AllocError>
         ensures { IfOk result (λ pass. CanGoBack pass.state) }
     {
@@ -39,7 +42,8 @@ impl<'p, 's, 'a> Pass<'p, 's, 'a> {
         Ok(Pass {
             alloc,
             problem,
-            state: State::begin_plain(alloc, problem)?,
+            names,
+            state: State::begin_plain(alloc, problem, has_one_handle)?,
             lessons,
             notes: Notes::new(alloc, eras)?,
         })

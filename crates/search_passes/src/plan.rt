@@ -5,7 +5,7 @@ ghost use Rattle.search_branches.specs.Reversible.{CanGoBack};
 use crate::pass::Pass;
 use crate::watch::PassWatch;
 use certificate::Certificate;
-use search_lessons::Lessons;
+use search_lessons::{Lessons, NamesGiven};
 use search_problem::Problem;
 use std::alloc::{AllocError, Global};
 
@@ -35,6 +35,7 @@ impl<'p, 's, 'a> Pass<'p, 's, 'a> {
         let Pass {
             alloc: _,
             problem: _,
+            names: _,
             state,
             lessons,
             notes,
@@ -46,16 +47,18 @@ impl<'p, 's, 'a> Pass<'p, 's, 'a> {
     }
 }
 
-/// A plan in which each call of a history has a place that was legal, where so many passes come to one, or eight, whichever are fewer.
-pub fn plan_of<W: PassWatch>(
+/// A plan that so many passes come to, or eight, whichever are fewer, where no object has more than one handle or each may.
+fn plan_with<W: PassWatch>(
     alloc: Global,
     problem: &Problem<'_, '_>,
+    names: &NamesGiven,
     turns: u64,
+    has_one_handle: bool,
     watch: &mut W,
 ) -> Result<Option<Certificate>, AllocError> {
     let mut lessons = Lessons::new(alloc);
     for _ in 0..turns.min(MOST_PASSES) {
-        let mut pass = Pass::begin(alloc, problem, lessons)?;
+        let mut pass = Pass::begin(alloc, problem, names, lessons, has_one_handle)?;
         pass.run(watch)?;
         if pass.is_hopeless() {
             return Ok(None);
@@ -66,4 +69,20 @@ pub fn plan_of<W: PassWatch>(
         lessons = pass.into_lessons();
     }
     Ok(None)
+}
+
+/// A plan in which each call of a history has a place that was legal, where so many passes come to one, or eight, whichever are fewer.
+/// What passes guess of a lost reply shows as wrong where an object would have a second handle; so they allow one only if they come to
+/// no plan without.
+pub fn plan_of<W: PassWatch>(
+    alloc: Global,
+    problem: &Problem<'_, '_>,
+    turns: u64,
+    watch: &mut W,
+) -> Result<Option<Certificate>, AllocError> {
+    let names = NamesGiven::of(alloc, problem)?;
+    match plan_with(alloc, problem, &names, turns, true, watch)? {
+        Some(plan) => Ok(Some(plan)),
+        None => plan_with(alloc, problem, &names, turns, false, watch),
+    }
 }
