@@ -1,0 +1,7 @@
+//! What a journal server's book comes to, in words above the machine. No code runs: each law is the contract of a function that does
+//! nothing.
+#![tactic(auto)]
+
+mod writing;
+
+pub use writing::every_certificate_can_be_written;
