@@ -1,3 +1,5 @@
 pub mod Walks
 pub mod Newcomer
 pub mod Rising
+pub mod Continuing
+pub mod Recording

@@ -2,6 +2,8 @@
 //! nothing.
 #![tactic(auto)]
 
+mod recorded;
 mod writing;
 
+pub use recorded::its_records_are_its_changes;
 pub use writing::every_certificate_can_be_written;
