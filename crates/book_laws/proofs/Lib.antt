@@ -3,3 +3,5 @@ pub mod Newcomer
 pub mod Rising
 pub mod Continuing
 pub mod Recording
+pub mod Standing
+pub mod Renaming
