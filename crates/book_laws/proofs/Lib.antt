@@ -5,3 +5,4 @@ pub mod Continuing
 pub mod Recording
 pub mod Standing
 pub mod Renaming
+pub mod Replaying
