@@ -6,3 +6,5 @@ pub mod Recording
 pub mod Standing
 pub mod Renaming
 pub mod Replaying
+pub mod Saying
+pub mod Rebuilding

@@ -225,7 +225,7 @@ module _ (book : Book) (number : ℕ) (reply : NfsReply) (new : Book) (p : Place
         (kept_on book after after.device.records (changes_of book ++ filter is_recorded (this ∷ [])) (continues_same book after refl refl) (more (is_recorded this)));
   }
 
-records_on : (book new : Book) → IsInvariant book → KeepsRecords book → Steps book new → KeepsRecords new
+pub records_on : (book new : Book) → IsInvariant book → KeepsRecords book → Steps book new → KeepsRecords new
 records_on book new i k (begins lane message b) =
     subst KeepsRecords (sym b.done) (left book _ (continues_begin book lane message b.call b.recordable) (sent_begin book lane message b.call b.recordable) refl refl k)
 records_on book new i k (places number reply p) = subst KeepsRecords (sym p.done) (placed_so book number reply new p k _)
@@ -242,8 +242,11 @@ records_on book new i k (crashes keep c) =
       further f g = omega (arith, f, g)
 records_on book new i k (refuses r) = subst KeepsRecords (sym r.done) (left book _ (continues_same book _ refl refl) (sent_same book _ refl refl) refl refl k)
 
-pub its_changes : ItsRecordsAreItsChanges
-its_changes = from_opening KeepsRecords HasItsChanges records_on (λ book i k. records_so book book.device.records (changes_of book) k.kept) (λ faults. record { sent = λ n call at. absurd (none n at); kept = tt }) where
+pub keeps_at_first : (faults : ℕ) → KeepsRecords (opening_book faults)
+keeps_at_first faults = record { sent = λ n call at. absurd (none n at); kept = tt } where
   none : (n : ℕ) {call : RecordedCall} → call_at [] n ≡ Some call → ⊥
   none zero e = cc
   none (suc n) e = cc
+
+pub its_changes : ItsRecordsAreItsChanges
+its_changes = from_opening KeepsRecords HasItsChanges records_on (λ book i k. records_so book book.device.records (changes_of book) k.kept) keeps_at_first

@@ -2,8 +2,10 @@
 //! nothing.
 #![tactic(auto)]
 
+mod alone;
 mod recorded;
 mod writing;
 
+pub use alone::a_journal_alone_gives_the_tree;
 pub use recorded::its_records_are_its_changes;
 pub use writing::every_certificate_can_be_written;
