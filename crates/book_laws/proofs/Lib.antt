@@ -8,3 +8,4 @@ pub mod Renaming
 pub mod Replaying
 pub mod Saying
 pub mod Rebuilding
+pub mod Run

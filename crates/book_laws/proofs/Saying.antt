@@ -94,7 +94,7 @@ changing_called (calls.Rename a) e = refl
 -- ---- the transaction number of a call
 
 -- the first word of a message
-first_word : (word more : List ℕ) (n : ℕ) → IsWord word n → xid_of (word ++ more) ≡ n
+pub first_word : (word more : List ℕ) (n : ℕ) → IsWord word n → xid_of (word ++ more) ≡ n
 unfolding xid_of word_of
 first_word word more n is = go (nat_lt (length (word ++ more)) 4) refl where
   enough : nat_lt (length (word ++ more)) 4 ≡ true → ⊥
@@ -104,7 +104,7 @@ first_word word more n is = go (nat_lt (length (word ++ more)) 4) refl where
   go true e = absurd (enough e)
   go false e = big_from-append 4 word more (omega (arith, is.four)) ∙ is.value
 
-xid_is : (message : List ℕ) (head : CallValue) → IsCall message head → xid_of message ≡ head.xid
+pub xid_is : (message : List ℕ) (head : CallValue) → IsCall message head → xid_of message ≡ head.xid
 unfolding call_head
 xid_is message head is =
     let s = is.first in
@@ -113,7 +113,7 @@ xid_is message head is =
 
 -- ---- a reply's message
 
-said_reply : (xid : ℕ) (reply : NfsReply) → xid < 2 ^ 32 → IsReply (reply_message xid reply) (record { xid = xid; body = success (result_text reply) })
+pub said_reply : (xid : ℕ) (reply : NfsReply) → xid < 2 ^ 32 → IsReply (reply_message xid reply) (record { xid = xid; body = success (result_text reply) })
 unfolding BodyFits
 said_reply xid reply word = rpc.reply_spelled xid (success (result_text reply)) word tt
 

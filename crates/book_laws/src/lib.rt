@@ -3,9 +3,11 @@
 #![tactic(auto)]
 
 mod alone;
+mod example;
 mod recorded;
 mod writing;
 
 pub use alone::a_journal_alone_gives_the_tree;
+pub use example::the_premises_are_met;
 pub use recorded::its_records_are_its_changes;
 pub use writing::every_certificate_can_be_written;
