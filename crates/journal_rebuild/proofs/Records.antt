@@ -61,8 +61,8 @@ change_parts (r ∷ ahead) bytes behind (change ∷ changes) a =
 pub made_more : (numbers : List ℕ) (number : ℕ) → with_handle (bindings_made numbers) number ≡ bindings_made (numbers ++ number ∷ [])
 made_more numbers number = ap (λ pairs. record { root = handle_of 0; pairs = pairs }) (sym (map-append pair numbers (number ∷ [])))
 
-pub stands_opening : Stands [] (bindings_made []) opening
-stands_opening = record { changes = []; are = tt; names = refl; leads = refl }
+pub stands_first : (records : List (List ℕ)) (binds : Bindings) (tree : Tree) → binds ≡ bindings_made [] → tree ≡ opening → Stands (take 0 records) binds tree
+stands_first records binds tree no_numbers alone = record { changes = []; are = tt; names = no_numbers; leads = ap Some (sym alone) }
 
 pub stands_more : (records : List (List ℕ)) (bytes : List ℕ) (binds binds' : Bindings) (tree tree' : Tree) → Stands records binds tree → IsTaken bytes binds tree binds' tree'
     → Stands (records ++ bytes ∷ []) binds' tree'
@@ -89,7 +89,7 @@ stop_parts records i bytes lt is =
 pub stop_place : (records : List (List ℕ)) (i number : ℕ) → i < length records → number ≡ i + 1 → number ≡ length (take i records) + 1
 stop_place records i number lt is = let so_many = length-take i records in omega (arith, lt, is, so_many)
 
-pub stops_here : (records : List (List ℕ)) (i number : ℕ) (bytes : List ℕ) (binds : Bindings) (tree : Tree) → i < length records → bytes ≡ get_or records i bytes → number ≡ i + 1
+stops_here : (records : List (List ℕ)) (i number : ℕ) (bytes : List ℕ) (binds : Bindings) (tree : Tree) → i < length records → bytes ≡ get_or records i bytes → number ≡ i + 1
     → Stands (take i records) binds tree → (fault : RebuildFault) → StopsAt number bytes binds tree fault → StopsIn records fault
 stops_here records i number bytes binds tree lt is place stands (NoRecord n) stop = record {
   ahead = take i records;
@@ -115,7 +115,13 @@ stops_here records i number bytes binds tree lt is place stands (NotLegal n) sto
 }
 stops_here records i number bytes binds tree lt is place stands NoMemory stop = tt
 
-pub stands_next : (records : List (List ℕ)) (i : ℕ) (bytes : List ℕ) (binds binds' : Bindings) (tree tree' : Tree) → i < length records → bytes ≡ get_or records i bytes
-    → Stands (take i records) binds tree → IsTaken bytes binds tree binds' tree' → Stands (take (i + 1) records) binds' tree'
-stands_next records i bytes binds binds' tree tree' lt is s t =
-    subst (λ rs. Stands rs binds' tree') (sym (take_more records i bytes lt ∙ ap (λ y. take i records ++ y ∷ []) (sym is))) (stands_more (take i records) bytes binds binds' tree tree' s t)
+pub stands_next : (records : List (List ℕ)) (i : ℕ) (bytes seen : List ℕ) (binds binds' : Bindings) (tree tree' : Tree) → i < length records → bytes ≡ get_or records i bytes → seen ≡ bytes
+    → Stands (take i records) binds tree → IsTaken seen binds tree binds' tree' → Stands (take (i + 1) records) binds' tree'
+stands_next records i bytes seen binds binds' tree tree' lt is same s t =
+    subst (λ rs. Stands rs binds' tree') (sym (take_more records i bytes lt ∙ ap (λ y. take i records ++ y ∷ []) (sym is)))
+    (stands_more (take i records) bytes binds binds' tree tree' s (subst (λ (b : List ℕ). IsTaken b binds tree binds' tree') same t))
+
+pub stops_next : (records : List (List ℕ)) (i number : ℕ) (bytes seen : List ℕ) (binds : Bindings) (tree : Tree) → i < length records → bytes ≡ get_or records i bytes → seen ≡ bytes → number ≡ i + 1
+    → Stands (take i records) binds tree → (fault : RebuildFault) → StopsAt number seen binds tree fault → StopsIn records fault
+stops_next records i number bytes seen binds tree lt is same place s fault stop =
+    stops_here records i number bytes binds tree lt is place s fault (subst (λ (b : List ℕ). StopsAt number b binds tree fault) same stop)

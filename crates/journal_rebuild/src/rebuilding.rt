@@ -26,12 +26,16 @@ fn take_records(
     ensures fault { IfErr result (StopsIn records.now) }
 {
     for (index, next) in records.iter().enumerate() {
-        take_record(alloc, tree, binds, index as u64 + 1, next.as_slice())?;
+        match take_record(alloc, tree, binds, index as u64 + 1, next.as_slice()) {
+            Ok(()) => {}
+            Err(fault) => return Err(fault),
+        }
     }
     Ok(())
 }
 
 /// The tree behind the records, from the opening one.
+#[tactic(auto, unfolding(xdr_records::specs::Texts::long_text))]
 fn tree_of(alloc: Global, records: &[Record]) -> Result<FileTree, RebuildFault>
     ensures found { IfOk result (Leads records.now) }
     ensures fault { IfErr result (StopsIn records.now) }

@@ -28,6 +28,7 @@ fn change_in(alloc: Global, number: u64, bytes: &[u8]) -> Result<Change, Rebuild
 }
 
 /// Lets the handle of an object name it: its number in eight bytes, the highest first.
+#[tactic(auto, unfolding(xdr_records::specs::Texts::long_text))]
 fn name_object(binds: &mut Binds, object: u64) -> Result<(), AllocError>
     ensures { OnOk result (binds.new ≡ with_handle binds.old object) }
 {
