@@ -8,20 +8,24 @@ use std::alloc::Global;
 use std::test::Fail;
 
 /// A CREATE of `a` in the root, whose handle is eight zeros, of transaction 1, in hex.
-const CREATE: &str = "000000010000000000000002000186a3000000030000000800000000000000000000000000000000\
+const CREATE: &str =
+    "000000010000000000000002000186a3000000030000000800000000000000000000000000000000\
     00000008000000000000000000000001610000000000000000000000000000000000000000000000\
     0000000000000000";
 
 /// Its reply, with the handle of object 1, in hex.
-const MADE: &str = "00000001000000010000000000000000000000000000000000000000000000010000000800000000\
+const MADE: &str =
+    "00000001000000010000000000000000000000000000000000000000000000010000000800000000\
     00000001000000000000000000000000";
 
 /// A WRITE of `abc` to object 1, of transaction 2, in hex.
-const WRITE: &str = "000000020000000000000002000186a3000000030000000700000000000000000000000000000000\
+const WRITE: &str =
+    "000000020000000000000002000186a3000000030000000700000000000000000000000000000000\
     000000080000000000000001000000000000000000000003000000020000000361626300";
 
 /// Its reply, in hex.
-const WROTE: &str = "00000002000000010000000000000000000000000000000000000000000000000000000000000003\
+const WROTE: &str =
+    "00000002000000010000000000000000000000000000000000000000000000000000000000000003\
     000000020000000000000001";
 
 /// The tree of the root alone, as it is printed.
@@ -86,10 +90,16 @@ fn the_first_record_at_fault_is_named(rt: HostRuntime) -> Result<(), Fail> {
     let write = record(rt.alloc(), 2, WRITE, WROTE)?;
     device.append(write.as_slice().get(..40).unwrap_or(b""))?;
     device.append(write.as_slice())?;
-    assert_eq!(rt; fault_of(rt.alloc(), &device), Some(RebuildFault::NoRecord(2)));
+    assert_eq!(rt;
+        fault_of(rt.alloc(), &device),
+        Some(RebuildFault::NoRecord(2))
+    );
     // The file of a WRITE that comes first isn't there.
     let mut other = SimDevice::new(rt.alloc(), None, None, None);
     other.append(write.as_slice())?;
-    assert_eq!(rt; fault_of(rt.alloc(), &other), Some(RebuildFault::NotLegal(1)));
+    assert_eq!(rt;
+        fault_of(rt.alloc(), &other),
+        Some(RebuildFault::NotLegal(1))
+    );
     Ok(())
 }
