@@ -1,16 +1,14 @@
 -- changes that are made one after the other, each with the handles of the numbers up to its own, are a run with the handles of all
-use Rattle.std.proofs.Common.{◌≡◌, ◌≢◌, ◌⊎◌, inl, inr, ℕ, Bool, List, [], ◌∷◌, ◌++◌, map, Option, Some, None, refl, sym, ap, ◌∙◌, subst, append-nil}
+use Rattle.std.proofs.Common.{◌≡◌, ◌⊎◌, inl, inr, ℕ, List, [], ◌∷◌, ◌++◌, map, Option, Some, None, refl, sym, ap, ◌∙◌, subst, append-nil}
 use Rattle.std.specs.Prelude.{IsSome, ◌==◌, option_and_then}
 use Rattle.std.specs.FinMap as map
-use Rattle.std.proofs.lemmas.List.{append_assoc, map-append}
-use Rattle.std.proofs.Common.{eq-eqb}
-use Rattle.std.proofs.lemmas.Bool.{eqb-true}
+use Rattle.std.proofs.lemmas.List.{append_assoc}
 use Rattle.nfs3_types.specs.declared.replies.Outcome.TheVariants.{Received}
 use Rattle.replay_law.specs.Run.{state_after}
 use Rattle.journal_records.specs.declared.change.Change.{Change}
 use Rattle.tree_nodes.specs.declared.node.Node.{Node}
-use Rattle.tree_nodes.specs.Tree.{Names, Tree, opening, entry_of}
-use Rattle.tree_nodes.proofs.Chains.{same_some, value_of, decide}
+use Rattle.tree_nodes.specs.Tree.{Tree, opening, entry_of}
+use Rattle.tree_nodes.proofs.Chains.{same_some, value_of}
 use Rattle.tree_nodes.proofs.Found.{found_stands}
 use Rattle.file_tree.specs.Success.{next_tree}
 use Rattle.tree_laws.proofs.Agreeing.{others_dont_matter}

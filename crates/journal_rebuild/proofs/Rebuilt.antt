@@ -1,18 +1,15 @@
 -- what is said of the tree of records, and of the first one at fault
-use Rattle.std.proofs.Common.{◌≡◌, ◌⊎◌, inl, inr, ℕ, List, [], ◌∷◌, ◌++◌, map, Option, Some, None, Result, Ok, Err, refl, sym, ap, ◌∙◌, subst}
+use Rattle.std.proofs.Common.{◌≡◌, ◌⊎◌, inl, inr, ℕ, List, [], ◌∷◌, ◌++◌, Some, None, Result, Ok, Err, refl, sym, ap, ◌∙◌, subst}
 use Rattle.std.specs.Prelude.{IfOk, IfErr, option_and_then}
-use Rattle.replay_law.specs.Run.{state_after}
-use Rattle.journal_records.specs.declared.change.Change.{Change}
 use Rattle.journal_records.specs.Exactly.{MeansNothing}
 use Rattle.journal_records.specs.Journal.{IsRecord}
 use Rattle.tree_nodes.specs.Tree.{Tree, opening}
 use Rattle.tree_nodes.proofs.Chains.{same_some}
 use Rattle.tree_handles.specs.Binding.{Bindings}
-use Rattle.file_tree.specs.Success.{next_tree}
 use Rattle.journal_rebuild.specs.declared.fault.RebuildFault.{RebuildFault}
 use Rattle.journal_rebuild.specs.declared.fault.RebuildFault.TheVariants.{NoRecord, NotLegal, NoMemory}
-use Rattle.journal_rebuild.specs.Rebuilding.{bindings_made, AreRecords, step_in, numbers_in, Rebuilds, IsFirstBad, FaultHolds}
-use Rattle.journal_rebuild.specs.Taking.{with_handle, tree_behind, IsStuck, AreOnly, grown, Stands, Leads, IsStop, StopsIn}
+use Rattle.journal_rebuild.specs.Rebuilding.{bindings_made, numbers_in, Rebuilds, FaultHolds}
+use Rattle.journal_rebuild.specs.Taking.{with_handle, tree_behind, IsStuck, grown, Stands, Leads, StopsIn}
 use Rattle.journal_rebuild.proofs.Growing.{all_leads, grown-append}
 use Rattle.journal_rebuild.proofs.Records.{only_are, made_more, same_changes, ChangeParts, change_parts}
 

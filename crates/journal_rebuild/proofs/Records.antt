@@ -1,16 +1,16 @@
 -- records and the changes that they are
-use Rattle.std.proofs.Common.{◌≡◌, ℕ, ◌+◌, ◌<◌, List, [], ◌∷◌, ◌++◌, length, map, take, drop, get_or, min, Option, Some, None, refl, sym, ap, ◌∙◌, subst, arith}
+use Rattle.std.proofs.Common.{◌≡◌, ℕ, ◌+◌, ◌<◌, List, [], ◌∷◌, ◌++◌, length, take, drop, get_or, Some, refl, sym, ap, ◌∙◌, subst, arith}
 use Rattle.std.specs.Prelude.{option_and_then}
 use Rattle.std.proofs.lemmas.List.{map-append, take_more, drop_more, take-append-drop, length-take}
 use Rattle.journal_records.specs.declared.change.Change.{Change}
-use Rattle.journal_records.specs.Exactly.{IsOnly, MeansNothing}
+use Rattle.journal_records.specs.Exactly.{IsOnly}
 use Rattle.journal_records.specs.Journal.{IsRecord}
 use Rattle.tree_nodes.specs.Tree.{Tree, opening}
 use Rattle.tree_handles.specs.Binding.{Bindings}
 use Rattle.journal_rebuild.specs.declared.fault.RebuildFault.{RebuildFault}
 use Rattle.journal_rebuild.specs.declared.fault.RebuildFault.TheVariants.{NoRecord, NotLegal, NoMemory}
 use Rattle.journal_rebuild.specs.Rebuilding.{handle_of, bindings_made, AreRecords, numbers_in}
-use Rattle.journal_rebuild.specs.Taking.{with_handle, tree_behind, IsTaken, IsStuck, StopsAt, AreOnly, grown, Stands, IsStop, StopsIn}
+use Rattle.journal_rebuild.specs.Taking.{with_handle, tree_behind, IsTaken, StopsAt, AreOnly, grown, Stands, StopsIn}
 use Rattle.journal_rebuild.proofs.Numbers.{pair}
 use Rattle.journal_rebuild.proofs.Growing.{grown-append}
 
