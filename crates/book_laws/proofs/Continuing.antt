@@ -1,22 +1,19 @@
 -- histories that go on: what was known of a call, and each event, stays
-use Rattle.std.proofs.Common.{◌≡◌, ◌≢◌, ◌⊎◌, inl, inr, ℕ, zero, suc, ◌+◌, ◌-◌, ◌<◌, ◌≤◌, Bool, true, false, List, [], ◌∷◌, ◌++◌, length, Option, Some, None, refl, sym, ap, ◌∙◌, subst, arith}
+use Rattle.std.proofs.Common.{◌≡◌, ◌≢◌, ◌⊎◌, inl, inr, ℕ, zero, suc, ◌+◌, ◌-◌, true, false, List, [], ◌∷◌, ◌++◌, length, Option, Some, None, refl, sym, ap, ◌∙◌, subst, arith}
 use Rattle.std.specs.Prelude.{◌==◌}
 use Rattle.std.specs.List.{slice_get}
 use Rattle.std.proofs.lemmas.Bool.{eqb-true, eq-eqb}
 use Rattle.nfs3_types.specs.declared.calls.NfsCall.{NfsCall}
-use Rattle.nfs3_types.specs.declared.replies.NfsReply.{NfsReply}
 use Rattle.nfs3_types.specs.declared.replies.Outcome.{Outcome}
-use Rattle.nfs3_types.specs.declared.replies.Outcome.TheVariants.{Received}
 use Rattle.history_file.specs.declared.event.Event.{Event}
 use Rattle.history_file.specs.declared.event.Event.TheVariants as events
-use Rattle.nfs_history.specs.declared.history.Meaning.{Meaning}
 use Rattle.nfs_history.specs.declared.history.Meaning.TheVariants as meanings
 use Rattle.nfs_history.specs.declared.history.RecordedCall.{RecordedCall}
 use Rattle.nfs_history.specs.Calls.{xid_of}
 use Rattle.nfs_history.specs.Precedence.{call_at}
 use Rattle.tree_nodes.proofs.Chains.{decide, differ}
 use Rattle.book_machine.specs.Book.{Book}
-use Rattle.book_machine.specs.Steps.{begun, with_call, answered_now, change_at, with_reply, HasMessage, IsRecordable, Begins, Answers, Steps}
+use Rattle.book_machine.specs.Steps.{begun, with_call, answered_now, change_at, with_reply, HasMessage, IsRecordable}
 use Rattle.book_machine.proofs.Moving.{call_stays, call_was, changed_call, other_call}
 
 -- ---- lists that grow

@@ -1,27 +1,27 @@
 -- a book's records lead to its tree
-use Rattle.std.proofs.Common.{◌≡◌, ◌⊎◌, inl, inr, ℕ, zero, suc, ◌+◌, ◌<◌, ◌^◌, Bool, true, false, cond, List, [], ◌∷◌, ◌++◌, map, take, Option, Some, None, refl, sym, ap, ◌∙◌, subst}
+use Rattle.std.proofs.Common.{◌≡◌, ◌⊎◌, inl, inr, ℕ, zero, suc, ◌+◌, ◌<◌, ◌^◌, Bool, true, false, cond, List, [], ◌∷◌, ◌++◌, map, take, refl, ap, ◌∙◌}
 use Rattle.std.specs.Prelude.{filter, IsSome}
 use Rattle.std.specs.List.{AllByRecursion}
 use Rattle.nfs_history.specs.declared.history.RecordedCall.{RecordedCall}
 use Rattle.replay_law.specs.Run.{state_after, kept_steps}
-use Rattle.tree_nodes.specs.Tree.{Tree, opening, entry_of}
+use Rattle.tree_nodes.specs.Tree.{opening, entry_of}
 use Rattle.file_tree.specs.Success.{next_tree}
 use Rattle.book_machine.specs.Placing.{Placed, is_recorded}
-use Rattle.book_machine.specs.Book.{Book, bindings, tree_of}
-use Rattle.book_machine.specs.Steps.{Steps, opening_book}
-use Rattle.book_machine.proofs.Invariant.{Over, IsKnown, AreKnown, AllKnown, IsInvariant}
+use Rattle.book_machine.specs.Book.{Book}
+use Rattle.book_machine.specs.Steps.{Steps}
+use Rattle.book_machine.proofs.Invariant.{Over, AreKnown, AllKnown, IsInvariant}
 use Rattle.book_machine.proofs.Lists.{all_append, all_each}
-use Rattle.journal_rebuild.specs.Rebuilding.{bindings_made, step_in, numbers_in, Rebuilds}
+use Rattle.journal_rebuild.specs.Rebuilding.{bindings_made, step_in}
 use Rattle.journal_rebuild.proofs.Numbers.{Among}
 use Rattle.journal_rebuild.proofs.Growing.{known_opening}
 use Rattle.book_laws.specs.Recorded.{changes_of}
-use Rattle.book_laws.specs.Alone.{CanBeSaid, GivesTheTree, AJournalAloneGivesTheTree}
+use Rattle.book_laws.specs.Alone.{GivesTheTree, AJournalAloneGivesTheTree}
 use Rattle.book_laws.proofs.Walks.{from_opening}
 use Rattle.book_laws.proofs.Recording.{KeepsRecords, AreKept, records_on, keeps_at_first}
 use Rattle.book_laws.proofs.Standing.{RunStands, stands_on}
 use Rattle.book_laws.proofs.Renaming.{AreSmall}
 use Rattle.book_laws.proofs.Replaying.{IsReceived, replayed}
-use Rattle.book_laws.proofs.Saying.{AreSaid, are_said}
+use Rattle.book_laws.proofs.Saying.{are_said}
 
 -- ---- every placed call got its reply
 

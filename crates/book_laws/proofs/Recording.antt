@@ -1,29 +1,26 @@
 -- each step keeps the records of a book's changes
-use Rattle.std.proofs.Common.{◌≡◌, ◌⊎◌, inl, inr, ℕ, zero, suc, ◌+◌, ◌-◌, ◌<◌, ◌≤◌, ◌^◌, Bool, true, false, cond, List, [], ◌∷◌, ◌++◌, length, take, Option, Some, None, refl, sym, ap, ◌∙◌, subst, arith, append-nil}
+use Rattle.std.proofs.Common.{◌≡◌, ℕ, zero, suc, ◌-◌, ◌<◌, ◌≤◌, ◌^◌, Bool, true, false, cond, List, [], ◌∷◌, ◌++◌, length, take, Some, refl, sym, ap, ◌∙◌, subst, arith, append-nil}
 use Rattle.std.specs.Prelude.{filter, if◌then◌else◌}
-use Rattle.std.specs.List.{slice_get}
 use Rattle.std.proofs.lemmas.List.{append_assoc}
 use Rattle.std.proofs.lemmas.Grind.{flat_map-append}
 use Rattle.nfs3_types.specs.declared.calls.NfsCall.{NfsCall}
 use Rattle.nfs3_types.specs.declared.replies.NfsReply.{NfsReply}
 use Rattle.nfs3_types.specs.declared.replies.Outcome.TheVariants.{Received}
 use Rattle.xdr_records.specs.Record.{record_limit}
-use Rattle.history_file.specs.declared.event.Event.{Event}
 use Rattle.history_file.specs.declared.event.Event.TheVariants as events
-use Rattle.nfs_history.specs.declared.history.Meaning.{Meaning}
 use Rattle.nfs_history.specs.declared.history.Meaning.TheVariants as meanings
 use Rattle.nfs_history.specs.declared.history.RecordedCall.{RecordedCall}
 use Rattle.nfs_history.specs.Calls.{xid_of}
 use Rattle.nfs_history.specs.Precedence.{call_at}
 use Rattle.replay_law.specs.Run.{kept_steps}
 use Rattle.book_machine.specs.Placing.{Placed, is_recorded, records_in, front_with}
-use Rattle.book_machine.specs.Book.{Book, records_kept}
-use Rattle.book_machine.specs.Steps.{HasMessage, IsRecordable, journal_record, reply_message, step_of, with_record, Places, Crashes, Steps, opening_book}
+use Rattle.book_machine.specs.Book.{Book}
+use Rattle.book_machine.specs.Steps.{HasMessage, IsRecordable, journal_record, reply_message, step_of, with_record, Places, Steps, opening_book}
 use Rattle.book_machine.specs.Steps.Steps.{begins, places, flushes, answers, closes, crashes, refuses}
 use Rattle.book_machine.proofs.Invariant.{Over, IsInvariant}
-use Rattle.book_laws.specs.Recorded.{changes_of, IsRecordOf, AreRecordsOf, HasItsChanges, ItsRecordsAreItsChanges}
+use Rattle.book_laws.specs.Recorded.{changes_of, AreRecordsOf, HasItsChanges, ItsRecordsAreItsChanges}
 use Rattle.book_laws.proofs.Walks.{from_opening}
-use Rattle.book_laws.proofs.Continuing.{IsSame, Continues, message_stays, IsSent, AreSent, continues_event, sent_event, continues_same, sent_same, continues_begin, sent_begin, continues_answer, sent_answer}
+use Rattle.book_laws.proofs.Continuing.{Continues, message_stays, AreSent, continues_event, sent_event, continues_same, sent_same, continues_begin, sent_begin, continues_answer, sent_answer}
 
 -- ---- a record
 

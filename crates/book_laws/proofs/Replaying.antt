@@ -1,5 +1,5 @@
 -- the changes of a book's run lead to the same tree where the handles are those of the changes' numbers
-use Rattle.std.proofs.Common.{◌≡◌, ◌≢◌, ◌⊎◌, inl, inr, ℕ, zero, ◌<◌, ◌^◌, Bool, true, false, cond, List, [], ◌∷◌, ◌++◌, Option, Some, None, refl, sym, ap, ◌∙◌, subst, eq-eqb}
+use Rattle.std.proofs.Common.{◌≡◌, ◌⊎◌, inl, inr, ℕ, Bool, true, false, cond, List, [], ◌∷◌, ◌++◌, Option, Some, None, refl, sym, ap, ◌∙◌, subst, eq-eqb}
 use Rattle.std.specs.Prelude.{IsSome, ◌==◌, ◌&&◌, not, is_none, filter, if◌then◌else◌, option_and_then, option_map}
 use Rattle.std.specs.Option.{option_map_or}
 use Rattle.std.specs.List.{AllByRecursion}
@@ -12,7 +12,6 @@ use Rattle.nfs3_types.specs.declared.calls.DirectoryName.{DirectoryName}
 use Rattle.nfs3_types.specs.declared.replies.Answer.TheVariants.{Done}
 use Rattle.nfs3_types.specs.declared.replies.NfsReply.{NfsReply}
 use Rattle.nfs3_types.specs.declared.replies.NfsReply.TheVariants as replies
-use Rattle.nfs3_types.specs.declared.replies.Outcome.{Outcome}
 use Rattle.nfs3_types.specs.declared.replies.Outcome.TheVariants.{Received}
 use Rattle.nfs3_types.specs.declared.status.Failure.{Failure}
 use Rattle.nfs3_types.specs.Procedures.{is_answered, failure_in}
@@ -21,7 +20,7 @@ use Rattle.tree_nodes.specs.declared.node.Node.{Node}
 use Rattle.tree_nodes.specs.declared.node.Content.{Content}
 use Rattle.tree_nodes.specs.declared.node.Content.TheVariants as contents
 use Rattle.tree_nodes.specs.Tree.{Names, Tree, entry_of}
-use Rattle.tree_nodes.proofs.Chains.{chained, mapped, passed, same_some, both_pass, none_is, absent}
+use Rattle.tree_nodes.proofs.Chains.{chained, mapped, passed, same_some, both_pass, none_is}
 use Rattle.tree_nodes.proofs.Found.{some_found}
 use Rattle.tree_handles.specs.Binding.{Bindings, object_of, is_bound}
 use Rattle.tree_handles.specs.Live.{live_entry, as_directory, directory_of}

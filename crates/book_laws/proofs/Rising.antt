@@ -1,6 +1,6 @@
 -- the objects of a book rise, and so do their handles
-use Rattle.std.proofs.Common.{◌≡◌, ◌≢◌, ◌⊎◌, inl, inr, ℕ, zero, suc, ◌+◌, ◌*◌, ◌/◌, ◌%◌, ◌<◌, ◌≤◌, ◌^◌, Bool, true, false, cond, List, [], ◌∷◌, ◌++◌, length, map, Option, Some, None, refl, sym, ap, ◌∙◌, subst, arith, append-nil, eq-eqb}
-use Rattle.std.specs.Prelude.{◌==◌, nat_lt, if◌then◌else◌, is_some, slice_index}
+use Rattle.std.proofs.Common.{◌≡◌, ◌≢◌, ◌⊎◌, inl, inr, ℕ, zero, suc, ◌+◌, ◌*◌, ◌/◌, ◌<◌, ◌≤◌, ◌^◌, Bool, true, false, cond, List, [], ◌∷◌, length, map, refl, sym, ap, ◌∙◌, subst, arith, append-nil, eq-eqb}
+use Rattle.std.specs.Prelude.{◌==◌, nat_lt, if◌then◌else◌, is_some}
 use Rattle.std.specs.List.{AllByRecursion}
 use Rattle.std.specs.Ordering.{nat_cmp, ordering_then}
 use Rattle.std.specs.declared.cmp.Ordering.{Ordering}
@@ -13,14 +13,13 @@ use Rattle.byteorder.specs.Endian.{big_from}
 use Rattle.byteorder.specs.Numbers.{big_from-cons, big_from-lt, big_number-reads_back, length-bytes_high_first}
 use Rattle.hex.specs.Hex.{IsBytes}
 use Rattle.xdr_records.specs.Texts.{long_text}
-use Rattle.certificate.specs.declared.plan.EraPlan.{EraPlan}
-use Rattle.certificate.specs.CertificateText.{AreRising, HasHandle, AreEras, IsCertificate}
+use Rattle.certificate.specs.CertificateText.{AreRising, HasHandle, AreEras}
 use Rattle.nfs_history.specs.declared.history.RecordedCall.{RecordedCall}
 use Rattle.tree_nodes.specs.Tree.{entry_of}
 use Rattle.book_machine.specs.Placing.{Placed}
 use Rattle.book_machine.specs.Book.{Book, handle_of}
-use Rattle.book_machine.specs.Plan.{plan_over, plan_now, bind_of, plan_of}
-use Rattle.book_machine.specs.Steps.{with_object, Steps, opening_book}
+use Rattle.book_machine.specs.Plan.{bind_of}
+use Rattle.book_machine.specs.Steps.{with_object, Steps}
 use Rattle.book_machine.specs.Steps.Steps.{begins, places, flushes, answers, closes, crashes, refuses}
 use Rattle.book_machine.proofs.Invariant.{Over, IsInvariant}
 use Rattle.book_machine.proofs.Lists.{all_each}

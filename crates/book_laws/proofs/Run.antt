@@ -1,7 +1,6 @@
 -- the laws' premises are met by the example
-use Rattle.std.proofs.Common.{◌≡◌, ◌≢◌, ◌⊎◌, inl, inr, ℕ, zero, suc, ◌+◌, ◌<◌, ◌≤◌, ◌^◌, Bool, true, false, List, [], ◌∷◌, ◌++◌, length, Option, Some, None, refl, sym, ap, ◌∙◌, subst, arith, lit<, lit≤, eq-eqb}
-use Rattle.std.specs.Prelude.{Contains, IsSome, is_some, slice_index_or, ◌==◌, if◌then◌else◌, option_and_then}
-use Rattle.std.specs.List.{AllByRecursion}
+use Rattle.std.proofs.Common.{◌≡◌, inl, inr, ℕ, zero, suc, ◌+◌, ◌<◌, ◌≤◌, ◌^◌, List, [], ◌∷◌, ◌++◌, length, Some, refl, sym, ap, ◌∙◌, subst, arith, lit<, lit≤, eq-eqb}
+use Rattle.std.specs.Prelude.{IsSome, is_some, slice_index_or, ◌==◌, if◌then◌else◌, option_and_then}
 use Rattle.std.specs.FinMap as map
 use Rattle.std.proofs.lemmas.List.{length-append, append_assoc}
 use Rattle.xdr_records.specs.Record.{record_limit}
@@ -12,9 +11,7 @@ use Rattle.rpc_reader.specs.Values.Body.{success}
 use Rattle.rpc_reader.specs.Messages.{IsCall, IsReply}
 use Rattle.rpc_reader.specs.Texts.{no_auth_text, call_body_text, call_head_text, call_text, accepted_text, reply_body_text, reply_head_text, results_of, reply_text}
 use Rattle.rpc_reader.proofs.Spelled as rpc
-use Rattle.nfs3_types.specs.declared.calls.NfsCall.{NfsCall}
 use Rattle.nfs3_types.specs.declared.replies.NfsReply.{NfsReply}
-use Rattle.nfs3_types.specs.declared.replies.Outcome.{Outcome}
 use Rattle.nfs3_types.specs.declared.replies.Outcome.TheVariants.{Received}
 use Rattle.nfs3_values.specs.Bytes.{verifier_text}
 use Rattle.nfs3_values.specs.Attributes.{wcc_data_text, WccDataFits}
@@ -25,10 +22,10 @@ use Rattle.nfs3_msgs.specs.Messages.{arguments_text, result_text}
 use Rattle.nfs3_msgs.specs.Fits.{CallFits, ReplyFits}
 use Rattle.nfs3_msgs.specs.SpelledMessages.{call_spelled, reply_spelled}
 use Rattle.history_file.specs.Event.{Event}
-use Rattle.history_file.specs.Event.Event.{call, close, crash}
+use Rattle.history_file.specs.Event.Event.{call, close}
 use Rattle.nfs_history.specs.declared.history.RecordedCall.{RecordedCall}
 use Rattle.nfs_history.specs.Calls.{xid_of}
-use Rattle.nfs_history.specs.Standing.{IsClosed, IsCutOff}
+use Rattle.nfs_history.specs.Standing.{IsClosed}
 use Rattle.tree_nodes.specs.declared.node.Node.{Node}
 use Rattle.tree_nodes.specs.Files.{file_node}
 use Rattle.tree_nodes.specs.Tree.{Names, Tree, opening, entry_of}
@@ -36,11 +33,11 @@ use Rattle.tree_nodes.proofs.Found.{some_found}
 use Rattle.file_tree.specs.Success.{next_tree}
 use Rattle.tree_laws.proofs.Keeping.{put_there}
 use Rattle.tree_laws.proofs.Replayed.{entries_opening}
-use Rattle.book_machine.specs.Book.{Book, bindings_made}
-use Rattle.book_machine.specs.Steps.{begun, with_made, step_of, reply_message, IsRecordable, IsOfNow, Begins, Places, Flushes, Answers, Steps, opening_book, IsRun}
+use Rattle.book_machine.specs.Book.{bindings_made}
+use Rattle.book_machine.specs.Steps.{begun, with_made, step_of, reply_message, IsRecordable, Begins, Places, Flushes, Answers, opening_book}
 use Rattle.book_machine.specs.Steps.Steps.{begins, places, flushes, answers}
-use Rattle.book_laws.specs.Alone.{IsSayable, CanBeSaid}
-use Rattle.book_laws.specs.Example.{create, created, asked, answer, after_begin, after_place, after_flush, after_answer, books, PremisesAreMet}
+use Rattle.book_laws.specs.Alone.{IsSayable}
+use Rattle.book_laws.specs.Example.{create, created, asked, answer, after_begin, after_place, after_flush, after_answer, PremisesAreMet}
 use Rattle.book_laws.proofs.Saying.{xid_is, first_word, said_reply}
 
 -- ---- the call

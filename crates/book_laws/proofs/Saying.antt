@@ -1,25 +1,24 @@
 -- the record that a book keeps of a change reads as that change
-use Rattle.std.proofs.Common.{◌≡◌, ◌⊎◌, inl, inr, ℕ, ◌+◌, ◌<◌, ◌≤◌, ◌^◌, Bool, true, false, List, [], ◌∷◌, ◌++◌, length, map, Option, Some, None, refl, sym, ap, ◌∙◌, subst, arith, cond}
+use Rattle.std.proofs.Common.{◌≡◌, ℕ, ◌<◌, ◌≤◌, ◌^◌, Bool, true, false, List, [], ◌∷◌, ◌++◌, length, map, None, refl, sym, ap, ◌∙◌, subst, arith}
 use Rattle.std.specs.Prelude.{◌==◌, ◌&&◌, not, is_none, nat_lt, if◌then◌else◌}
 use Rattle.std.specs.List.{AllByRecursion}
-use Rattle.std.proofs.lemmas.Bool.{eqb-true, cases_lt, ltb-true}
+use Rattle.std.proofs.lemmas.Bool.{eqb-true, ltb-true}
 use Rattle.std.proofs.lemmas.List.{length-append, append_assoc}
 use Rattle.byteorder.specs.Numbers.{big_from-append}
-use Rattle.xdr_records.specs.Grammar.{Grammar, ◌>>=◌, either}
+use Rattle.xdr_records.specs.Grammar.{Grammar, either}
 use Rattle.xdr_records.specs.Grammar.Grammar.{nothing, refused, both}
 use Rattle.xdr_records.specs.Items.{word_of}
-use Rattle.xdr_records.specs.Spelling.{IsWord, Joined, Spells}
+use Rattle.xdr_records.specs.Spelling.{IsWord, Spells}
 use Rattle.xdr_records.specs.Record.{record_limit}
 use Rattle.rpc_reader.specs.Values.{CallValue}
 use Rattle.rpc_reader.specs.Values.Body.{success}
 use Rattle.rpc_reader.specs.Heads.{CallStart, call_head}
-use Rattle.rpc_reader.specs.Messages.{call_start, IsCall, IsReply}
+use Rattle.rpc_reader.specs.Messages.{IsCall, IsReply}
 use Rattle.rpc_reader.specs.Texts.{BodyFits}
 use Rattle.rpc_reader.proofs.Spelled as rpc
 use Rattle.nfs3_types.specs.declared.calls.NfsCall.{NfsCall}
 use Rattle.nfs3_types.specs.declared.calls.NfsCall.TheVariants as calls
 use Rattle.nfs3_types.specs.declared.replies.NfsReply.{NfsReply}
-use Rattle.nfs3_types.specs.declared.replies.Outcome.{Outcome}
 use Rattle.nfs3_types.specs.declared.replies.Outcome.TheVariants.{Received}
 use Rattle.nfs3_types.specs.Procedures.{procedure_called, procedure_answered, is_answered, failure_in}
 use Rattle.nfs3_values.specs.declared.fault.Kind.{Kind}
@@ -29,12 +28,9 @@ use Rattle.nfs3_msgs.specs.Fits.{ReplyFits}
 use Rattle.nfs3_msgs.specs.SpelledMessages.{reply_spelled}
 use Rattle.nfs_history.specs.declared.history.RecordedCall.{RecordedCall}
 use Rattle.nfs_history.specs.Calls.{xid_of}
-use Rattle.nfs_history.specs.Precedence.{call_at}
-use Rattle.journal_records.specs.declared.text.JournalRecord.{JournalRecord}
 use Rattle.journal_records.specs.declared.change.Change.{Change}
-use Rattle.journal_records.specs.Journal.{journal_record, record_text, is_changing, IsChange, IsRecord}
+use Rattle.journal_records.specs.Journal.{journal_record, is_changing, IsChange, IsRecord}
 use Rattle.journal_records.proofs.Meanings.{spelled_so}
-use Rattle.replay_law.specs.Run.{Taken}
 use Rattle.tree_laws.specs.Leaving.{only_looks}
 use Rattle.tree_nodes.proofs.Chains.{both_pass, negated, none_is, same_some}
 use Rattle.cut_check.specs.Effect.{succeeded}

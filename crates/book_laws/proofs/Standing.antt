@@ -1,5 +1,5 @@
 -- each object that comes into the trees of a book's run is among those that were made
-use Rattle.std.proofs.Common.{◌≡◌, ◌≢◌, ◌⊎◌, inl, inr, ℕ, zero, suc, ◌<◌, ◌^◌, Bool, true, false, List, [], ◌∷◌, ◌++◌, take, drop, Option, Some, None, refl, sym, ap, ◌∙◌, subst}
+use Rattle.std.proofs.Common.{◌≡◌, ◌≢◌, inl, inr, ℕ, ◌<◌, ◌^◌, Bool, true, false, List, [], ◌∷◌, ◌++◌, take, drop, Some, None, refl, sym, ap, ◌∙◌, subst}
 use Rattle.std.specs.Prelude.{IsSome, is_some, nat_lt, if◌then◌else◌, option_and_then}
 use Rattle.std.specs.List.{AllByRecursion}
 use Rattle.std.proofs.lemmas.List.{append_assoc, take-append-drop}
@@ -13,7 +13,7 @@ use Rattle.journal_rebuild.proofs.Numbers.{Among}
 use Rattle.tree_nodes.proofs.Chains.{differ, same_some}
 use Rattle.book_machine.specs.Placing.{Placed}
 use Rattle.book_machine.specs.Book.{Book, bindings, bindings_made}
-use Rattle.book_machine.specs.Steps.{with_object, step_of, Places, Steps, opening_book}
+use Rattle.book_machine.specs.Steps.{with_object, step_of, Places, Steps}
 use Rattle.book_machine.specs.Steps.Steps.{begins, places, flushes, answers, closes, crashes, refuses}
 use Rattle.book_machine.proofs.Invariant.{IsInvariant}
 use Rattle.book_machine.proofs.Lists.{all_append}
