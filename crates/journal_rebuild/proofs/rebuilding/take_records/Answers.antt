@@ -1,4 +1,4 @@
-use Rattle.std.proofs.Common.{◌+◌, refl, arith}
+use Rattle.std.proofs.Common.{arith}
 use Rattle.journal_rebuild.proofs.Records.{stands_first, stands_next, stops_next}
 use Rattle.journal_rebuild.proofs.rebuilding.take_records.Goals as goal
 
@@ -12,5 +12,5 @@ loop-index-preserved c =
 
 pub returns-in-Err-clause-fault : goal.returns-in-Err-clause-fault
 returns-in-Err-clause-fault c =
-    stops_next c.args.records.now c.loop-index.index (c.loop-index.index + 1) c.index-records-index.result c.as_slice.result.now c.loop-index.binds c.loop-index.tree (omega arith)
-    c.index-records-index.is c.as_slice.ensures refl c.loop-index.invariant c.in-Err.fault c.in-Err.ensures.fault
+    stops_next c.args.records.now c.loop-index.index _ c.index-records-index.result c.as_slice.result.now c.loop-index.binds c.loop-index.tree (omega arith)
+    c.index-records-index.is c.as_slice.ensures (omega arith) c.loop-index.invariant c.in-Err.fault c.in-Err.ensures.fault
