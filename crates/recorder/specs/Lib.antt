@@ -1,0 +1,7 @@
+pub mod FaultText
+pub mod JoinedFaults
+pub mod Recordable
+pub mod Serving
+pub mod Refusals
+pub mod Rebuilding
+pub mod Inside

@@ -1,0 +1,33 @@
+-- Which messages a book takes: those of judged calls that a history takes whatever is answered, in a record within its limit.
+use Rattle.std.specs.Prelude.{◌≡◌, ◌==◌, ◌&&◌, not, ◌≤◌, ℕ, Bool, List, length, ⊤, Result, Ok, Err}
+use Rattle.xdr_records.specs.Record.{record_limit}
+use Rattle.rpc_reader.specs.Values.{CallValue}
+use Rattle.nfs3_types.specs.declared.calls.NfsCall.{NfsCall}
+use Rattle.nfs3_types.specs.declared.replies.Outcome.{Outcome}
+use Rattle.nfs_history.specs.Effects.{is_judged}
+use Rattle.book_machine.specs.Placing.{Placed}
+use Rattle.book_machine.specs.Steps.{IsRecordable}
+use Rattle.recorder.specs.declared.fault.BeginFault.{BeginFault}
+use Rattle.recorder.specs.declared.fault.BeginFault.TheVariants as faults
+
+pub record IsRecord (message : List ℕ) : Type 0 where
+  pub call : NfsCall
+  pub recordable : IsRecordable message call
+  pub within : length message ≤ record_limit
+
+-- ---- what private functions say to the prover
+
+-- a call of a judged procedure whose arguments can be read
+abbrev pub asks_judged : CallValue → Bool
+asks_judged head = (head.program == 100003) && (head.version == 3) && not (head.flavor == 6) && is_judged head.procedure
+
+-- the answer to whether a message is one; the want of memory says nothing
+abbrev pub IsKeptAsked : {A : Type 0} → List ℕ → Result A BeginFault → Type 0
+IsKeptAsked message (Ok _) = IsRecord message
+IsKeptAsked message (Err faults.BadRecord) = ¬ IsRecord message
+IsKeptAsked message (Err faults.NoMemory) = ⊤
+IsKeptAsked message (Err fault) = ⊥
+
+-- a call that came out so, whatever its number
+abbrev pub step_so : NfsCall → Outcome → Placed
+step_so call outcome = record { number = 0; call = call; outcome = outcome }

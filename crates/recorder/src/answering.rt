@@ -1,0 +1,49 @@
+//! Replies that go out.
+
+ghost use Rattle.std.specs.Prelude.{◌≡◌, OnOk, IfErr};
+ghost use Rattle.book_machine.specs.Steps.{Answers};
+ghost use Rattle.recorder.specs.Inside.{Goes};
+ghost use Rattle.recorder.specs.Refusals.{AnswerStops};
+
+use crate::calls::promises;
+use crate::fault::AnswerFault;
+use crate::ledger::Ledger;
+use crate::lookups::call_asked;
+use crate::placing::reply_message;
+use nfs_history::{Event, Message};
+use nfs3_types::Outcome;
+use std::alloc::AllocError;
+
+impl Ledger {
+    /// Whether what the reply at this place promises is on stable storage, where so many records are.
+    fn is_durable(&self, number: u64, place: usize, mark: u64) -> bool {
+        let placed = &self.placed[place];
+        placed.records <= mark || !promises(call_asked(&self.history, number), &placed.outcome)
+    }
+
+    /// The reply at this place, as a message.
+    fn answer_at(&self, number: u64, place: usize) -> Result<Vec<u8>, AllocError> {
+        let Outcome::Received(reply) = &self.placed[place].outcome else {
+            unreachable!();
+        };
+        reply_message(self.alloc, self.history.call(number).xid, reply)
+    }
+
+    /// Answers a call that was placed.
+    pub(crate) fn answer(&mut self, number: u64, mark: u64) -> Result<Vec<u8>, AnswerFault>
+        ensures answered { OnOk result (Goes (λ old new. old.device.mark ≡ mark → Answers old number new) self.old self.new) }
+        ensures refused { IfErr result (λ fault. Goes (λ old new. (old.device.mark ≡ mark → AnswerStops old number fault) × (new ≡ old)) self.old self.new) }
+    {
+        let place = self.check_placed(number)?;
+        if !self.is_durable(number, place, mark) {
+            return Err(AnswerFault::NotDurable(mark));
+        }
+        let answer = self.answer_at(number, place)?;
+        let message = Message::from_slice(self.alloc, answer.as_slice())?;
+        let lane = self.history.call(number).lane;
+        match self.history.append(Event::Reply { lane, message }) {
+            Ok(()) => Ok(answer),
+            Err(_) => Err(AnswerFault::NoMemory),
+        }
+    }
+}

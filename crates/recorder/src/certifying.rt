@@ -1,0 +1,95 @@
+//! The certificate of a book.
+
+ghost use Rattle.std.specs.Prelude.{◌≡◌, IfOk};
+ghost use Rattle.book_machine.specs.Plan.{plan_of};
+ghost use Rattle.recorder.specs.Inside.{Holds};
+
+use crate::calls::{count_written, is_recorded};
+use crate::ledger::Ledger;
+use crate::lookups::call_asked;
+use crate::placed::{CallState, EraOver, PlacedCall};
+use certificate::{Bind, BindList, Certificate, EraPlan, EraPlanList, Place, PlaceList};
+use nfs_history::History;
+use nfs3_types::FileHandle;
+use std::alloc::{AllocError, Global};
+
+/// The place of a call: with its reply where one was sent, else as taken if it changed the tree.
+fn place_of(history: &History, placed: &PlacedCall) -> Option<Place> {
+    let number = placed.number;
+    if history.end(number).is_some() {
+        return Some(Place::Answered(number));
+    }
+    if is_recorded(call_asked(history, number), &placed.outcome) {
+        Some(Place::Taken(number, count_written(&placed.outcome)))
+    } else {
+        None
+    }
+}
+
+/// The places of these calls.
+fn places_of(
+    alloc: Global,
+    history: &History,
+    placed: &[PlacedCall],
+) -> Result<Vec<Place>, AllocError> {
+    let mut places = Vec::new(alloc);
+    for next in placed {
+        if let Some(place) = place_of(history, next) {
+            places.push(place)?;
+        }
+    }
+    Ok(places)
+}
+
+/// The plan of an era that is over.
+fn plan_over(alloc: Global, history: &History, era: &EraOver) -> Result<EraPlan, AllocError> {
+    let (front, behind) = era.placed.as_slice().split_at(era.kept);
+    let mut places = places_of(alloc, history, front)?;
+    let cut = places.len() as u64;
+    let lost = places_of(alloc, history, behind)?;
+    places.extend_from_slice(lost.as_slice())?;
+    Ok(EraPlan {
+        places: PlaceList::new(places),
+        cut: Some(cut),
+    })
+}
+
+/// The binds of the objects that were made, by their numbers.
+fn binds_made(alloc: Global, calls: &[CallState]) -> Result<Vec<Bind>, AllocError> {
+    let mut binds = Vec::new(alloc);
+    for (index, call) in calls.iter().enumerate() {
+        if call.made {
+            let object = index as u64 + 1;
+            let handle = FileHandle::from_slice(alloc, object.to_be_bytes().as_slice())?;
+            binds.push(Bind { handle, object })?;
+        }
+    }
+    Ok(binds)
+}
+
+impl Ledger {
+    /// The plans of the eras.
+    fn plans(&self) -> Result<Vec<EraPlan>, AllocError> {
+        let mut plans = Vec::with_capacity(self.alloc, self.over.len() + 1)?;
+        for era in self.over.iter() {
+            plans.push(plan_over(self.alloc, &self.history, era)?)?;
+        }
+        let places = places_of(self.alloc, &self.history, self.placed.as_slice())?;
+        plans.push(EraPlan {
+            places: PlaceList::new(places),
+            cut: None,
+        })?;
+        Ok(plans)
+    }
+
+    /// Its own commit order.
+    pub(crate) fn certificate(&self) -> Result<Certificate, AllocError>
+        ensures { IfOk result (λ certificate. Holds (λ book. certificate ≡ plan_of book) self.now) }
+    {
+        let binds = binds_made(self.alloc, self.calls.as_slice())?;
+        Ok(Certificate {
+            binds: BindList::new(binds),
+            eras: EraPlanList::new(self.plans()?),
+        })
+    }
+}
