@@ -151,3 +151,9 @@ abbrev pub Settles : Ledger → Ledger → Type 0
 Settles old new =
     (device : Device) → AreTied old device
     → AreTied new (settled device) × (book_of new (settled device) ≡ record (book_of old device) { device = settled device })
+
+-- ---- what private functions leave
+
+-- nothing but the history, and how far its calls have come, is another
+abbrev pub OnlyHistory : Ledger → Ledger → Type 0
+OnlyHistory old new = new ≡ record old { history = new.history; calls = new.calls }

@@ -1,0 +1,5 @@
+pub mod Runs
+pub mod Replied
+pub mod Tied
+pub mod Events
+pub mod Conditions
