@@ -3,3 +3,4 @@ pub mod Replied
 pub mod Tied
 pub mod Events
 pub mod Conditions
+pub mod Asked

@@ -130,6 +130,9 @@ IsTied ledger = (device : Device) × AreTied ledger device
 abbrev pub IsAsked : List RecordedCall → ℕ → Type 0
 IsAsked recorded number = (call : RecordedCall) × (asked : NfsCall) × (call_at recorded number ≡ Some call) × (call.meaning ≡ meanings.Judged asked)
 
+abbrev pub AreAsked : List RecordedCall → List PlacedCall → Type 0
+AreAsked recorded placed = AllByRecursion (λ one. IsAsked recorded one.number) placed
+
 -- the call is one of these
 abbrev pub IsOneOf : List RecordedCall → RecordedCall → Type 0
 IsOneOf recorded call = (number : ℕ) × (call_at recorded number ≡ Some call)

@@ -54,7 +54,7 @@ impl<D: JournalDevice> Book<D> {
         // The device is empty.
         requires records { (D.device device).records ≡ [] }
         requires mark { (D.device device).mark ≡ 0 }
-        ensures { IfOk result (λ book. book ≡ record opening_book { device = D.device device }) }
+        ensures { IfOk result (λ book. book ≡ opening_book (D.device device).faults) }
     {
         Ok(Book {
             ledger: Ledger::new(alloc)?,
