@@ -4,3 +4,7 @@ pub mod Tied
 pub mod Events
 pub mod Conditions
 pub mod Asked
+pub mod Full
+pub mod Standing
+pub mod Replies
+pub mod Answered

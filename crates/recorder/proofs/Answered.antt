@@ -1,0 +1,258 @@
+-- a call of a book that is answered
+use Rattle.std.proofs.Common.{◌≡◌, ◌≢◌, ◌⊎◌, inl, inr, ◌↔◌, ℕ, zero, suc, ◌+◌, ◌-◌, ◌<◌, ◌≤◌, Bool, true, false, List, [], ◌∷◌, ◌++◌, length, map, Option, Some, None, refl, sym, ap, ◌∙◌, subst, arith}
+use Rattle.std.specs.Prelude.{IsSome, IsTrue, slice_get, option_and_then, if◌then◌else◌}
+use Rattle.std.specs.Option.{option_map_or}
+use Rattle.std.specs.List.{AllByRecursion}
+use Rattle.std.proofs.lemmas.Bool.{eqb-true}
+use Rattle.rpc_reader.specs.Values.{CallValue, Body, ReplyValue}
+use Rattle.rpc_reader.specs.Values.Body.{success}
+use Rattle.rpc_reader.specs.Messages.{IsReply}
+use Rattle.nfs3_types.specs.declared.calls.NfsCall.{NfsCall}
+use Rattle.nfs3_types.specs.declared.calls.NfsCall.TheVariants as calls
+use Rattle.nfs3_types.specs.declared.replies.NfsReply.{NfsReply}
+use Rattle.nfs3_types.specs.declared.replies.Outcome.{Outcome}
+use Rattle.nfs3_types.specs.declared.replies.Outcome.TheVariants as outcomes
+use Rattle.nfs3_types.specs.Procedures.{is_answered, procedure_called, procedure_answered}
+use Rattle.nfs3_msgs.specs.Messages.{IsResult, result_text}
+use Rattle.history_file.specs.declared.event.Event.TheVariants as owns
+use Rattle.history_file.specs.Owning.{all_happened}
+use Rattle.nfs_history.specs.declared.history.Meaning.{Meaning}
+use Rattle.nfs_history.specs.declared.history.Meaning.TheVariants as meanings
+use Rattle.nfs_history.specs.declared.history.RecordedCall.{RecordedCall}
+use Rattle.nfs_history.specs.HistoryValue.{HistoryValue}
+use Rattle.nfs_history.specs.Appending.{Follows}
+use Rattle.nfs_history.specs.Calls.{xid_of}
+use Rattle.nfs_history.specs.History.{IsJudged, IsKnownAs}
+use Rattle.nfs_history.specs.Precedence.{call_at, end_of}
+use Rattle.journal_device.specs.Device.{Device}
+use Rattle.book_machine.specs.Placing.{Placed}
+use Rattle.book_machine.specs.Book.{Book, records_kept}
+use Rattle.book_machine.specs.Steps.{answered_now, change_at, with_reply, reply_message, IsOfNow, IsAnswerTo, IsDurable, Answers, Steps}
+use Rattle.book_machine.specs.Steps.Steps.{answers}
+use Rattle.book_machine.proofs.Invariant.{Over, IsKnown, AreKnown, AllKnown, IsInvariant}
+use Rattle.book_machine.proofs.Lists.{all_append, all_behind}
+use Rattle.book_machine.proofs.Kept.{kept}
+use Rattle.recorder.specs.declared.placed.PlacedCall.{PlacedCall}
+use Rattle.recorder.specs.declared.placed.EraOver.{EraOver}
+use Rattle.recorder.specs.declared.placed.CallState.{CallState}
+use Rattle.recorder.specs.declared.placed.Condition.TheVariants as codes
+use Rattle.recorder.specs.declared.ledger.Ledger.{Ledger}
+use Rattle.recorder.specs.Inside.{call_in, asked_by, placed_in, era_in, made_from, condition_of, book_of, ArePlaced, IsShort, AreTied, OnlyHistory, StandsAt}
+use Rattle.recorder.specs.Refusals.{IsNow, IsAnswerable}
+use Rattle.recorder.specs.Turns.{IsDurableAt, IsAnswerAt}
+use Rattle.recorder.proofs.Runs.{IsReplyTo, IsSound, sound}
+use Rattle.recorder.proofs.Tied.{over_in, placed_now, tied_with, book_with}
+use Rattle.recorder.proofs.Events.{history_is}
+use Rattle.recorder.proofs.Standing.{HasSent, has_sent, from_one, judged_asked}
+use Rattle.recorder.proofs.Replies.{xid_asked, its_procedure}
+
+-- ---- parts of a list
+
+pub record Parts {X : Type 0} (xs : List X) (place : ℕ) (x : X) : Type 0 where
+  pub ahead : List X
+  pub behind : List X
+  pub parts : xs ≡ ahead ++ x ∷ behind
+  pub length_is : length ahead ≡ place
+
+pub parts_at : {X : Type 0} (xs : List X) (place : ℕ) (x : X) → slice_get xs place ≡ Some x → Parts xs place x
+parts_at [] place x e = absurd (cc)
+parts_at (y ∷ xs) zero x e = record { ahead = []; behind = xs; parts = ap (λ z. z ∷ xs) (one e); length_is = refl } where
+  one : Some y ≡ Some x → y ≡ x
+  one f = cc
+parts_at (y ∷ xs) (suc place) x e = let p = parts_at xs place x e in
+    record { ahead = y ∷ p.ahead; behind = p.behind; parts = ap (λ zs. y ∷ zs) p.parts; length_is = ap suc p.length_is }
+
+pub mapped_parts : {X Y : Type 0} (f : X → Y) (xs : List X) (place : ℕ) (x : X) → slice_get xs place ≡ Some x → Parts (map f xs) place (f x)
+mapped_parts f [] place x e = absurd (cc)
+mapped_parts f (y ∷ xs) zero x e = record { ahead = []; behind = map f xs; parts = ap (λ z. f z ∷ map f xs) (one e); length_is = refl } where
+  one : Some y ≡ Some x → y ≡ x
+  one g = cc
+mapped_parts f (y ∷ xs) (suc place) x e = let p = mapped_parts f xs place x e in
+    record { ahead = f y ∷ p.ahead; behind = p.behind; parts = ap (λ zs. f y ∷ zs) p.parts; length_is = ap suc p.length_is }
+
+-- what stands there has what all have
+pub has_there : (P : Placed → Type 0) (ahead : List Placed) (step : Placed) (behind : List Placed) → AllByRecursion P (ahead ++ step ∷ behind) → P step
+has_there P ahead step behind all = (all_behind P ahead (step ∷ behind) all).0
+
+known_last : (recorded : List RecordedCall) (e : ℕ) (over : List Over) (placed : List Placed) → AllKnown recorded e over placed → AreKnown recorded (e + length over) placed
+known_last recorded e [] placed known = subst (λ (n : ℕ). AreKnown recorded n placed) (omega arith) known
+known_last recorded e (x ∷ over) placed known = subst (λ (n : ℕ). AreKnown recorded n placed) (omega arith) (known_last recorded (e + 1) over placed known.1)
+
+-- ---- a call that is changed asked what it asked
+
+module _ (history : HistoryValue) (outcome : Outcome) where
+  abbrev told : RecordedCall → RecordedCall
+  told = answered_now history outcome
+
+  asked_told : (recorded : List RecordedCall) (m n : ℕ) → asked_by recorded n ≡ asked_by (change_at told m recorded) n
+  asked_told recorded m zero = refl
+  asked_told [] m (suc n) = refl
+  asked_told (c ∷ recorded) zero (suc zero) = refl
+  asked_told (c ∷ recorded) (suc m) (suc zero) = refl
+  asked_told (c ∷ recorded) zero (suc (suc n)) = refl
+  asked_told (c ∷ recorded) (suc m) (suc (suc n)) = asked_told recorded m (suc n)
+
+  abbrev placed_by : (ℕ → NfsCall) → PlacedCall → Placed
+  placed_by ask placed = record { number = placed.number; call = ask placed.number; outcome = placed.outcome }
+
+  asks : (recorded : List RecordedCall) (m : ℕ) → asked_by recorded ≡ asked_by (change_at told m recorded)
+  asks recorded m = λ i n. asked_told recorded m n i
+
+  pub placed_told : (recorded : List RecordedCall) (m : ℕ) (xs : List PlacedCall) → map (placed_in recorded) xs ≡ map (placed_in (change_at told m recorded)) xs
+  placed_told recorded m xs = ap (λ (ask : ℕ → NfsCall). map (placed_by ask) xs) (asks recorded m)
+
+  pub over_told : (recorded : List RecordedCall) (m : ℕ) (xs : List EraOver) → map (era_in recorded) xs ≡ map (era_in (change_at told m recorded)) xs
+  over_told recorded m xs = ap (λ (ask : ℕ → NfsCall). map (λ (e : EraOver). record { steps = map (placed_by ask) e.placed.items; kept = e.kept }) xs) (asks recorded m)
+
+  pub told_length : (m : ℕ) (recorded : List RecordedCall) → length (change_at told m recorded) ≡ length recorded
+  told_length m [] = refl
+  told_length zero (c ∷ recorded) = refl
+  told_length (suc m) (c ∷ recorded) = ap suc (told_length m recorded)
+
+  pub told_was : (recorded : List RecordedCall) (m n : ℕ) (c : RecordedCall) → call_at (change_at told m recorded) n ≡ Some c → (d : RecordedCall) × (call_at recorded n ≡ Some d) × (d.era ≡ c.era)
+  told_was recorded m zero c e = absurd (cc)
+  told_was [] m (suc n) c e = absurd (cc)
+  told_was (d ∷ recorded) zero (suc zero) c e = (d, refl, ap (λ (x : RecordedCall). x.era) (one e)) where
+    one : Some (told d) ≡ Some c → told d ≡ c
+    one f = cc
+  told_was (d ∷ recorded) (suc m) (suc zero) c e = (d, refl, ap (λ (x : RecordedCall). x.era) (one e)) where
+    one : Some d ≡ Some c → d ≡ c
+    one f = cc
+  told_was (d ∷ recorded) zero (suc (suc n)) c e = (c, e, refl)
+  told_was (d ∷ recorded) (suc m) (suc (suc n)) c e = told_was recorded m (suc n) c e
+
+-- ---- the answer
+
+module _ (old : Ledger) (device : Device) (t : AreTied old device) (number place : ℕ) (now : IsNow (book_of old device) number) (running : old.condition ≡ codes.Running)
+    (unanswered : end_of old.history.known.calls number ≡ None) (answer : List ℕ) (given : IsAnswerAt old number place answer) (named : given.placed.number ≡ number)
+    (durable : IsDurableAt (records_kept (book_of old device)) device.mark (book_of old device).placed place) where
+  abbrev book : Book
+  book = book_of old device
+
+  s : IsSound book
+  s = sound book t.reached
+
+  abbrev recorded : List RecordedCall
+  recorded = old.history.known.calls
+
+  abbrev this : RecordedCall
+  this = now.0
+
+  abbrev step : Placed
+  step = placed_in recorded given.placed
+
+  there : Parts book.placed place step
+  there = mapped_parts (placed_in recorded) old.placed.items place given.placed given.stands
+
+  one_call : (c d : RecordedCall) → Some c ≡ Some d → c ≡ d
+  one_call c d e = cc
+
+  call_is : given.call ≡ this
+  call_is = one_call given.call this (sym given.recorded ∙ now.1.recorded)
+
+  known : IsKnown recorded (1 + length book.over) step
+  known =
+      has_there (IsKnown recorded (1 + length book.over)) there.ahead step there.behind
+      (subst (AreKnown recorded (1 + length book.over)) there.parts (known_last recorded 1 book.over book.placed s.invariant.known))
+
+  known_is : known.call ≡ this
+  known_is = one_call known.call this (sym known.recorded ∙ ap (call_at recorded) named ∙ now.1.recorded)
+
+  judged : this.meaning ≡ meanings.Judged step.call
+  judged = ap (λ (c : RecordedCall). c.meaning) (sym known_is) ∙ known.judged
+
+  replied : IsReplyTo step
+  replied = has_there IsReplyTo there.ahead step there.behind (subst (AllByRecursion IsReplyTo) there.parts s.replied)
+
+  one_reply : (a b : NfsReply) → outcomes.Received a ≡ outcomes.Received b → a ≡ b
+  one_reply a b e = cc
+
+  right : is_answered step.call given.reply ≡ true
+  right = subst (λ (r : NfsReply). is_answered step.call r ≡ true) (one_reply replied.reply given.reply (sym replied.received ∙ given.received)) replied.right
+
+  sent : HasSent book.history this
+  sent = has_sent book.history number this s.invariant.genuine.is_history now.1.recorded
+
+  -- the call's head
+  answers_to : IsAnswerTo sent.asked.event.message answer given.reply
+  answers_to =
+      let means = sent.asked.recorded.means in
+      let head : CallValue = means.0 in
+      let known_as : IsJudged head means.1 step.call this.outcome = subst (λ (m : Meaning). IsKnownAs head means.1 m this.outcome) judged means.4 in
+      let procedure : procedure_answered given.reply ≡ head.procedure = sym (eqb-true (procedure_called step.call) (procedure_answered given.reply) right) ∙ its_procedure head.procedure head.args step.call known_as.of_nfs.arguments in
+      let xid : given.call.xid ≡ head.xid = ap (λ (c : RecordedCall). c.xid) call_is ∙ sent.asked.recorded.xid ∙ xid_asked sent.asked.event.message head means.2 in
+      record {
+        head = head;
+        is_call = means.2;
+        results = result_text given.reply;
+        is_reply = subst (λ (n : ℕ). IsReply answer (record { xid = n; body = success (result_text given.reply) })) xid given.is_reply;
+        is_result = subst (λ (n : ℕ). IsResult n (result_text given.reply) given.reply) procedure given.is_result;
+        xid = given.said ∙ xid ∙ sym (xid_asked sent.asked.event.message head means.2);
+      }
+
+  unended : this.«end» ≡ None
+  unended = sym (ap (option_and_then (λ (c : RecordedCall). c.«end»)) now.1.recorded) ∙ unanswered
+
+  abbrev target : HistoryValue
+  target = with_reply book.history number this.lane answer step.outcome
+
+  abbrev told_calls : List RecordedCall
+  told_calls = change_at (answered_now book.history step.outcome) (number - 1) recorded
+
+  answer_step : Answers book number (record book { history = target })
+  answer_step = record {
+    running = ap condition_of running;
+    recorded = this;
+    call = step.call;
+    message = sent.asked.event.message;
+    answer = answer;
+    of_now = now.1;
+    judged = judged;
+    sent = sent.sent;
+    unanswered = unended;
+    ahead = there.ahead;
+    step = step;
+    behind = there.behind;
+    placed = there.parts;
+    named = named;
+    reply = given.reply;
+    received = given.received;
+    answers = answers_to;
+    spelled = given.spelled ∙ ap (λ (c : RecordedCall). reply_message c.xid given.reply) call_is;
+    durable = durable there.ahead there.behind step there.parts there.length_is;
+    done = refl;
+  }
+
+  module _ (new : Ledger) (only : OnlyHistory old new) (follows : Follows old.history (owns.Reply this.lane answer) new.history) (states : new.calls.items ≡ old.calls.items) where
+    history_so : record new.history { spare = 0 } ≡ target
+    history_so =
+        history_is old.history new.history target (owns.Reply this.lane answer) follows refl refl refl
+        (kept book (record book { history = target }) s.invariant (answers number answer_step)).genuine.is_history
+
+    over_so : over_in recorded old ≡ over_in told_calls old
+    over_so = over_told book.history step.outcome recorded (number - 1) old.over.items
+
+    placed_so : placed_now recorded old ≡ placed_now told_calls old
+    placed_so = placed_told book.history step.outcome recorded (number - 1) old.placed.items
+
+    places_so : ArePlaced (record old { history = target; calls = new.calls })
+    places_so = record {
+      count = ap length states ∙ t.placed.count ∙ sym (told_length book.history step.outcome (number - 1) recorded);
+      there = λ n p c state at era stands has. (let was = told_was book.history step.outcome recorded (number - 1) n c at in
+          t.placed.there n p was.0 state was.1 (was.2 ∙ era) (sym (ap (λ xs. slice_get xs (n - 1)) states) ∙ stands) has);
+      has = λ p one at. (let h = t.placed.has p one at in (h.0, ap (λ xs. slice_get xs (one.number - 1)) states ∙ h.1, h.2));
+    }
+
+    pub answers_tied : AreTied new device
+    answers_tied =
+        tied_with old new device t only target history_so over_so placed_so (ap (made_from 1) (sym states)) (answers number answer_step) places_so
+        (all_append IsShort old.history.events (owns.Reply this.lane answer ∷ []) t.short (tt, tt))
+
+    pub answers_so : Answers book number (book_of new device)
+    answers_so = subst (λ (b : Book). Answers book number b) (sym (book_with old new device t only target history_so over_so placed_so (ap (made_from 1) (sym states)))) answer_step
+
+-- ---- it may not go out yet
+
+pub answerable : (old : Ledger) (device : Device) (number place : ℕ) → IsNow (book_of old device) number → end_of old.history.known.calls number ≡ None → (p : PlacedCall) → slice_get old.placed.items place ≡ Some p
+    → p.number ≡ number → (there : Parts (book_of old device).placed place (placed_in old.history.known.calls p)) → IsAnswerable (book_of old device) number there.ahead (placed_in old.history.known.calls p)
+answerable old device number place now unanswered p at named there = record { now = now; unanswered = unanswered; behind = there.behind; placed = there.parts; named = named }
