@@ -8,3 +8,5 @@ pub mod Full
 pub mod Standing
 pub mod Replies
 pub mod Answered
+pub mod Plans
+pub mod Opening

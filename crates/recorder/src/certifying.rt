@@ -1,6 +1,7 @@
 //! The certificate of a book.
 
-ghost use Rattle.std.specs.Prelude.{◌≡◌, ◌≤◌, [], ◌∷◌, ◌++◌, length, map, IfOk};
+ghost use Rattle.std.specs.Prelude.{◌≡◌, ◌≤◌, [], ◌∷◌, ◌++◌, length, map, if◌then◌else◌, IfOk, OnOk};
+ghost use Rattle.std.specs.List.{cons_option};
 ghost use Rattle.book_machine.specs.Plan.{bind_of, place_of, places_of, plan_over, plan_now, plan_of};
 ghost use Rattle.recorder.specs.Inside.{IsAsked, AreAsked, IsTied, Holds, placed_in, era_in, made_from};
 
@@ -29,6 +30,19 @@ fn place_of(history: &History, placed: &PlacedCall) -> Option<Place>
     }
 }
 
+/// Puts a place behind the others, where there is one.
+fn add_place(places: &mut Vec<Place>, place: Option<Place>) -> Result<(), AllocError>
+    ensures { OnOk result (places.new.items ≡ places.old.items ++ cons_option place []) }
+{
+    match place {
+        Some(place) => {
+            places.push(place)?;
+            Ok(())
+        }
+        None => Ok(()),
+    }
+}
+
 /// The places of these calls.
 fn places_of(
     alloc: Global,
@@ -40,9 +54,7 @@ fn places_of(
 {
     let mut places = Vec::new(alloc);
     for next in placed {
-        if let Some(place) = place_of(history, next) {
-            places.push(place)?;
-        }
+        add_place(&mut places, place_of(history, next))?;
     }
     Ok(places)
 }
@@ -64,17 +76,29 @@ fn plan_over(alloc: Global, history: &History, era: &EraOver) -> Result<EraPlan,
     })
 }
 
+/// Puts the bind of an object behind the others, where it was made.
+fn add_bind(
+    alloc: Global,
+    binds: &mut Vec<Bind>,
+    object: u64,
+    made: bool,
+) -> Result<(), AllocError>
+    ensures { OnOk result (binds.new.items ≡ binds.old.items ++ (if made then bind_of object ∷ [] else [])) }
+{
+    if made {
+        let handle = FileHandle::from_slice(alloc, object.to_be_bytes().as_slice())?;
+        binds.push(Bind { handle, object })?;
+    }
+    Ok(())
+}
+
 /// The binds of the objects that were made, by their numbers.
 fn binds_made(alloc: Global, calls: &[CallState]) -> Result<Vec<Bind>, AllocError>
     ensures { IfOk result (λ binds. binds.items ≡ map bind_of (made_from 1 calls.now)) }
 {
     let mut binds = Vec::new(alloc);
     for (index, call) in calls.iter().enumerate() {
-        if call.made {
-            let object = index as u64 + 1;
-            let handle = FileHandle::from_slice(alloc, object.to_be_bytes().as_slice())?;
-            binds.push(Bind { handle, object })?;
-        }
+        add_bind(alloc, &mut binds, index as u64 + 1, call.made)?;
     }
     Ok(binds)
 }
