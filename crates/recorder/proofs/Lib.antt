@@ -10,3 +10,4 @@ pub mod Replies
 pub mod Answered
 pub mod Plans
 pub mod Opening
+pub mod Whole

@@ -145,6 +145,10 @@ StandsAt ledger number place = (placed : PlacedCall) × (slice_get ledger.placed
 abbrev pub Goes : (Book → Book → Type 0) → Ledger → Ledger → Type 0
 Goes Step old new = (device : Device) → AreTied old device → AreTied new device × Step (book_of old device) (book_of new device)
 
+-- the same over a device of which so many records are on stable storage
+abbrev pub GoesAt : ℕ → (Book → Book → Type 0) → Ledger → Ledger → Type 0
+GoesAt mark Step old new = (device : Device) → AreTied old device → device.mark ≡ mark → AreTied new device × Step (book_of old device) (book_of new device)
+
 -- over any device that belongs to the parts, this holds of the book
 abbrev pub Holds : (Book → Type 0) → Ledger → Type 0
 Holds P ledger = (device : Device) → AreTied ledger device → P (book_of ledger device)

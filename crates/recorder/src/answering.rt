@@ -3,7 +3,7 @@
 ghost use Rattle.std.specs.Prelude.{◌≡◌, ◌↔◌, IfOk, OnOk, IfErr, IsTrue};
 ghost use Rattle.book_machine.specs.Book.{records_kept};
 ghost use Rattle.book_machine.specs.Steps.{Answers};
-ghost use Rattle.recorder.specs.Inside.{IsTied, StandsAt, Goes, Holds};
+ghost use Rattle.recorder.specs.Inside.{IsTied, StandsAt, GoesAt, Holds};
 ghost use Rattle.recorder.specs.Refusals.{AnswerStops};
 ghost use Rattle.recorder.specs.Turns.{IsDurableAt, IsAnswerAt};
 
@@ -42,8 +42,8 @@ impl Ledger {
     /// Answers a call that was placed.
     pub(crate) fn answer(&mut self, number: u64, mark: u64) -> Result<Vec<u8>, AnswerFault>
         requires { IsTied self.old }
-        ensures answered { OnOk result (Goes (λ old new. old.device.mark ≡ mark → Answers old number new) self.old self.new) }
-        ensures refused { IfErr result (λ fault. Goes (λ old new. (old.device.mark ≡ mark → AnswerStops old number fault) × (new ≡ old)) self.old self.new) }
+        ensures answered { OnOk result (GoesAt mark (λ old new. Answers old number new) self.old self.new) }
+        ensures refused { IfErr result (λ fault. GoesAt mark (λ old new. AnswerStops old number fault × (new ≡ old)) self.old self.new) }
     {
         let place = self.check_placed(number)?;
         if !self.is_durable(number, place, mark) {
