@@ -63,7 +63,7 @@ pub record IsReplyTo (step : Placed) : Type 0 where
 pub record IsSound (book : Book) : Type 0 where
   pub invariant : IsInvariant book
   pub judged : AllByRecursion IsJudgedCall book.history.known.calls
-  pub earlier : AllByRecursion (λ call. call.era ≤ book.history.known.eras) book.history.known.calls
+  pub earlier : AllByRecursion (λ (call : RecordedCall). call.era ≤ book.history.known.eras) book.history.known.calls
   pub uncut : AllByRecursion (IsUncut book.history.known.eras (all_happened book.history.events)) book.history.known.calls
   pub replied : AllByRecursion IsReplyTo book.placed
 
@@ -83,7 +83,7 @@ sound_step book new s (begins lane message b) =
     subst IsSound (sym b.done) (record {
       invariant = subst IsInvariant b.done (kept book new s.invariant (begins lane message b));
       judged = all_append IsJudgedCall book.history.known.calls (call ∷ []) s.judged ((b.call, refl), tt);
-      earlier = all_append (λ c. c.era ≤ book.history.known.eras) book.history.known.calls (call ∷ []) s.earlier (le_refl, tt);
+      earlier = all_append (λ (c : RecordedCall). c.era ≤ book.history.known.eras) book.history.known.calls (call ∷ []) s.earlier (le_refl, tt);
       uncut =
           all_append (IsUncut book.history.known.eras (all_happened (book.history.events ++ event ∷ []))) book.history.known.calls (call ∷ [])
           (calm_uncut book.history.known.eras book.history.events event book.history.known.calls refl s.uncut)
@@ -116,7 +116,7 @@ sound_step book new s (answers number a) =
     subst IsSound (sym a.done) (record {
       invariant = subst IsInvariant a.done (kept book new s.invariant (answers number a));
       judged = all_changed IsJudgedCall told (number - 1) calls (λ c j. j) s.judged;
-      earlier = all_changed (λ c. c.era ≤ eras) told (number - 1) calls (λ c le. le) s.earlier;
+      earlier = all_changed (λ (c : RecordedCall). c.era ≤ eras) told (number - 1) calls (λ c le. le) s.earlier;
       uncut = all_changed (IsUncut eras (all_happened (book.history.events ++ event ∷ []))) told (number - 1) calls (λ c uncut. uncut)
           (calm_uncut eras book.history.events event calls refl s.uncut);
       replied = s.replied;
@@ -133,9 +133,9 @@ sound_step book new s (crashes keep c) =
     subst IsSound (sym c.done) (record {
       invariant = subst IsInvariant c.done (kept book new s.invariant (crashes keep c));
       judged = s.judged;
-      earlier = all_each (λ call. call.era ≤ eras) (λ call. call.era ≤ eras + 1) book.history.known.calls (λ call le. further le) s.earlier;
+      earlier = all_each (λ (call : RecordedCall). call.era ≤ eras) (λ (call : RecordedCall). call.era ≤ eras + 1) book.history.known.calls (λ call le. further le) s.earlier;
       uncut =
-          all_each (λ call. call.era ≤ eras) (IsUncut (eras + 1) (all_happened (book.history.events ++ owns.Crash ∷ []))) book.history.known.calls
+          all_each (λ (call : RecordedCall). call.era ≤ eras) (IsUncut (eras + 1) (all_happened (book.history.events ++ owns.Crash ∷ []))) book.history.known.calls
           (λ call le now off. past le now) s.earlier;
       replied = tt;
     }) where
