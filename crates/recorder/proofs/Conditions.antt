@@ -17,7 +17,7 @@ use Rattle.file_tree.specs.Success.{next_tree}
 use Rattle.journal_device.specs.Device.{Device, settled, failed}
 use Rattle.book_machine.specs.Placing.{Placed, is_recorded, records_in, front_with}
 use Rattle.book_machine.specs.Book.{Book, Condition, bindings, bindings_made, tree_of, records_kept}
-use Rattle.book_machine.specs.Book.Condition as conditions
+use Rattle.book_machine.specs.Book.Condition.{running, down, dead}
 use Rattle.book_machine.specs.Steps.{MayBecome, Refuses, Flushes, Steps}
 use Rattle.book_machine.specs.Steps.Steps.{flushes, refuses}
 use Rattle.book_machine.proofs.Running.{unrecorded_leaves}
@@ -27,22 +27,22 @@ use Rattle.recorder.specs.declared.ledger.Ledger.{Ledger}
 use Rattle.recorder.specs.Inside.{condition_of, book_of, tree_behind, AreTied}
 use Rattle.recorder.proofs.Runs.{IsReplyTo, IsSound, sound, reached_step}
 
-pub running_book : (condition : code.Condition) → condition_of condition ≡ conditions.running → condition ≡ codes.Running
+pub running_book : (condition : code.Condition) → condition_of condition ≡ running → condition ≡ codes.Running
 running_book codes.Running e = refl
 running_book codes.Down e = absurd (cc)
 running_book codes.Dead e = absurd (cc)
 
 stays : (c : Condition) → MayBecome c c
-stays conditions.running = tt
-stays conditions.down = tt
-stays conditions.dead = tt
+stays running = tt
+stays down = tt
+stays dead = tt
 
-may_go_down : (c : code.Condition) → c ≢ codes.Dead → MayBecome (condition_of c) conditions.down
+may_go_down : (c : code.Condition) → c ≢ codes.Dead → MayBecome (condition_of c) down
 may_go_down codes.Running isnt = tt
 may_go_down codes.Down isnt = tt
 may_go_down codes.Dead isnt = absurd (isnt refl)
 
-may_die : (c : code.Condition) → MayBecome (condition_of c) conditions.dead
+may_die : (c : code.Condition) → MayBecome (condition_of c) dead
 may_die codes.Running = tt
 may_die codes.Down = tt
 may_die codes.Dead = tt

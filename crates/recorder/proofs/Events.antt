@@ -21,7 +21,7 @@ use Rattle.nfs_history.proofs.OneHistory.{known_once}
 use Rattle.journal_device.specs.Device.{Device}
 use Rattle.book_machine.specs.Placing.{Placed}
 use Rattle.book_machine.specs.Book.{Book}
-use Rattle.book_machine.specs.Book.Condition as conditions
+use Rattle.book_machine.specs.Book.Condition.{running, down, dead}
 use Rattle.book_machine.specs.Steps.{begun, with_call, with_close, Begins, Closes, Steps}
 use Rattle.book_machine.specs.Steps.Steps.{begins, closes}
 use Rattle.book_machine.proofs.Growing.{genuine_call, genuine_close}

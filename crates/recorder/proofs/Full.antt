@@ -1,6 +1,9 @@
 -- a READ's success that is as long as it can be is all that the file has there
-use Rattle.std.proofs.Common.{◌≡◌, ◌⊎◌, inl, inr, ◌↔◌, ℕ, zero, suc, ◌+◌, Bool, true, false, List, [], ◌∷◌, length, take, drop, Option, Some, None, refl, sym, ap, ◌∙◌, subst}
-use Rattle.std.specs.Prelude.{◌==◌, ◌&&◌, nat_le, IsTrue}
+use Rattle.std.proofs.Common.{◌≡◌, ◌⊎◌, inl, inr, ◌↔◌, ℕ, zero, suc, ◌+◌, ◌-◌, min, Bool, true, false, List, [], ◌∷◌, length, take, drop, Option, Some, None, refl, sym, ap, ◌∙◌, subst, arith}
+use Rattle.std.proofs.lemmas.List.{length-take, length-drop}
+use Rattle.std.proofs.lemmas.Bool.{eqb-true, eq-eqb}
+use Rattle.tree_nodes.specs.declared.node.File.{File}
+use Rattle.std.specs.Prelude.{option_map, nat_eq, ◌==◌, ◌&&◌, nat_le, IsTrue}
 use Rattle.std.specs.Option.{option_map_or}
 use Rattle.nfs3_types.specs.declared.calls.NfsCall.{NfsCall}
 use Rattle.nfs3_types.specs.declared.calls.NfsCall.TheVariants as calls
@@ -62,3 +65,32 @@ module _ (binds : Bindings) (tree : Tree) (call : ReadArguments) where
   pub read_all : (reply : NfsReply) → IsFull binds tree (calls.Read call) reply → ReadsAll binds tree call reply
   read_all (replies.Read (Done success)) full = λ entry is. ap length (full entry is)
   read_all _ full = tt
+
+-- ---- as many bytes as there are
+
+size_is : (limit count offset : ℕ) (bytes : List ℕ) → length (take limit (take count (drop offset bytes))) ≡ min (min (length bytes - offset) count) limit
+size_is limit count offset bytes =
+    length-take limit (take count (drop offset bytes)) ∙ ap (min limit) (length-take count (drop offset bytes) ∙ ap (min count) (length-drop offset bytes)) ∙ swapped limit count (length bytes - offset) where
+      swapped : (a b c : ℕ) → min a (min b c) ≡ min (min c b) a
+      swapped a b c = omega arith
+
+pub whole_so : (binds : Bindings) (tree nodes : Tree) (call : ReadArguments) (success : ReadSuccess) (object : ℕ) (file : File) → nodes ≡ tree
+    → Some (object, file) ≡ option_map (λ (e : FileEntry). (e.object, e.file)) (file_of binds nodes call.file) → (len left from low asked : ℕ) (shown : List ℕ) → len ≡ length file.bytes → left ≡ len - call.offset → from ≡ call.count
+    → low ≡ min left from → asked ≡ min low 1048576 → shown ≡ success.bytes → IsTrue (nat_eq (length shown) asked) ↔ HasAll binds tree call success
+whole_so binds tree nodes call success object file nodes_is found len left from low asked shown len_is left_is from_is low_is asked_is shown_is =
+    (λ is entry at. sym (ap length shown_is) ∙ eqb-true (length shown) asked is ∙ sized entry at, λ all. eq-eqb (length shown) asked (ap length shown_is ∙ all there.0 there.1 ∙ sym (sized there.0 there.1))) where
+      here : option_map (λ (e : FileEntry). (e.object, e.file)) (file_of binds tree call.file) ≡ Some (object, file)
+      here = ap (λ (t : Tree). option_map (λ (e : FileEntry). (e.object, e.file)) (file_of binds t call.file)) (sym nodes_is) ∙ sym found
+
+      there = mapped (λ (e : FileEntry). (e.object, e.file)) (file_of binds tree call.file) (object, file) here
+
+      total : asked ≡ min (min (length file.bytes - call.offset) call.count) transfer_limit
+      total = asked_is ∙ ap (λ (n : ℕ). min n 1048576) (low_is ∙ (λ i. min ((left_is ∙ ap (λ (n : ℕ). n - call.offset) len_is) i) (from_is i)))
+
+      one : {a b : FileEntry} → Some a ≡ Some b → a ≡ b
+      one e = cc
+
+      sized : (entry : FileEntry) → file_of binds tree call.file ≡ Some entry → asked ≡ length (take transfer_limit (take call.count (drop call.offset entry.file.bytes)))
+      sized entry at =
+          let same : file ≡ entry.file = sym (ap (λ (p : ℕ × File). p.1) there.2) ∙ ap (λ (e : FileEntry). e.file) (one (sym there.1 ∙ at)) in
+          total ∙ ap (λ (f : File). min (min (length f.bytes - call.offset) call.count) transfer_limit) same ∙ sym (size_is transfer_limit call.count call.offset entry.file.bytes)

@@ -16,7 +16,7 @@ use Rattle.recorder.specs.declared.placed.PlacedCall.{PlacedCall}
 use Rattle.recorder.specs.declared.placed.EraOver.{EraOver}
 use Rattle.recorder.specs.declared.placed.CallState.{CallState}
 use Rattle.recorder.specs.declared.ledger.Ledger.{Ledger}
-use Rattle.recorder.specs.Inside.{placed_in, era_in, made_from, book_of, AreTied, IsAsked, AreAsked}
+use Rattle.recorder.specs.Inside.{placed_in, era_in, made_from, book_of, AreTied, IsAsked, AreAsked, IsPlannable, ArePlannable}
 use Rattle.recorder.proofs.Runs.{sound}
 
 -- what holds of all holds of each
@@ -85,13 +85,8 @@ map_length : {X Y : Type 0} (f : X → Y) (xs : List X) → length (map f xs) �
 map_length f [] = refl
 map_length f (x ∷ xs) = ap suc (map_length f xs)
 
--- what of an era that is over can be planned
-pub record IsPlannable (recorded : List RecordedCall) (era : EraOver) : Type 0 where
-  pub asked : AreAsked recorded era.placed.items
-  pub within : era.kept ≤ length era.placed.items
-
 plannable_all : (recorded calls : List RecordedCall) (e : ℕ) (over : List EraOver) (placed : List Placed) → AllKnown recorded e (map (era_in recorded) over) placed
-    → AllByRecursion (IsCutSafely calls) (map (era_in recorded) over) → AllByRecursion (IsPlannable recorded) over
+    → AllByRecursion (IsCutSafely calls) (map (era_in recorded) over) → ArePlannable recorded over
 plannable_all recorded calls e [] placed known cuts = tt
 plannable_all recorded calls e (x ∷ over) placed known cuts = (
   record {
@@ -105,10 +100,56 @@ plannable_all recorded calls e (x ∷ over) placed known cuts = (
 )
 
 module _ (ledger : Ledger) (device : Device) (t : AreTied ledger device) where
-  pub plannable : AllByRecursion (IsPlannable ledger.history.known.calls) ledger.over.items
+  pub plannable : ArePlannable ledger.history.known.calls ledger.over.items
   plannable =
       let i = (sound (book_of ledger device) t.reached).invariant in
       plannable_all ledger.history.known.calls ledger.history.known.calls 1 ledger.over.items (map (placed_in ledger.history.known.calls) ledger.placed.items) i.known i.cuts
 
   pub asked_now : AreAsked ledger.history.known.calls ledger.placed.items
   asked_now = asked_last ledger.history.known.calls 1 ledger.over.items ledger.placed.items (sound (book_of ledger device) t.reached).invariant.known
+
+-- ---- the plan of an era that is over
+
+filter_map_append : {X Y : Type 0} (h : X → Option Y) (xs ys : List X) → filter_map h (xs ++ ys) ≡ filter_map h xs ++ filter_map h ys
+filter_map_append h [] ys = refl
+filter_map_append {X} {Y} h (x ∷ xs) ys = go (h x) (filter_map_append h xs ys) where
+  go : (o : Option Y) → filter_map h (xs ++ ys) ≡ filter_map h xs ++ filter_map h ys → cons_option o (filter_map h (xs ++ ys)) ≡ cons_option o (filter_map h xs) ++ filter_map h ys
+  go None e = e
+  go (Some y) e = ap (λ (zs : List Y). y ∷ zs) e
+
+map_append : {X Y : Type 0} (f : X → Y) (xs ys : List X) → map f (xs ++ ys) ≡ map f xs ++ map f ys
+map_append f [] ys = refl
+map_append {X} {Y} f (x ∷ xs) ys = ap (λ (zs : List Y). f x ∷ zs) (map_append f xs ys)
+
+take_map : {X Y : Type 0} (f : X → Y) (n : ℕ) (xs : List X) → map f (take n xs) ≡ take n (map f xs)
+take_map f zero xs = refl
+take_map f (suc n) [] = refl
+take_map {X} {Y} f (suc n) (x ∷ xs) = ap (λ (zs : List Y). f x ∷ zs) (take_map f n xs)
+
+front_and_rest : {X : Type 0} (n : ℕ) (xs : List X) → take n xs ++ drop n xs ≡ xs
+front_and_rest zero xs = refl
+front_and_rest (suc n) [] = refl
+front_and_rest {X} (suc n) (x ∷ xs) = ap (λ (zs : List X). x ∷ zs) (front_and_rest n xs)
+
+pub plan_so : (recorded : List RecordedCall) (era : EraOver) (front behind : List PlacedCall) (places lost whole : List Place) (cut : ℕ) → front ≡ take era.kept era.placed.items → behind ≡ drop era.kept era.placed.items
+    → places ≡ places_in recorded front → lost ≡ places_in recorded behind → cut ≡ length places → whole ≡ places ++ lost → (record { places = whole; cut = Some cut }) ≡ plan_over recorded (era_in recorded era)
+plan_so recorded era front behind places lost whole cut f b p l c w =
+    let items = era.placed.items in
+    let kept : places ≡ places_of recorded (take era.kept (map (placed_in recorded) items)) = p ∙ ap (places_in recorded) f ∙ ap (places_of recorded) (take_map (placed_in recorded) era.kept items) in
+    let all : whole ≡ places_in recorded items =
+    w ∙ ap (λ (zs : List Place). zs ++ lost) p ∙ ap (λ (zs : List Place). places_in recorded front ++ zs) l
+    ∙ sym (filter_map_append (place_of recorded) (map (placed_in recorded) front) (map (placed_in recorded) behind))
+    ∙ ap (places_of recorded) (sym (map_append (placed_in recorded) front behind))
+    ∙ ap (places_in recorded) (ap (λ (zs : List PlacedCall). zs ++ behind) f ∙ ap (λ (zs : List PlacedCall). take era.kept items ++ zs) b ∙ front_and_rest era.kept items) in
+    let size : cut ≡ length (places_of recorded (take era.kept (map (placed_in recorded) items))) = c ∙ ap length kept in
+    λ i. record { places = all i; cut = Some (size i) }
+
+pub plans_more : (recorded : List RecordedCall) (front : List EraPlan) (xs : List EraOver) (i : ℕ) (x : EraOver) (all : List EraPlan) → i < length xs → x ≡ get_or xs i x
+    → front ++ map (plan_over recorded) (map (era_in recorded) (drop i xs)) ≡ all → (front ++ plan_over recorded (era_in recorded x) ∷ []) ++ map (plan_over recorded) (map (era_in recorded) (drop (suc i) xs)) ≡ all
+plans_more recorded front [] i x all lt is e = absurd (none lt) where
+  none : i < 0 → ⊥
+  none f = omega (arith, f)
+plans_more recorded front (y ∷ xs) zero x all lt is e =
+    append_assoc front (plan_over recorded (era_in recorded x) ∷ []) (map (plan_over recorded) (map (era_in recorded) xs))
+    ∙ ap (λ (z : EraOver). front ++ plan_over recorded (era_in recorded z) ∷ map (plan_over recorded) (map (era_in recorded) xs)) is ∙ e
+plans_more recorded front (y ∷ xs) (suc i) x all lt is e = plans_more recorded front xs i x all (omega (arith, lt)) is e

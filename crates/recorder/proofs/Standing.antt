@@ -22,7 +22,7 @@ use Rattle.nfs_history.proofs.AppendSteps.{IsAsked as IsAskedAt, BeganAt, began_
 use Rattle.journal_device.specs.Device.{Device}
 use Rattle.book_machine.specs.Placing.{Placed}
 use Rattle.book_machine.specs.Book.{Book}
-use Rattle.book_machine.specs.Book.Condition as conditions
+use Rattle.book_machine.specs.Book.Condition.{running, down, dead}
 use Rattle.book_machine.specs.Steps.{IsUnplaced}
 use Rattle.book_machine.proofs.Growing.{event_of}
 use Rattle.book_machine.proofs.Lists.{all_behind}
@@ -99,7 +99,7 @@ has_sent h n c is at =
 
 -- ---- a call's turn
 
-not_running : (condition : code.Condition) → condition ≢ codes.Running → condition_of condition ≢ conditions.running
+not_running : (condition : code.Condition) → condition ≢ codes.Running → condition_of condition ≢ running
 not_running condition isnt e = isnt (running_book condition e)
 
 module _ (ledger : Ledger) (device : Device) (t : AreTied ledger device) (number : ℕ) where

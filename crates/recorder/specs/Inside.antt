@@ -21,7 +21,7 @@ use Rattle.tree_handles.specs.Binding.{object_of}
 use Rattle.journal_device.specs.Device.{Device, settled}
 use Rattle.book_machine.specs.Placing.{Placed, records_in, front_with}
 use Rattle.book_machine.specs.Book.{Book, Condition, bindings, tree_of, records_kept}
-use Rattle.book_machine.specs.Book.Condition as conditions
+use Rattle.book_machine.specs.Book.Condition.{running, down, dead}
 use Rattle.book_machine.specs.Steps.{opening_book, IsRun}
 use Rattle.recorder.specs.declared.placed.PlacedCall.{PlacedCall}
 use Rattle.recorder.specs.declared.placed.EraOver.{EraOver}
@@ -52,9 +52,9 @@ made_from number [] = []
 made_from number (state ∷ states) = if state.made then number ∷ made_from (number + 1) states else made_from (number + 1) states
 
 abbrev pub condition_of : code.Condition → Condition
-condition_of codes.Running = conditions.running
-condition_of codes.Down = conditions.down
-condition_of codes.Dead = conditions.dead
+condition_of codes.Running = running
+condition_of codes.Down = down
+condition_of codes.Dead = dead
 
 -- room that is set aside in the history is not seen
 abbrev pub book_of : Ledger → Device → Book
@@ -132,6 +132,14 @@ IsAsked recorded number = (call : RecordedCall) × (asked : NfsCall) × (call_at
 
 abbrev pub AreAsked : List RecordedCall → List PlacedCall → Type 0
 AreAsked recorded placed = AllByRecursion (λ one. IsAsked recorded one.number) placed
+
+-- the calls of an era that is over, of which so many were kept
+pub record IsPlannable (recorded : List RecordedCall) (era : EraOver) : Type 0 where
+  pub asked : AreAsked recorded era.placed.items
+  pub within : era.kept ≤ length era.placed.items
+
+abbrev pub ArePlannable : List RecordedCall → List EraOver → Type 0
+ArePlannable recorded over = AllByRecursion (IsPlannable recorded) over
 
 -- the call is one of these
 abbrev pub IsOneOf : List RecordedCall → RecordedCall → Type 0

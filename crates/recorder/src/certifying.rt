@@ -3,7 +3,7 @@
 ghost use Rattle.std.specs.Prelude.{◌≡◌, ◌≤◌, [], ◌∷◌, ◌++◌, length, map, if◌then◌else◌, IfOk, OnOk};
 ghost use Rattle.std.specs.List.{cons_option};
 ghost use Rattle.book_machine.specs.Plan.{bind_of, place_of, places_of, plan_over, plan_now, plan_of};
-ghost use Rattle.recorder.specs.Inside.{IsAsked, AreAsked, IsTied, Holds, placed_in, era_in, made_from};
+ghost use Rattle.recorder.specs.Inside.{IsAsked, AreAsked, ArePlannable, IsTied, Holds, placed_in, era_in, made_from};
 
 use crate::calls::{count_written, is_recorded};
 use crate::ledger::Ledger;
@@ -103,6 +103,22 @@ fn binds_made(alloc: Global, calls: &[CallState]) -> Result<Vec<Bind>, AllocErro
     Ok(binds)
 }
 
+/// The plans of the eras that are over.
+fn plans_over(
+    alloc: Global,
+    history: &History,
+    over: &[EraOver],
+) -> Result<Vec<EraPlan>, AllocError>
+    requires { ArePlannable history.now.known.calls over.now }
+    ensures { IfOk result (λ plans. plans.items ≡ map (plan_over history.now.known.calls) (map (era_in history.now.known.calls) over.now)) }
+{
+    let mut plans = Vec::new(alloc);
+    for era in over {
+        plans.push(plan_over(alloc, history, era)?)?;
+    }
+    Ok(plans)
+}
+
 impl Ledger {
     /// The plans of the eras.
     fn plans(&self) -> Result<Vec<EraPlan>, AllocError>
@@ -110,10 +126,7 @@ impl Ledger {
         ensures { IfOk result (λ plans. plans.items ≡ map (plan_over self.now.history.known.calls) (map (era_in self.now.history.known.calls) self.now.over.items)
             ++ plan_now self.now.history.known.calls (map (placed_in self.now.history.known.calls) self.now.placed.items) ∷ []) }
     {
-        let mut plans = Vec::with_capacity(self.alloc, self.over.len() + 1)?;
-        for era in self.over.iter() {
-            plans.push(plan_over(self.alloc, &self.history, era)?)?;
-        }
+        let mut plans = plans_over(self.alloc, &self.history, self.over.as_slice())?;
         let places = places_of(self.alloc, &self.history, self.placed.as_slice())?;
         plans.push(EraPlan {
             places: PlaceList::new(places),
