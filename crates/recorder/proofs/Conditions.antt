@@ -109,42 +109,41 @@ module _ (binds : Bindings) where
       (subst (λ (o : Outcome). next_tree binds before step.number step.call o ≡ Some after) r.received next)
       (ap (λ (o : Outcome). is_recorded (record { number = step.number; call = step.call; outcome = o })) (sym r.received) ∙ isnt)
 
+  more : (b : Bool) (n : ℕ) → b ≡ true → (if b then suc n else n) ≡ 0 → ⊥
+  more true n e f = omega (arith, f)
+  more false n e f = absurd (cc)
+
+  fewer : (b : Bool) (n : ℕ) → b ≡ false → (if b then suc n else n) ≡ 0 → n ≡ 0
+  fewer false n e f = f
+  fewer true n e f = absurd (cc)
+
   none_leaves : (steps : List Placed) (tree final : Tree) → AllByRecursion IsReplyTo steps → records_in steps ≡ 0 → state_after (next_tree binds) tree steps ≡ Some final → final ≡ tree
   none_leaves [] tree final r none runs = is runs where
     is : Some tree ≡ Some final → final ≡ tree
     is e = cc
-  none_leaves (step ∷ steps) tree final r none runs = go (decide (is_recorded step)) where
-    first = chained (λ after. state_after (next_tree binds) after steps) (next_tree binds tree step.number step.call step.outcome) final runs
-
-    more : (b : Bool) → b ≡ true → (if b then suc (records_in steps) else records_in steps) ≡ 0 → ⊥
-    more true e f = omega (arith, f)
-    more false e f = absurd (cc)
-
-    fewer : (b : Bool) → b ≡ false → (if b then suc (records_in steps) else records_in steps) ≡ 0 → records_in steps ≡ 0
-    fewer false e f = f
-    fewer true e f = absurd (cc)
-
-    go : (is_recorded step ≡ true) ⊎ (is_recorded step ≡ false) → final ≡ tree
-    go (inl is) = absurd (more (is_recorded step) is none)
-    go (inr isnt) = none_leaves steps first.0 final r.1 (fewer (is_recorded step) isnt none) first.2 ∙ leaves step tree first.0 r.0 isnt first.1
+  none_leaves (step ∷ steps) tree final r none runs =
+      let first = chained (λ after. state_after (next_tree binds) after steps) (next_tree binds tree step.number step.call step.outcome) final runs in
+      go first.0 first.1 (decide (is_recorded step)) (λ e. none_leaves steps first.0 final r.1 e first.2) where
+        go : (middle : Tree) → next_tree binds tree step.number step.call step.outcome ≡ Some middle → (is_recorded step ≡ true) ⊎ (is_recorded step ≡ false) → (records_in steps ≡ 0 → final ≡ middle) → final ≡ tree
+        go middle next (inl is) rest = absurd (more (is_recorded step) (records_in steps) is none)
+        go middle next (inr isnt) rest = rest (fewer (is_recorded step) (records_in steps) isnt none) ∙ leaves step tree middle r.0 isnt next
 
   -- behind the last record nothing changes
   front_leaves : (count : ℕ) (steps : List Placed) (tree final : Tree) → AllByRecursion IsReplyTo steps → count ≡ records_in steps → state_after (next_tree binds) tree steps ≡ Some final
       → state_after (next_tree binds) tree (take (front_with count steps) steps) ≡ Some final
   front_leaves zero steps tree final r is runs = ap Some (sym (none_leaves steps tree final r (sym is) runs))
   front_leaves (suc count) [] tree final r is runs = absurd (cc)
-  front_leaves (suc count) (step ∷ steps) tree final r is runs = go (is_recorded step) is where
-    first = chained (λ after. state_after (next_tree binds) after steps) (next_tree binds tree step.number step.call step.outcome) final runs
+  front_leaves (suc count) (step ∷ steps) tree final r is runs =
+      let first = chained (λ after. state_after (next_tree binds) after steps) (next_tree binds tree step.number step.call step.outcome) final runs in
+      go first.0 first.1 (is_recorded step) is (λ n e. front_leaves n steps first.0 final r.1 e first.2) where
+        one_less : {m n : ℕ} → suc m ≡ suc n → m ≡ n
+        one_less f = omega (arith, f)
 
-    onwards : (n : ℕ) → n ≡ records_in steps → option_and_then (λ after. state_after (next_tree binds) after (take (front_with n steps) steps)) (next_tree binds tree step.number step.call step.outcome) ≡ Some final
-    onwards n e = ap (option_and_then (λ after. state_after (next_tree binds) after (take (front_with n steps) steps))) first.1 ∙ front_leaves n steps first.0 final r.1 e first.2
-
-    go : (b : Bool) → suc count ≡ (if b then suc (records_in steps) else records_in steps)
-        → option_and_then (λ after. state_after (next_tree binds) after (take (front_with (if b then count else suc count) steps) steps)) (next_tree binds tree step.number step.call step.outcome) ≡ Some final
-    go true e = onwards count (one_less e) where
-      one_less : {m n : ℕ} → suc m ≡ suc n → m ≡ n
-      one_less f = omega (arith, f)
-    go false e = onwards (suc count) e
+        go : (middle : Tree) → next_tree binds tree step.number step.call step.outcome ≡ Some middle → (b : Bool) → suc count ≡ (if b then suc (records_in steps) else records_in steps)
+            → ((n : ℕ) → n ≡ records_in steps → state_after (next_tree binds) middle (take (front_with n steps) steps) ≡ Some final)
+            → option_and_then (λ after. state_after (next_tree binds) after (take (front_with (if b then count else suc count) steps) steps)) (next_tree binds tree step.number step.call step.outcome) ≡ Some final
+        go middle next true e rest = ap (option_and_then (λ after. state_after (next_tree binds) after (take (front_with count steps) steps))) next ∙ rest count (one_less e)
+        go middle next false e rest = ap (option_and_then (λ after. state_after (next_tree binds) after (take (front_with (suc count) steps) steps))) next ∙ rest (suc count) e
 
 module _ (ledger : Ledger) (device : Device) (t : AreTied ledger device) where
   abbrev book : Book
@@ -166,8 +165,8 @@ module _ (ledger : Ledger) (device : Device) (t : AreTied ledger device) where
 
 -- the values that take records back are let go
 pub settled_tied : (old new : Ledger) (device : Device) → AreTied old device → old.condition ≡ codes.Running → new ≡ record old { undos = new.undos } → new.undos.items ≡ [] → AreTied new (settled device)
-settled_tied old new device t running only none = subst (λ (l : Ledger). AreTied l (settled device)) (sym only) (record {
-  reached = reached_step (book_of old device) (book_of old (settled device)) t.reached (flushes (record { running = ap condition_of running; done = refl }));
+settled_tied old new device t runs only none = subst (λ (l : Ledger). AreTied l (settled device)) (sym only) (record {
+  reached = reached_step (book_of old device) (book_of old (settled device)) t.reached (flushes (record { running = ap condition_of runs; done = refl }));
   kept = t.kept;
   counted = t.counted;
   placed = record { count = t.placed.count; there = t.placed.there; has = t.placed.has };

@@ -82,6 +82,7 @@ whole_so binds tree nodes call success object file nodes_is found len left from 
       here : option_map (λ (e : FileEntry). (e.object, e.file)) (file_of binds tree call.file) ≡ Some (object, file)
       here = ap (λ (t : Tree). option_map (λ (e : FileEntry). (e.object, e.file)) (file_of binds t call.file)) (sym nodes_is) ∙ sym found
 
+      there : (e : FileEntry) × (file_of binds tree call.file ≡ Some e) × ((e.object, e.file) ≡ (object, file))
       there = mapped (λ (e : FileEntry). (e.object, e.file)) (file_of binds tree call.file) (object, file) here
 
       total : asked ≡ min (min (length file.bytes - call.offset) call.count) transfer_limit

@@ -76,10 +76,10 @@ asked_last recorded e (x ∷ over) xs known = asked_last recorded (e + 1) over x
 front_within : (count : ℕ) (steps : List Placed) → front_with count steps ≤ length steps
 front_within zero steps = omega arith
 front_within (suc count) [] = omega arith
-front_within (suc count) (step ∷ steps) = go (is_recorded step) where
-  go : (b : Bool) → suc (front_with (if b then count else suc count) steps) ≤ suc (length steps)
-  go true = let rest = front_within count steps in omega (arith, rest)
-  go false = let rest = front_within (suc count) steps in omega (arith, rest)
+front_within (suc count) (step ∷ steps) = go (is_recorded step) (λ n. front_within n steps) where
+  go : (b : Bool) → ((n : ℕ) → front_with n steps ≤ length steps) → suc (front_with (if b then count else suc count) steps) ≤ suc (length steps)
+  go true rest = omega (arith, rest count)
+  go false rest = omega (arith, rest (suc count))
 
 map_length : {X Y : Type 0} (f : X → Y) (xs : List X) → length (map f xs) ≡ length xs
 map_length f [] = refl

@@ -4,6 +4,7 @@ use Rattle.std.specs.Prelude.{IsSome, slice_get, option_map, option_and_then, Co
 use Rattle.std.specs.Option.{option_map_or}
 use Rattle.std.specs.List.{AllByRecursion}
 use Rattle.nfs3_types.specs.declared.calls.NfsCall.{NfsCall}
+use Rattle.nfs3_types.specs.declared.calls.NfsCall.TheVariants as calls
 use Rattle.history_file.specs.declared.event.Event as owned
 use Rattle.history_file.specs.declared.event.Event.TheVariants as owns
 use Rattle.history_file.specs.Event.{Event}
@@ -65,7 +66,7 @@ at_place recorded (suc n) c e = subst (λ (m : ℕ). slice_get recorded m ≡ So
   one_less = omega arith
 
 pub asked_is : (recorded : List RecordedCall) (n : ℕ) (c : RecordedCall) (asked : NfsCall) → call_at recorded n ≡ Some c → c.meaning ≡ meanings.Judged asked → asked_by recorded n ≡ asked
-asked_is recorded n c asked at judged = ap (λ (o : Option RecordedCall). option_map_or (λ (d : RecordedCall). call_in d.meaning) o _) at ∙ ap call_in judged
+asked_is recorded n c asked at judged = ap (λ (o : Option RecordedCall). option_map_or (λ (d : RecordedCall). call_in d.meaning) o (calls.GetAttr [])) at ∙ ap call_in judged
 
 -- ---- the message of a call
 
@@ -113,11 +114,11 @@ module _ (ledger : Ledger) (device : Device) (t : AreTied ledger device) (number
   down_stops isnt = not_running ledger.condition isnt
 
   pub over_stops : (c : RecordedCall) → ledger.condition ≡ codes.Running → call_at recorded number ≡ Some c → c.era ≢ ledger.history.known.eras → TokenStops book number (token.EraOver ledger.history.known.eras)
-  over_stops c running at over = (ap condition_of running, record { call = c; recorded = at; era = over }, refl)
+  over_stops c runs at over = (ap condition_of runs, record { call = c; recorded = at; era = over }, refl)
 
   pub closed_stops : (c : RecordedCall) → ledger.condition ≡ codes.Running → call_at recorded number ≡ Some c → c.era ≡ ledger.history.known.eras → IsLaneState c.lane (all_happened ledger.history.events) lanes.Closed
       → TokenStops book number token.LaneClosed
-  closed_stops c running at now closed = (ap condition_of running, record { call = c; recorded = at; era = now; closed = closed })
+  closed_stops c runs at now closed = (ap condition_of runs, record { call = c; recorded = at; era = now; closed = closed })
 
   -- the lane of a call of the era now isn't cut off
   pub uncut : (c : RecordedCall) → call_at recorded number ≡ Some c → c.era ≡ ledger.history.known.eras → IsLaneState c.lane (all_happened ledger.history.events) lanes.EraOver → ⊥
@@ -165,11 +166,11 @@ module _ (ledger : Ledger) (device : Device) (t : AreTied ledger device) (number
     gone o e s = cc
 
 -- a call that may not be placed or answered, for another reason than its turn
-pub turn_stops : (A B : Type 0) (book : Book) (number : ℕ) (fault : TokenFault) → (A → B) → TurnStops A book number fault → TurnStops B book number fault
-turn_stops A B book number token.Down goes s = s
-turn_stops A B book number (token.EraOver now) goes s = s
-turn_stops A B book number token.LaneClosed goes s = s
-turn_stops A B book number token.OutOfTurn goes s = (s.0, goes s.1)
+pub turn_stops : (A B : Type 0) (b : Book) (number : ℕ) (fault : TokenFault) → (A → B) → TurnStops A b number fault → TurnStops B b number fault
+turn_stops A B b number token.Down goes s = s
+turn_stops A B b number (token.EraOver now) goes s = s
+turn_stops A B b number token.LaneClosed goes s = s
+turn_stops A B b number token.OutOfTurn goes s = (s.0, goes s.1)
 
 -- ---- each placed call was asked
 
