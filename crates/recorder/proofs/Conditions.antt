@@ -192,6 +192,7 @@ settled_tied old new device t runs only none = subst (λ (l : Ledger). AreTied l
       → tree_behind (book_of old device) (length device.records - length later) ≡ Some before → UndoesAll TakesBack later tree before
   undone earlier later tree before parts is behind =
       let nothing : later ≡ [] = empty earlier later (sym none ∙ parts) in
-      let all : tree_behind (book_of old device) (length device.records) ≡ Some before = subst (λ (xs : List Undo). tree_behind (book_of old device) (length device.records - length xs) ≡ Some before) nothing behind in
-      let same : tree ≡ before = one (sym (behind_all old device t tree (the_tree old.tree tree is t.tree)) ∙ all) in
+      let all : tree_behind (book_of old device) (length device.records - 0) ≡ Some before = subst (λ (xs : List Undo). tree_behind (book_of old device) (length device.records - length xs) ≡ Some before) nothing behind in
+      let whole : length device.records - 0 ≡ length device.records = omega arith in
+      let same : tree ≡ before = one (sym (behind_all old device t tree (the_tree old.tree tree is t.tree)) ∙ sym (ap (tree_behind (book_of old device)) whole) ∙ all) in
       subst (λ (xs : List Undo). UndoesAll TakesBack xs tree before) (sym nothing) same

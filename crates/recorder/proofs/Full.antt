@@ -74,16 +74,22 @@ size_is limit count offset bytes =
       swapped : (a b c : ℕ) → min a (min b c) ≡ min (min c b) a
       swapped a b c = omega arith
 
+abbrev pair : ℕ → File → ℕ × File
+pair object file = (object, file)
+
+abbrev pair_of : FileEntry → ℕ × File
+pair_of e = pair e.object e.file
+
 pub whole_so : (binds : Bindings) (tree nodes : Tree) (call : ReadArguments) (success : ReadSuccess) (object : ℕ) (file : File) → nodes ≡ tree
-    → Some (object, file) ≡ option_map (λ (e : FileEntry). (e.object, e.file)) (file_of binds nodes call.file) → (len left from low asked : ℕ) (shown : List ℕ) → len ≡ length file.bytes → left ≡ len - call.offset → from ≡ call.count
+    → Some (pair object file) ≡ option_map pair_of (file_of binds nodes call.file) → (len left from low asked : ℕ) (shown : List ℕ) → len ≡ length file.bytes → left ≡ len - call.offset → from ≡ call.count
     → low ≡ min left from → asked ≡ min low 1048576 → shown ≡ success.bytes → IsTrue (nat_eq (length shown) asked) ↔ HasAll binds tree call success
 whole_so binds tree nodes call success object file nodes_is found len left from low asked shown len_is left_is from_is low_is asked_is shown_is =
     (λ is entry at. sym (ap length shown_is) ∙ eqb-true (length shown) asked is ∙ sized entry at, λ all. eq-eqb (length shown) asked (ap length shown_is ∙ all there.0 there.1 ∙ sym (sized there.0 there.1))) where
-      here : option_map (λ (e : FileEntry). (e.object, e.file)) (file_of binds tree call.file) ≡ Some (object, file)
-      here = ap (λ (t : Tree). option_map (λ (e : FileEntry). (e.object, e.file)) (file_of binds t call.file)) (sym nodes_is) ∙ sym found
+      here : option_map pair_of (file_of binds tree call.file) ≡ Some (pair object file)
+      here = ap (λ (t : Tree). option_map pair_of (file_of binds t call.file)) (sym nodes_is) ∙ sym found
 
-      there : (e : FileEntry) × (file_of binds tree call.file ≡ Some e) × ((e.object, e.file) ≡ (object, file))
-      there = mapped (λ (e : FileEntry). (e.object, e.file)) (file_of binds tree call.file) (object, file) here
+      there : (e : FileEntry) × (file_of binds tree call.file ≡ Some e) × (pair_of e ≡ pair object file)
+      there = mapped pair_of (file_of binds tree call.file) (pair object file) here
 
       total : asked ≡ min (min (length file.bytes - call.offset) call.count) transfer_limit
       total = asked_is ∙ ap (λ (n : ℕ). min n 1048576) (low_is ∙ (λ i. min ((left_is ∙ ap (λ (n : ℕ). n - call.offset) len_is) i) (from_is i)))

@@ -1,8 +1,9 @@
 -- how a call of a book stands: what is recorded of it, and where it was placed
-use Rattle.std.proofs.Common.{◌≡◌, ◌≢◌, ◌⊎◌, inl, inr, ℕ, zero, suc, ◌+◌, ◌-◌, ◌<◌, ◌≤◌, Bool, true, false, List, [], ◌∷◌, ◌++◌, length, map, Option, Some, None, refl, sym, ap, ◌∙◌, subst, arith}
+use Rattle.std.proofs.Common.{◌≡◌, ◌≢◌, ◌⊎◌, inl, inr, ℕ, zero, suc, ◌+◌, ◌-◌, ◌<◌, ◌≤◌, Bool, true, false, List, [], ◌∷◌, ◌++◌, length, map, get_or, Option, Some, None, refl, sym, ap, ◌∙◌, subst, arith}
 use Rattle.std.specs.Prelude.{IsSome, slice_get, option_map, option_and_then, Contains}
 use Rattle.std.specs.Option.{option_map_or}
 use Rattle.std.specs.List.{AllByRecursion}
+use Rattle.std.proofs.lemmas.Option.{get_or_from_slice_get}
 use Rattle.nfs3_types.specs.declared.calls.NfsCall.{NfsCall}
 use Rattle.nfs3_types.specs.declared.calls.NfsCall.TheVariants as calls
 use Rattle.history_file.specs.declared.event.Event as owned
@@ -68,7 +69,20 @@ at_place recorded (suc n) c e = subst (λ (m : ℕ). slice_get recorded m ≡ So
 pub asked_is : (recorded : List RecordedCall) (n : ℕ) (c : RecordedCall) (asked : NfsCall) → call_at recorded n ≡ Some c → c.meaning ≡ meanings.Judged asked → asked_by recorded n ≡ asked
 asked_is recorded n c asked at judged = ap (λ (o : Option RecordedCall). option_map_or (λ (d : RecordedCall). call_in d.meaning) o (calls.GetAttr [])) at ∙ ap call_in judged
 
+pub unjudged_never : (a c : RecordedCall) (asked : NfsCall) (o : Option RecordedCall) → o ≡ Some a → o ≡ Some c → a.meaning ≡ meanings.Judged asked → c.meaning ≡ meanings.Unjudged → ⊥
+unjudged_never a c asked o e f judged isnt = clash (sym judged ∙ ap (λ (d : RecordedCall). d.meaning) (same_one a c (sym e ∙ f)) ∙ isnt) where
+  clash : meanings.Judged asked ≡ meanings.Unjudged → ⊥
+  clash g = cc
+
 -- ---- the message of a call
+
+pub stood_there : (events seen : List owned.Event) (i : ℕ) (e x : owned.Event) → seen ≡ events → slice_get events i ≡ Some e → x ≡ get_or seen i x → x ≡ e
+stood_there events seen i e x same at is = is ∙ ap (λ (es : List owned.Event). get_or es i x) same ∙ get_or_from_slice_get events i e x at
+
+pub same_message : (x : owned.Event) (l m : ℕ) (a c : List ℕ) → x ≡ owns.Call l a → x ≡ owns.Call m c → a ≡ c
+same_message x l m a c e f = parts (sym e ∙ f) where
+  parts : owns.Call l a ≡ owns.Call m c → a ≡ c
+  parts g = cc
 
 call_there : (events : List owned.Event) (i lane : ℕ) (message : List ℕ) → slice_get (all_happened events) i ≡ Some (call lane message) → slice_get events i ≡ Some (owns.Call lane message)
 call_there [] i lane message e = absurd (never_some e)
@@ -100,7 +114,17 @@ has_sent h n c is at =
 
 -- ---- a call's turn
 
-not_running : (condition : code.Condition) → condition ≢ codes.Running → condition_of condition ≢ running
+pub down_isnt : (condition : code.Condition) → condition ≡ codes.Down → condition ≢ codes.Running
+down_isnt condition e f = clash (sym e ∙ f) where
+  clash : codes.Down ≡ codes.Running → ⊥
+  clash g = cc
+
+pub dead_isnt : (condition : code.Condition) → condition ≡ codes.Dead → condition ≢ codes.Running
+dead_isnt condition e f = clash (sym e ∙ f) where
+  clash : codes.Dead ≡ codes.Running → ⊥
+  clash g = cc
+
+pub not_running : (condition : code.Condition) → condition ≢ codes.Running → condition_of condition ≢ running
 not_running condition isnt e = isnt (running_book condition e)
 
 module _ (ledger : Ledger) (device : Device) (t : AreTied ledger device) (number : ℕ) where

@@ -46,8 +46,10 @@ impl Ledger {
         ensures begun { IfOk result (λ token. Goes (λ old new. Begins old lane message.now new × (token.number ≡ length new.history.known.calls)) self.old self.new) }
         ensures refused { IfErr result (λ fault. Goes (λ old new. BeginStops old lane message.now fault × (new ≡ old)) self.old self.new) }
     {
-        if self.condition != Condition::Running {
-            return Err(BeginFault::Down);
+        match self.condition {
+            Condition::Running => {}
+            Condition::Down => return Err(BeginFault::Down),
+            Condition::Dead => return Err(BeginFault::Down),
         }
         match self.history.lane(lane) {
             LaneState::Open => {}

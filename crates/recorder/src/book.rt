@@ -115,8 +115,9 @@ impl<D: JournalDevice> Book<D> {
         ensures flushed { OnOk result (Flushes self.old self.new) }
         ensures refused { FlushRefused self.old result self.new }
     {
-        if self.ledger.condition != Condition::Running {
-            return Err(FlushFault::Down);
+        match self.ledger.condition {
+            Condition::Running => {}
+            Condition::Down | Condition::Dead => return Err(FlushFault::Down),
         }
         match self.device.barrier() {
             Ok(()) => {

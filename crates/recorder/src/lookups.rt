@@ -52,18 +52,21 @@ impl Ledger {
         ensures ok { OnOk result (Holds (λ book. (book.condition ≡ running) × IsNow book number) self.now) }
         ensures refused { IfErr result (λ fault. Holds (λ book. TokenStops book number fault) self.now) }
     {
-        if self.condition != Condition::Running {
-            return Err(TokenFault::Down);
+        match self.condition {
+            Condition::Running => {}
+            Condition::Down => return Err(TokenFault::Down),
+            Condition::Dead => return Err(TokenFault::Down),
         }
         let Some(call) = self.history.find_call(number) else {
             return Err(TokenFault::OutOfTurn);
         };
-        if call.era != self.history.eras() {
-            return Err(TokenFault::EraOver(self.history.eras()));
+        let now = self.history.eras();
+        if call.era != now {
+            return Err(TokenFault::EraOver(now));
         }
         match self.history.lane(call.lane) {
             LaneState::Open => Ok(()),
-            LaneState::EraOver => Err(TokenFault::EraOver(self.history.eras())),
+            LaneState::EraOver => Err(TokenFault::EraOver(now)),
             LaneState::Closed => Err(TokenFault::LaneClosed),
         }
     }
@@ -74,8 +77,27 @@ impl Ledger {
         ensures ok { OnOk result (Holds (λ book. (book.condition ≡ running) × IsNow book number × IsUnplaced book.placed number) self.now) }
         ensures refused { IfErr result (λ fault. Holds (λ book. UnplacedStops book number fault) self.now) }
     {
-        self.check_token(number)?;
+        match self.check_token(number) {
+            Ok(()) => {}
+            Err(fault) => return Err(fault),
+        }
         match self.place_of(number) {
+            Some(_) => Err(TokenFault::OutOfTurn),
+            None => Ok(()),
+        }
+    }
+
+    /// Whether a call of the era now has no reply, where the book is running.
+    fn check_unanswered(&self, number: u64) -> Result<(), TokenFault>
+        requires { IsTied self.now }
+        ensures ok { OnOk result (Holds (λ book. (book.condition ≡ running) × IsNow book number × (end_of book.history.known.calls number ≡ None)) self.now) }
+        ensures refused { IfErr result (λ fault. Holds (λ book. PlacedStops book number fault) self.now) }
+    {
+        match self.check_token(number) {
+            Ok(()) => {}
+            Err(fault) => return Err(fault),
+        }
+        match self.history.end(number) {
             Some(_) => Err(TokenFault::OutOfTurn),
             None => Ok(()),
         }
@@ -88,9 +110,9 @@ impl Ledger {
         ensures ok { OnOk result (Holds (λ book. (book.condition ≡ running) × IsNow book number × (end_of book.history.known.calls number ≡ None)) self.now) }
         ensures refused { IfErr result (λ fault. Holds (λ book. PlacedStops book number fault) self.now) }
     {
-        self.check_token(number)?;
-        if self.history.end(number).is_some() {
-            return Err(TokenFault::OutOfTurn);
+        match self.check_unanswered(number) {
+            Ok(()) => {}
+            Err(fault) => return Err(fault),
         }
         match self.place_of(number) {
             Some(place) => Ok(place),
