@@ -163,6 +163,9 @@ module _ (ledger : Ledger) (device : Device) (t : AreTied ledger device) where
       ∙ ap (option_and_then (λ at. state_after next at (take (front_with (length device.records - records_kept book) book.placed) book.placed))) base.1
       ∙ front_leaves (bindings book) (length device.records - records_kept book) book.placed base.0 tree s.replied count base.2
 
+none_more : (n m : ℕ) → n ≡ 0 → n + m ≡ m
+none_more n m e = omega (arith, e)
+
 -- the values that take records back are let go
 pub settled_tied : (old new : Ledger) (device : Device) → AreTied old device → old.condition ≡ codes.Running → new ≡ record old { undos = new.undos } → new.undos.items ≡ [] → AreTied new (settled device)
 settled_tied old new device t runs only none = subst (λ (l : Ledger). AreTied l (settled device)) (sym only) (record {
@@ -174,7 +177,7 @@ settled_tied old new device t runs only none = subst (λ (l : Ledger). AreTied l
   bound = t.bound;
   tree = t.tree;
   stands = t.stands;
-  undos = λ some. ap (λ xs. length xs + length device.records) none;
+  undos = λ some. none_more (length new.undos.items) (length device.records) (ap length none);
   undone = undone;
 }) where
   empty : (earlier later : List Undo) → [] ≡ earlier ++ later → later ≡ []

@@ -11,3 +11,4 @@ pub mod Answered
 pub mod Plans
 pub mod Opening
 pub mod Whole
+pub mod Begun

@@ -102,3 +102,12 @@ module _ (ledger : Ledger) (faults : ℕ) (history : ledger.history ≡ (opening
     undos = λ some. ap (λ (xs : List Undo). length xs + 0) undos;
     undone = undone;
   }
+
+pub bare_binds : (root : List ℕ) → root ≡ handle_of 0 → record { root = root; pairs = [] } ≡ bindings_made []
+bare_binds root e = λ i. record { root = e i; pairs = [] }
+
+pub opening_whole : (ledger : Ledger) → ledger.history ≡ (opening_book 0).history → ledger.over.items ≡ [] → ledger.placed.items ≡ [] → ledger.calls.items ≡ [] → ledger.binds ≡ bindings_made []
+    → ledger.tree ≡ Some opening → ledger.undos.items ≡ [] → ledger.kept ≡ 0 → ledger.condition ≡ codes.Running → (faults : ℕ)
+    → AreTied ledger (opening_book faults).device × (book_of ledger (opening_book faults).device ≡ opening_book faults)
+opening_whole ledger history over placed states binds tree undos kept condition faults =
+    (opening_tied ledger faults history over placed states binds tree undos kept condition, opening_is ledger faults history over placed states binds tree undos kept condition)

@@ -10,6 +10,7 @@ use Rattle.certificate.specs.declared.plan.Bind.{Bind}
 use Rattle.certificate.specs.declared.plan.EraPlan.{EraPlan}
 use Rattle.journal_device.specs.Device.{Device}
 use Rattle.book_machine.specs.Placing.{Placed, front_with, is_recorded}
+use Rattle.book_machine.specs.Book.{handle_of}
 use Rattle.book_machine.specs.Plan.{bind_of, place_of, places_of, plan_over}
 use Rattle.book_machine.proofs.Invariant.{AreKnown, AllKnown, IsKnown, IsCutSafely}
 use Rattle.recorder.specs.declared.placed.PlacedCall.{PlacedCall}
@@ -62,6 +63,10 @@ binds_more front (y ∷ xs) zero k made x all lt of is e =
       joined true rest = refl
       joined false rest = refl
 binds_more front (y ∷ xs) (suc i) k made x all lt of is e = binds_more front xs i k made x all (omega (arith, lt)) of is e
+
+pub bound_so : (front all : List Bind) (handle : List ℕ) (object : ℕ) (made : Bool) → all ≡ front ++ record { handle = handle; object = object } ∷ [] → handle ≡ handle_of object → made ≡ true
+    → all ≡ front ++ bind_if made object
+bound_so front all handle object made e h is = e ∙ (λ i. front ++ record { handle = h i; object = object } ∷ []) ∙ ap (λ (b : Bool). front ++ bind_if b object) (sym is)
 
 -- ---- eras
 

@@ -6,6 +6,8 @@ use Rattle.nfs3_types.specs.declared.calls.NfsCall.{NfsCall}
 use Rattle.nfs3_types.specs.declared.calls.NfsCall.TheVariants as calls
 use Rattle.nfs3_types.specs.declared.replies.Outcome.{Outcome}
 use Rattle.history_file.specs.Owning.{all_happened}
+use Rattle.nfs_history.specs.declared.fault.HistoryFault.{HistoryFault}
+use Rattle.nfs_history.specs.declared.fault.HistoryFault.TheVariants as history_faults
 use Rattle.nfs_history.specs.HistoryValue.{HistoryValue}
 use Rattle.nfs_history.specs.Calls.{xid_of}
 use Rattle.nfs_history.specs.Standing.{has_unanswered, EachMayFollow}
@@ -69,3 +71,8 @@ abbrev pub TakeStops : HistoryValue → ℕ → List ℕ → BeginFault → Type
 TakeStops history lane message faults.XidInUse = EachMayFollow [] (all_happened history.events) → has_unanswered lane (xid_of message) (all_happened history.events) ≡ true
 TakeStops history lane message faults.NoMemory = ⊤
 TakeStops history lane message fault = ⊥
+
+-- as this a history's fault is told
+abbrev pub stop_of : HistoryFault → BeginFault
+stop_of (history_faults.XidInUse number) = faults.XidInUse
+stop_of fault = faults.NoMemory

@@ -4,9 +4,11 @@ ghost use Rattle.std.specs.Prelude.{◌≡◌, [], ◌∷◌, ◌++◌, false, N
 ghost use Rattle.history_file.specs.declared.event.Event.TheVariants as events;
 ghost use Rattle.nfs_history.specs.Appending.{Follows};
 ghost use Rattle.book_machine.specs.Steps.{Begins};
-ghost use Rattle.recorder.specs.Inside.{Goes, OnlyHistory};
+ghost use Rattle.recorder.specs.Inside.{Goes, Holds, OnlyHistory};
 ghost use Rattle.recorder.specs.Refusals.{BeginStops};
-ghost use Rattle.recorder.specs.Recordable.{TakeStops};
+ghost use Rattle.history_file.specs.Owning.{all_happened};
+ghost use Rattle.nfs_history.specs.Standing.{IsClosed};
+ghost use Rattle.recorder.specs.Recordable.{IsRecord, TakeStops, stop_of};
 
 use crate::calls::check_recordable;
 use crate::fault::BeginFault;
@@ -14,6 +16,16 @@ use crate::ledger::Ledger;
 use crate::placed::{CallState, Condition};
 use crate::token::Token;
 use nfs_history::{Event, HistoryFault, LaneState, Message};
+
+/// Why a history didn't take a call that may begin.
+fn stop_of(fault: HistoryFault) -> BeginFault
+    ensures { result ≡ stop_of fault }
+{
+    match fault {
+        HistoryFault::XidInUse(_) => BeginFault::XidInUse,
+        _ => BeginFault::NoMemory,
+    }
+}
 
 impl Ledger {
     /// Puts a call behind the other events of the history.
@@ -36,15 +48,14 @@ impl Ledger {
                 self.calls.push(state).unwrap();
                 Ok(())
             }
-            Err(HistoryFault::XidInUse(_)) => Err(BeginFault::XidInUse),
-            Err(_) => Err(BeginFault::NoMemory),
+            Err(fault) => Err(stop_of(fault)),
         }
     }
 
-    /// Begins a call.
-    pub(crate) fn begin(&mut self, lane: u32, message: &[u8]) -> Result<Token, BeginFault>
-        ensures begun { IfOk result (λ token. Goes (λ old new. Begins old lane message.now new × (token.number ≡ length new.history.known.calls)) self.old self.new) }
-        ensures refused { IfErr result (λ fault. Goes (λ old new. BeginStops old lane message.now fault × (new ≡ old)) self.old self.new) }
+    /// Why a call may not begin, but for its transaction number.
+    fn check_begin(&self, lane: u32, message: &[u8]) -> Result<(), BeginFault>
+        ensures ok { OnOk result ((self.now.condition ≡ Condition.Running) × (¬ IsClosed lane (all_happened self.now.history.events)) × IsRecord message.now) }
+        ensures refused { IfErr result (λ fault. Holds (λ book. BeginStops book lane message.now fault) self.now) }
     {
         match self.condition {
             Condition::Running => {}
@@ -56,8 +67,31 @@ impl Ledger {
             LaneState::EraOver => return Err(BeginFault::EraOver(self.history.eras())),
             LaneState::Closed => return Err(BeginFault::LaneClosed),
         }
-        check_recordable(self.alloc, message)?;
-        self.take_call(lane, message)?;
-        Ok(Token::new(self.history.calls()))
+        check_recordable(self.alloc, message)
+    }
+
+    /// Begins a call that may begin, unless its transaction number is in use.
+    fn begin_checked(&mut self, lane: u32, message: &[u8]) -> Result<Token, BeginFault>
+        requires running { self.old.condition ≡ Condition.Running }
+        requires lane { ¬ IsClosed lane (all_happened self.old.history.events) }
+        requires message { IsRecord message.now }
+        ensures begun { IfOk result (λ token. Goes (λ old new. Begins old lane message.now new × (token.number ≡ length new.history.known.calls)) self.old self.new) }
+        ensures refused { IfErr result (λ fault. Goes (λ old new. BeginStops old lane message.now fault × (new ≡ old)) self.old self.new) }
+    {
+        match self.take_call(lane, message) {
+            Ok(()) => Ok(Token::new(self.history.calls())),
+            Err(fault) => Err(fault),
+        }
+    }
+
+    /// Begins a call.
+    pub(crate) fn begin(&mut self, lane: u32, message: &[u8]) -> Result<Token, BeginFault>
+        ensures begun { IfOk result (λ token. Goes (λ old new. Begins old lane message.now new × (token.number ≡ length new.history.known.calls)) self.old self.new) }
+        ensures refused { IfErr result (λ fault. Goes (λ old new. BeginStops old lane message.now fault × (new ≡ old)) self.old self.new) }
+    {
+        match self.check_begin(lane, message) {
+            Ok(()) => self.begin_checked(lane, message),
+            Err(fault) => Err(fault),
+        }
     }
 }
