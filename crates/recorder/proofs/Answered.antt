@@ -25,7 +25,14 @@ use Rattle.nfs_history.specs.Calls.{xid_of}
 use Rattle.nfs_history.specs.History.{IsJudged, IsKnownAs}
 use Rattle.nfs_history.specs.Precedence.{call_at, end_of}
 use Rattle.journal_device.specs.Device.{Device}
-use Rattle.book_machine.specs.Placing.{Placed}
+use Rattle.book_machine.specs.Placing.{Placed, is_recorded, records_in}
+use Rattle.cut_check.specs.Effect.{effect_of}
+use Rattle.cut_check.specs.declared.effect.Effect.TheVariants.{Lasting}
+use Rattle.book_machine.specs.Steps.{commits}
+use Rattle.book_machine.proofs.Running.{head_is, tail_is}
+use Rattle.book_machine.proofs.Stable.{records_append}
+use Rattle.recorder.specs.Recordable.{step_so}
+use Rattle.recorder.specs.Inside.{AreCounted}
 use Rattle.book_machine.specs.Book.{Book, records_kept}
 use Rattle.book_machine.specs.Steps.{answered_now, change_at, with_reply, reply_message, IsOfNow, IsAnswerTo, IsDurable, Answers, Steps}
 use Rattle.book_machine.specs.Steps.Steps.{answers}
@@ -256,3 +263,121 @@ module _ (old : Ledger) (device : Device) (t : AreTied old device) (number place
 pub answerable : (old : Ledger) (device : Device) (number place : ℕ) → IsNow (book_of old device) number → end_of old.history.known.calls number ≡ None → (p : PlacedCall) → slice_get old.placed.items place ≡ Some p
     → p.number ≡ number → (there : Parts (book_of old device).placed place (placed_in old.history.known.calls p)) → IsAnswerable (book_of old device) number there.ahead (placed_in old.history.known.calls p)
 answerable old device number place now unanswered p at named there = record { now = now; unanswered = unanswered; behind = there.behind; placed = there.parts; named = named }
+
+-- ---- whether it may go out
+
+counted_parts : (recorded : List RecordedCall) (k : ℕ) (xs : List PlacedCall) (place : ℕ) (p : PlacedCall) → slice_get xs place ≡ Some p → AreCounted k recorded xs → (ahead : List Placed) (step : Placed) (behind : List Placed)
+    → map (placed_in recorded) xs ≡ ahead ++ step ∷ behind → length ahead ≡ place → (step ≡ placed_in recorded p) × (p.records ≡ k + records_in (ahead ++ step ∷ []))
+counted_parts recorded k [] place p at c ahead step behind e len = absurd (none at) where
+  none : None ≡ Some p → ⊥
+  none f = cc
+counted_parts recorded k (x ∷ xs) zero p at c [] step behind e len = (here, there) where
+  one : Some x ≡ Some p → x ≡ p
+  one f = cc
+
+  here : step ≡ placed_in recorded p
+  here = sym (head_is e) ∙ ap (placed_in recorded) (one at)
+
+  there : p.records ≡ k + records_in (step ∷ [])
+  there = sym (ap (λ (y : PlacedCall). y.records) (one at)) ∙ c.0 ∙ ap (λ (s : Placed). k + records_in (s ∷ [])) (head_is e)
+counted_parts recorded k (x ∷ xs) zero p at c (a ∷ ahead) step behind e len = absurd (none len) where
+  none : suc (length ahead) ≡ 0 → ⊥
+  none f = omega (arith, f)
+counted_parts recorded k (x ∷ xs) (suc place) p at c [] step behind e len = absurd (none len) where
+  none : 0 ≡ suc place → ⊥
+  none f = omega (arith, f)
+counted_parts recorded k (x ∷ xs) (suc place) p at c (a ∷ ahead) step behind e len =
+    let rest = counted_parts recorded x.records xs place p at c.1 ahead step behind (tail_is e) (less len) in
+    (rest.0, joined (records_in (a ∷ [])) (records_in (ahead ++ step ∷ [])) (c.0 ∙ ap (λ (s : Placed). k + records_in (s ∷ [])) (head_is e)) rest.1 ∙ ap (λ (n : ℕ). k + n) (sym (records_append (a ∷ []) (ahead ++ step ∷ [])))) where
+      less : suc (length ahead) ≡ suc place → length ahead ≡ place
+      less f = omega (arith, f)
+
+      joined : (m n : ℕ) → x.records ≡ k + m → p.records ≡ x.records + n → p.records ≡ k + (m + n)
+      joined m n f g = omega (arith, f, g)
+
+commit_unrecorded : (call : NfsCall) (outcome : Outcome) → commits (step_so call outcome) ≡ true → is_recorded (step_so call outcome) ≡ false
+commit_unrecorded (calls.Commit a) outcome e = refl
+commit_unrecorded _ outcome e = absurd (cc)
+
+same_length_parts : (a c : List Placed) (s r : Placed) (b d : List Placed) → a ++ s ∷ b ≡ c ++ r ∷ d → length a ≡ length c → (a ≡ c) × (s ≡ r)
+same_length_parts [] [] s r b d e len = (refl, head_is e)
+same_length_parts [] (y ∷ c) s r b d e len = absurd (none len) where
+  none : 0 ≡ suc (length c) → ⊥
+  none f = omega (arith, f)
+same_length_parts (x ∷ a) [] s r b d e len = absurd (none len) where
+  none : suc (length a) ≡ 0 → ⊥
+  none f = omega (arith, f)
+same_length_parts (x ∷ a) (y ∷ c) s r b d e len = let rest = same_length_parts a c s r b d (tail_is e) (less len) in ((λ i. head_is e i ∷ rest.0 i), rest.1) where
+  less : suc (length a) ≡ suc (length c) → length a ≡ length c
+  less f = omega (arith, f)
+
+module _ (ledger : Ledger) (device : Device) (t : AreTied ledger device) (number place mark : ℕ) (p : PlacedCall) (stands : slice_get ledger.placed.items place ≡ Some p) (named : p.number ≡ number) where
+  abbrev these : List RecordedCall
+  these = ledger.history.known.calls
+
+  abbrev kept_then : ℕ
+  kept_then = records_kept (book_of ledger device)
+
+  plus_none : (n : ℕ) → n + 0 ≡ n
+  plus_none n = omega arith
+
+  at_parts : (ahead : List Placed) (step : Placed) (behind : List Placed) → (book_of ledger device).placed ≡ ahead ++ step ∷ behind → length ahead ≡ place
+      → (step ≡ placed_in these p) × (p.records ≡ ledger.kept + records_in (ahead ++ step ∷ []))
+  at_parts ahead step behind parts len = counted_parts these ledger.kept ledger.placed.items place p stands t.counted ahead step behind parts len
+
+  pub near_durable : p.records ≤ mark → IsDurableAt kept_then mark (book_of ledger device).placed place
+  near_durable le ahead behind step parts len =
+      let c = at_parts ahead step behind parts len in
+      ((λ promise. whole (records_in (ahead ++ step ∷ [])) c.1), (λ commit. front (records_in ahead) (records_in (step ∷ [])) (c.1 ∙ ap (λ (n : ℕ). ledger.kept + n) (records_append ahead (step ∷ []))))) where
+        whole : (n : ℕ) → p.records ≡ ledger.kept + n → kept_then + n ≤ mark
+        whole n f = omega (arith, f, le, t.kept)
+
+        front : (m n : ℕ) → p.records ≡ ledger.kept + (m + n) → kept_then + m ≤ mark
+        front m n f = omega (arith, f, le, t.kept)
+
+  abbrev Promises : Type 0
+  Promises = (effect_of None (asked_by these number) p.outcome ≡ Lasting) ⊎ (commits (step_so (asked_by these number) p.outcome) ≡ true)
+
+  as_placed : (Q : NfsCall → Type 0) → Q (placed_in these p).call → Q (asked_by these number)
+  as_placed Q q = subst (λ (n : ℕ). Q (asked_by these n)) named q
+
+  pub free_durable : ¬ Promises → IsDurableAt kept_then mark (book_of ledger device).placed place
+  free_durable none ahead behind step parts len =
+      let is = (at_parts ahead step behind parts len).0 in
+      ((λ promise. absurd (none (inl (as_placed (λ call. effect_of None call p.outcome ≡ Lasting) (subst (λ (s : Placed). effect_of None s.call s.outcome ≡ Lasting) is promise))))),
+      (λ commit. absurd (none (inr (as_placed (λ call. commits (step_so call p.outcome) ≡ true) (subst (λ (s : Placed). commits s ≡ true) is commit))))))
+
+  pub there_at : Parts (book_of ledger device).placed place (placed_in these p)
+  there_at = mapped_parts (placed_in these) ledger.placed.items place p stands
+
+  pub far_durable : mark < p.records → Promises → ¬ IsDurableAt kept_then mark (book_of ledger device).placed place
+  far_durable lt promises durable = go promises where
+    here : IsDurable kept_then mark there_at.ahead (placed_in these p)
+    here = durable there_at.ahead there_at.behind (placed_in these p) there_at.parts there_at.length_is
+
+    count : p.records ≡ ledger.kept + records_in (there_at.ahead ++ placed_in these p ∷ [])
+    count = (at_parts there_at.ahead (placed_in these p) there_at.behind there_at.parts there_at.length_is).1
+
+    back : (Q : NfsCall → Type 0) → Q (asked_by these number) → Q (placed_in these p).call
+    back Q q = subst (λ (n : ℕ). Q (asked_by these n)) (sym named) q
+
+    past : (n : ℕ) → p.records ≡ ledger.kept + n → kept_then + n ≤ mark → ⊥
+    past n f le = omega (arith, f, le, lt, t.kept)
+
+    go : Promises → ⊥
+    go (inl lasting) = past (records_in (there_at.ahead ++ placed_in these p ∷ [])) count (here.0 (back (λ call. effect_of None call p.outcome ≡ Lasting) lasting))
+    go (inr commit) =
+        let same = back (λ call. commits (step_so call p.outcome) ≡ true) commit in
+        let none : records_in (placed_in these p ∷ []) ≡ 0 = ap (λ (b : Bool). if b then 1 else 0) (commit_unrecorded (placed_in these p).call p.outcome same) in
+        past (records_in there_at.ahead) (count ∙ ap (λ (n : ℕ). ledger.kept + n) (records_append there_at.ahead (placed_in these p ∷ []) ∙ ap (λ (n : ℕ). records_in there_at.ahead + n) none ∙ plus_none (records_in there_at.ahead))) (here.1 same)
+
+  -- it may go out where its parts say so
+  pub durable_by : IsDurable kept_then mark there_at.ahead (placed_in these p) → IsDurableAt kept_then mark (book_of ledger device).placed place
+  durable_by d ahead behind step parts len =
+      let same = same_length_parts ahead there_at.ahead step (placed_in these p) behind there_at.behind (sym parts ∙ there_at.parts) (len ∙ sym there_at.length_is) in
+      subst (λ (xs : List Placed). IsDurable kept_then mark xs step) (sym same.0) (subst (λ (s : Placed). IsDurable kept_then mark there_at.ahead s) (sym same.1) d)
+
+  pub not_yet : (now : IsNow (book_of ledger device) number) → end_of these number ≡ None → ¬ IsDurableAt kept_then mark (book_of ledger device).placed place
+      → (ahead : List Placed) × (step : Placed) × IsAnswerable (book_of ledger device) number ahead step × (¬ IsDurable kept_then mark ahead step)
+  not_yet now unanswered far =
+      (there_at.ahead, placed_in these p, record { now = now; unanswered = unanswered; behind = there_at.behind; placed = there_at.parts; named = named }, (λ d. far (durable_by d)))

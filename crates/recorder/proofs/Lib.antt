@@ -12,3 +12,4 @@ pub mod Plans
 pub mod Opening
 pub mod Whole
 pub mod Begun
+pub mod Flushed

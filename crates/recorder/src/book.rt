@@ -117,7 +117,8 @@ impl<D: JournalDevice> Book<D> {
     {
         match self.ledger.condition {
             Condition::Running => {}
-            Condition::Down | Condition::Dead => return Err(FlushFault::Down),
+            Condition::Down => return Err(FlushFault::Down),
+            Condition::Dead => return Err(FlushFault::Down),
         }
         match self.device.barrier() {
             Ok(()) => {

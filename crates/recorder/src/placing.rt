@@ -1,5 +1,12 @@
 //! Calls that are placed in the serial order.
 
+ghost use Rattle.std.specs.Prelude.{◌≡◌, IfOk};
+ghost use Rattle.rpc_reader.specs.Messages.{IsReply};
+ghost use Rattle.rpc_reader.specs.Values.Body.{success};
+ghost use Rattle.nfs3_types.specs.Procedures.{procedure_answered};
+ghost use Rattle.nfs3_msgs.specs.Messages.{IsResult, result_text};
+ghost use Rattle.book_machine.specs.Steps.{reply_message};
+
 use crate::calls::{is_recorded, may_make, verifier_of};
 use crate::fault::PlaceFault;
 use crate::ledger::Ledger;
@@ -28,7 +35,10 @@ pub(crate) fn reply_message(
     alloc: Global,
     xid: u32,
     reply: &NfsReply,
-) -> Result<Vec<u8>, AllocError> {
+) -> Result<Vec<u8>, AllocError>
+    ensures message { IfOk result (λ m. m.items ≡ reply_message xid reply.now) }
+    ensures spelled { IfOk result (λ m. IsReply m.items (record { xid = xid; body = success (result_text reply.now) }) × IsResult (procedure_answered reply.now) (result_text reply.now) reply.now) }
+{
     let mut results = Vec::new(alloc);
     put_result(&mut results, reply)?;
     let mut message = Vec::new(alloc);

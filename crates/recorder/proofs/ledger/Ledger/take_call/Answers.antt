@@ -2,7 +2,7 @@ use Rattle.std.proofs.Common.{◌≡◌, ◌<◌, List, ℕ, is_ok, vec_len, vec
 use Rattle.history_file.specs.declared.event.Event.TheVariants as owns
 use Rattle.nfs_history.specs.Appending.{Follows}
 use Rattle.recorder.proofs.Events.{fresh}
-use Rattle.recorder.specs.Recordable.{TakeStops}
+use Rattle.recorder.specs.Recordable.{TakeStops, stop_of}
 use Rattle.recorder.proofs.Begun.{pushed_within, stop_so}
 use Rattle.recorder.proofs.ledger.Ledger.take_call.Goals as goal
 
@@ -19,4 +19,4 @@ returns-in-Ok-clause-fresh c =
 pub returns-in-Err-clause-fault : goal.returns-in-Err-clause-fault
 returns-in-Err-clause-fault c =
     let stop = stop_so c.args.self.now.history c.args.lane c.in_ok-message.message c.in-Err.fault c.in-Err.ensures.fault in
-    rw c.stop_of.ensures (subst (λ (m : List ℕ). TakeStops c.args.self.now.history c.args.lane m _) c.in_ok-message.ensures stop)
+    rw c.stop_of.ensures (subst (λ (m : List ℕ). TakeStops c.args.self.now.history c.args.lane m (stop_of c.in-Err.fault)) c.in_ok-message.ensures stop)
