@@ -25,6 +25,20 @@ use Rattle.nfs_history.specs.Calls.{xid_of}
 use Rattle.nfs_history.specs.History.{IsJudged, IsKnownAs}
 use Rattle.nfs_history.specs.Precedence.{call_at, end_of}
 use Rattle.journal_device.specs.Device.{Device}
+use Rattle.std.proofs.Common.{get_or, not, Result, Ok, Err, ◌^◌}
+use Rattle.std.specs.Prelude.{IfOk, OnOk, OnErr, IfErr}
+use Rattle.std.proofs.lemmas.Option.{get_or_from_slice_get, slice_get_within}
+use Rattle.book_machine.specs.Book.Condition.{running}
+use Rattle.recorder.specs.declared.fault.TokenFault.{TokenFault}
+use Rattle.recorder.specs.declared.fault.TokenFault.TheVariants as token
+use Rattle.recorder.specs.declared.fault.AnswerFault.{AnswerFault}
+use Rattle.recorder.specs.declared.fault.AnswerFault.TheVariants as answer_faults
+use Rattle.recorder.specs.JoinedFaults.{of_token_to_answer}
+use Rattle.recorder.specs.Refusals.{AnswerStops}
+use Rattle.recorder.specs.Turns.{PlacedStops}
+use Rattle.recorder.specs.Inside.{IsAsked}
+use Rattle.recorder.proofs.Conditions.{running_book}
+use Rattle.recorder.proofs.Replies.{xid_said}
 use Rattle.book_machine.specs.Placing.{Placed, is_recorded, records_in}
 use Rattle.cut_check.specs.Effect.{effect_of}
 use Rattle.cut_check.specs.declared.effect.Effect.TheVariants.{Lasting}
@@ -381,3 +395,124 @@ module _ (ledger : Ledger) (device : Device) (t : AreTied ledger device) (number
       → (ahead : List Placed) × (step : Placed) × IsAnswerable (book_of ledger device) number ahead step × (¬ IsDurable kept_then mark ahead step)
   not_yet now unanswered far =
       (there_at.ahead, placed_in these p, record { now = now; unanswered = unanswered; behind = there_at.behind; placed = there_at.parts; named = named }, (λ d. far (durable_by d)))
+
+-- ---- what the private functions need
+
+pub item_is : (xs : List PlacedCall) (place : ℕ) (p x : PlacedCall) → slice_get xs place ≡ Some p → x ≡ get_or xs place x → x ≡ p
+item_is xs place p x at is = is ∙ get_or_from_slice_get xs place p x at
+
+module _ (ledger : Ledger) (device : Device) (t : AreTied ledger device) (number place : ℕ) (stands : StandsAt ledger number place) where
+  abbrev its_calls : List RecordedCall
+  its_calls = ledger.history.known.calls
+
+  abbrev its_step : Placed
+  its_step = placed_in its_calls stands.0
+
+  its_parts : Parts (book_of ledger device).placed place its_step
+  its_parts = mapped_parts (placed_in its_calls) ledger.placed.items place stands.0 stands.1
+
+  its_known : IsKnown its_calls (1 + length (book_of ledger device).over) its_step
+  its_known =
+      has_there (IsKnown its_calls (1 + length (book_of ledger device).over)) its_parts.ahead its_step its_parts.behind
+      (subst (AreKnown its_calls (1 + length (book_of ledger device).over)) its_parts.parts
+      (known_last its_calls 1 (book_of ledger device).over (book_of ledger device).placed (sound (book_of ledger device) t.reached).invariant.known))
+
+  pub its_call : (call : RecordedCall) × (call_at its_calls number ≡ Some call)
+  its_call = (its_known.call, ap (call_at its_calls) (sym stands.2) ∙ its_known.recorded)
+
+  pub its_asked : IsAsked its_calls number
+  its_asked = judged_asked ledger device t number its_call.0 its_call.1
+
+  pub its_reply : (reply : NfsReply) × (stands.0.outcome ≡ outcomes.Received reply)
+  its_reply = (its_known.reply, its_known.received)
+
+  pub its_place : place < length ledger.placed.items
+  its_place = slice_get_within ledger.placed.items place stands.0 stands.1
+
+-- the answer to whether it may go out
+pub durable_turn : (ledger : Ledger) (device : Device) (t : AreTied ledger device) (number place mark : ℕ) (stands : StandsAt ledger number place) (b : Bool) (call : NfsCall) (outcome : Outcome)
+    → call ≡ asked_by ledger.history.known.calls number → outcome ≡ stands.0.outcome
+    → (IsTrue b ↔ ((effect_of None call outcome ≡ Lasting) ⊎ (commits (step_so call outcome) ≡ true))) → mark < stands.0.records
+    → IsTrue (not b) ↔ IsDurableAt (records_kept (book_of ledger device)) mark (book_of ledger device).placed place
+durable_turn ledger device t number place mark stands b call outcome call_is outcome_is told lt = go b told where
+  abbrev Told : NfsCall → Outcome → Type 0
+  Told k o = (effect_of None k o ≡ Lasting) ⊎ (commits (step_so k o) ≡ true)
+
+  moved : Told call outcome → Told (asked_by ledger.history.known.calls number) stands.0.outcome
+  moved h = subst (λ (k : NfsCall). Told k stands.0.outcome) call_is (subst (λ (o : Outcome). Told call o) outcome_is h)
+
+  back : Told (asked_by ledger.history.known.calls number) stands.0.outcome → Told call outcome
+  back h = subst (λ (o : Outcome). Told call o) (sym outcome_is) (subst (λ (k : NfsCall). Told k stands.0.outcome) (sym call_is) h)
+
+  wrong : false ≡ true → ⊥
+  wrong e = cc
+
+  go : (b : Bool) → (IsTrue b ↔ Told call outcome) → IsTrue (not b) ↔ IsDurableAt (records_kept (book_of ledger device)) mark (book_of ledger device).placed place
+  go true h = ((λ e. absurd (wrong e)), (λ d. absurd (far_durable ledger device t number place mark stands.0 stands.1 stands.2 lt (moved (h.0 refl)) d)))
+  go false h = ((λ e. free_durable ledger device t number place mark stands.0 stands.1 stands.2 (λ q. wrong (h.1 (back q)))), (λ d. refl))
+
+pub answer_so : {V E : Type 0} (r : Result V E) (items : V → List ℕ) (ledger : Ledger) (number place : ℕ) (p : PlacedCall) (call : RecordedCall) (reply : NfsReply) → slice_get ledger.placed.items place ≡ Some p
+    → call_at ledger.history.known.calls number ≡ Some call → p.outcome ≡ outcomes.Received reply → call.xid < 2 ^ 32 → IfOk r (λ m. items m ≡ reply_message call.xid reply)
+    → IfOk r (λ m. IsReply (items m) (record { xid = call.xid; body = success (result_text reply) }) × IsResult (procedure_answered reply) (result_text reply) reply) → IfOk r (λ m. IsAnswerAt ledger number place (items m))
+answer_so (Ok m) items ledger number place p call reply stands recorded received fits text spelled = record {
+  placed = p;
+  stands = stands;
+  call = call;
+  recorded = recorded;
+  reply = reply;
+  received = received;
+  spelled = text;
+  said = ap xid_of text ∙ xid_said call.xid (result_text reply) fits;
+  is_reply = spelled.0;
+  is_result = spelled.1;
+}
+answer_so (Err e) items ledger number place p call reply stands recorded received fits text spelled = tt
+
+pub put_so : (old new : HistoryValue) (given call : RecordedCall) (o : Option RecordedCall) (message answer : List ℕ) → o ≡ Some given → o ≡ Some call → message ≡ answer → Follows old (owns.Reply given.lane message) new
+    → Follows old (owns.Reply call.lane answer) new
+put_so old new given call o message answer e f same follows =
+    subst (λ (c : RecordedCall). Follows old (owns.Reply c.lane answer) new) (one (sym e ∙ f)) (subst (λ (m : List ℕ). Follows old (owns.Reply given.lane m) new) same follows) where
+      one : Some given ≡ Some call → given ≡ call
+      one g = cc
+
+pub on_ok_by : {X E : Type 0} (r : Result X E) (A B : Type 0) → (A → B) → OnOk r A → OnOk r B
+on_ok_by (Ok x) A B goes a = goes a
+on_ok_by (Err e) A B goes a = tt
+
+pub if_err_by : {X E : Type 0} (r : Result X E) (P Q : E → Type 0) (H : Type 0) → ((e : E) → P e → H → Q e) → IfErr r P → OnErr r H → IfErr r Q
+if_err_by (Ok x) P Q H goes p h = tt
+if_err_by (Err e) P Q H goes p h = goes e p h
+
+pub answer_stops : (b : Book) (number : ℕ) (fault : TokenFault) → PlacedStops b number fault → AnswerStops b number (of_token_to_answer fault)
+answer_stops b number token.Down s = s
+answer_stops b number (token.EraOver now) s = s
+answer_stops b number token.LaneClosed s = s
+answer_stops b number token.OutOfTurn s = s
+
+module _ (old new : Ledger) (number place mark : ℕ) (stands : StandsAt old number place) (answer : List ℕ) (given : IsAnswerAt old number place answer) where
+  given_named : given.placed.number ≡ number
+  given_named = ap (λ (p : PlacedCall). p.number) (one (sym given.stands ∙ stands.1)) ∙ stands.2 where
+    one : Some given.placed ≡ Some stands.0 → given.placed ≡ stands.0
+    one e = cc
+
+  module _ (device : Device) (t : AreTied old device) (at : device.mark ≡ mark) (ready : (condition_of old.condition ≡ running) × IsNow (book_of old device) number × (end_of old.history.known.calls number ≡ None))
+      (durable : IsDurableAt (records_kept (book_of old device)) mark (book_of old device).placed place) (only : OnlyHistory old new) (states : new.calls.items ≡ old.calls.items)
+      (follows : Follows old.history (owns.Reply ready.1.0.lane answer) new.history) where
+    durable_here : IsDurableAt (records_kept (book_of old device)) device.mark (book_of old device).placed place
+    durable_here = subst (λ (n : ℕ). IsDurableAt (records_kept (book_of old device)) n (book_of old device).placed place) (sym at) durable
+
+    pub goes_answered : AreTied new device × Answers (book_of old device) number (book_of new device)
+    goes_answered = (
+      answers_tied old device t number place ready.1 (running_book old.condition ready.0) ready.2 answer given given_named durable_here new only follows states,
+      answers_so old device t number place ready.1 (running_book old.condition ready.0) ready.2 answer given given_named durable_here new only follows states,
+    )
+
+pub memory_stops : (old : Ledger) (device : Device) (number : ℕ) (fault : AnswerFault) → fault ≡ answer_faults.NoMemory → condition_of old.condition ≡ running → IsNow (book_of old device) number
+    → AnswerStops (book_of old device) number fault
+memory_stops old device number fault is runs now = subst (λ (f : AnswerFault). AnswerStops (book_of old device) number f) (sym is) (runs, now)
+
+pub far_from : (b : Bool) (P : Type 0) → b ≡ false → (P → IsTrue b) → ¬ P
+far_from b P e told p = wrong b e (told p) where
+  wrong : (b : Bool) → b ≡ false → IsTrue b → ⊥
+  wrong true f h = absurd (cc)
+  wrong false f h = absurd (cc)

@@ -67,6 +67,27 @@ impl Ledger {
         }
     }
 
+    /// Answers a call that stands at this place and has no reply, where what the reply promises is on stable storage.
+    fn answer_durable(
+        &mut self,
+        number: u64,
+        place: usize,
+        mark: u64,
+    ) -> Result<Vec<u8>, AnswerFault>
+        requires tied { IsTied self.old }
+        requires stands { StandsAt self.old number place }
+        requires ready { Holds (λ book. (book.condition ≡ running) × IsNow book number × (end_of book.history.known.calls number ≡ None)) self.old }
+        requires durable { Holds (λ book. IsDurableAt (records_kept book) mark book.placed place) self.old }
+        ensures answered { OnOk result (GoesAt mark (λ old new. Answers old number new) self.old self.new) }
+        ensures refused { IfErr result (λ fault. GoesAt mark (λ old new. AnswerStops old number fault × (new ≡ old)) self.old self.new) }
+    {
+        let _ = mark;
+        match self.answer_at(number, place) {
+            Ok(answer) => self.put_answer(number, answer),
+            Err(_) => Err(AnswerFault::NoMemory),
+        }
+    }
+
     /// Answers a call that stands at this place and has no reply.
     fn answer_placed(
         &mut self,
@@ -81,12 +102,10 @@ impl Ledger {
         ensures refused { IfErr result (λ fault. GoesAt mark (λ old new. AnswerStops old number fault × (new ≡ old)) self.old self.new) }
     {
         let durable = self.is_durable(number, place, mark);
-        if !durable {
-            return Err(AnswerFault::NotDurable(mark));
-        }
-        match self.answer_at(number, place) {
-            Ok(answer) => self.put_answer(number, answer),
-            Err(_) => Err(AnswerFault::NoMemory),
+        if durable {
+            self.answer_durable(number, place, mark)
+        } else {
+            Err(AnswerFault::NotDurable(mark))
         }
     }
 
