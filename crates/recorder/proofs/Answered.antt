@@ -429,15 +429,15 @@ module _ (ledger : Ledger) (device : Device) (t : AreTied ledger device) (number
   pub its_place : place < length ledger.placed.items
   its_place = slice_get_within ledger.placed.items place stands.0 stands.1
 
+abbrev Told : NfsCall → Outcome → Type 0
+Told k o = (effect_of None k o ≡ Lasting) ⊎ (commits (step_so k o) ≡ true)
+
 -- the answer to whether it may go out
 pub durable_turn : (ledger : Ledger) (device : Device) (t : AreTied ledger device) (number place mark : ℕ) (stands : StandsAt ledger number place) (b : Bool) (call : NfsCall) (outcome : Outcome)
     → call ≡ asked_by ledger.history.known.calls number → outcome ≡ stands.0.outcome
     → (IsTrue b ↔ ((effect_of None call outcome ≡ Lasting) ⊎ (commits (step_so call outcome) ≡ true))) → mark < stands.0.records
     → IsTrue (not b) ↔ IsDurableAt (records_kept (book_of ledger device)) mark (book_of ledger device).placed place
 durable_turn ledger device t number place mark stands b call outcome call_is outcome_is told lt = go b told where
-  abbrev Told : NfsCall → Outcome → Type 0
-  Told k o = (effect_of None k o ≡ Lasting) ⊎ (commits (step_so k o) ≡ true)
-
   moved : Told call outcome → Told (asked_by ledger.history.known.calls number) stands.0.outcome
   moved h = subst (λ (k : NfsCall). Told k stands.0.outcome) call_is (subst (λ (o : Outcome). Told call o) outcome_is h)
 
@@ -454,11 +454,11 @@ durable_turn ledger device t number place mark stands b call outcome call_is out
 pub answer_so : {V E : Type 0} (r : Result V E) (items : V → List ℕ) (ledger : Ledger) (number place : ℕ) (p : PlacedCall) (call : RecordedCall) (reply : NfsReply) → slice_get ledger.placed.items place ≡ Some p
     → call_at ledger.history.known.calls number ≡ Some call → p.outcome ≡ outcomes.Received reply → call.xid < 2 ^ 32 → IfOk r (λ m. items m ≡ reply_message call.xid reply)
     → IfOk r (λ m. IsReply (items m) (record { xid = call.xid; body = success (result_text reply) }) × IsResult (procedure_answered reply) (result_text reply) reply) → IfOk r (λ m. IsAnswerAt ledger number place (items m))
-answer_so (Ok m) items ledger number place p call reply stands recorded received fits text spelled = record {
+answer_so (Ok m) items ledger number place p call reply stands at received fits text spelled = record {
   placed = p;
   stands = stands;
   call = call;
-  recorded = recorded;
+  recorded = at;
   reply = reply;
   received = received;
   spelled = text;
@@ -466,7 +466,7 @@ answer_so (Ok m) items ledger number place p call reply stands recorded received
   is_reply = spelled.0;
   is_result = spelled.1;
 }
-answer_so (Err e) items ledger number place p call reply stands recorded received fits text spelled = tt
+answer_so (Err e) items ledger number place p call reply stands at received fits text spelled = tt
 
 pub put_so : (old new : HistoryValue) (given call : RecordedCall) (o : Option RecordedCall) (message answer : List ℕ) → o ≡ Some given → o ≡ Some call → message ≡ answer → Follows old (owns.Reply given.lane message) new
     → Follows old (owns.Reply call.lane answer) new

@@ -1,6 +1,6 @@
 -- a book that is flushed, opened and asked
 use Rattle.std.proofs.Common.{◌≡◌, ◌≢◌, ℕ, List, [], length, Result, Ok, Err, refl, sym, ap, ◌∙◌, subst}
-use Rattle.std.specs.Prelude.{IfOk, IsErrOf}
+use Rattle.std.specs.Prelude.{IfOk}
 use Rattle.journal_device.specs.declared.device.DevFault.{DevFault}
 use Rattle.journal_device.specs.declared.device.DevFault.TheVariants.{Failed, NoMemory}
 use Rattle.journal_device.specs.Device.{Device, settled, failed, Leaves}
@@ -23,7 +23,10 @@ down_rests condition e f = clash (sym (ap condition_of f) ∙ e) where
   clash : running ≡ down → ⊥
   clash g = cc
 
-pub barrier_failed : {A : Type 0} (fault : DevFault) (before done after : Device) → Leaves {A = A} before done (Err fault) after → (IsErrOf {A = A} (Err fault) NoMemory → ⊥) → after ≡ failed before
+abbrev pub barred : DevFault → Result (Unit {0}) DevFault
+barred fault = Err fault
+
+pub barrier_failed : (fault : DevFault) (before done after : Device) → Leaves before done (barred fault) after → (barred fault ≡ barred NoMemory → ⊥) → after ≡ failed before
 barrier_failed Failed before done after is never = is
 barrier_failed NoMemory before done after is never = absurd (never refl)
 

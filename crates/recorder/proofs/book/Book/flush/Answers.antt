@@ -1,5 +1,5 @@
 use Rattle.std.proofs.Common.{refl, sym, ap, subst, ◌∙◌}
-use Rattle.journal_device.specs.Device.{Device}
+use Rattle.journal_device.specs.Device.{Device, settled}
 use Rattle.book_machine.specs.Book.{Book}
 use Rattle.recorder.specs.Inside.{AreTied}
 use Rattle.recorder.proofs.Standing.{down_isnt, dead_isnt, not_running}
@@ -28,7 +28,7 @@ pub invariant_of-self-in-Err : goal.invariant_of-self-in-Err
 invariant_of-self-in-Err g c =
     let goes = c.go_down.ensures (g.D.JournalDevice.device c.self.inside.device) c.self.invariant in
     downed_tied c.self.inside.ledger c.go_down.new.self (g.D.JournalDevice.device c.self.inside.device) (g.D.JournalDevice.device c.barrier.new.self) c.self.invariant c.args.self.now c.self.view_is c.in-Running.is
-    (barrier_failed {A = Unit {0}} c.in-Err.field-0 (g.D.JournalDevice.device c.self.inside.device) _ (g.D.JournalDevice.device c.barrier.new.self) c.in-Err.ensures.leaves c.in-Err.ensures.memory) goes.0 goes.1
+    (barrier_failed c.in-Err.field-0 (g.D.JournalDevice.device c.self.inside.device) (settled (g.D.JournalDevice.device c.self.inside.device)) (g.D.JournalDevice.device c.barrier.new.self) c.in-Err.ensures.leaves c.in-Err.ensures.memory) goes.0 goes.1
 
 pub returns-in-Ok-clause-flushed : goal.returns-in-Ok-clause-flushed
 returns-in-Ok-clause-flushed g c =
@@ -39,4 +39,4 @@ pub returns-in-Err-clause-refused : goal.returns-in-Err-clause-refused
 returns-in-Err-clause-refused g c =
     let goes = c.go_down.ensures (g.D.JournalDevice.device c.self.inside.device) c.self.invariant in
     downed_so c.self.inside.ledger c.go_down.new.self (g.D.JournalDevice.device c.self.inside.device) (g.D.JournalDevice.device c.barrier.new.self) c.self.invariant c.args.self.now c.self.view_is c.in-Running.is
-    (barrier_failed {A = Unit {0}} c.in-Err.field-0 (g.D.JournalDevice.device c.self.inside.device) _ (g.D.JournalDevice.device c.barrier.new.self) c.in-Err.ensures.leaves c.in-Err.ensures.memory) goes.1
+    (barrier_failed c.in-Err.field-0 (g.D.JournalDevice.device c.self.inside.device) (settled (g.D.JournalDevice.device c.self.inside.device)) (g.D.JournalDevice.device c.barrier.new.self) c.in-Err.ensures.leaves c.in-Err.ensures.memory) goes.1
