@@ -357,9 +357,10 @@ module _ (ledger : Ledger) (device : Device) (t : AreTied ledger device) (number
 
   pub free_durable : ¬ Promises → IsDurableAt kept_then mark (book_of ledger device).placed place
   free_durable none ahead behind step parts len =
-      let is = (at_parts ahead step behind parts len).0 in
-      ((λ promise. absurd (none (inl (as_placed (λ call. effect_of None call p.outcome ≡ Lasting) (subst (λ (s : Placed). effect_of None s.call s.outcome ≡ Lasting) is promise))))),
-      (λ commit. absurd (none (inr (as_placed (λ call. commits (step_so call p.outcome) ≡ true) (subst (λ (s : Placed). commits s ≡ true) is commit))))))
+      let is = (at_parts ahead step behind parts len).0 in (
+        (λ promise. absurd (none (inl (as_placed (λ call. effect_of None call p.outcome ≡ Lasting) (subst (λ (s : Placed). effect_of None s.call s.outcome ≡ Lasting) is promise))))),
+        (λ commit. absurd (none (inr (as_placed (λ call. commits (step_so call p.outcome) ≡ true) (subst (λ (s : Placed). commits s ≡ true) is commit))))),
+      )
 
   pub there_at : Parts (book_of ledger device).placed place (placed_in these p)
   there_at = mapped_parts (placed_in these) ledger.placed.items place p stands

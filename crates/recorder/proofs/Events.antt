@@ -55,7 +55,6 @@ history_is old new target event follows events root spare is =
     let same : new.events ≡ target.events = follows.events ∙ sym events in
     λ i. record { known = known i; events = same i; spare = sym spare i }
 
-
 -- ---- lists with one item more
 
 pub slice_stays : {X : Type 0} (xs : List X) (x : X) (n : ℕ) (y : X) → slice_get xs n ≡ Some y → slice_get (xs ++ x ∷ []) n ≡ Some y

@@ -9,9 +9,7 @@ ghost use Rattle.book_machine.specs.Plan.{plan_of};
 ghost use Rattle.book_machine.specs.Steps.{opening_book, Begins, Places, Flushes, Answers, Closes, Crashes};
 ghost use Rattle.recorder.specs.Refusals.{BeginRefused, PlaceRefused, FlushRefused, AnswerRefused, CloseRefused, CrashRefused};
 
-use crate::fault::{
-    AnswerFault, BeginFault, CloseFault, CrashFault, FlushFault, PlaceFault,
-};
+use crate::fault::{AnswerFault, BeginFault, CloseFault, CrashFault, FlushFault, PlaceFault};
 use crate::ledger::Ledger;
 use crate::placed::Condition;
 use crate::token::Token;

@@ -77,12 +77,7 @@ fn plan_over(alloc: Global, history: &History, era: &EraOver) -> Result<EraPlan,
 }
 
 /// Puts the bind of an object behind the others, where it was made.
-fn add_bind(
-    alloc: Global,
-    binds: &mut Vec<Bind>,
-    object: u64,
-    made: bool,
-) -> Result<(), AllocError>
+fn add_bind(alloc: Global, binds: &mut Vec<Bind>, object: u64, made: bool) -> Result<(), AllocError>
     ensures { OnOk result (binds.new.items ≡ binds.old.items ++ (if made then bind_of object ∷ [] else [])) }
 {
     if made {

@@ -19,7 +19,9 @@ mod served;
 mod token;
 
 pub use book::Book;
-pub use fault::{AnswerFault, BeginFault, CloseFault, CrashFault, FlushFault, PlaceFault, RebuildFault};
+pub use fault::{
+    AnswerFault, BeginFault, CloseFault, CrashFault, FlushFault, PlaceFault, RebuildFault,
+};
 pub use journal_device::{DevFault, JournalDevice, Record, SimDevice};
 pub use rebuilding::rebuild;
 pub use token::Token;

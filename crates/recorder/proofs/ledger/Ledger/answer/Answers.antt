@@ -6,7 +6,10 @@ use Rattle.recorder.proofs.Answered.{answer_stops}
 use Rattle.recorder.proofs.ledger.Ledger.answer.Goals as goal
 
 pub returns-in-Err-clause-refused : goal.returns-in-Err-clause-refused
-returns-in-Err-clause-refused c = λ device t at.
-    (t,
-    (subst (λ (f : AnswerFault). AnswerStops (book_of c.args.self.now device) c.args.number f) (sym c.from.ensures) (answer_stops (book_of c.args.self.now device) c.args.number c.in-Err.fault (c.in-Err.ensures.refused device t)),
-    refl))
+returns-in-Err-clause-refused c = λ device t at. (
+  t,
+  (
+    subst (λ (f : AnswerFault). AnswerStops (book_of c.args.self.now device) c.args.number f) (sym c.from.ensures) (answer_stops (book_of c.args.self.now device) c.args.number c.in-Err.fault (c.in-Err.ensures.refused device t)),
+    refl,
+  ),
+)

@@ -13,9 +13,10 @@ pub returns-in-Ok-clause-closed : goal.returns-in-Ok-clause-closed
 returns-in-Ok-clause-closed c = λ device t.
     let old = c.args.self.now in
     let new = record old { history = c.append.new.self } in
-    let ens = c.in-Ok.ensures in
-    (closes_tied old new device t c.args.lane c.in-Open.ensures refl (record { history = ens.found; events = ens.behind; spare = ens.taken }) refl,
-    closes_so old new device t c.args.lane c.in-Open.ensures refl (record { history = ens.found; events = ens.behind; spare = ens.taken }) refl)
+    let ens = c.in-Ok.ensures in (
+      closes_tied old new device t c.args.lane c.in-Open.ensures refl (record { history = ens.found; events = ens.behind; spare = ens.taken }) refl,
+      closes_so old new device t c.args.lane c.in-Open.ensures refl (record { history = ens.found; events = ens.behind; spare = ens.taken }) refl,
+    )
 
 pub returns-in-Err-clause-refused : goal.returns-in-Err-clause-refused
 returns-in-Err-clause-refused c = λ device t.
