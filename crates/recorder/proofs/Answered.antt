@@ -1,10 +1,9 @@
 -- a call of a book that is answered
-use Rattle.std.proofs.Common.{◌≡◌, ◌≢◌, ◌⊎◌, inl, inr, ◌↔◌, ℕ, zero, suc, ◌+◌, ◌-◌, ◌<◌, ◌≤◌, Bool, true, false, List, [], ◌∷◌, ◌++◌, length, map, Option, Some, None, refl, sym, ap, ◌∙◌, subst, arith}
-use Rattle.std.specs.Prelude.{IsSome, IsTrue, slice_get, option_and_then, if◌then◌else◌}
-use Rattle.std.specs.Option.{option_map_or}
+use Rattle.std.proofs.Common.{◌≡◌, ◌⊎◌, inl, inr, ◌↔◌, ℕ, zero, suc, ◌+◌, ◌-◌, ◌<◌, ◌≤◌, Bool, true, false, List, [], ◌∷◌, ◌++◌, length, map, Option, Some, None, refl, sym, ap, ◌∙◌, subst, arith}
+use Rattle.std.specs.Prelude.{IsTrue, slice_get, option_and_then, if◌then◌else◌}
 use Rattle.std.specs.List.{AllByRecursion}
 use Rattle.std.proofs.lemmas.Bool.{eqb-true}
-use Rattle.rpc_reader.specs.Values.{CallValue, Body, ReplyValue}
+use Rattle.rpc_reader.specs.Values.{CallValue}
 use Rattle.rpc_reader.specs.Values.Body.{success}
 use Rattle.rpc_reader.specs.Messages.{IsReply}
 use Rattle.nfs3_types.specs.declared.calls.NfsCall.{NfsCall}
@@ -15,7 +14,6 @@ use Rattle.nfs3_types.specs.declared.replies.Outcome.TheVariants as outcomes
 use Rattle.nfs3_types.specs.Procedures.{is_answered, procedure_called, procedure_answered}
 use Rattle.nfs3_msgs.specs.Messages.{IsResult, result_text}
 use Rattle.history_file.specs.declared.event.Event.TheVariants as owns
-use Rattle.history_file.specs.Owning.{all_happened}
 use Rattle.nfs_history.specs.declared.history.Meaning.{Meaning}
 use Rattle.nfs_history.specs.declared.history.Meaning.TheVariants as meanings
 use Rattle.nfs_history.specs.declared.history.RecordedCall.{RecordedCall}
@@ -48,23 +46,22 @@ use Rattle.book_machine.proofs.Stable.{records_append}
 use Rattle.recorder.specs.Recordable.{step_so}
 use Rattle.recorder.specs.Inside.{AreCounted}
 use Rattle.book_machine.specs.Book.{Book, records_kept}
-use Rattle.book_machine.specs.Steps.{answered_now, change_at, with_reply, reply_message, IsOfNow, IsAnswerTo, IsDurable, Answers, Steps}
+use Rattle.book_machine.specs.Steps.{answered_now, change_at, with_reply, reply_message, IsAnswerTo, IsDurable, Answers}
 use Rattle.book_machine.specs.Steps.Steps.{answers}
-use Rattle.book_machine.proofs.Invariant.{Over, IsKnown, AreKnown, AllKnown, IsInvariant}
+use Rattle.book_machine.proofs.Invariant.{Over, IsKnown, AreKnown, AllKnown}
 use Rattle.book_machine.proofs.Lists.{all_append, all_behind}
 use Rattle.book_machine.proofs.Kept.{kept}
 use Rattle.recorder.specs.declared.placed.PlacedCall.{PlacedCall}
 use Rattle.recorder.specs.declared.placed.EraOver.{EraOver}
-use Rattle.recorder.specs.declared.placed.CallState.{CallState}
 use Rattle.recorder.specs.declared.placed.Condition.TheVariants as codes
 use Rattle.recorder.specs.declared.ledger.Ledger.{Ledger}
-use Rattle.recorder.specs.Inside.{call_in, asked_by, placed_in, era_in, made_from, condition_of, book_of, ArePlaced, IsShort, AreTied, OnlyHistory, StandsAt}
+use Rattle.recorder.specs.Inside.{asked_by, placed_in, era_in, made_from, condition_of, book_of, ArePlaced, IsShort, AreTied, OnlyHistory, StandsAt}
 use Rattle.recorder.specs.Refusals.{IsNow, IsAnswerable}
 use Rattle.recorder.specs.Turns.{IsDurableAt, IsAnswerAt}
 use Rattle.recorder.proofs.Runs.{IsReplyTo, IsSound, sound}
 use Rattle.recorder.proofs.Tied.{over_in, placed_now, tied_with, book_with}
 use Rattle.recorder.proofs.Events.{history_is}
-use Rattle.recorder.proofs.Standing.{HasSent, has_sent, from_one, judged_asked}
+use Rattle.recorder.proofs.Standing.{HasSent, has_sent, judged_asked}
 use Rattle.recorder.proofs.Replies.{xid_asked, its_procedure}
 
 -- ---- parts of a list

@@ -1,5 +1,5 @@
 -- which messages are those of judged calls
-use Rattle.std.proofs.Common.{◌≡◌, ◌≢◌, ◌⊎◌, inl, inr, ℕ, Bool, true, false, List, Option, Some, None, Result, Ok, Err, refl, sym, ap, ◌∙◌, subst, arith}
+use Rattle.std.proofs.Common.{◌≡◌, ◌≢◌, ℕ, Bool, true, false, List, Option, Some, None, Result, Ok, Err, refl, sym, ap, ◌∙◌, subst, arith}
 use Rattle.std.specs.Prelude.{◌==◌, ◌&&◌, ◌<◌, ◌≤◌, not, length, is_none, IfOk, IsOkAnd}
 use Rattle.std.proofs.lemmas.Bool.{eqb-true, eq-eqb}
 use Rattle.xdr_records.specs.Record.{record_limit}
@@ -10,11 +10,8 @@ use Rattle.rpc_reader.specs.Messages.{IsCall}
 use Rattle.rpc_reader.specs.Views.{call_value}
 use Rattle.nfs3_types.specs.declared.calls.NfsCall.{NfsCall}
 use Rattle.nfs3_msgs.specs.Messages.{IsArguments}
-use Rattle.nfs_history.specs.Effects.{is_judged}
 use Rattle.nfs_history.specs.Outside.{outside}
-use Rattle.nfs_history.specs.History.{IsCallOfNfs}
 use Rattle.journal_records.specs.Exactly.{IsOnly, MeansNothing}
-use Rattle.book_machine.specs.Steps.{IsRecordable}
 use Rattle.recorder.specs.declared.fault.BeginFault.{BeginFault}
 use Rattle.recorder.specs.declared.fault.BeginFault.TheVariants as faults
 use Rattle.recorder.specs.Recordable.{IsRecord, asks_judged, AsksJudged, IsKeptInside, AreKeptArguments, IsKeptAsked}

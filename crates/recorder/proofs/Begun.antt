@@ -1,5 +1,5 @@
 -- why a call doesn't begin
-use Rattle.std.proofs.Common.{◌≡◌, ◌≢◌, ◌⊎◌, inl, inr, ℕ, ◌+◌, Bool, true, false, List, [], ◌∷◌, ◌++◌, length, Result, Ok, Err, refl, sym, ap, ◌∙◌, subst, append-nil}
+use Rattle.std.proofs.Common.{◌≡◌, ◌⊎◌, inl, inr, ℕ, ◌+◌, Bool, true, List, [], ◌∷◌, ◌++◌, length, Result, Ok, Err, sym, ap, ◌∙◌, subst, append-nil}
 use Rattle.std.specs.Prelude.{IfErr, OnOk, if◌then◌else◌}
 use Rattle.std.proofs.lemmas.List.{append_assoc}
 use Rattle.history_file.specs.declared.event.Event.TheVariants as owns
@@ -17,7 +17,7 @@ use Rattle.nfs_history.specs.Calls.{xid_of}
 use Rattle.nfs_history.specs.EventFaults.{IsAtFault, FirstEventFault}
 use Rattle.nfs_history.specs.FirstFault.{FirstFaultOf}
 use Rattle.nfs_history.specs.JoinedFaults.{of_event, of_call}
-use Rattle.nfs_history.specs.Standing.{IsClosed, has_unanswered, MayFollow, EachMayFollow}
+use Rattle.nfs_history.specs.Standing.{IsClosed, has_unanswered, EachMayFollow}
 use Rattle.nfs_history.proofs.EventFaultLaws.{first_fault_or_fine}
 use Rattle.journal_device.specs.Device.{Device}
 use Rattle.recorder.specs.declared.fault.BeginFault.{BeginFault}

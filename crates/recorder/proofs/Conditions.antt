@@ -1,10 +1,8 @@
 -- a book that goes down, whose device fails, and whose records are all put on stable storage
-use Rattle.std.proofs.Common.{◌≡◌, ◌≢◌, ◌⊎◌, inl, inr, ℕ, zero, suc, ◌+◌, ◌-◌, ◌≤◌, Bool, true, false, List, [], ◌∷◌, ◌++◌, length, take, Option, Some, None, refl, sym, ap, ◌∙◌, subst, arith}
-use Rattle.std.specs.Prelude.{IsSome, IfSome, ◌&&◌, not, is_none, option_and_then, if◌then◌else◌}
+use Rattle.std.proofs.Common.{◌≡◌, ◌≢◌, ◌⊎◌, inl, inr, ℕ, zero, suc, ◌+◌, ◌-◌, Bool, true, false, List, [], ◌∷◌, ◌++◌, length, take, Option, Some, None, refl, sym, ap, ◌∙◌, subst, arith}
+use Rattle.std.specs.Prelude.{IsSome, IfSome, option_and_then, if◌then◌else◌}
 use Rattle.std.specs.List.{AllByRecursion}
-use Rattle.nfs3_types.specs.declared.replies.NfsReply.{NfsReply}
 use Rattle.nfs3_types.specs.declared.replies.Outcome.{Outcome}
-use Rattle.nfs3_types.specs.declared.replies.Outcome.TheVariants as outcomes
 use Rattle.replay_law.specs.Run.{state_after, kept_steps}
 use Rattle.replay_law.proofs.Runs.{state_after-append}
 use Rattle.tree_nodes.specs.declared.undo.Undo.{Undo}
@@ -16,9 +14,9 @@ use Rattle.tree_handles.specs.Binding.{Bindings}
 use Rattle.file_tree.specs.Success.{next_tree}
 use Rattle.journal_device.specs.Device.{Device, settled, failed}
 use Rattle.book_machine.specs.Placing.{Placed, is_recorded, records_in, front_with}
-use Rattle.book_machine.specs.Book.{Book, Condition, bindings, bindings_made, tree_of, records_kept}
+use Rattle.book_machine.specs.Book.{Book, Condition, bindings, tree_of, records_kept}
 use Rattle.book_machine.specs.Book.Condition.{running, down, dead}
-use Rattle.book_machine.specs.Steps.{MayBecome, Refuses, Flushes, Steps}
+use Rattle.book_machine.specs.Steps.{MayBecome}
 use Rattle.book_machine.specs.Steps.Steps.{flushes, refuses}
 use Rattle.book_machine.proofs.Running.{unrecorded_leaves}
 use Rattle.recorder.specs.declared.placed.Condition as code

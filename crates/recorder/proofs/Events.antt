@@ -1,6 +1,6 @@
 -- a book whose history gets an event
-use Rattle.std.proofs.Common.{◌≡◌, ◌≢◌, ◌⊎◌, inl, inr, ℕ, zero, suc, ◌+◌, ◌-◌, ◌<◌, ◌≤◌, Bool, true, false, List, [], ◌∷◌, ◌++◌, length, map, Option, Some, None, refl, sym, ap, ◌∙◌, subst, arith, append-nil}
-use Rattle.std.specs.Prelude.{IsSome, slice_get, if◌then◌else◌}
+use Rattle.std.proofs.Common.{◌≡◌, ◌⊎◌, inl, inr, ℕ, zero, suc, ◌+◌, ◌-◌, ◌<◌, Bool, false, List, [], ◌∷◌, ◌++◌, length, map, Some, None, refl, sym, ap, ◌∙◌, subst, arith, append-nil}
+use Rattle.std.specs.Prelude.{slice_get, if◌then◌else◌}
 use Rattle.std.specs.Option.{option_map_or}
 use Rattle.std.specs.List.{AllByRecursion}
 use Rattle.std.proofs.lemmas.List.{append_assoc, length-append}
@@ -8,10 +8,10 @@ use Rattle.nfs3_types.specs.declared.calls.NfsCall.TheVariants as calls
 use Rattle.history_file.specs.declared.event.Event as owned
 use Rattle.history_file.specs.declared.event.Event.TheVariants as owns
 use Rattle.history_file.specs.Event.{Event, Recording}
-use Rattle.history_file.specs.Event.Event.{call, reply, close}
+use Rattle.history_file.specs.Event.Event.{call}
 use Rattle.history_file.specs.Owning.{happened, all_happened}
 use Rattle.nfs_history.specs.declared.history.RecordedCall.{RecordedCall}
-use Rattle.nfs_history.specs.HistoryValue.{CallsValue, HistoryValue}
+use Rattle.nfs_history.specs.HistoryValue.{HistoryValue}
 use Rattle.nfs_history.specs.Appending.{with_event, Follows}
 use Rattle.nfs_history.specs.History.{AreCallsOf, IsHistory, recording_of}
 use Rattle.nfs_history.specs.Calls.{xid_of}
@@ -21,8 +21,7 @@ use Rattle.nfs_history.proofs.OneHistory.{known_once}
 use Rattle.journal_device.specs.Device.{Device}
 use Rattle.book_machine.specs.Placing.{Placed}
 use Rattle.book_machine.specs.Book.{Book}
-use Rattle.book_machine.specs.Book.Condition.{running, down, dead}
-use Rattle.book_machine.specs.Steps.{begun, with_call, with_close, Begins, Closes, Steps}
+use Rattle.book_machine.specs.Steps.{begun, with_call, with_close, Begins, Closes}
 use Rattle.book_machine.specs.Steps.Steps.{begins, closes}
 use Rattle.book_machine.proofs.Growing.{genuine_call, genuine_close}
 use Rattle.book_machine.proofs.Invariant.{Over, AreKnown, AllKnown, IsInvariant}
@@ -31,12 +30,11 @@ use Rattle.book_machine.proofs.Moving.{call_stays}
 use Rattle.recorder.specs.declared.placed.PlacedCall.{PlacedCall}
 use Rattle.recorder.specs.declared.placed.EraOver.{EraOver}
 use Rattle.recorder.specs.declared.placed.CallState.{CallState}
-use Rattle.recorder.specs.declared.placed.Condition as code
 use Rattle.recorder.specs.declared.placed.Condition.TheVariants as codes
 use Rattle.recorder.specs.declared.ledger.Ledger.{Ledger}
 use Rattle.recorder.specs.Recordable.{IsRecord}
 use Rattle.recorder.specs.Inside.{call_in, placed_in, era_in, made_from, condition_of, book_of, ArePlaced, IsShort, AreTied, OnlyHistory}
-use Rattle.recorder.proofs.Runs.{IsSound, happened_push, sound}
+use Rattle.recorder.proofs.Runs.{happened_push, sound}
 use Rattle.recorder.proofs.Tied.{over_in, placed_now, tied_with, book_with}
 
 -- ---- histories

@@ -1,5 +1,5 @@
 -- a book that is flushed, opened and asked
-use Rattle.std.proofs.Common.{◌≡◌, ◌≢◌, ℕ, List, [], length, Result, Ok, Err, refl, sym, ap, ◌∙◌, subst}
+use Rattle.std.proofs.Common.{◌≡◌, ◌≢◌, ℕ, [], Result, Ok, Err, refl, sym, ap, ◌∙◌, subst}
 use Rattle.std.specs.Prelude.{IfOk}
 use Rattle.journal_device.specs.declared.device.DevFault.{DevFault}
 use Rattle.journal_device.specs.declared.device.DevFault.TheVariants.{Failed, NoMemory}

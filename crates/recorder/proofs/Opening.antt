@@ -1,15 +1,14 @@
 -- a book ahead of its first step
-use Rattle.std.proofs.Common.{◌≡◌, ℕ, zero, suc, ◌+◌, ◌-◌, List, [], ◌∷◌, ◌++◌, length, map, Option, Some, None, refl, sym, ap, ◌∙◌, subst}
+use Rattle.std.proofs.Common.{◌≡◌, ℕ, ◌+◌, ◌-◌, List, [], ◌∷◌, ◌++◌, length, map, Option, Some, refl, sym, ap, ◌∙◌, subst}
 use Rattle.std.specs.Prelude.{IsSome, IfSome, slice_get}
 use Rattle.std.specs.List.{AllByRecursion}
 use Rattle.std.specs.Int.{w64, to_be_bytes}
 use Rattle.xdr_records.specs.Texts.{long_text}
 use Rattle.history_file.specs.declared.event.Event as owned
-use Rattle.history_file.specs.Event.{Event, Recording}
+use Rattle.history_file.specs.Event.{Recording}
 use Rattle.history_file.specs.Owning.{all_happened}
-use Rattle.nfs_history.specs.declared.history.RecordedCall.{RecordedCall}
 use Rattle.nfs_history.specs.HistoryValue.{HistoryValue}
-use Rattle.nfs_history.specs.History.{AreCallsOf, IsHistory, recording_of}
+use Rattle.nfs_history.specs.History.{IsHistory}
 use Rattle.nfs_history.proofs.OneHistory.{known_once}
 use Rattle.replay_law.specs.Undone.{UndoesAll}
 use Rattle.tree_nodes.specs.declared.undo.Undo.{Undo}
@@ -21,9 +20,6 @@ use Rattle.book_machine.specs.Book.{Book, handle_of, bindings, bindings_made, tr
 use Rattle.book_machine.specs.Steps.{opening_book}
 use Rattle.book_machine.proofs.EveryBook.{opening_holds}
 use Rattle.recorder.specs.declared.placed.PlacedCall.{PlacedCall}
-use Rattle.recorder.specs.declared.placed.EraOver.{EraOver}
-use Rattle.recorder.specs.declared.placed.CallState.{CallState}
-use Rattle.recorder.specs.declared.placed.Condition as code
 use Rattle.recorder.specs.declared.placed.Condition.TheVariants as codes
 use Rattle.recorder.specs.declared.ledger.Ledger.{Ledger}
 use Rattle.recorder.specs.Inside.{placed_in, era_in, made_from, condition_of, book_of, tree_behind, AreCounted, IsShort, IsReached, AreTied}

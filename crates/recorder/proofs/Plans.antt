@@ -1,9 +1,8 @@
 -- the plans of a book, worked out call by call
-use Rattle.std.proofs.Common.{◌≡◌, ℕ, zero, suc, ◌+◌, ◌<◌, ◌≤◌, Bool, true, false, List, [], ◌∷◌, ◌++◌, length, map, take, drop, get_or, Option, Some, None, refl, sym, ap, ◌∙◌, subst, arith, append-nil}
+use Rattle.std.proofs.Common.{◌≡◌, ℕ, zero, suc, ◌+◌, ◌<◌, ◌≤◌, Bool, true, false, List, [], ◌∷◌, ◌++◌, length, map, take, drop, get_or, Option, Some, None, refl, sym, ap, ◌∙◌, subst, arith}
 use Rattle.std.specs.Prelude.{if◌then◌else◌}
 use Rattle.std.specs.List.{AllByRecursion, filter_map, cons_option}
 use Rattle.std.proofs.lemmas.List.{append_assoc}
-use Rattle.nfs_history.specs.declared.history.Meaning.TheVariants as meanings
 use Rattle.nfs_history.specs.declared.history.RecordedCall.{RecordedCall}
 use Rattle.certificate.specs.declared.plan.Place.{Place}
 use Rattle.certificate.specs.declared.plan.Bind.{Bind}
@@ -12,12 +11,12 @@ use Rattle.journal_device.specs.Device.{Device}
 use Rattle.book_machine.specs.Placing.{Placed, front_with, is_recorded}
 use Rattle.book_machine.specs.Book.{handle_of}
 use Rattle.book_machine.specs.Plan.{bind_of, place_of, places_of, plan_over}
-use Rattle.book_machine.proofs.Invariant.{AreKnown, AllKnown, IsKnown, IsCutSafely}
+use Rattle.book_machine.proofs.Invariant.{AreKnown, AllKnown, IsCutSafely}
 use Rattle.recorder.specs.declared.placed.PlacedCall.{PlacedCall}
 use Rattle.recorder.specs.declared.placed.EraOver.{EraOver}
 use Rattle.recorder.specs.declared.placed.CallState.{CallState}
 use Rattle.recorder.specs.declared.ledger.Ledger.{Ledger}
-use Rattle.recorder.specs.Inside.{placed_in, era_in, made_from, book_of, AreTied, IsAsked, AreAsked, IsPlannable, ArePlannable}
+use Rattle.recorder.specs.Inside.{placed_in, era_in, made_from, book_of, AreTied, AreAsked, ArePlannable}
 use Rattle.recorder.proofs.Runs.{sound}
 
 -- what holds of all holds of each

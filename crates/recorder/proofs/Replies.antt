@@ -1,30 +1,24 @@
 -- replies that go out
-use Rattle.std.proofs.Common.{◌≡◌, ◌≢◌, ◌⊎◌, inl, inr, ◌↔◌, ℕ, zero, suc, ◌+◌, ◌-◌, ◌<◌, ◌≤◌, ◌^◌, Bool, true, false, List, [], ◌∷◌, ◌++◌, length, map, take, Option, Some, None, refl, sym, ap, ◌∙◌, subst, arith}
-use Rattle.std.specs.Prelude.{IsSome, IsTrue, slice_get, option_map, option_and_then, nat_lt, ◌==◌, if◌then◌else◌}
-use Rattle.std.specs.Option.{option_map_or}
-use Rattle.std.specs.List.{AllByRecursion}
-use Rattle.std.proofs.lemmas.Bool.{eqb-true, eq-eqb}
+use Rattle.std.proofs.Common.{◌≡◌, ℕ, ◌<◌, ◌≤◌, ◌^◌, Bool, true, false, List, ◌++◌, length, refl, sym, ap, ◌∙◌, subst, arith}
+use Rattle.std.specs.Prelude.{nat_lt, ◌==◌, if◌then◌else◌}
+use Rattle.std.proofs.lemmas.Bool.{eqb-true}
 use Rattle.std.proofs.lemmas.List.{append_assoc, length-append}
 use Rattle.xdr_records.specs.Grammar.{Grammar, either}
 use Rattle.xdr_records.specs.Items.{word_of}
-use Rattle.xdr_records.specs.Spelling.{IsWord, Joined, Spells}
+use Rattle.xdr_records.specs.Spelling.{IsWord, Spells}
 use Rattle.xdr_records.specs.Texts.{word_text}
 use Rattle.xdr_records.proofs.ItemLaws.{word_of-append}
-use Rattle.xdr_records.proofs.Written.{length-word_text, word_spelled}
+use Rattle.xdr_records.proofs.Written.{word_spelled}
 use Rattle.rpc_reader.specs.Heads.{call_head, CallStart}
-use Rattle.rpc_reader.specs.Values.{CallValue, Body}
+use Rattle.rpc_reader.specs.Values.{CallValue}
 use Rattle.rpc_reader.specs.Values.Body.{success}
-use Rattle.rpc_reader.specs.Messages.{IsCall, IsReply, call_start}
+use Rattle.rpc_reader.specs.Messages.{IsCall, call_start}
 use Rattle.rpc_reader.specs.Texts.{reply_text, reply_head_text, reply_body_text, results_of}
 use Rattle.nfs3_types.specs.declared.calls.NfsCall.{NfsCall}
-use Rattle.nfs3_types.specs.declared.calls.NfsCall.TheVariants as calls
-use Rattle.nfs3_types.specs.declared.replies.NfsReply.{NfsReply}
-use Rattle.nfs3_types.specs.declared.replies.Outcome.{Outcome}
-use Rattle.nfs3_types.specs.declared.replies.Outcome.TheVariants as outcomes
-use Rattle.nfs3_types.specs.Procedures.{is_answered, procedure_called, procedure_answered}
+use Rattle.nfs3_types.specs.Procedures.{procedure_called}
 use Rattle.nfs3_values.specs.declared.fault.Kind.{Kind}
 use borrow.Author.Tests.{ltb-true}
-use Rattle.nfs3_msgs.specs.Messages.{arguments, IsArguments, IsResult, result_text}
+use Rattle.nfs3_msgs.specs.Messages.{arguments, IsArguments}
 use Rattle.nfs_history.specs.Calls.{xid_of}
 
 -- ---- transaction numbers

@@ -1,10 +1,9 @@
 -- what holds of every book that a run leads to
-use Rattle.std.proofs.Common.{◌≡◌, ◌≢◌, ◌⊎◌, inl, inr, ℕ, zero, suc, ◌+◌, ◌-◌, ◌<◌, ◌≤◌, Bool, true, false, List, [], ◌∷◌, ◌++◌, length, map, Option, Some, None, refl, sym, ap, ◌∙◌, subst, arith}
-use Rattle.std.specs.Prelude.{IsSome, ◌&&◌, ◌||◌}
+use Rattle.std.proofs.Common.{◌≡◌, inr, ℕ, ◌+◌, ◌-◌, ◌≤◌, Bool, true, false, List, [], ◌∷◌, ◌++◌, refl, sym, ap, ◌∙◌, subst, arith}
+use Rattle.std.specs.Prelude.{◌&&◌, ◌||◌}
 use Rattle.std.specs.List.{AllByRecursion, list_any}
 use Rattle.nfs3_types.specs.declared.calls.NfsCall.{NfsCall}
 use Rattle.nfs3_types.specs.declared.replies.NfsReply.{NfsReply}
-use Rattle.nfs3_types.specs.declared.replies.Outcome.{Outcome}
 use Rattle.nfs3_types.specs.declared.replies.Outcome.TheVariants as outcomes
 use Rattle.nfs3_types.specs.Procedures.{is_answered}
 use Rattle.history_file.specs.declared.event.Event as owned
@@ -18,7 +17,7 @@ use Rattle.nfs_history.specs.Standing.{IsCutOff}
 use Rattle.nfs_history.proofs.Lanes.{cut_off_push, cut_off_is, is_cut_off}
 use Rattle.book_machine.specs.Placing.{Placed}
 use Rattle.book_machine.specs.Book.{Book, bindings_made}
-use Rattle.book_machine.specs.Steps.{opening_book, begun, answered_now, change_at, with_made, step_of, Begins, Places, Answers, Steps, IsRun}
+use Rattle.book_machine.specs.Steps.{opening_book, begun, answered_now, with_made, step_of, Steps, IsRun}
 use Rattle.book_machine.specs.Steps.Steps.{begins, places, flushes, answers, closes, crashes, refuses}
 use Rattle.book_machine.proofs.Invariant.{IsInvariant}
 use Rattle.book_machine.proofs.Lists.{all_append, all_each}

@@ -1,30 +1,27 @@
 -- how a call of a book stands: what is recorded of it, and where it was placed
-use Rattle.std.proofs.Common.{◌≡◌, ◌≢◌, ◌⊎◌, inl, inr, ℕ, zero, suc, ◌+◌, ◌-◌, ◌<◌, ◌≤◌, Bool, true, false, List, [], ◌∷◌, ◌++◌, length, map, get_or, Option, Some, None, refl, sym, ap, ◌∙◌, subst, arith}
-use Rattle.std.specs.Prelude.{IsSome, slice_get, option_map, option_and_then, Contains}
+use Rattle.std.proofs.Common.{◌≡◌, ◌≢◌, ℕ, zero, suc, ◌-◌, ◌≤◌, List, [], ◌∷◌, length, map, get_or, Option, Some, None, refl, sym, ap, ◌∙◌, subst, arith}
+use Rattle.std.specs.Prelude.{IsSome, slice_get}
 use Rattle.std.specs.Option.{option_map_or}
-use Rattle.std.specs.List.{AllByRecursion}
 use Rattle.std.proofs.lemmas.Option.{get_or_from_slice_get}
 use Rattle.nfs3_types.specs.declared.calls.NfsCall.{NfsCall}
 use Rattle.nfs3_types.specs.declared.calls.NfsCall.TheVariants as calls
 use Rattle.history_file.specs.declared.event.Event as owned
 use Rattle.history_file.specs.declared.event.Event.TheVariants as owns
-use Rattle.history_file.specs.Event.{Event}
-use Rattle.history_file.specs.Event.Event.{call, close}
-use Rattle.history_file.specs.Owning.{happened, all_happened}
+use Rattle.history_file.specs.Event.Event.{call}
+use Rattle.history_file.specs.Owning.{all_happened}
 use Rattle.nfs_history.specs.declared.checking.LaneState.TheVariants as lanes
-use Rattle.nfs_history.specs.declared.history.Meaning.{Meaning}
 use Rattle.nfs_history.specs.declared.history.Meaning.TheVariants as meanings
 use Rattle.nfs_history.specs.declared.history.RecordedCall.{RecordedCall}
 use Rattle.nfs_history.specs.HistoryValue.{HistoryValue}
 use Rattle.nfs_history.specs.Calls.{calls_of}
 use Rattle.nfs_history.specs.History.{IsHistory, recording_of}
 use Rattle.nfs_history.specs.Precedence.{call_at, end_of}
-use Rattle.nfs_history.specs.Standing.{IsCutOff, IsClosed, IsLaneState}
+use Rattle.nfs_history.specs.Standing.{IsCutOff, IsLaneState}
 use Rattle.nfs_history.proofs.AppendSteps.{IsAsked as IsAskedAt, BeganAt, began_at}
 use Rattle.journal_device.specs.Device.{Device}
 use Rattle.book_machine.specs.Placing.{Placed}
 use Rattle.book_machine.specs.Book.{Book}
-use Rattle.book_machine.specs.Book.Condition.{running, down, dead}
+use Rattle.book_machine.specs.Book.Condition.{running}
 use Rattle.book_machine.specs.Steps.{IsUnplaced}
 use Rattle.book_machine.proofs.Growing.{event_of}
 use Rattle.book_machine.proofs.Lists.{all_behind}
@@ -36,9 +33,9 @@ use Rattle.recorder.specs.declared.placed.Condition.TheVariants as codes
 use Rattle.recorder.specs.declared.ledger.Ledger.{Ledger}
 use Rattle.recorder.specs.declared.fault.TokenFault.{TokenFault}
 use Rattle.recorder.specs.declared.fault.TokenFault.TheVariants as token
-use Rattle.recorder.specs.Inside.{call_in, asked_by, placed_in, condition_of, book_of, ArePlaced, AreTied, IsAsked, AreAsked, IsOneOf, StandsAt}
-use Rattle.recorder.specs.Refusals.{IsOver, IsCutShort, IsNow, IsAnswerable}
-use Rattle.recorder.specs.Turns.{TurnStops, TokenStops, UnplacedStops, PlacedStops}
+use Rattle.recorder.specs.Inside.{call_in, asked_by, placed_in, condition_of, book_of, AreTied, IsAsked, StandsAt}
+use Rattle.recorder.specs.Refusals.{IsNow, IsAnswerable}
+use Rattle.recorder.specs.Turns.{TurnStops, TokenStops}
 use Rattle.recorder.proofs.Runs.{sound}
 use Rattle.recorder.proofs.Conditions.{running_book}
 

@@ -1,12 +1,9 @@
 -- parts that belong together, where an event is put behind the others of the history
-use Rattle.std.proofs.Common.{◌≡◌, ◌≢◌, ◌⊎◌, inl, inr, ℕ, zero, suc, ◌+◌, ◌-◌, ◌<◌, ◌≤◌, Bool, true, false, List, [], ◌∷◌, ◌++◌, length, map, take, Option, Some, None, refl, sym, ap, ◌∙◌, subst, arith}
+use Rattle.std.proofs.Common.{◌≡◌, ℕ, ◌+◌, ◌-◌, List, [], ◌∷◌, ◌++◌, length, map, take, Option, Some, refl, sym, ap, ◌∙◌, subst}
 use Rattle.std.specs.Prelude.{IsSome, IfSome, slice_get}
 use Rattle.std.specs.List.{AllByRecursion}
-use Rattle.nfs3_types.specs.declared.calls.NfsCall.{NfsCall}
-use Rattle.history_file.specs.declared.event.Event as owned
 use Rattle.nfs_history.specs.declared.history.RecordedCall.{RecordedCall}
 use Rattle.nfs_history.specs.HistoryValue.{HistoryValue}
-use Rattle.nfs_history.specs.Precedence.{call_at}
 use Rattle.replay_law.specs.Run.{state_after, kept_steps}
 use Rattle.replay_law.specs.Undone.{UndoesAll}
 use Rattle.tree_nodes.specs.declared.undo.Undo.{Undo}
@@ -21,7 +18,6 @@ use Rattle.book_machine.specs.Steps.{Steps}
 use Rattle.book_machine.proofs.Invariant.{Over}
 use Rattle.book_machine.proofs.Running.{head_is, tail_is}
 use Rattle.recorder.specs.declared.placed.PlacedCall.{PlacedCall}
-use Rattle.recorder.specs.declared.placed.CallState.{CallState}
 use Rattle.recorder.specs.declared.placed.Condition as code
 use Rattle.recorder.specs.declared.placed.Condition.TheVariants as codes
 use Rattle.recorder.specs.declared.ledger.Ledger.{Ledger}

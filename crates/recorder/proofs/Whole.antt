@@ -1,5 +1,5 @@
 -- from the parts of a book to the book
-use Rattle.std.proofs.Common.{◌≡◌, ℕ, Result, Ok, Err, sym, ap, ◌∙◌, subst}
+use Rattle.std.proofs.Common.{◌≡◌, ℕ, Result, Ok, Err, subst}
 use Rattle.std.specs.Prelude.{IfOk, IfErr, OnOk}
 use Rattle.journal_device.specs.Device.{Device}
 use Rattle.book_machine.specs.Book.{Book}

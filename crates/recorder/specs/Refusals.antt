@@ -1,6 +1,6 @@
 -- When a call of a book is refused, and what stands afterwards: of each call the refusals in their order, each where those ahead of it
 -- don't apply. The want of memory says nothing of the call.
-use Rattle.std.specs.Prelude.{◌≡◌, ◌≢◌, ◌⊎◌, ℕ, ◌<◌, true, List, [], ◌∷◌, ◌++◌, length, Some, None, ⊤, Contains, Result, Ok, Err, IfErr}
+use Rattle.std.specs.Prelude.{◌≡◌, ◌≢◌, ◌⊎◌, ℕ, ◌<◌, true, List, ◌∷◌, ◌++◌, length, Some, None, Contains, Result, IfErr}
 use Rattle.nfs3_types.specs.declared.replies.NfsReply.{NfsReply}
 use Rattle.history_file.specs.Owning.{all_happened}
 use Rattle.history_file.specs.Event.Event.{close}

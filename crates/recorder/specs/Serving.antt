@@ -1,5 +1,5 @@
 -- What the test of a served reply says to the prover.
-use Rattle.std.specs.Prelude.{◌≡◌, ◌⊎◌, ◌<◌, ℕ, true, length, take, drop, Some}
+use Rattle.std.specs.Prelude.{◌≡◌, ◌⊎◌, ℕ, true, length, take, drop, Some}
 use Rattle.nfs3_types.specs.declared.calls.ReadArguments.{ReadArguments}
 use Rattle.nfs3_types.specs.declared.calls.WriteArguments.{WriteArguments}
 use Rattle.nfs3_types.specs.declared.replies.Answer.TheVariants.{Done}

@@ -1,8 +1,5 @@
-use Rattle.std.proofs.Common.{◌≡◌, ℕ, Bool, List, [], ◌∷◌, ◌++◌, sym, ap, ◌∙◌}
-use Rattle.std.specs.Prelude.{if◌then◌else◌}
-use Rattle.certificate.specs.declared.plan.Bind.{Bind}
+use Rattle.std.proofs.Common.{◌≡◌, ◌∙◌}
 use Rattle.book_machine.specs.Book.{handle_of}
-use Rattle.book_machine.specs.Plan.{bind_of}
 use Rattle.recorder.proofs.Opening.{handle_is}
 use Rattle.recorder.proofs.Plans.{bound_so}
 use Rattle.recorder.proofs.certifying.add_bind.Goals as goal

@@ -1,4 +1,4 @@
-use Rattle.std.proofs.Common.{List, ◌≡◌, subst, ◌∙◌}
+use Rattle.std.proofs.Common.{List, subst, ◌∙◌}
 use Rattle.history_file.specs.declared.event.Event as owned
 use Rattle.history_file.specs.Owning.{all_happened}
 use Rattle.nfs_history.specs.History.{IsHistory}

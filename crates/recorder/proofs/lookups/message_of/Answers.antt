@@ -1,4 +1,4 @@
-use Rattle.std.proofs.Common.{◌≡◌, ◌-◌, Some, length, arith, sym, ap, ◌∙◌}
+use Rattle.std.proofs.Common.{◌-◌, Some, length, arith, sym, ap, ◌∙◌}
 use Rattle.history_file.specs.declared.event.Event.TheVariants as owns
 use Rattle.recorder.proofs.Standing.{has_sent, stood_there, same_message}
 use Rattle.recorder.proofs.lookups.message_of.Goals as goal

@@ -1,5 +1,4 @@
-use Rattle.std.proofs.Common.{◌≡◌, ℕ, refl, sym, subst}
-use Rattle.std.specs.Prelude.{OnOk, IfErr}
+use Rattle.std.proofs.Common.{◌≡◌, refl, sym}
 use Rattle.book_machine.specs.Steps.{Answers}
 use Rattle.recorder.specs.Refusals.{AnswerStops}
 use Rattle.recorder.proofs.Whole.{tied_at, on_ok_at, if_err_at}

@@ -1,4 +1,4 @@
-use Rattle.std.proofs.Common.{◌≡◌, ◌<◌, ◌^◌, sym, ap, arith, rules, ◌∙◌}
+use Rattle.std.proofs.Common.{◌<◌, ◌^◌, sym, ap, arith, rules, ◌∙◌}
 use Rattle.recorder.specs.declared.placed.PlacedCall.{PlacedCall}
 use Rattle.recorder.proofs.Standing.{from_one, at_most}
 use Rattle.recorder.proofs.Answered.{item_is, its_call, its_place, its_reply, answer_so}

@@ -1,8 +1,4 @@
 use Rattle.std.proofs.Common.{◌≡◌, refl}
-use Rattle.book_machine.specs.Steps.{Answers}
-use Rattle.recorder.specs.Refusals.{AnswerStops}
-use Rattle.recorder.specs.Inside.{GoesAt}
-use Rattle.recorder.specs.declared.fault.AnswerFault.{AnswerFault}
 use Rattle.recorder.specs.declared.fault.AnswerFault.TheVariants.{NoMemory}
 use Rattle.recorder.proofs.Standing.{from_one, at_most}
 use Rattle.recorder.proofs.Tied.{same_tied, same_book}

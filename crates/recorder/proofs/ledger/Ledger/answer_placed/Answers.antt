@@ -1,4 +1,4 @@
-use Rattle.std.proofs.Common.{◌≡◌, refl, sym}
+use Rattle.std.proofs.Common.{refl, sym}
 use Rattle.recorder.proofs.Answered.{far_from, not_yet}
 use Rattle.recorder.proofs.ledger.Ledger.answer_placed.Goals as goal
 

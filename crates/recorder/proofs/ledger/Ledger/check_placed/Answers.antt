@@ -1,4 +1,4 @@
-use Rattle.std.proofs.Common.{◌≡◌, ◌≤◌, ◌-◌, length, inl, inr, arith, sym, ap}
+use Rattle.std.proofs.Common.{◌-◌, inr, arith}
 use Rattle.std.specs.Prelude.{slice_get}
 use Rattle.tree_nodes.proofs.Chains.{mapped}
 use Rattle.recorder.specs.declared.placed.CallState.{CallState}

@@ -1,9 +1,6 @@
-use Rattle.std.proofs.Common.{◌≡◌, ◌≤◌, length, inl, inr, arith, sym, ap}
-use Rattle.std.specs.Prelude.{slice_get}
-use Rattle.tree_nodes.proofs.Chains.{mapped}
-use Rattle.recorder.specs.declared.placed.CallState.{CallState}
+use Rattle.std.proofs.Common.{inl, inr, sym}
 use Rattle.std.specs.Prelude.{IsSome}
-use Rattle.std.proofs.Common.{refl, subst, ◌∙◌}
+use Rattle.std.proofs.Common.{refl, subst}
 use Rattle.recorder.specs.Inside.{book_of}
 use Rattle.recorder.proofs.Standing.{from_one, at_most, turn_stops, answered_unanswerable}
 use Rattle.recorder.proofs.ledger.Ledger.check_unanswered.Goals as goal

@@ -1,10 +1,8 @@
-use Rattle.std.proofs.Common.{◌≡◌, ◌≤◌, ◌-◌, length, inl, inr, arith, sym, ap}
+use Rattle.std.proofs.Common.{◌-◌, inl, inr, arith}
 use Rattle.std.specs.Prelude.{slice_get}
 use Rattle.tree_nodes.proofs.Chains.{mapped}
 use Rattle.recorder.specs.declared.placed.CallState.{CallState}
-use Rattle.recorder.specs.Refusals.{IsNow}
 use Rattle.recorder.specs.Inside.{book_of}
-use Rattle.recorder.specs.Turns.{IsNoCall}
 use Rattle.recorder.proofs.Standing.{from_one, at_most, turn_stops, placed_already, unplaced}
 use Rattle.recorder.proofs.ledger.Ledger.check_unplaced.Goals as goal
 

@@ -1,4 +1,4 @@
-use Rattle.std.proofs.Common.{◌≡◌, ◌<◌, ◌≤◌, refl, sym, ap, subst, arith, ◌∙◌}
+use Rattle.std.proofs.Common.{◌<◌, ◌≤◌, refl, ap, subst, arith}
 use Rattle.recorder.specs.declared.placed.PlacedCall.{PlacedCall}
 use Rattle.recorder.proofs.Answered.{item_is, its_asked, its_place, near_durable, durable_turn}
 use Rattle.recorder.proofs.ledger.Ledger.is_durable.Goals as goal

@@ -1,4 +1,4 @@
-use Rattle.std.proofs.Common.{List, ℕ, [], Some, refl, ap, ◌∙◌}
+use Rattle.std.proofs.Common.{Some, refl, ap, ◌∙◌}
 use Rattle.recorder.proofs.Opening.{handle_is, bare_binds, opening_whole}
 use Rattle.recorder.proofs.ledger.Ledger.new.Goals as goal
 

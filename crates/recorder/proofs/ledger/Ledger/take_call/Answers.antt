@@ -1,4 +1,4 @@
-use Rattle.std.proofs.Common.{◌≡◌, ◌<◌, List, ℕ, is_ok, vec_len, vec_capacity, arith, subst}
+use Rattle.std.proofs.Common.{◌<◌, List, ℕ, is_ok, vec_len, vec_capacity, arith, subst}
 use Rattle.history_file.specs.declared.event.Event.TheVariants as owns
 use Rattle.nfs_history.specs.Appending.{Follows}
 use Rattle.recorder.proofs.Events.{fresh}
