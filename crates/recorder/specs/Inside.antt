@@ -76,9 +76,10 @@ LeadsTo first [] book = first ≡ book
 LeadsTo first (next ∷ books) book = LeadsTo next books book
 
 pub record IsReached (book : Book) : Type 0 where
+  pub faults : ℕ
   pub books : List Book
-  pub run : IsRun opening_book books
-  pub leads : LeadsTo opening_book books book
+  pub run : IsRun (opening_book faults) books
+  pub leads : LeadsTo (opening_book faults) books book
 
 -- of so many records ahead, each call knows how many there are behind it
 abbrev pub AreCounted : ℕ → List RecordedCall → List PlacedCall → Type 0
@@ -96,6 +97,8 @@ pub record ArePlaced (ledger : Ledger) : Type 0 where
   pub there : (number place : ℕ) (call : RecordedCall) (state : CallState) → call_at ledger.history.known.calls number ≡ Some call
       → call.era ≡ ledger.history.known.eras → slice_get ledger.calls.items (number - 1) ≡ Some state → state.place ≡ Some place
       → (placed : PlacedCall) × (slice_get ledger.placed.items place ≡ Some placed) × (placed.number ≡ number)
+  pub has : (place : ℕ) (placed : PlacedCall) → slice_get ledger.placed.items place ≡ Some placed
+      → (state : CallState) × (slice_get ledger.calls.items (placed.number - 1) ≡ Some state) × (state.place ≡ Some place)
 
 -- the message of a call is no longer than a record may be
 abbrev pub IsShort : Event → Type 0
@@ -118,6 +121,22 @@ pub record AreTied (ledger : Ledger) (device : Device) : Type 0 where
   -- the last ones lead back to the tree behind the records ahead of theirs
   pub undone : (earlier later : List Undo) (tree before : Tree) → ledger.undos.items ≡ earlier ++ later → ledger.tree ≡ Some tree
       → tree_behind (book_of ledger device) (length device.records - length later) ≡ Some before → UndoesAll TakesBack later tree before
+
+-- there is a device to which they belong
+abbrev pub IsTied : Ledger → Type 0
+IsTied ledger = (device : Device) × AreTied ledger device
+
+-- a judged call has this number
+abbrev pub IsAsked : List RecordedCall → ℕ → Type 0
+IsAsked recorded number = (call : RecordedCall) × (asked : NfsCall) × (call_at recorded number ≡ Some call) × (call.meaning ≡ meanings.Judged asked)
+
+-- the call is one of these
+abbrev pub IsOneOf : List RecordedCall → RecordedCall → Type 0
+IsOneOf recorded call = (number : ℕ) × (call_at recorded number ≡ Some call)
+
+-- the call with this number stands there among those that were placed now
+abbrev pub StandsAt : Ledger → ℕ → ℕ → Type 0
+StandsAt ledger number place = (placed : PlacedCall) × (slice_get ledger.placed.items place ≡ Some placed) × (placed.number ≡ number)
 
 -- over any device that belongs to the old parts, the new ones belong to it too, and the books stand so
 abbrev pub Goes : (Book → Book → Type 0) → Ledger → Ledger → Type 0

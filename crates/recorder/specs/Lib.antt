@@ -4,4 +4,6 @@ pub mod Recordable
 pub mod Serving
 pub mod Refusals
 pub mod Rebuilding
+pub mod Turns
 pub mod Inside
+pub mod Undoing

@@ -1,8 +1,9 @@
 -- Which messages a book takes: those of judged calls that a history takes whatever is answered, in a record within its limit.
-use Rattle.std.specs.Prelude.{◌≡◌, ◌==◌, ◌&&◌, not, ◌≤◌, ℕ, Bool, List, length, ⊤, Result, Ok, Err}
+use Rattle.std.specs.Prelude.{◌≡◌, ◌==◌, ◌&&◌, not, ◌≤◌, ℕ, Bool, true, false, List, length, ⊤, Result, Ok, Err}
 use Rattle.xdr_records.specs.Record.{record_limit}
 use Rattle.rpc_reader.specs.Values.{CallValue}
 use Rattle.nfs3_types.specs.declared.calls.NfsCall.{NfsCall}
+use Rattle.nfs3_types.specs.declared.calls.NfsCall.TheVariants as calls
 use Rattle.nfs3_types.specs.declared.replies.Outcome.{Outcome}
 use Rattle.nfs_history.specs.Effects.{is_judged}
 use Rattle.book_machine.specs.Placing.{Placed}
@@ -27,6 +28,13 @@ IsKeptAsked message (Ok _) = IsRecord message
 IsKeptAsked message (Err faults.BadRecord) = ¬ IsRecord message
 IsKeptAsked message (Err faults.NoMemory) = ⊤
 IsKeptAsked message (Err fault) = ⊥
+
+-- CREATE, MKDIR and SYMLINK make an object where they succeed
+abbrev pub may_make : NfsCall → Bool
+may_make (calls.Create _) = true
+may_make (calls.MkDir _) = true
+may_make (calls.SymLink _) = true
+may_make _ = false
 
 -- a call that came out so, whatever its number
 abbrev pub step_so : NfsCall → Outcome → Placed

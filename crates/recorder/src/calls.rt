@@ -9,7 +9,7 @@ ghost use Rattle.tree_laws.specs.Leaving.{only_looks};
 ghost use Rattle.tree_laws.specs.Outcomes.{count_written};
 ghost use Rattle.book_machine.specs.Placing.{is_recorded};
 ghost use Rattle.book_machine.specs.Steps.{commits};
-ghost use Rattle.recorder.specs.Recordable.{asks_judged, step_so, IsKeptAsked};
+ghost use Rattle.recorder.specs.Recordable.{asks_judged, may_make, step_so, IsKeptAsked};
 
 use crate::fault::BeginFault;
 use journal_records::is_inside;
@@ -169,7 +169,9 @@ pub(crate) fn count_written(outcome: &Outcome) -> Option<u32>
 }
 
 /// Whether a call makes an object where it succeeds.
-pub(crate) fn may_make(call: &NfsCall) -> bool {
+pub(crate) fn may_make(call: &NfsCall) -> bool
+    ensures { result ≡ may_make call.now }
+{
     matches!(
         call,
         NfsCall::Create(_) | NfsCall::MkDir(_) | NfsCall::SymLink(_)

@@ -1,5 +1,16 @@
 //! What is looked up of a book's calls.
 
+ghost use Rattle.std.specs.Prelude.{◌≡◌, ◌+◌, ◌-◌, ◌≤◌, IfOk, OnOk, IfErr, Some, None, length, slice_get, option_map};
+ghost use Rattle.history_file.specs.declared.event.Event.TheVariants as events;
+ghost use Rattle.nfs_history.specs.Precedence.{end_of};
+ghost use Rattle.book_machine.specs.Placing.{records_in};
+ghost use Rattle.book_machine.specs.Book.{records_kept};
+ghost use Rattle.book_machine.specs.Book.Condition.{running};
+ghost use Rattle.book_machine.specs.Steps.{IsUnplaced};
+ghost use Rattle.recorder.specs.Inside.{IsTied, IsAsked, IsOneOf, StandsAt, Holds, asked_by};
+ghost use Rattle.recorder.specs.Refusals.{IsNow};
+ghost use Rattle.recorder.specs.Turns.{TokenStops, UnplacedStops, PlacedStops};
+
 use crate::fault::TokenFault;
 use crate::ledger::Ledger;
 use crate::placed::Condition;
@@ -7,7 +18,10 @@ use nfs_history::{Event, History, LaneState, Meaning, RecordedCall};
 use nfs3_types::NfsCall;
 
 /// What a call asked, which is a judged one.
-pub(crate) fn call_asked(history: &History, number: u64) -> &NfsCall {
+pub(crate) fn call_asked(history: &History, number: u64) -> &NfsCall
+    requires { IsAsked history.now.known.calls number }
+    ensures { result.now ≡ asked_by history.now.known.calls number }
+{
     match &history.call(number).meaning {
         Meaning::Judged(call) => call,
         Meaning::Unjudged => unreachable!(),
@@ -15,7 +29,10 @@ pub(crate) fn call_asked(history: &History, number: u64) -> &NfsCall {
 }
 
 /// The message with which a call began.
-pub(crate) fn message_of<'a>(history: &'a History, call: &RecordedCall) -> &'a [u8] {
+pub(crate) fn message_of<'a>(history: &'a History, call: &RecordedCall) -> &'a [u8]
+    requires { IsOneOf history.now.known.calls call.now }
+    ensures { slice_get history.now.events (call.now.begin - 1) ≡ Some (events.Call call.now.lane result.now) }
+{
     let Event::Call { lane: _, message } = &history.events()[call.begin as usize - 1] else {
         unreachable!();
     };
@@ -24,12 +41,19 @@ pub(crate) fn message_of<'a>(history: &'a History, call: &RecordedCall) -> &'a [
 
 impl Ledger {
     /// Where a call stands among those that were placed in its era.
-    pub(crate) fn place_of(&self, number: u64) -> Option<usize> {
+    pub(crate) fn place_of(&self, number: u64) -> Option<usize>
+        requires from_one { 1 ≤ number }
+        requires within { number ≤ length self.now.calls.items }
+        ensures { option_map (λ state. state.place) (slice_get self.now.calls.items (number - 1)) ≡ Some result }
+    {
         self.calls[number as usize - 1].place
     }
 
     /// Whether the lane of a call of the era now is open, where the book is running.
-    pub(crate) fn check_token(&self, number: u64) -> Result<(), TokenFault> {
+    pub(crate) fn check_token(&self, number: u64) -> Result<(), TokenFault>
+        ensures ok { OnOk result (Holds (λ book. (book.condition ≡ running) × IsNow book number) self.now) }
+        ensures refused { IfErr result (λ fault. Holds (λ book. TokenStops book number fault) self.now) }
+    {
         if self.condition != Condition::Running {
             return Err(TokenFault::Down);
         }
@@ -47,7 +71,11 @@ impl Ledger {
     }
 
     /// Whether a call may be placed, its reply aside.
-    pub(crate) fn check_unplaced(&self, number: u64) -> Result<(), TokenFault> {
+    pub(crate) fn check_unplaced(&self, number: u64) -> Result<(), TokenFault>
+        requires { IsTied self.now }
+        ensures ok { OnOk result (Holds (λ book. (book.condition ≡ running) × IsNow book number × IsUnplaced book.placed number) self.now) }
+        ensures refused { IfErr result (λ fault. Holds (λ book. UnplacedStops book number fault) self.now) }
+    {
         self.check_token(number)?;
         match self.place_of(number) {
             Some(_) => Err(TokenFault::OutOfTurn),
@@ -56,7 +84,12 @@ impl Ledger {
     }
 
     /// Where a call stands that may be answered, what its reply promises aside.
-    pub(crate) fn check_placed(&self, number: u64) -> Result<usize, TokenFault> {
+    pub(crate) fn check_placed(&self, number: u64) -> Result<usize, TokenFault>
+        requires { IsTied self.now }
+        ensures stands { IfOk result (λ place. StandsAt self.now number place) }
+        ensures ok { OnOk result (Holds (λ book. (book.condition ≡ running) × IsNow book number × (end_of book.history.known.calls number ≡ None)) self.now) }
+        ensures refused { IfErr result (λ fault. Holds (λ book. PlacedStops book number fault) self.now) }
+    {
         self.check_token(number)?;
         if self.history.end(number).is_some() {
             return Err(TokenFault::OutOfTurn);
@@ -68,7 +101,9 @@ impl Ledger {
     }
 
     /// How many records the journal has.
-    pub(crate) fn records(&self) -> u64 {
+    pub(crate) fn records(&self) -> u64
+        ensures { Holds (λ book. result ≡ records_kept book + records_in book.placed) self.now }
+    {
         match self.placed.last() {
             Some(placed) => placed.records,
             None => self.kept,
