@@ -7,3 +7,4 @@ pub mod Rebuilding
 pub mod Turns
 pub mod Inside
 pub mod Undoing
+pub mod PlaceSteps

@@ -1,10 +1,8 @@
 //! What is looked up of a book's calls.
 
-ghost use Rattle.std.specs.Prelude.{◌≡◌, ◌+◌, ◌-◌, ◌≤◌, IfOk, OnOk, IfErr, Some, None, length, slice_get, option_map};
+ghost use Rattle.std.specs.Prelude.{◌≡◌, ◌-◌, ◌≤◌, IfOk, OnOk, IfErr, Some, None, length, slice_get, option_map};
 ghost use Rattle.history_file.specs.declared.event.Event.TheVariants as events;
 ghost use Rattle.nfs_history.specs.Precedence.{end_of};
-ghost use Rattle.book_machine.specs.Placing.{records_in};
-ghost use Rattle.book_machine.specs.Book.{records_kept};
 ghost use Rattle.book_machine.specs.Book.Condition.{running};
 ghost use Rattle.book_machine.specs.Steps.{IsUnplaced};
 ghost use Rattle.recorder.specs.Inside.{IsTied, IsAsked, IsOneOf, StandsAt, Holds, asked_by};
@@ -97,16 +95,6 @@ impl Ledger {
         match self.place_of(number) {
             Some(place) => Ok(place),
             None => Err(TokenFault::OutOfTurn),
-        }
-    }
-
-    /// How many records the journal has.
-    pub(crate) fn records(&self) -> u64
-        ensures { Holds (λ book. result ≡ records_kept book + records_in book.placed) self.now }
-    {
-        match self.placed.last() {
-            Some(placed) => placed.records,
-            None => self.kept,
         }
     }
 }
