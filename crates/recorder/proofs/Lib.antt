@@ -2,3 +2,5 @@ pub mod Reaching
 pub mod Undoing
 pub mod Parts
 pub mod CrashSteps
+pub mod Naming
+pub mod Making

@@ -1,7 +1,7 @@
 -- What is said to the prover of a call that is placed: the step that it takes in the tree, and what stands of it afterwards.
 use Rattle.std.specs.Prelude.{◌≡◌, ◌&&◌, ℕ, ◌+◌, ◌-◌, ◌<◌, ◌≤◌, Bool, true, false, List, [], ◌∷◌, ◌++◌, length, slice_get, slice_set, vec_len, vec_capacity, Option, Some, None, IsSome, IfSome, is_some, ⊤, if◌then◌else◌}
 use Rattle.std.specs.declared.vec.Vec.{Vec}
-use Rattle.std.specs.Global.{Global}
+use Rattle.std.specs.declared.alloc.Global.{Global}
 use Rattle.xdr_records.specs.Record.{record_limit}
 use Rattle.nfs3_types.specs.declared.calls.NfsCall.{NfsCall}
 use Rattle.nfs3_types.specs.declared.replies.NfsReply.{NfsReply}
@@ -105,17 +105,17 @@ IsShortAnswer ledger number outcome =
     → length (reply_message call.xid reply) ≤ record_limit
 
 -- the bytes of the record, where there is one
-abbrev pub Holds : {A : Type 0} → Bool → List ℕ → Option (Vec ℕ A) → Type 0
-Holds true bytes (Some entry) = entry.items ≡ bytes
-Holds true bytes None = ⊥
-Holds false bytes (Some entry) = ⊥
-Holds false bytes None = ⊤
+abbrev pub HoldsBytes : Bool → List ℕ → Option (Vec ℕ Global) → Type 0
+HoldsBytes true bytes (Some entry) = entry.items ≡ bytes
+HoldsBytes true bytes None = ⊥
+HoldsBytes false bytes (Some entry) = ⊥
+HoldsBytes false bytes None = ⊤
 
-abbrev pub IsEntry : {A : Type 0} → Ledger → ℕ → Outcome → Option (Vec ℕ A) → Type 0
+abbrev pub IsEntry : Ledger → ℕ → Outcome → Option (Vec ℕ Global) → Type 0
 IsEntry ledger number outcome entry =
     (call : RecordedCall) (message : List ℕ) (reply : NfsReply) → call_at ledger.history.known.calls number ≡ Some call
     → slice_get ledger.history.events (call.begin - 1) ≡ Some (events.Call call.lane message) → outcome ≡ outcomes.Received reply
-    → Holds (is_recorded (step_so (asked_by ledger.history.known.calls number) outcome)) (journal_record number message (reply_message call.xid reply)) entry
+    → HoldsBytes (is_recorded (step_so (asked_by ledger.history.known.calls number) outcome)) (journal_record number message (reply_message call.xid reply)) entry
 
 -- ---- the place
 
