@@ -4,3 +4,5 @@ pub mod Parts
 pub mod CrashSteps
 pub mod Naming
 pub mod Making
+pub mod Apart
+pub mod Noting

@@ -119,17 +119,11 @@ IsEntry ledger number outcome entry =
 
 -- ---- the place
 
--- how many records there are behind these calls, ahead of which there are so many
-abbrev pub records_behind : ℕ → List PlacedCall → ℕ
-records_behind ahead [] = ahead
-records_behind ahead (placed ∷ rest) = records_behind placed.records rest
-
 -- the call stands behind the others
-pub record HasPlaced (old : Ledger) (number : ℕ) (outcome : Outcome) (step : TreeStep) (recorded : Bool) (new : Ledger) : Type 0 where
+pub record HasPlaced (old : Ledger) (number : ℕ) (outcome : Outcome) (step : TreeStep) (recorded : Bool) (records : ℕ) (new : Ledger) : Type 0 where
   pub history : new.history ≡ old.history
   pub over : new.over ≡ old.over
-  pub placed : new.placed.items
-      ≡ old.placed.items ++ record { number = number; outcome = outcome; records = records_behind old.kept old.placed.items + (if recorded then 1 else 0) } ∷ []
+  pub placed : new.placed.items ≡ old.placed.items ++ record { number = number; outcome = outcome; records = records } ∷ []
   pub calls : new.calls.items ≡ slice_set old.calls.items (number - 1) (record { place = Some (length old.placed.items); made = step.made })
   pub binds : new.binds ≡ old.binds
   pub tree : new.tree ≡ old.tree

@@ -1,6 +1,6 @@
 //! Calls that are placed in the serial order.
 
-ghost use Rattle.std.specs.Prelude.{◌≡◌, ◌≢◌, ◌+◌, ◌-◌, ◌<◌, ◌≤◌, length, slice_set, vec_len, vec_capacity, Some, None, Err, IfOk, IfErr, OnOk, OnErr, IsSome, MatchBool, is_some, true, ◌^◌};
+ghost use Rattle.std.specs.Prelude.{◌≡◌, ◌≢◌, ◌+◌, ◌-◌, ◌<◌, ◌≤◌, length, slice_set, vec_len, vec_capacity, Some, None, Err, IfOk, IfErr, OnOk, OnErr, IsSome, MatchBool, is_some, true};
 ghost use Rattle.xdr_records.specs.Record.{record_limit};
 ghost use Rattle.rpc_reader.specs.Messages.{IsReply};
 ghost use Rattle.rpc_reader.specs.Values.Body.{success};
@@ -14,7 +14,7 @@ ghost use Rattle.book_machine.specs.Book.{handle_of};
 ghost use Rattle.book_machine.specs.Steps.{reply_message, journal_record};
 ghost use Rattle.recorder.specs.Inside.{IsAsked, IsTied, Goes, asked_by};
 ghost use Rattle.recorder.specs.Recordable.{may_make};
-ghost use Rattle.recorder.specs.PlaceSteps.{with_own, without_own, bound_if, HasRoom, IsSame, HasLost, records_behind, NameAlike, TakesStep, HasStepped, HasNoStep, HasStayed, IsReceived, ShowsNow, MayGive, GivesAllowed, StopsWhere, IsShortAnswer, IsEntry, HasPlaced};
+ghost use Rattle.recorder.specs.PlaceSteps.{with_own, without_own, bound_if, HasRoom, IsSame, HasLost, NameAlike, TakesStep, HasStepped, HasNoStep, HasStayed, IsReceived, ShowsNow, MayGive, GivesAllowed, StopsWhere, IsShortAnswer, IsEntry, HasPlaced};
 
 use crate::calls::{is_recorded, may_make, verifier_of};
 use crate::fault::PlaceFault;
@@ -157,16 +157,6 @@ fn note_state(calls: &mut [CallState], number: u64, place: usize, made: bool)
     };
 }
 
-/// How many records there are behind these calls, ahead of which there are so many.
-fn records_behind(ahead: u64, placed: &[PlacedCall]) -> u64
-    ensures { result ≡ records_behind ahead placed.now }
-{
-    match placed.last() {
-        Some(placed) => placed.records,
-        None => ahead,
-    }
-}
-
 impl Ledger {
     /// Whether a reply shows no other write verifier than this era's.
     fn shows_now(&self, number: u64, outcome: &Outcome) -> bool
@@ -266,24 +256,22 @@ impl Ledger {
         take_step(tree, &mut self.binds, number, call, outcome)
     }
 
-    /// Places a call that took its step. Room is set aside for it.
+    /// Places a call that took its step, behind which there are so many records. Room is set aside for it.
     pub(crate) fn note_place(
         &mut self,
         number: u64,
         outcome: Outcome,
         step: TreeStep,
         recorded: bool,
+        records: u64,
     )
         requires room { HasRoom self.old }
-        requires few { records_behind self.old.kept self.old.placed.items + 1 < 2 ^ 64 }
         requires from_one { 1 ≤ number }
         requires within { number ≤ length self.old.calls.items }
-        ensures { HasPlaced self.old number outcome.entry step recorded self.new }
+        ensures { HasPlaced self.old number outcome.entry step recorded records self.new }
     {
         let TreeStep { undo, made } = step;
-        let mut records = records_behind(self.kept, self.placed.as_slice());
         if recorded {
-            records += 1;
             self.undos.push(undo).unwrap();
         } else {
             drop(undo);
