@@ -6,3 +6,5 @@ pub mod Naming
 pub mod Making
 pub mod Apart
 pub mod Noting
+pub mod Behind
+pub mod PlaceSteps
