@@ -163,6 +163,11 @@ module _ (p : Parts) (device : Device) (t : Tied p device) where
   pub behind_stands : (n : ℕ) → IsSome (tree_of (record (book_with p device) { placed = take n (book_with p device).placed }))
   behind_stands n = front_stands (bindings (book_with p device)) n (book_with p device).over (book_with p device).placed opening holds.runs
 
+pub now_asked : (p : Parts) (device : Device) → Tied p device → AreAsked p.known.calls p.placed
+now_asked p device t =
+    let now = known_now p.known.calls 1 (book_with p device).over (book_with p device).placed (holds p device t).known in
+    asked_all p.known.calls now.0 p.placed now.1
+
 pub behind_is : (ledger : Ledger) (device : Device) (count : ℕ) → AreTied ledger device
     → state_after (next_tree ledger.binds) opening (steps_kept ledger count) ≡ tree_of (record (book_of ledger device) { placed = take count (book_of ledger device).placed })
 behind_is ledger device count t =

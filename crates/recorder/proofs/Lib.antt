@@ -8,3 +8,4 @@ pub mod Apart
 pub mod Noting
 pub mod Behind
 pub mod PlaceSteps
+pub mod NewPlace

@@ -112,6 +112,31 @@ forgotten number binds free handle = go (same_bytes handle binds.root) refl (dec
         first_none None = refl
         first_none (Some n) = refl
 
+-- the same in any order
+pub forgotten_so : (number : ℕ) (binds bound : Bindings) → object_of binds (handle_of number) ≡ None → NameAlike bound (with_own number binds) → number ≢ 0 → NameAlike (without_own number bound) binds
+forgotten_so number binds bound free alike isnt_root handle = go (decide (same_bytes handle (handle_of number))) (same_bytes handle bound.root) refl where
+  none_first : (o : Option ℕ) → first_of o None ≡ o
+  none_first None = refl
+  none_first (Some n) = refl
+
+  zero_is : {n : ℕ} → Some 0 ≡ Some n → n ≡ 0
+  zero_is e = cc
+
+  go : (same_bytes handle (handle_of number) ≡ true) ⊎ (same_bytes handle (handle_of number) ≡ false) → (b : Bool) → same_bytes handle bound.root ≡ b
+      → (if b then Some 0 else lookup (same_bytes handle) (pairs_without (handle_of number) bound.pairs)) ≡ object_of binds handle
+  go (inl own) true is =
+      let same = same_is handle (handle_of number) own in
+      let named : object_of binds handle ≡ None = ap (object_of binds) same ∙ free in
+      absurd (isnt_root (zero_is (sym (ap (λ (c : Bool). if c then Some 0 else lookup (same_bytes handle) bound.pairs) is) ∙ alike handle ∙ own_is number binds handle
+      ∙ ap (λ (o : Option ℕ). first_of o (cond (same_bytes handle (handle_of number)) (Some number) None)) named ∙ ap (λ (c : Bool). cond c (Some number) None) own)))
+  go (inl own) false is =
+      let same = same_is handle (handle_of number) own in
+      gone (handle_of number) handle bound.pairs same ∙ sym (ap (object_of binds) same ∙ free)
+  go (inr apart) b is =
+      ap (λ (o : Option ℕ). if b then Some 0 else o) (kept_apart (handle_of number) handle bound.pairs apart)
+      ∙ ap (λ (c : Bool). if c then Some 0 else lookup (same_bytes handle) bound.pairs) (sym is) ∙ alike handle ∙ own_is number binds handle
+      ∙ ap (λ (c : Bool). first_of (object_of binds handle) (cond c (Some number) None)) apart ∙ none_first (object_of binds handle)
+
 -- ---- among the objects that were made
 
 module _ (number : ℕ) (made : List ℕ) (lt : number < 2 ^ 64) (others : AllByRecursion (λ other. (other ≢ number) × (other < 2 ^ 64)) made) where
