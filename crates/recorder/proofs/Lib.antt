@@ -9,3 +9,4 @@ pub mod Noting
 pub mod Behind
 pub mod PlaceSteps
 pub mod NewPlace
+pub mod PlaceTurns

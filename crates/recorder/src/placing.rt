@@ -229,9 +229,9 @@ impl Ledger {
         requires stands { IsSome self.old.tree }
         ensures same { IsSame self.old self.new }
         ensures room { OnOk result (HasRoom self.new) }
-        ensures entry { IfOk result (IsEntry self.old number outcome.now) }
-        ensures fits { OnOk result (ShowsNow self.old number outcome.now × GivesAllowed self.old number outcome.now × IsShortAnswer self.old number outcome.now) }
-        ensures refused { IfErr result (StopsWhere (¬ (ShowsNow self.old number outcome.now × MayGive self.old number outcome.now × IsShortAnswer self.old number outcome.now))) }
+        ensures entry { IfOk result (IsEntry self.new number outcome.now) }
+        ensures fits { OnOk result (ShowsNow self.new number outcome.now × GivesAllowed self.new number outcome.now × IsShortAnswer self.new number outcome.now) }
+        ensures refused { IfErr result (StopsWhere (¬ (ShowsNow self.new number outcome.now × MayGive self.new number outcome.now × IsShortAnswer self.new number outcome.now))) }
     {
         self.check_reply(number, outcome)?;
         let entry = self.entry_of(number, outcome)?;
