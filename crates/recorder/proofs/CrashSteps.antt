@@ -45,8 +45,8 @@ use Rattle.recorder.specs.declared.placed.CallState.{CallState}
 use Rattle.recorder.specs.declared.placed.Condition as code
 use Rattle.recorder.specs.declared.placed.Condition.TheVariants as codes
 use Rattle.recorder.specs.declared.ledger.Ledger.{Ledger}
-use Rattle.recorder.specs.Inside.{IsAsked, placed_in, era_in, condition_of, book_of, IsReached, AreCounted, tree_behind, IsShort, AreTied}
-use Rattle.recorder.specs.Undoing.{AreAsked, IsSoundEra, steps_kept, CanRunAgain, LeadBack, Loses, Restarts}
+use Rattle.recorder.specs.Inside.{AreAsked, IsAsked, placed_in, era_in, condition_of, book_of, IsReached, AreCounted, tree_behind, IsShort, AreTied}
+use Rattle.recorder.specs.Undoing.{IsSoundEra, steps_kept, CanRunAgain, LeadBack, Loses, Restarts}
 use Rattle.recorder.proofs.Reaching.{reached_holds, reach_more}
 use Rattle.recorder.proofs.Parts.{Parts, parts_of, book_with, HavePlaces, Tied, to_parts, from_parts, same_parts}
 

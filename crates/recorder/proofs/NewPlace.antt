@@ -44,8 +44,7 @@ use Rattle.recorder.specs.declared.placed.PlacedCall.{PlacedCall}
 use Rattle.recorder.specs.declared.placed.CallState.{CallState}
 use Rattle.recorder.specs.declared.placed.Condition.TheVariants as codes
 use Rattle.recorder.specs.declared.placing.TreeStep.{TreeStep}
-use Rattle.recorder.specs.Inside.{asked_by, call_in, placed_in, made_from, condition_of, IsReached, tree_behind}
-use Rattle.recorder.specs.Undoing.{AreAsked}
+use Rattle.recorder.specs.Inside.{AreAsked, asked_by, call_in, placed_in, made_from, condition_of, IsReached, tree_behind}
 use Rattle.recorder.specs.PlaceSteps.{with_own, bound_if, NameAlike, TakesStep}
 use Rattle.recorder.proofs.Reaching.{reached_holds, reach_more}
 use Rattle.recorder.proofs.Parts.{Parts, book_with, HavePlaces, Tied}

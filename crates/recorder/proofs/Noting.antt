@@ -13,8 +13,7 @@ use Rattle.book_machine.specs.Steps.{with_object, IsUnplaced}
 use Rattle.book_machine.proofs.Stable.{records_append}
 use Rattle.recorder.specs.declared.placed.PlacedCall.{PlacedCall}
 use Rattle.recorder.specs.declared.placed.CallState.{CallState}
-use Rattle.recorder.specs.Inside.{IsAsked, placed_in, made_from, AreCounted}
-use Rattle.recorder.specs.Undoing.{AreAsked}
+use Rattle.recorder.specs.Inside.{AreAsked, IsAsked, placed_in, made_from, AreCounted}
 use Rattle.recorder.proofs.Parts.{Parts, HavePlaces}
 
 -- ---- an item of a list

@@ -17,8 +17,8 @@ use Rattle.tree_handles.specs.Binding.{Bindings}
 use Rattle.file_tree.specs.Success.{next_tree}
 use Rattle.book_machine.specs.Placing.{Placed}
 use Rattle.recorder.specs.declared.placed.PlacedCall.{PlacedCall}
-use Rattle.recorder.specs.Inside.{IsAsked, asked_by, placed_in}
-use Rattle.recorder.specs.Undoing.{tree_after, AreAsked, CanRun, LeadBack}
+use Rattle.recorder.specs.Inside.{AreAsked, IsAsked, asked_by, placed_in}
+use Rattle.recorder.specs.Undoing.{tree_after, CanRun, LeadBack}
 
 -- what holds of all holds of each
 pub all_at : {X : Type 0} (P : X → Type 0) (xs : List X) (i : ℕ) (x : X) → i < length xs → x ≡ get_or xs i x → AllByRecursion P xs → P x

@@ -130,6 +130,9 @@ IsTied ledger = (device : Device) × AreTied ledger device
 abbrev pub IsAsked : List RecordedCall → ℕ → Type 0
 IsAsked recorded number = (call : RecordedCall) × (asked : NfsCall) × (call_at recorded number ≡ Some call) × (call.meaning ≡ meanings.Judged asked)
 
+abbrev pub AreAsked : List RecordedCall → List PlacedCall → Type 0
+AreAsked recorded placed = AllByRecursion (λ one. IsAsked recorded one.number) placed
+
 -- the call is one of these
 abbrev pub IsOneOf : List RecordedCall → RecordedCall → Type 0
 IsOneOf recorded call = (number : ℕ) × (call_at recorded number ≡ Some call)
@@ -142,6 +145,10 @@ StandsAt ledger number place = (placed : PlacedCall) × (slice_get ledger.placed
 abbrev pub Goes : (Book → Book → Type 0) → Ledger → Ledger → Type 0
 Goes Step old new = (device : Device) → AreTied old device → AreTied new device × Step (book_of old device) (book_of new device)
 
+-- the same over a device of which so many records are on stable storage
+abbrev pub GoesAt : ℕ → (Book → Book → Type 0) → Ledger → Ledger → Type 0
+GoesAt mark Step old new = (device : Device) → AreTied old device → device.mark ≡ mark → AreTied new device × Step (book_of old device) (book_of new device)
+
 -- over any device that belongs to the parts, this holds of the book
 abbrev pub Holds : (Book → Type 0) → Ledger → Type 0
 Holds P ledger = (device : Device) → AreTied ledger device → P (book_of ledger device)
@@ -151,3 +158,9 @@ abbrev pub Settles : Ledger → Ledger → Type 0
 Settles old new =
     (device : Device) → AreTied old device
     → AreTied new (settled device) × (book_of new (settled device) ≡ record (book_of old device) { device = settled device })
+
+-- ---- what private functions leave
+
+-- nothing but the history, and how far its calls have come, is another
+abbrev pub OnlyHistory : Ledger → Ledger → Type 0
+OnlyHistory old new = new ≡ record old { history = new.history; calls = new.calls }

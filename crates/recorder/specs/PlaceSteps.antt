@@ -1,5 +1,5 @@
 -- What is said to the prover of a call that is placed: the step that it takes in the tree, and what stands of it afterwards.
-use Rattle.std.specs.Prelude.{◌≡◌, ◌&&◌, ℕ, ◌+◌, ◌-◌, ◌<◌, ◌≤◌, Bool, true, false, List, [], ◌∷◌, ◌++◌, length, slice_get, slice_set, vec_len, vec_capacity, Option, Some, None, IsSome, IfSome, is_some, ⊤, if◌then◌else◌}
+use Rattle.std.specs.Prelude.{◌≡◌, ◌≢◌, ◌&&◌, ℕ, ◌+◌, ◌-◌, ◌<◌, ◌≤◌, Bool, true, false, List, [], ◌∷◌, ◌++◌, length, slice_get, slice_set, vec_len, vec_capacity, Option, Some, None, IsSome, IfSome, is_some, ⊤, if◌then◌else◌}
 use Rattle.std.specs.declared.vec.Vec.{Vec}
 use Rattle.std.specs.declared.alloc.Global.{Global}
 use Rattle.xdr_records.specs.Record.{record_limit}
@@ -15,7 +15,9 @@ use Rattle.tree_nodes.specs.Undo.{TakesBack}
 use Rattle.tree_handles.specs.Binding.{Bindings, object_of, pairs_without}
 use Rattle.file_tree.specs.Success.{next_tree}
 use Rattle.cut_check.specs.Verifier.{verifier_of}
-use Rattle.book_machine.specs.Book.{handle_of}
+use Rattle.journal_device.specs.Device.{Device, appended}
+use Rattle.book_machine.specs.Book.{Book, handle_of}
+use Rattle.book_machine.specs.Book.Condition.{down, dead}
 use Rattle.book_machine.specs.Placing.{Placed, is_recorded}
 use Rattle.book_machine.specs.Served.{IsServed}
 use Rattle.book_machine.specs.Steps.{reply_message, journal_record}
@@ -28,6 +30,7 @@ use Rattle.recorder.specs.declared.fault.PlaceFault.TheVariants as place
 use Rattle.recorder.specs.Inside.{asked_by}
 use Rattle.recorder.specs.Recordable.{may_make, step_so}
 use Rattle.recorder.specs.Serving.{IsAllowed}
+use Rattle.recorder.specs.Refusals.{after_place}
 
 -- ---- the tree
 
@@ -157,3 +160,13 @@ pub record HasLost (old : Ledger) (number : ℕ) (made : Bool) (new : Ledger) : 
   pub tree : new.tree ≡ None
   pub kept : new.kept ≡ old.kept
   pub condition : new.condition ≡ codes.Down
+
+-- the device with the record, where there is one
+abbrev pub entry_put : Option (Vec ℕ Global) → Device → Device
+entry_put (Some entry) device = appended device entry.items
+entry_put None device = device
+
+-- what a place that was refused leaves, before the book goes down
+pub record IsLeft (old : Book) (fault : PlaceFault) (new : Book) : Type 0 where
+  pub alive : new.condition ≢ dead
+  pub downed : record new { condition = down } ≡ after_place old fault

@@ -17,14 +17,11 @@ use Rattle.book_machine.specs.Steps.{Crashes}
 use Rattle.recorder.specs.declared.placed.PlacedCall.{PlacedCall}
 use Rattle.recorder.specs.declared.placed.EraOver.{EraOver}
 use Rattle.recorder.specs.declared.ledger.Ledger.{Ledger}
-use Rattle.recorder.specs.Inside.{IsAsked, placed_in, era_in, book_of, tree_behind, AreTied}
+use Rattle.recorder.specs.Inside.{AreAsked, placed_in, era_in, book_of, tree_behind, AreTied}
 
 -- the tree behind these calls, from this one on
 abbrev pub tree_after : Bindings → List RecordedCall → Tree → List PlacedCall → Option Tree
 tree_after binds recorded tree placed = state_after (next_tree binds) tree (map (placed_in recorded) placed)
-
-abbrev pub AreAsked : List RecordedCall → List PlacedCall → Type 0
-AreAsked recorded placed = AllByRecursion (λ (call : PlacedCall). IsAsked recorded call.number) placed
 
 -- these are judged calls, and lead from this tree to another
 pub record CanRun (binds : Bindings) (recorded : List RecordedCall) (tree : Tree) (placed : List PlacedCall) : Type 0 where

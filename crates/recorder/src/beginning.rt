@@ -1,9 +1,12 @@
 //! Calls that begin.
 
-ghost use Rattle.std.specs.Prelude.{◌≡◌, IfOk, IfErr, length};
+ghost use Rattle.std.specs.Prelude.{◌≡◌, [], ◌∷◌, ◌++◌, false, None, IfOk, OnOk, OnErr, IfErr, length};
+ghost use Rattle.history_file.specs.declared.event.Event.TheVariants as events;
+ghost use Rattle.nfs_history.specs.Appending.{Follows};
 ghost use Rattle.book_machine.specs.Steps.{Begins};
-ghost use Rattle.recorder.specs.Inside.{Goes};
+ghost use Rattle.recorder.specs.Inside.{Goes, OnlyHistory};
 ghost use Rattle.recorder.specs.Refusals.{BeginStops};
+ghost use Rattle.recorder.specs.Recordable.{TakeStops};
 
 use crate::calls::check_recordable;
 use crate::fault::BeginFault;
@@ -14,7 +17,14 @@ use nfs_history::{Event, HistoryFault, LaneState, Message};
 
 impl Ledger {
     /// Puts a call behind the other events of the history.
-    fn take_call(&mut self, lane: u32, message: &[u8]) -> Result<(), BeginFault> {
+    fn take_call(&mut self, lane: u32, message: &[u8]) -> Result<(), BeginFault>
+        ensures only { OnlyHistory self.old self.new }
+        ensures taken { OnOk result (Follows self.old.history (events.Call lane message.now) self.new.history) }
+        ensures fresh { OnOk result (self.new.calls.items ≡ self.old.calls.items ++ record { place = None; made = false } ∷ []) }
+        ensures kept { OnErr result (self.new.history ≡ self.old.history) }
+        ensures as_far { OnErr result (self.new.calls.items ≡ self.old.calls.items) }
+        ensures fault { IfErr result (TakeStops self.old.history lane message.now) }
+    {
         self.calls.reserve(1)?;
         let message = Message::from_slice(self.alloc, message)?;
         match self.history.append(Event::Call { lane, message }) {

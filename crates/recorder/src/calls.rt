@@ -9,7 +9,8 @@ ghost use Rattle.tree_laws.specs.Leaving.{only_looks};
 ghost use Rattle.tree_laws.specs.Outcomes.{count_written};
 ghost use Rattle.book_machine.specs.Placing.{is_recorded};
 ghost use Rattle.book_machine.specs.Steps.{commits};
-ghost use Rattle.recorder.specs.Recordable.{asks_judged, may_make, step_so, IsKeptAsked};
+ghost use Rattle.journal_records.specs.Exactly.{ExactlySeen};
+ghost use Rattle.recorder.specs.Recordable.{asks_judged, may_make, step_so, AsksJudged, IsKeptInside, AreKeptArguments, IsKeptAsked};
 
 use crate::fault::BeginFault;
 use journal_records::is_inside;
@@ -39,6 +40,38 @@ fn asks_judged(head: &CallHead<'_>) -> bool
         )
 }
 
+/// The head of a judged call.
+fn judged_head(message: &[u8]) -> Option<CallHead<'_>>
+    ensures { ExactlySeen call_value (AsksJudged message.now) result }
+{
+    match read_call(message) {
+        Ok(head) => { if asks_judged(&head) { Some(head) } else { None } }
+        Err(_) => None,
+    }
+}
+
+/// Whether a call lies inside the model whatever its reply.
+fn check_inside(call: NfsCall) -> Result<(), BeginFault>
+    ensures { IsKeptInside call result }
+{
+    if is_inside(&call) {
+        Ok(())
+    } else {
+        Err(BeginFault::BadRecord)
+    }
+}
+
+/// Whether these are the arguments of a call that lies inside the model whatever its reply.
+fn check_arguments(alloc: Global, procedure: u32, bytes: &[u8]) -> Result<(), BeginFault>
+    ensures { AreKeptArguments procedure bytes.now result }
+{
+    match read_args(alloc, procedure, bytes) {
+        Ok(call) => check_inside(call),
+        Err(MessageFault::BadMessage { .. }) => Err(BeginFault::BadRecord),
+        Err(MessageFault::NoMemory) => Err(BeginFault::NoMemory),
+    }
+}
+
 /// Whether a history takes a message as a judged call whatever is answered.
 pub(crate) fn check_recordable(alloc: Global, message: &[u8]) -> Result<(), BeginFault>
     ensures { IsKeptAsked message.now result }
@@ -46,23 +79,10 @@ pub(crate) fn check_recordable(alloc: Global, message: &[u8]) -> Result<(), Begi
     if message.len() > RECORD_LIMIT {
         return Err(BeginFault::BadRecord);
     }
-    let Ok(head) = read_call(message) else {
+    let Some(head) = judged_head(message) else {
         return Err(BeginFault::BadRecord);
     };
-    if !asks_judged(&head) {
-        return Err(BeginFault::BadRecord);
-    }
-    match read_args(alloc, head.procedure, head.args) {
-        Ok(call) => {
-            if is_inside(&call) {
-                Ok(())
-            } else {
-                Err(BeginFault::BadRecord)
-            }
-        }
-        Err(MessageFault::BadMessage { .. }) => Err(BeginFault::BadRecord),
-        Err(MessageFault::NoMemory) => Err(BeginFault::NoMemory),
-    }
+    check_arguments(alloc, head.procedure, head.args)
 }
 
 /// Whether a call changes the tree where it succeeds.

@@ -1,8 +1,9 @@
 //! The certificate of a book.
 
-ghost use Rattle.std.specs.Prelude.{◌≡◌, IfOk};
-ghost use Rattle.book_machine.specs.Plan.{plan_of};
-ghost use Rattle.recorder.specs.Inside.{Holds};
+ghost use Rattle.std.specs.Prelude.{◌≡◌, ◌≤◌, [], ◌∷◌, ◌++◌, length, map, if◌then◌else◌, IfOk, OnOk};
+ghost use Rattle.std.specs.List.{cons_option};
+ghost use Rattle.book_machine.specs.Plan.{bind_of, place_of, places_of, plan_over, plan_now, plan_of};
+ghost use Rattle.recorder.specs.Inside.{IsAsked, AreAsked, IsTied, Holds, placed_in, era_in, made_from};
 
 use crate::calls::{count_written, is_recorded};
 use crate::ledger::Ledger;
@@ -14,7 +15,10 @@ use nfs3_types::FileHandle;
 use std::alloc::{AllocError, Global};
 
 /// The place of a call: with its reply where one was sent, else as taken if it changed the tree.
-fn place_of(history: &History, placed: &PlacedCall) -> Option<Place> {
+fn place_of(history: &History, placed: &PlacedCall) -> Option<Place>
+    requires { IsAsked history.now.known.calls placed.now.number }
+    ensures { result ≡ place_of history.now.known.calls (placed_in history.now.known.calls placed.now) }
+{
     let number = placed.number;
     if history.end(number).is_some() {
         return Some(Place::Answered(number));
@@ -26,23 +30,41 @@ fn place_of(history: &History, placed: &PlacedCall) -> Option<Place> {
     }
 }
 
+/// Puts a place behind the others, where there is one.
+fn add_place(places: &mut Vec<Place>, place: Option<Place>) -> Result<(), AllocError>
+    ensures { OnOk result (places.new.items ≡ places.old.items ++ cons_option place []) }
+{
+    match place {
+        Some(place) => {
+            places.push(place)?;
+            Ok(())
+        }
+        None => Ok(()),
+    }
+}
+
 /// The places of these calls.
 fn places_of(
     alloc: Global,
     history: &History,
     placed: &[PlacedCall],
-) -> Result<Vec<Place>, AllocError> {
+) -> Result<Vec<Place>, AllocError>
+    requires { AreAsked history.now.known.calls placed.now }
+    ensures { IfOk result (λ places. places.items ≡ places_of history.now.known.calls (map (placed_in history.now.known.calls) placed.now)) }
+{
     let mut places = Vec::new(alloc);
     for next in placed {
-        if let Some(place) = place_of(history, next) {
-            places.push(place)?;
-        }
+        add_place(&mut places, place_of(history, next))?;
     }
     Ok(places)
 }
 
 /// The plan of an era that is over.
-fn plan_over(alloc: Global, history: &History, era: &EraOver) -> Result<EraPlan, AllocError> {
+fn plan_over(alloc: Global, history: &History, era: &EraOver) -> Result<EraPlan, AllocError>
+    requires asked { AreAsked history.now.known.calls era.now.placed.items }
+    requires within { era.now.kept ≤ length era.now.placed.items }
+    ensures { IfOk result (λ plan. plan ≡ plan_over history.now.known.calls (era_in history.now.known.calls era.now)) }
+{
     let (front, behind) = era.placed.as_slice().split_at(era.kept);
     let mut places = places_of(alloc, history, front)?;
     let cut = places.len() as u64;
@@ -54,22 +76,40 @@ fn plan_over(alloc: Global, history: &History, era: &EraOver) -> Result<EraPlan,
     })
 }
 
+/// Puts the bind of an object behind the others, where it was made.
+fn add_bind(
+    alloc: Global,
+    binds: &mut Vec<Bind>,
+    object: u64,
+    made: bool,
+) -> Result<(), AllocError>
+    ensures { OnOk result (binds.new.items ≡ binds.old.items ++ (if made then bind_of object ∷ [] else [])) }
+{
+    if made {
+        let handle = FileHandle::from_slice(alloc, object.to_be_bytes().as_slice())?;
+        binds.push(Bind { handle, object })?;
+    }
+    Ok(())
+}
+
 /// The binds of the objects that were made, by their numbers.
-fn binds_made(alloc: Global, calls: &[CallState]) -> Result<Vec<Bind>, AllocError> {
+fn binds_made(alloc: Global, calls: &[CallState]) -> Result<Vec<Bind>, AllocError>
+    ensures { IfOk result (λ binds. binds.items ≡ map bind_of (made_from 1 calls.now)) }
+{
     let mut binds = Vec::new(alloc);
     for (index, call) in calls.iter().enumerate() {
-        if call.made {
-            let object = index as u64 + 1;
-            let handle = FileHandle::from_slice(alloc, object.to_be_bytes().as_slice())?;
-            binds.push(Bind { handle, object })?;
-        }
+        add_bind(alloc, &mut binds, index as u64 + 1, call.made)?;
     }
     Ok(binds)
 }
 
 impl Ledger {
     /// The plans of the eras.
-    fn plans(&self) -> Result<Vec<EraPlan>, AllocError> {
+    fn plans(&self) -> Result<Vec<EraPlan>, AllocError>
+        requires { IsTied self.now }
+        ensures { IfOk result (λ plans. plans.items ≡ map (plan_over self.now.history.known.calls) (map (era_in self.now.history.known.calls) self.now.over.items)
+            ++ plan_now self.now.history.known.calls (map (placed_in self.now.history.known.calls) self.now.placed.items) ∷ []) }
+    {
         let mut plans = Vec::with_capacity(self.alloc, self.over.len() + 1)?;
         for era in self.over.iter() {
             plans.push(plan_over(self.alloc, &self.history, era)?)?;
@@ -84,6 +124,7 @@ impl Ledger {
 
     /// Its own commit order.
     pub(crate) fn certificate(&self) -> Result<Certificate, AllocError>
+        requires { IsTied self.now }
         ensures { IfOk result (λ certificate. Holds (λ book. certificate ≡ plan_of book) self.now) }
     {
         let binds = binds_made(self.alloc, self.calls.as_slice())?;

@@ -1,6 +1,6 @@
 //! All of a book but its device.
 
-ghost use Rattle.std.specs.Prelude.{◌≡◌, IfOk, OnOk, IfErr};
+ghost use Rattle.std.specs.Prelude.{◌≡◌, ◌≢◌, ℕ, [], IfOk, OnOk, IfErr};
 ghost use Rattle.book_machine.specs.Book.Condition.{down, dead};
 ghost use Rattle.book_machine.specs.Steps.{opening_book, Closes};
 ghost use Rattle.recorder.specs.Inside.{book_of, AreTied, Goes, Settles};
@@ -60,7 +60,9 @@ impl Drop for Ledger {
 }
 
 /// A history of no events.
-fn empty_history(alloc: Global) -> Result<History, AllocError> {
+fn empty_history(alloc: Global) -> Result<History, AllocError>
+    ensures { IfOk result (λ history. history ≡ (opening_book 0).history) }
+{
     let root = FileHandle::from_slice(alloc, 0u64.to_be_bytes().as_slice())?;
     match History::build(alloc, root, Vec::new(alloc)) {
         Ok(history) => Ok(history),
@@ -71,7 +73,7 @@ fn empty_history(alloc: Global) -> Result<History, AllocError> {
 impl Ledger {
     /// Ahead of the first step.
     pub(crate) fn new(alloc: Global) -> Result<Ledger, AllocError>
-        ensures { IfOk result (λ ledger. AreTied ledger opening_book.device × (book_of ledger opening_book.device ≡ opening_book)) }
+        ensures { IfOk result (λ ledger. (faults : ℕ) → AreTied ledger (opening_book faults).device × (book_of ledger (opening_book faults).device ≡ opening_book faults)) }
     {
         let binds = Binds::of_root(alloc, 0u64.to_be_bytes().as_slice())?;
         let tree = FileTree::opening(alloc, &binds)?;
@@ -91,6 +93,7 @@ impl Ledger {
 
     /// It takes no calls until a crash.
     pub(crate) fn go_down(&mut self)
+        requires { self.old.condition ≢ Condition.Dead }
         ensures { Goes (λ old new. new ≡ record old { condition = down }) self.old self.new }
     {
         self.condition = Condition::Down;
@@ -105,6 +108,7 @@ impl Ledger {
 
     /// All records are on stable storage.
     pub(crate) fn settle(&mut self)
+        requires { self.old.condition ≡ Condition.Running }
         ensures { Settles self.old self.new }
     {
         self.undos.clear();
@@ -129,7 +133,9 @@ impl Ledger {
 
 impl Ledger {
     /// The history alone.
-    pub(crate) fn into_history(self) -> History {
+    pub(crate) fn into_history(self) -> History
+        ensures { result ≡ self.history }
+    {
         let Ledger {
             alloc: _,
             history,

@@ -2,10 +2,10 @@
 
 ghost use Rattle.std.specs.Prelude.{◌↔◌, IfOk, IsTrue};
 ghost use Rattle.book_machine.specs.Served.{IsFull, IsServed};
-ghost use Rattle.recorder.specs.Serving.{IsAllowed, IsFree};
+ghost use Rattle.recorder.specs.Serving.{IsAllowed, IsFree, HasAll, ReadsAll, WritesAll};
 
 use file_tree::{Binds, FileTree};
-use nfs3_types::{Answer, Failure, NfsCall, NfsReply, ReadArguments, ReadSuccess};
+use nfs3_types::{Answer, Failure, NfsCall, NfsReply, ReadArguments, ReadSuccess, WriteArguments};
 use std::alloc::AllocError;
 use tree_handles::{View, file_of};
 
@@ -13,7 +13,9 @@ use tree_handles::{View, file_of};
 const TRANSFER_LIMIT: usize = 1_048_576;
 
 /// Whether a READ gives as many bytes as it is to.
-fn is_whole(binds: &Binds, tree: &FileTree, call: &ReadArguments, success: &ReadSuccess) -> bool {
+fn is_whole(binds: &Binds, tree: &FileTree, call: &ReadArguments, success: &ReadSuccess) -> bool
+    ensures { IsTrue result ↔ HasAll binds.now tree.now call.now success.now }
+{
     let view = View {
         binds,
         nodes: tree.nodes(),
@@ -28,18 +30,36 @@ fn is_whole(binds: &Binds, tree: &FileTree, call: &ReadArguments, success: &Read
     }
 }
 
+/// Whether a reply to a READ, where it is a success, gives as many bytes as it is to.
+fn is_read_whole(binds: &Binds, tree: &FileTree, call: &ReadArguments, reply: &NfsReply) -> bool
+    ensures { IsTrue result ↔ ReadsAll binds.now tree.now call.now reply.now }
+{
+    match reply {
+        NfsReply::Read(Answer::Done(success)) => is_whole(binds, tree, call, success),
+        _ => true,
+    }
+}
+
+/// Whether a reply to a WRITE, where it is a success, counts all its data.
+fn is_written_whole(call: &WriteArguments, reply: &NfsReply) -> bool
+    ensures { IsTrue result ↔ WritesAll call.now reply.now }
+{
+    match reply {
+        NfsReply::Write(Answer::Done(success)) => {
+            success.count as usize == call.bytes.as_slice().len()
+        }
+        _ => true,
+    }
+}
+
 /// Whether a success does all that was asked for. That it is right is the tree's matter.
 fn is_full(binds: &Binds, tree: &FileTree, call: &NfsCall, reply: &NfsReply) -> bool
     ensures full { IsTrue result → IsAllowed binds.now tree.now call.now reply.now → IsFull binds.now tree.now call.now reply.now }
     ensures not_full { IsFull binds.now tree.now call.now reply.now → IsTrue result }
 {
-    match (call, reply) {
-        (NfsCall::Write(call), NfsReply::Write(Answer::Done(success))) => {
-            success.count as usize == call.bytes.as_slice().len()
-        }
-        (NfsCall::Read(call), NfsReply::Read(Answer::Done(success))) => {
-            is_whole(binds, tree, call, success)
-        }
+    match call {
+        NfsCall::Write(call) => is_written_whole(call, reply),
+        NfsCall::Read(call) => is_read_whole(binds, tree, call, reply),
         _ => true,
     }
 }
