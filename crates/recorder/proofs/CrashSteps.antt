@@ -30,7 +30,7 @@ use Rattle.file_tree.specs.Success.{next_tree}
 use Rattle.journal_device.specs.Device.{Device, recovered}
 use Rattle.book_machine.specs.Placing.{Placed, is_recorded, records_in, front_with}
 use Rattle.book_machine.specs.Book.{Book, bindings, bindings_made, tree_of, records_kept}
-use Rattle.book_machine.specs.Book.Condition as conditions
+use Rattle.book_machine.specs.Book.Condition.{dead as is_dead}
 use Rattle.book_machine.specs.Steps.{with_crash, Crashes, Steps}
 use Rattle.book_machine.specs.Steps.Steps.{crashes}
 use Rattle.book_machine.proofs.Invariant.{Over, IsKnown, AreKnown, AllKnown, AllRun, IsCutSafely, IsInvariant}
@@ -74,8 +74,8 @@ one_front : (keep ahead i m records n : ℕ) (steps : List Placed) (found : Opti
 one_front keep ahead i m records n steps found some lt true counted true at rest =
     let le = leb-true keep records at in
     let none : m ≡ 0 = omega (arith, some, lt, counted, le) in
-    let end : front_with m steps ≡ 0 = ap (λ k. front_with k steps) none in
-    omega (arith, end)
+    let last : front_with m steps ≡ 0 = ap (λ k. front_with k steps) none in
+    omega (arith, last)
 one_front keep ahead i m records n steps found some lt true counted false at rest =
     let less = leb-false keep records at in
     let is : keep - records ≡ m = omega (arith, some, lt, counted, less) in
@@ -275,7 +275,7 @@ call_era_low h (suc n) c g at =
     let events = all_happened h.events in
     subst (λ (m : ℕ). c.era ≤ m) (sym known.eras) (era_low (eras_from 1 events) (calls_of events) h.known.calls n c known.calls (eras_within 1 1 events) at)
 
-take_none : {X : Type 0} (n : ℕ) → take n ([] {X}) ≡ []
+take_none : {X : Type 0} (n : ℕ) → take {A = X} n [] ≡ []
 take_none zero = refl
 take_none (suc n) = refl
 
@@ -286,12 +286,12 @@ history_crashed old new g is =
     known_once (with_event old owns.Crash) new.known (record old.known { eras = old.known.eras + 1 }) is.known
     (subst (λ (events : List Event). AreCallsOf (record { root = old.known.root; events = events }) (record old.known { eras = old.known.eras + 1 })) same crashed.is_history.known)
 
-pub alive_book : (c : code.Condition) → (c ≡ codes.Dead → ⊥) → condition_of c ≡ conditions.dead → ⊥
+pub alive_book : (c : code.Condition) → (c ≡ codes.Dead → ⊥) → condition_of c ≡ is_dead → ⊥
 alive_book codes.Running alive e = cc
 alive_book codes.Down alive e = cc
 alive_book codes.Dead alive e = alive refl
 
-module _ (p : Parts) (device : Device) (keep : ℕ) (tree : Tree) (era : EraOver) (t : Tied p device) (alive : condition_of p.condition ≡ conditions.dead → ⊥) (least : device.mark ≤ keep)
+module _ (p : Parts) (device : Device) (keep : ℕ) (tree : Tree) (era : EraOver) (t : Tied p device) (alive : condition_of p.condition ≡ is_dead → ⊥) (least : device.mark ≤ keep)
     (most : keep ≤ length device.records) (stands : tree_behind (book_with p device) keep ≡ Some tree) (whole : era.placed.items ≡ p.placed)
     (cut : era.kept ≡ front_with (keep - records_kept (book_with p device)) (book_with p device).placed) where
   abbrev pub restarted : Parts

@@ -28,7 +28,6 @@ use Rattle.file_tree.specs.Success.{next_tree}
 use Rattle.journal_device.specs.Device.{Device}
 use Rattle.book_machine.specs.Placing.{Placed, is_recorded, records_in, front_with}
 use Rattle.book_machine.specs.Book.{Book, handle_of, bindings, bindings_made, tree_of, records_kept}
-use Rattle.book_machine.specs.Book.Condition as conditions
 use Rattle.book_machine.specs.Served.{IsServed}
 use Rattle.book_machine.specs.Steps.{IsOfNow, IsUnplaced, HasMessage, ShowsEra, Places, Steps, step_of, with_object, with_made, with_record, reply_message, journal_record}
 use Rattle.book_machine.specs.Steps.Steps.{places}

@@ -1,5 +1,5 @@
 -- what of a book's parts in memory is seen, without where it lies
-use Rattle.std.proofs.Common.{◌≡◌, ◌⊎◌, inl, inr, ℕ, ◌+◌, ◌-◌, List, [], ◌∷◌, ◌++◌, length, map, Option, Some, None, refl, sym, ap, ◌∙◌, subst}
+use Rattle.std.proofs.Common.{◌≡◌, ◌⊎◌, inl, inr, ℕ, ◌+◌, ◌-◌, true, false, List, [], ◌∷◌, ◌++◌, length, map, Option, Some, None, refl, sym, ap, ◌∙◌, subst}
 use Rattle.std.specs.Prelude.{IsSome, IfSome, slice_get}
 use Rattle.std.specs.List.{AllByRecursion}
 use Rattle.history_file.specs.declared.event.Event.{Event}
@@ -13,7 +13,7 @@ use Rattle.tree_nodes.specs.Undo.{TakesBack}
 use Rattle.tree_handles.specs.Binding.{Bindings, object_of}
 use Rattle.journal_device.specs.Device.{Device, failed}
 use Rattle.book_machine.specs.Book.{Book, Condition, bindings, tree_of, records_kept}
-use Rattle.book_machine.specs.Book.Condition as conditions
+use Rattle.book_machine.specs.Book.Condition.{running as is_running, down as is_down, dead as is_dead}
 use Rattle.book_machine.specs.Steps.{MayBecome, Refuses, Steps}
 use Rattle.book_machine.specs.Steps.Steps.{refuses}
 use Rattle.recorder.specs.declared.placed.PlacedCall.{PlacedCall}
@@ -132,16 +132,16 @@ same_parts p q known events over placed calls binds tree undos kept condition =
 -- ---- a book that is down
 
 pub itself : (c : Condition) → MayBecome c c
-itself conditions.running = tt
-itself conditions.down = tt
-itself conditions.dead = tt
+itself is_running = tt
+itself is_down = tt
+itself is_dead = tt
 
-goes_down : (c : code.Condition) → (c ≡ codes.Dead → ⊥) → MayBecome (condition_of c) conditions.down
+goes_down : (c : code.Condition) → (c ≡ codes.Dead → ⊥) → MayBecome (condition_of c) is_down
 goes_down codes.Running alive = tt
 goes_down codes.Down alive = tt
 goes_down codes.Dead alive = absurd (alive refl)
 
-not_running : (c : code.Condition) → (c ≡ codes.Running → ⊥) → condition_of c ≡ conditions.running → ⊥
+not_running : (c : code.Condition) → (c ≡ codes.Running → ⊥) → condition_of c ≡ is_running → ⊥
 not_running codes.Running other e = other refl
 not_running codes.Down other e = cc
 not_running codes.Dead other e = cc
@@ -149,7 +149,7 @@ not_running codes.Dead other e = cc
 isnt_running : codes.Down ≡ codes.Running → ⊥
 isnt_running e = cc
 
-none_there : {X : Type 0} → IsSome (None {X}) → ⊥
+none_there : false ≡ true → ⊥
 none_there s = cc
 
 none_some : {X : Type 0} {x : X} → None ≡ Some x → ⊥
@@ -162,7 +162,7 @@ module _ (p : Parts) (device : Device) (alive : p.condition ≡ codes.Dead → �
   reached_down : IsReached (book_with downed device)
   reached_down =
       reach_more (book_with p device) (book_with downed device) t.reached
-      (refuses (record { condition = conditions.down; faults = device.faults; spare = 0; may_become = goes_down p.condition alive; counted = inl refl; done = refl }))
+      (refuses (record { condition = is_down; faults = device.faults; spare = 0; may_become = goes_down p.condition alive; counted = inl refl; done = refl }))
 
   -- it takes no calls
   pub down_tied : Tied downed device

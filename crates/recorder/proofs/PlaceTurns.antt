@@ -28,7 +28,7 @@ use Rattle.file_tree.specs.Success.{next_tree}
 use Rattle.journal_device.specs.Device.{Device}
 use Rattle.book_machine.specs.Placing.{Placed, is_recorded}
 use Rattle.book_machine.specs.Book.{Book, handle_of, bindings, bindings_made, tree_of}
-use Rattle.book_machine.specs.Book.Condition as conditions
+use Rattle.book_machine.specs.Book.Condition.{running as is_running, down as is_down}
 use Rattle.book_machine.specs.Served.{IsServed}
 use Rattle.book_machine.specs.Steps.{IsOfNow, IsUnplaced, HasMessage, Places, step_of, with_made, with_record, reply_message, journal_record}
 use Rattle.book_machine.proofs.Growing.{IsGenuine, event_of}
@@ -48,10 +48,10 @@ use Rattle.recorder.proofs.NewPlace.{IsReadyFor, IsGiven, holds, stood_book, is_
 
 -- ---- ahead of the step
 
-is_running : (c : code.Condition) → condition_of c ≡ conditions.running → c ≡ codes.Running
-is_running codes.Running e = refl
-is_running codes.Down e = absurd (cc)
-is_running codes.Dead e = absurd (cc)
+runs_now : (c : code.Condition) → condition_of c ≡ is_running → c ≡ codes.Running
+runs_now codes.Running e = refl
+runs_now codes.Down e = absurd (cc)
+runs_now codes.Dead e = absurd (cc)
 
 same_call : {a b : RecordedCall} → Some a ≡ Some b → a ≡ b
 same_call e = cc
@@ -81,7 +81,7 @@ message_there h (suc k) c g at =
     let began = began_at h k c asked in
     (asked.event.message, owned_at h.events (c.begin - 1) c.lane asked.event.message (began.event ∙ ap (λ (l : ℕ). Some (call l asked.event.message)) (sym asked.recorded.lane)))
 
-pub ready : (ledger : Ledger) (device : Device) (number : ℕ) (before : Tree) → AreTied ledger device → condition_of ledger.condition ≡ conditions.running → number < 2 ^ 64 → IsNow (book_of ledger device) number
+pub ready : (ledger : Ledger) (device : Device) (number : ℕ) (before : Tree) → AreTied ledger device → condition_of ledger.condition ≡ is_running → number < 2 ^ 64 → IsNow (book_of ledger device) number
     → IsUnplaced (book_of ledger device).placed number → ledger.tree ≡ Some before → IsReadyFor (parts_of ledger) device number before
 ready ledger device number before t running lt now unplaced stood =
     let recorded = ledger.history.known.calls in
@@ -90,7 +90,7 @@ ready ledger device number before t running lt now unplaced stood =
     let told = message_there (book_of ledger device).history number now.0 (reached_holds (book_of ledger device) t.reached).genuine now.1.recorded in
     record {
       tied = to_parts ledger device t;
-      running = is_running ledger.condition running;
+      running = runs_now ledger.condition running;
       lt = lt;
       call = now.0;
       of_now = now.1;
@@ -133,7 +133,7 @@ stayed_tied old new device s t =
 -- ---- a step that is lost
 
 pub lost_tied : (old stepped new : Ledger) (device : Device) (number : ℕ) (outcome : Outcome) (before : Tree) (step : TreeStep) → IsReadyFor (parts_of old) device number before → HasStepped old number outcome step stepped
-    → HasLost stepped number step.made new → AreTied new device × (book_of new device ≡ record (book_of old device) { condition = conditions.down })
+    → HasLost stepped number step.made new → AreTied new device × (book_of new device ≡ record (book_of old device) { condition = is_down })
 lost_tied old stepped new device number outcome before step r s l =
     let p = parts_of old in
     let downed : Parts = record p { condition = codes.Down } in

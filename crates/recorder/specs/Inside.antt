@@ -21,7 +21,7 @@ use Rattle.tree_handles.specs.Binding.{object_of}
 use Rattle.journal_device.specs.Device.{Device, settled}
 use Rattle.book_machine.specs.Placing.{Placed, records_in, front_with}
 use Rattle.book_machine.specs.Book.{Book, Condition, bindings, tree_of, records_kept}
-use Rattle.book_machine.specs.Book.Condition as conditions
+use Rattle.book_machine.specs.Book.Condition.{running, down, dead}
 use Rattle.book_machine.specs.Steps.{opening_book, IsRun}
 use Rattle.recorder.specs.declared.placed.PlacedCall.{PlacedCall}
 use Rattle.recorder.specs.declared.placed.EraOver.{EraOver}
@@ -52,9 +52,9 @@ made_from number [] = []
 made_from number (state ∷ states) = if state.made then number ∷ made_from (number + 1) states else made_from (number + 1) states
 
 abbrev pub condition_of : code.Condition → Condition
-condition_of codes.Running = conditions.running
-condition_of codes.Down = conditions.down
-condition_of codes.Dead = conditions.dead
+condition_of codes.Running = running
+condition_of codes.Down = down
+condition_of codes.Dead = dead
 
 -- room that is set aside in the history is not seen
 abbrev pub book_of : Ledger → Device → Book
