@@ -10,3 +10,4 @@ pub mod Behind
 pub mod PlaceSteps
 pub mod NewPlace
 pub mod PlaceTurns
+pub mod BookSteps

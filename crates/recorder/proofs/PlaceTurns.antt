@@ -158,7 +158,7 @@ lost_tied old stepped new device number outcome before step r s l =
 
 -- ---- a place
 
-same_tree_there : {a b : Tree} {o : Option Tree} → o ≡ Some a → o ≡ Some b → a ≡ b
+pub same_tree_there : {a b : Tree} {o : Option Tree} → o ≡ Some a → o ≡ Some b → a ≡ b
 same_tree_there {a} {b} {o} e f = one (sym e ∙ f) where
   one : Some a ≡ Some b → a ≡ b
   one g = cc
