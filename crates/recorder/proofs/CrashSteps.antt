@@ -45,10 +45,10 @@ use Rattle.recorder.specs.declared.placed.CallState.{CallState}
 use Rattle.recorder.specs.declared.placed.Condition as code
 use Rattle.recorder.specs.declared.placed.Condition.TheVariants as codes
 use Rattle.recorder.specs.declared.ledger.Ledger.{Ledger}
-use Rattle.recorder.specs.Inside.{AreAsked, IsAsked, placed_in, era_in, condition_of, book_of, IsReached, AreCounted, tree_behind, IsShort, AreTied}
-use Rattle.recorder.specs.Undoing.{IsSoundEra, steps_kept, CanRunAgain, LeadBack, Loses, Restarts}
+use Rattle.recorder.specs.Inside.{AreAsked, IsAsked, placed_in, era_in, condition_of, book_of, IsReached, AreCounted, tree_behind, IsShort, AreTied, Goes}
+use Rattle.recorder.specs.Undoing.{IsSoundEra, steps_kept, CanRunAgain, LeadBack, Loses, GoesDown, IsReady, Restarts}
 use Rattle.recorder.proofs.Reaching.{reached_holds, reach_more}
-use Rattle.recorder.proofs.Parts.{Parts, parts_of, book_with, HavePlaces, Tied, to_parts, from_parts, same_parts}
+use Rattle.recorder.proofs.Parts.{Parts, parts_of, book_with, HavePlaces, Tied, to_parts, from_parts, same_parts, down_tied, treeless}
 
 -- ---- how many calls are kept
 
@@ -393,3 +393,50 @@ restarts old new keep tree era alive whole cut history events over placed calls 
       from_parts new (recovered device keep) (subst (λ (q : Parts). Tied q (recovered device keep)) (sym same) (restarted_tied p device keep tree era tied gone least most stands whole counted)),
       subst (λ (q : Parts). Crashes (book_of old device) keep (book_with q (recovered device keep))) (sym same) (crashed p device keep tree era tied gone least most stands whole counted),
     )
+
+-- ---- a book that goes down ahead of a crash
+
+pub goes_downed : (old new : Ledger) → (old.condition ≡ codes.Dead → ⊥) → new.history.known ≡ old.history.known → new.history.events ≡ old.history.events → new.over.items ≡ old.over.items
+    → new.placed.items ≡ old.placed.items → new.calls.items ≡ old.calls.items → new.binds ≡ old.binds → new.tree ≡ old.tree → new.undos.items ≡ old.undos.items → new.kept ≡ old.kept
+    → new.condition ≡ codes.Down → Goes GoesDown old new
+goes_downed old new alive known events over placed calls binds tree undos kept condition =
+    λ device t.
+    let same : parts_of new ≡ record (parts_of old) { condition = codes.Down } =
+    same_parts (parts_of new) (record (parts_of old) { condition = codes.Down }) known events over placed calls binds tree undos kept condition in
+    (from_parts new device (subst (λ (q : Parts). Tied q device) (sym same) (down_tied (parts_of old) device alive (to_parts old device t))), ap (λ (q : Parts). book_with q device) same)
+
+-- and whose tree is taken
+pub goes_treeless : (old new : Ledger) → (old.condition ≡ codes.Dead → ⊥) → new.history.known ≡ old.history.known → new.history.events ≡ old.history.events → new.over.items ≡ old.over.items
+    → new.placed.items ≡ old.placed.items → new.calls.items ≡ old.calls.items → new.binds ≡ old.binds → new.tree ≡ None → new.kept ≡ old.kept → new.condition ≡ codes.Down → Goes GoesDown old new
+goes_treeless old new alive known events over placed calls binds tree kept condition =
+    λ device t.
+    let downed : Parts = record (parts_of old) { condition = codes.Down } in
+    let gone : Parts = record downed { binds = old.binds; tree = None; undos = new.undos.items } in
+    let same : parts_of new ≡ gone = same_parts (parts_of new) gone known events over placed calls binds tree refl kept condition in
+    let tied : Tied gone device = treeless downed device old.binds new.undos.items (λ handle. refl) (down_tied (parts_of old) device alive (to_parts old device t)) refl in
+    (from_parts new device (subst (λ (q : Parts). Tied q device) (sym same) tied), ap (λ (q : Parts). book_with q device) same)
+
+-- the tree that was worked out anew is the one behind the crash
+pub ready_anew : (old new : Ledger) (keep lost count : ℕ) (tree : Tree) → Goes GoesDown old new
+    → ((device : Device) → AreTied new device → count ≡ front_with (keep - records_kept (book_of new device)) (book_of new device).placed)
+    → state_after (next_tree new.binds) opening (steps_kept new count) ≡ Some tree → IsReady old keep lost tree
+ready_anew old new keep lost count tree goes counted runs =
+    λ device t loses.
+    let g = goes device t in
+    sym (ap (λ (b : Book). tree_behind b keep) g.1)
+    ∙ ap (λ (n : ℕ). tree_of (record (book_of new device) { placed = take n (book_of new device).placed })) (sym (counted device g.0))
+    ∙ sym (behind_is new device count g.0) ∙ runs
+
+pub can_run_front : (new : Ledger) (device : Device) (keep count : ℕ) → AreTied new device
+    → ((device : Device) → AreTied new device → count ≡ front_with (keep - records_kept (book_of new device)) (book_of new device).placed) → CanRunAgain new count
+can_run_front new device keep count t counted =
+    can_run_again new device count t
+    (kept_few count (front_with (keep - records_kept (book_of new device)) (book_of new device).placed) (length (book_of new device).placed) (length new.placed.items) (counted device t)
+    (front_few (keep - records_kept (book_of new device)) (book_of new device).placed) (length-map new.placed.items (placed_in new.history.known.calls)))
+
+-- and so is the one that the lost steps lead back to
+pub ready_back : (old : Ledger) (keep lost : ℕ) (tree back : Tree) → old.tree ≡ Some tree → ((before : Tree) → LeadBack old.undos.items lost tree before → back ≡ before) → IsReady old keep lost back
+ready_back old keep lost tree back is leads =
+    λ device t loses.
+    let b = can_go_back old device keep lost tree t is loses in
+    b.behind ∙ ap Some (sym (leads b.before b.back))

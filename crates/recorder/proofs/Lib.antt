@@ -11,3 +11,4 @@ pub mod PlaceSteps
 pub mod NewPlace
 pub mod PlaceTurns
 pub mod BookSteps
+pub mod StepParts

@@ -90,8 +90,8 @@ impl<D: JournalDevice> Book<D> {
         requires now { IsNow self.old number }
         requires unplaced { IsUnplaced self.old.placed number }
         requires received { IsReceived outcome }
-        ensures placed { OnOk result ((reply : NfsReply) → outcome.entry ≡ Received reply → Places self.old number reply self.new) }
-        ensures refused { IfErr result (λ fault. (reply : NfsReply) → outcome.entry ≡ Received reply → PlaceStops self.old number reply fault × IsLeft self.old fault self.new) }
+        ensures placed { OnOk result ((reply : NfsReply) → outcome ≡ Received reply → Places self.old number reply self.new) }
+        ensures refused { IfErr result (λ fault. (reply : NfsReply) → outcome ≡ Received reply → PlaceStops self.old number reply fault × IsLeft self.old fault self.new) }
     {
         let entry = self.ledger.prepare_place(number, &outcome)?;
         let step = self.ledger.step(number, &outcome)?;
@@ -111,8 +111,8 @@ impl<D: JournalDevice> Book<D> {
 
     /// Gives a call the next place in the serial order, with its reply.
     pub fn place(&mut self, token: Token, reply: NfsReply) -> Result<(), PlaceFault>
-        ensures placed { OnOk result (Places self.old token.number reply.entry self.new) }
-        ensures refused { PlaceRefused self.old token.number reply.entry result self.new }
+        ensures placed { OnOk result (Places self.old token.number reply self.new) }
+        ensures refused { PlaceRefused self.old token.number reply result self.new }
     {
         self.ledger.check_unplaced(token.number())?;
         match self.put_place(token.number(), Outcome::Received(reply)) {

@@ -268,7 +268,7 @@ impl Ledger {
         requires room { HasRoom self.old }
         requires from_one { 1 ≤ number }
         requires within { number ≤ length self.old.calls.items }
-        ensures { HasPlaced self.old number outcome.entry step recorded records self.new }
+        ensures { HasPlaced self.old number outcome step recorded records self.new }
     {
         let TreeStep { undo, made } = step;
         if recorded {
