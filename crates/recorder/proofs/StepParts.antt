@@ -4,18 +4,22 @@ use Rattle.std.specs.Prelude.{is_some, option_map}
 use Rattle.std.specs.Option.{option_copied}
 use Rattle.std.specs.Borrow.{Bor}
 use Rattle.nfs3_types.specs.declared.calls.NfsCall.{NfsCall}
+use Rattle.nfs3_types.specs.declared.replies.NfsReply.{NfsReply}
 use Rattle.nfs3_types.specs.declared.replies.Outcome.{Outcome}
+use Rattle.nfs3_types.specs.declared.replies.Outcome.TheVariants as outcomes
 use Rattle.tree_nodes.specs.declared.node.Node.{Node}
 use Rattle.tree_nodes.specs.Tree.{Names, Tree, entry_of}
 use Rattle.tree_nodes.specs.Undo.{TakesBack}
 use Rattle.tree_handles.specs.Binding.{Bindings, object_of}
 use Rattle.file_tree.specs.Success.{next_tree}
 use Rattle.book_machine.specs.Book.{handle_of}
+use Rattle.book_machine.specs.Served.{IsServed}
+use Rattle.recorder.specs.Serving.{IsAllowed}
 use Rattle.recorder.specs.Recordable.{may_make}
 use Rattle.recorder.specs.declared.placing.TreeStep.{TreeStep}
 use Rattle.recorder.specs.declared.ledger.Ledger.{Ledger}
 use Rattle.recorder.specs.Inside.{asked_by}
-use Rattle.recorder.specs.PlaceSteps.{with_own, without_own, bound_if, NameAlike, TakesStep, HasStepped, HasNoStep}
+use Rattle.recorder.specs.PlaceSteps.{with_own, without_own, bound_if, NameAlike, TakesStep, HasStepped, HasNoStep, ShowsNow, MayGive, GivesAllowed}
 use Rattle.recorder.proofs.Naming.{forgotten}
 
 some_mapped : {A B : Type 0} (f : A → B) (o : Option A) → is_some (option_map f o) ≡ is_some o
@@ -72,3 +76,22 @@ has_no_step old number outcome call before is stood none tree at =
     (subst (λ (c : NfsCall). next_tree (bound_if (may_make c) number old.binds) before number c outcome ≡ None) is none) where
       one : {a b : Tree} → Some a ≡ Some b → a ≡ b
       one e = cc
+
+-- ---- the reply
+
+pub fits_so : (ledger : Ledger) (number : ℕ) (outcome : Outcome) (call : NfsCall) (tree : Tree) (reply : NfsReply) → call ≡ asked_by ledger.history.known.calls number → ledger.tree ≡ Some tree
+    → outcome ≡ outcomes.Received reply → (IsAllowed ledger.binds tree call reply → IsServed ledger.binds tree number call reply) → GivesAllowed ledger number outcome
+fits_so ledger number outcome call tree reply same stood is gives one other stood' is' =
+    subst (λ (c : NfsCall). IsAllowed ledger.binds one c other → IsServed ledger.binds one number c other) same
+    (subst (λ (r : NfsReply). IsAllowed ledger.binds one call r → IsServed ledger.binds one number call r) (same_reply (sym is ∙ is'))
+    (subst (λ (t : Tree). IsAllowed ledger.binds t call reply → IsServed ledger.binds t number call reply) (same_tree (sym stood ∙ stood')) gives)) where
+      same_reply : outcomes.Received reply ≡ outcomes.Received other → reply ≡ other
+      same_reply e = cc
+
+      same_tree : Some tree ≡ Some one → tree ≡ one
+      same_tree e = cc
+
+pub not_fit : (ledger : Ledger) (number : ℕ) (outcome : Outcome) (call : NfsCall) (tree : Tree) (reply : NfsReply) → call ≡ asked_by ledger.history.known.calls number → ledger.tree ≡ Some tree
+    → outcome ≡ outcomes.Received reply → (IsServed ledger.binds tree number call reply → ⊥) → ShowsNow ledger number outcome × MayGive ledger number outcome → ⊥
+not_fit ledger number outcome call tree reply same stood is never both =
+    never (subst (λ (c : NfsCall). IsServed ledger.binds tree number c reply) (sym same) (both.1 tree reply stood is))
