@@ -1,5 +1,5 @@
 -- a book's crash and the place of a call, over its parts and its device
-use Rattle.std.proofs.Common.{◌≡◌, ◌≢◌, ◌⊎◌, inl, inr, ℕ, ◌+◌, ◌-◌, ◌<◌, ◌≤◌, ◌^◌, Bool, true, false, List, [], ◌∷◌, ◌++◌, length, Option, Some, None, refl, sym, ap, ◌∙◌, subst, arith}
+use Rattle.std.proofs.Common.{◌≡◌, ◌≢◌, ◌⊎◌, inl, inr, ℕ, ◌+◌, ◌-◌, ◌<◌, ◌≤◌, ◌^◌, Bool, true, false, List, [], ◌∷◌, ◌++◌, length, Option, Some, None, Err, refl, sym, ap, ◌∙◌, subst, arith}
 use Rattle.std.specs.Prelude.{IsSome, IfSome, is_some, if◌then◌else◌}
 use Rattle.std.specs.declared.vec.Vec.{Vec}
 use Rattle.std.specs.declared.alloc.Global.{Global}
@@ -7,10 +7,17 @@ use Rattle.nfs3_types.specs.declared.calls.NfsCall.{NfsCall}
 use Rattle.nfs3_types.specs.declared.replies.NfsReply.{NfsReply}
 use Rattle.nfs3_types.specs.declared.replies.Outcome.{Outcome}
 use Rattle.nfs3_types.specs.declared.replies.Outcome.TheVariants as outcomes
+use Rattle.nfs_history.specs.HistoryValue.{HistoryValue}
 use Rattle.tree_nodes.specs.Tree.{Tree}
-use Rattle.journal_device.specs.Device.{Device, appended, recovered, failed}
+use Rattle.tree_nodes.proofs.Chains.{value_of}
+use Rattle.tree_handles.specs.Binding.{object_of}
+use Rattle.journal_device.specs.Device.{Device, Leaves, appended, recovered, failed}
+use Rattle.journal_device.specs.declared.device.DevFault.{DevFault}
+use Rattle.journal_device.specs.declared.device.DevFault.TheVariants as devices
+use Rattle.replay_law.specs.declared.replay.StepFault.{StepFault}
+use Rattle.replay_law.specs.declared.replay.StepFault.TheVariants as steps
 use Rattle.book_machine.specs.Placing.{Placed, is_recorded}
-use Rattle.book_machine.specs.Book.{Book, Condition}
+use Rattle.book_machine.specs.Book.{Book, Condition, handle_of}
 use Rattle.book_machine.specs.Book.Condition.{running as is_running, down as is_down, dead as is_dead}
 use Rattle.book_machine.specs.Steps.{IsUnplaced, Places, Crashes, step_of, with_record, reply_message, journal_record}
 use Rattle.recorder.specs.Recordable.{may_make}
@@ -22,12 +29,14 @@ use Rattle.recorder.specs.declared.ledger.Ledger.{Ledger}
 use Rattle.recorder.specs.declared.fault.PlaceFault.{PlaceFault}
 use Rattle.recorder.specs.declared.fault.PlaceFault.TheVariants as place
 use Rattle.recorder.specs.declared.fault.CrashFault.TheVariants as crash
-use Rattle.recorder.specs.Inside.{asked_by, book_of, tree_behind, AreTied, Goes}
+use Rattle.recorder.specs.JoinedFaults.{of_step}
+use Rattle.recorder.specs.Inside.{IsAsked, asked_by, book_of, tree_behind, AreTied, Goes}
 use Rattle.recorder.specs.Undoing.{Loses, GoesDown, IsReady, Restarts}
 use Rattle.recorder.specs.PlaceSteps.{HoldsBytes, TakesStep, HasStepped, HasNoStep, HasStayed, ShowsNow, MayGive, GivesAllowed, IsShortAnswer, IsEntry, HasPlaced, HasLost, IsSame, IsLeft, StopsWhere, entry_put}
 use Rattle.recorder.proofs.Parts.{Parts, parts_of, book_with, Tied, to_parts, from_parts, failed_tied}
-use Rattle.recorder.proofs.NewPlace.{IsReadyFor, IsGiven, placed_so}
-use Rattle.recorder.proofs.PlaceTurns.{ready, same_tied, stayed_tied, lost_tied, new_place, device_then, recorded, same_tree_there, not_without_step, shows, gives, is_short}
+use Rattle.recorder.proofs.Reaching.{reached_asked}
+use Rattle.recorder.proofs.NewPlace.{IsReadyFor, IsGiven, is_free, placed_so}
+use Rattle.recorder.proofs.PlaceTurns.{runs_now, ready, same_tied, stayed_tied, lost_tied, new_place, device_then, recorded, same_tree_there, not_without_step, shows, gives, is_short}
 
 not_up : codes.Down ≡ codes.Running → ⊥
 not_up e = cc
@@ -66,6 +75,12 @@ crash_failed old prepared new device after t goes stopped dies same =
       subst (AreTied new) (sym same) d.0,
       ap (book_of new) same ∙ d.1 ∙ ap (λ (b : Book). record b { condition = is_dead; device = failed device }) g.1,
     )
+
+-- however the device fails in it
+pub crash_stopped : (old prepared new : Ledger) (device done after : Device) (fault : DevFault) → AreTied old device → Goes GoesDown old prepared → prepared.condition ≡ codes.Down
+    → Goes (λ b a. a ≡ record b { condition = is_dead }) prepared new → Leaves {A = Unit {0}} device done (Err fault) after → AreTied new after
+crash_stopped old prepared new device done after devices.Failed t goes stopped dies leaves = (crash_failed old prepared new device after t goes stopped dies leaves).0
+crash_stopped old prepared new device done after devices.NoMemory t goes stopped dies leaves = subst (AreTied new) (sym leaves) (crash_unready old prepared new device t goes dies).0
 
 -- ---- the record of a place
 
@@ -208,3 +223,47 @@ module _ (old prepared : Ledger) (device : Device) (number : ℕ) (reply : NfsRe
   unstepped new stayed =
       let left = stayed_tied prepared new device stayed both.0 in
       (left.0, ((turn.running, turn.now, turn.unplaced), left_so new place.NoMemory (left.1 ∙ both.1) refl))
+
+-- ---- the turns of a place, from what each call ensures
+
+pub turn_so : (old : Ledger) (device : Device) (book : Book) (number : ℕ) → AreTied old device → book_of old device ≡ book → book.condition ≡ is_running → number < 2 ^ 64 → IsNow book number → IsUnplaced book.placed number
+    → IsTurn old device number
+turn_so old device book number t is runs lt now unplaced = record {
+  tied = t;
+  running = ap (λ (b : Book). b.condition) is ∙ runs;
+  lt = lt;
+  now = subst (λ (b : Book). IsNow b number) (sym is) now;
+  unplaced = subst (λ (b : Book). IsUnplaced b.placed number) (sym is) unplaced;
+}
+
+pub asked_so : (old : Ledger) (device : Device) (number : ℕ) → IsTurn old device number → IsAsked old.history.known.calls number
+asked_so old device number turn = reached_asked (book_of old device) number turn.now.0 turn.tied.reached turn.now.1.recorded
+
+module _ (old prepared : Ledger) (device : Device) (number : ℕ) (turn : IsTurn old device number) (same : IsSame old prepared) where
+  pub asked_then : IsAsked prepared.history.known.calls number
+  asked_then = subst (λ (h : HistoryValue). IsAsked h.known.calls number) (sym same.history) (asked_so old device number turn)
+
+  pub tied_then : AreTied prepared device
+  tied_then = (same_tied old prepared device same turn.tied).0
+
+  tree_then : (before : Tree) × (prepared.tree ≡ Some before)
+  tree_then = value_of prepared.tree (tied_then.stands (same.condition ∙ runs_now old.condition turn.running))
+
+  pub free_then : (reply : NfsReply) → object_of prepared.binds (handle_of number) ≡ None
+  free_then reply = is_free (parts_of prepared) device number tree_then.0 (ready_then old prepared device number reply turn same tree_then.0 tree_then.1)
+
+  pub early : (outcome : Outcome) (reply : NfsReply) (fault : PlaceFault) → outcome ≡ outcomes.Received reply
+      → StopsWhere (¬ (ShowsNow prepared number outcome × MayGive prepared number outcome × IsShortAnswer prepared number outcome)) fault
+      → PlaceStops (book_of old device) number reply fault × IsLeft (book_of old device) fault (book_of prepared device)
+  early outcome reply fault is stops =
+      refused_early old prepared device number reply turn same tree_then.0 tree_then.1 fault
+      (subst (λ (o : Outcome). StopsWhere (¬ (ShowsNow prepared number o × MayGive prepared number o × IsShortAnswer prepared number o)) fault) is stops)
+
+  pub stayed_then : (new : Ledger) → HasStayed prepared new → AreTied new device
+  stayed_then new stayed = (stayed_tied prepared new device stayed tied_then).0
+
+  pub step_refused : (new : Ledger) (outcome : Outcome) (reply : NfsReply) (fault : StepFault) → outcome ≡ outcomes.Received reply → HasStayed prepared new → (fault ≡ steps.NotAllowed → HasNoStep prepared number outcome)
+      → PlaceStops (book_of old device) number reply (of_step fault) × IsLeft (book_of old device) (of_step fault) (book_of new device)
+  step_refused new outcome reply steps.NotAllowed is stayed none =
+      (refused_step old prepared device number reply turn same tree_then.0 tree_then.1 new stayed (subst (HasNoStep prepared number) is (none refl))).1
+  step_refused new outcome reply steps.NoMemory is stayed none = (unstepped old prepared device number reply turn same new stayed).1

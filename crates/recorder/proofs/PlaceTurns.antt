@@ -48,7 +48,7 @@ use Rattle.recorder.proofs.NewPlace.{IsReadyFor, IsGiven, holds, stood_book, is_
 
 -- ---- ahead of the step
 
-runs_now : (c : code.Condition) → condition_of c ≡ is_running → c ≡ codes.Running
+pub runs_now : (c : code.Condition) → condition_of c ≡ is_running → c ≡ codes.Running
 runs_now codes.Running e = refl
 runs_now codes.Down e = absurd (cc)
 runs_now codes.Dead e = absurd (cc)
