@@ -11,4 +11,5 @@ pub mod PlaceSteps
 pub mod NewPlace
 pub mod PlaceTurns
 pub mod BookSteps
+pub mod BookPlace
 pub mod StepParts

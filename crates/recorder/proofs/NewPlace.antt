@@ -78,15 +78,15 @@ pub record IsGiven (p : Parts) (device : Device) (number : ℕ) (before : Tree) 
 last_part : {X : Type 0} (xs : List X) (x : X) (earlier later : List X) → xs ++ x ∷ [] ≡ earlier ++ later
     → (later ≡ []) ⊎ ((front : List X) × (xs ≡ earlier ++ front) × (later ≡ front ++ x ∷ []))
 last_part xs x [] later e = inr (xs, refl, sym e)
-last_part [] x (y ∷ []) later e = inl (rest e) where
-  rest : {X : Type 0} {a b : X} {as bs : List X} → a ∷ as ≡ b ∷ bs → bs ≡ as
+last_part {X} [] x (y ∷ []) later e = inl (rest e) where
+  rest : {a b : X} {xs ys : List X} → a ∷ xs ≡ b ∷ ys → ys ≡ xs
   rest f = cc
 last_part [] x (y ∷ z ∷ earlier) later e = absurd (cc)
 last_part {X} (w ∷ xs) x (y ∷ earlier) later e = go (last_part xs x earlier later (rest e)) where
-  rest : {a b : X} {as bs : List X} → a ∷ as ≡ b ∷ bs → as ≡ bs
+  rest : {a b : X} {xs ys : List X} → a ∷ xs ≡ b ∷ ys → xs ≡ ys
   rest f = cc
 
-  first : {a b : X} {as bs : List X} → a ∷ as ≡ b ∷ bs → a ≡ b
+  first : {a b : X} {xs ys : List X} → a ∷ xs ≡ b ∷ ys → a ≡ b
   first f = cc
 
   go : (later ≡ []) ⊎ ((front : List X) × (xs ≡ earlier ++ front) × (later ≡ front ++ x ∷ [])) → (later ≡ []) ⊎ ((front : List X) × (w ∷ xs ≡ y ∷ (earlier ++ front)) × (later ≡ front ++ x ∷ []))
