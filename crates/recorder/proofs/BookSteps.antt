@@ -98,6 +98,9 @@ puts_is false bytes None device h = refl
 
 -- ---- a place
 
+as_some : {old new : Book} {number : ℕ} {reply : NfsReply} → Places old number reply new → (b : Book) × Places old number reply b
+as_some {new = n} p = (n, p)
+
 -- a call whose turn it is, with the tree that it is to be placed in
 pub record IsTurn (old : Ledger) (device : Device) (number : ℕ) : Type 0 where
   pub tied : AreTied old device
@@ -140,7 +143,7 @@ module _ (old prepared : Ledger) (device : Device) (number : ℕ) (reply : NfsRe
         let takes = subst (λ (tree : Tree). TakesStep (may_make (asked_by prepared.history.known.calls number)) prepared.binds tree number (asked_by prepared.history.known.calls number) (outcomes.Received reply) stepped.binds s.after step)
             (same_tree_there s.stood r.stood) s.takes in
         let p = placed_so (parts_of prepared) device number s.before r reply given_so stepped.binds s.after step takes in
-        (_, subst (λ (b : Book). Places b number reply _) both.1 p)
+        subst (λ (b : Book). (new : Book) × Places b number reply new) both.1 (as_some p)
 
     pub place_done : (new : Ledger) (entry : Option (Vec ℕ Global)) (records : ℕ) (after : Device) → IsEntry prepared number (outcomes.Received reply) entry → HasPlaced stepped number (outcomes.Received reply) step (is_some entry) records new
         → after ≡ entry_put entry device → records ≡ length after.records → AreTied new after × Places (book_of old device) number reply (book_of new after)
@@ -148,12 +151,12 @@ module _ (old prepared : Ledger) (device : Device) (number : ℕ) (reply : NfsRe
         let bytes = journal_record number r.message (reply_message r.call.xid reply) in
         let b = recorded prepared device number reply s.before r in
         let holds = is r.call r.message reply r.of_now.recorded r.sent refl in
-        let then = device_then prepared device number reply s.before r in
-        let after_is : after ≡ then = put ∙ puts_is b bytes entry device holds in
+        let kept = device_then prepared device number reply s.before r in
+        let after_is : after ≡ kept = put ∙ puts_is b bytes entry device holds in
         let done = new_place prepared device number reply s.before r stepped new step records given_so s
             (subst (λ (c : Bool). HasPlaced stepped number (outcomes.Received reply) step c records new) (holds_is b bytes entry holds) h) (count ∙ ap (λ (d : Device). length d.records) after_is) in (
           subst (AreTied new) (sym after_is) done.0,
-          subst (λ (d : Device). Places (book_of old device) number reply (book_of new d)) (sym after_is) (subst (λ (c : Book). Places c number reply (book_of new then)) both.1 done.1),
+          subst (λ (d : Device). Places (book_of old device) number reply (book_of new d)) (sym after_is) (subst (λ (c : Book). Places c number reply (book_of new kept)) both.1 done.1),
         )
 
     -- the journal didn't take the record

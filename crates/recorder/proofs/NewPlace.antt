@@ -100,19 +100,19 @@ module _ (p : Parts) (device : Device) (number : ℕ) (before : Tree) (r : IsRea
   abbrev asked : NfsCall
   asked = asked_by p.known.calls number
 
-  holds : IsInvariant book
+  pub holds : IsInvariant book
   holds = reached_holds book r.tied.reached
 
-  stood_book : tree_of book ≡ Some before
+  pub stood_book : tree_of book ≡ Some before
   stood_book = subst (λ (o : Option Tree). IfSome o (λ tree. tree_of book ≡ Some tree)) r.stood r.tied.tree
 
   pub is_absent : entry_of before number ≡ None
   is_absent = absent book holds number r.call r.of_now.recorded r.of_now.era r.unplaced before stood_book
 
-  not_zero : number ≢ 0
+  pub not_zero : number ≢ 0
   not_zero = isnt_zero book holds number r.call r.of_now.recorded r.of_now.era r.unplaced
 
-  no_others : AllByRecursion (λ other. (other ≢ number) × (other < 2 ^ 64)) book.made
+  pub no_others : AllByRecursion (λ other. (other ≢ number) × (other < 2 ^ 64)) book.made
   no_others = others book holds number r.call r.of_now.recorded r.of_now.era r.unplaced
 
   are_apart : AreApart number (kept_steps book.over ++ book.placed)
@@ -260,11 +260,11 @@ module _ (p : Parts) (device : Device) (number : ℕ) (before : Tree) (r : IsRea
         let steps = kept_steps book.over ++ book.placed in
         let next = next_tree (bindings new_book) in
         let stood : state_after next opening steps ≡ Some before = runs_ahead steps are_apart ∙ stood_book in
-        let then : next before number asked (outcomes.Received reply) ≡ Some after =
+        let so : next before number asked (outcomes.Received reply) ≡ Some after =
         ap (λ (made : List ℕ). next_tree (bindings_made made) before number asked (outcomes.Received reply)) made_is ∙ next_is in
         ap (λ (xs : List Placed). state_after next opening (kept_steps book.over ++ xs)) placed_is
         ∙ ap (state_after next opening) (sym (append_assoc (kept_steps book.over) book.placed (placed_step ∷ [])))
-        ∙ one_more next opening before after steps placed_step stood then
+        ∙ one_more next opening before after steps placed_step stood so
 
     -- a crash that loses the call keeps what it would have kept
     behind_same : (k : ℕ) → k - records_kept book ≤ records_in book.placed → tree_behind new_book k ≡ tree_behind book k

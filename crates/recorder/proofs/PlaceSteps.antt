@@ -45,7 +45,7 @@ use Rattle.recorder.specs.PlaceSteps.{with_own, bound_if, NameAlike, TakesStep}
 use Rattle.recorder.proofs.Naming.{alike_same, alike_own, own_is, first_of, own_next, own_alike, alike_next}
 use Rattle.recorder.proofs.Making.{none_made, stays_so}
 
-nothing : {X : Type 0} (o : Option X) → is_some o ≡ false → o ≡ None
+pub nothing : {X : Type 0} (o : Option X) → is_some o ≡ false → o ≡ None
 nothing None e = refl
 nothing (Some x) e = absurd (cc)
 

@@ -44,7 +44,7 @@ use Rattle.recorder.proofs.Reaching.{reached_holds, reached_asked}
 use Rattle.recorder.proofs.Parts.{Parts, parts_of, book_with, Tied, to_parts, from_parts, same_parts, down_tied, treeless}
 use Rattle.recorder.proofs.Naming.{forgotten_so, alike_next}
 use Rattle.recorder.proofs.PlaceSteps.{made_step, served_alike}
-use Rattle.recorder.proofs.NewPlace.{IsReadyFor, IsGiven, holds, stood_book, is_absent, is_free, not_zero, no_others, new_parts, placed_so, placed_tied}
+use Rattle.recorder.proofs.NewPlace.{IsReadyFor, IsGiven, stood_book, is_absent, is_free, not_zero, no_others, new_parts, placed_so, placed_tied}
 
 -- ---- ahead of the step
 
