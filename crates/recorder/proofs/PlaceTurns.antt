@@ -139,7 +139,7 @@ lost_tied old stepped new device number outcome before step r s l =
     let downed : Parts = record p { condition = codes.Down } in
     let gone : Parts = record downed { binds = new.binds; tree = None; undos = new.undos.items } in
     let same : parts_of new ≡ gone =
-    same_parts (parts_of new) gone (λ i. (l.history i).known) (λ i. (l.history i).events) (λ i. (l.over i).items) (λ i. (l.placed i).items) (λ i. (l.calls i).items) refl l.tree refl l.kept l.condition
+    same_parts (parts_of new) (record (parts_of stepped) { binds = new.binds; tree = None; undos = new.undos.items; condition = codes.Down }) (λ i. (l.history i).known) (λ i. (l.history i).events) (λ i. (l.over i).items) (λ i. (l.placed i).items) (λ i. (l.calls i).items) refl l.tree refl l.kept l.condition
     ∙ ap (λ (q : Parts). record q { binds = new.binds; tree = None; undos = new.undos.items; condition = codes.Down }) (ap parts_of s.parts) in
     let tied : Tied gone device = treeless downed device new.binds new.undos.items (names step.made refl) (down_tied p device alive r.tied) refl in
     (from_parts new device (subst (λ (q : Parts). Tied q device) (sym same) tied), ap (λ (q : Parts). book_with q device) same) where
