@@ -6,3 +6,5 @@ pub mod Refusals
 pub mod Rebuilding
 pub mod Turns
 pub mod Inside
+pub mod Undoing
+pub mod PlaceSteps

@@ -1,13 +1,17 @@
 //! The book of a journal server.
 
-ghost use Rattle.std.specs.Prelude.{◌≡◌, ◌++◌, [], IfOk, OnOk, OnErr, length, is_some};
-ghost use Rattle.journal_device.specs.Device.{Device};
+ghost use Rattle.std.specs.Prelude.{◌≡◌, ◌++◌, [], IfOk, OnOk, OnErr, length, IfErr};
+ghost use Rattle.journal_device.specs.Device.{Device, Leaves};
+ghost use Rattle.nfs3_types.specs.declared.replies.NfsReply.{NfsReply};
+ghost use Rattle.nfs3_types.specs.declared.replies.Outcome.TheVariants.{Received};
 ghost use Rattle.tree_nodes.specs.Printed.{tree_text};
 ghost use Rattle.tree_nodes.specs.Tree.{Tree};
 ghost use Rattle.book_machine.specs.Book.{Book, tree_of};
 ghost use Rattle.book_machine.specs.Plan.{plan_of};
-ghost use Rattle.book_machine.specs.Steps.{opening_book, Begins, Places, Flushes, Answers, Closes, Crashes};
-ghost use Rattle.recorder.specs.Refusals.{BeginRefused, PlaceRefused, FlushRefused, AnswerRefused, CloseRefused, CrashRefused};
+ghost use Rattle.book_machine.specs.Book.Condition.{running};
+ghost use Rattle.book_machine.specs.Steps.{opening_book, IsUnplaced, Begins, Places, Flushes, Answers, Closes, Crashes};
+ghost use Rattle.recorder.specs.PlaceSteps.{entry_put, IsReceived, IsLeft};
+ghost use Rattle.recorder.specs.Refusals.{IsNow, PlaceStops, BeginRefused, PlaceRefused, FlushRefused, AnswerRefused, CloseRefused, CrashRefused};
 
 use crate::fault::{AnswerFault, BeginFault, CloseFault, CrashFault, FlushFault, PlaceFault};
 use crate::ledger::Ledger;
@@ -46,6 +50,16 @@ impl<D: JournalDevice> Drop for Book<D> {
     }
 }
 
+/// Puts a record into the journal, where there is one.
+fn put_entry<D: JournalDevice>(device: &mut D, entry: &Option<Vec<u8>>) -> Result<(), DevFault>
+    ensures { Leaves (D.device device.old) (entry_put entry.now (D.device device.old)) result (D.device device.new) }
+{
+    match entry {
+        Some(bytes) => device.append(bytes.as_slice()),
+        None => Ok(()),
+    }
+}
+
 impl<D: JournalDevice> Book<D> {
     /// A book ahead of its first step.
     pub fn new(alloc: Global, device: D) -> Result<Book<D>, AllocError>
@@ -68,22 +82,22 @@ impl<D: JournalDevice> Book<D> {
         self.ledger.begin(lane, message)
     }
 
-    /// Puts a record into the journal, where there is one.
-    fn put_entry(&mut self, entry: &Option<Vec<u8>>) -> Result<(), DevFault> {
-        match entry {
-            Some(bytes) => self.device.append(bytes.as_slice()),
-            None => Ok(()),
-        }
-    }
-
     /// Places a call whose turn it is.
-    fn put_place(&mut self, number: u64, outcome: Outcome) -> Result<(), PlaceFault> {
+    fn put_place(&mut self, number: u64, outcome: Outcome) -> Result<(), PlaceFault>
+        requires running { self.old.condition ≡ running }
+        requires now { IsNow self.old number }
+        requires unplaced { IsUnplaced self.old.placed number }
+        requires received { IsReceived outcome }
+        ensures placed { OnOk result ((reply : NfsReply) → outcome ≡ Received reply → Places self.old number reply self.new) }
+        ensures refused { IfErr result (λ fault. (reply : NfsReply) → outcome ≡ Received reply → PlaceStops self.old number reply fault × IsLeft self.old fault self.new) }
+    {
         let entry = self.ledger.prepare_place(number, &outcome)?;
         let step = self.ledger.step(number, &outcome)?;
-        match self.put_entry(&entry) {
+        match put_entry(&mut self.device, &entry) {
             Ok(()) => {
-                let recorded = entry.is_some();
-                self.ledger.note_place(number, outcome, step, recorded);
+                let records = self.device.len();
+                self.ledger
+                    .note_place(number, outcome, step, entry.is_some(), records);
                 Ok(())
             }
             Err(fault) => {
@@ -95,8 +109,8 @@ impl<D: JournalDevice> Book<D> {
 
     /// Gives a call the next place in the serial order, with its reply.
     pub fn place(&mut self, token: Token, reply: NfsReply) -> Result<(), PlaceFault>
-        ensures placed { OnOk result (Places self.old token.number reply.entry self.new) }
-        ensures refused { PlaceRefused self.old token.number reply.entry result self.new }
+        ensures placed { OnOk result (Places self.old token.number reply self.new) }
+        ensures refused { PlaceRefused self.old token.number reply result self.new }
     {
         self.ledger.check_unplaced(token.number())?;
         match self.put_place(token.number(), Outcome::Received(reply)) {

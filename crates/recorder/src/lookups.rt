@@ -119,12 +119,4 @@ impl Ledger {
             None => Err(TokenFault::OutOfTurn),
         }
     }
-
-    /// How many records the journal has.
-    pub(crate) fn records(&self) -> u64 {
-        match self.placed.last() {
-            Some(placed) => placed.records,
-            None => self.kept,
-        }
-    }
 }

@@ -1,17 +1,26 @@
 //! Calls that are placed in the serial order.
 
-ghost use Rattle.std.specs.Prelude.{◌≡◌, IfOk};
+ghost use Rattle.std.specs.Prelude.{◌≡◌, ◌≢◌, ◌+◌, ◌-◌, ◌<◌, ◌≤◌, length, slice_set, vec_len, vec_capacity, Some, None, Err, IfOk, IfErr, OnOk, OnErr, IsSome, MatchBool, is_some, true};
+ghost use Rattle.xdr_records.specs.Record.{record_limit};
 ghost use Rattle.rpc_reader.specs.Messages.{IsReply};
 ghost use Rattle.rpc_reader.specs.Values.Body.{success};
 ghost use Rattle.nfs3_types.specs.Procedures.{procedure_answered};
 ghost use Rattle.nfs3_msgs.specs.Messages.{IsResult, result_text};
-ghost use Rattle.book_machine.specs.Steps.{reply_message};
+ghost use Rattle.nfs3_types.specs.declared.replies.Outcome.TheVariants.{Received};
+ghost use Rattle.tree_nodes.specs.Tree.{entry_of};
+ghost use Rattle.tree_handles.specs.Binding.{object_of};
+ghost use Rattle.file_tree.specs.Success.{next_tree};
+ghost use Rattle.book_machine.specs.Book.{handle_of};
+ghost use Rattle.book_machine.specs.Steps.{reply_message, journal_record};
+ghost use Rattle.recorder.specs.Inside.{IsAsked, IsTied, Goes, asked_by};
+ghost use Rattle.recorder.specs.Recordable.{may_make};
+ghost use Rattle.recorder.specs.PlaceSteps.{with_own, without_own, bound_if, HasRoom, IsSame, HasLost, NameAlike, TakesStep, HasStepped, HasNoStep, HasStayed, IsReceived, ShowsNow, MayGive, GivesAllowed, StopsWhere, IsShortAnswer, IsEntry, HasPlaced};
 
 use crate::calls::{is_recorded, may_make, verifier_of};
 use crate::fault::PlaceFault;
 use crate::ledger::Ledger;
 use crate::lookups::{call_asked, message_of};
-use crate::placed::PlacedCall;
+use crate::placed::{CallState, Condition, PlacedCall};
 use crate::served::is_served;
 use file_tree::{Binds, FileTree, Undo};
 use journal_records::put_record;
@@ -52,10 +61,36 @@ fn record_of(
     number: u64,
     message: &[u8],
     answer: &[u8],
-) -> Result<Vec<u8>, AllocError> {
+) -> Result<Vec<u8>, AllocError>
+    requires message { length message.now ≤ record_limit }
+    requires answer { length answer.now ≤ record_limit }
+    ensures { IfOk result (λ bytes. bytes.items ≡ journal_record number message.now answer.now) }
+{
     let mut bytes = Vec::new(alloc);
     put_record(&mut bytes, number, message, answer)?;
     Ok(bytes)
+}
+
+/// Whether a node stands in the tree.
+fn stands(tree: &FileTree, object: u64) -> bool
+    ensures { result ≡ is_some (entry_of tree.now object) }
+{
+    tree.nodes().node(object).is_some()
+}
+
+/// Binds the handle of an object.
+fn bind_own(binds: &mut Binds, number: u64) -> Result<(), AllocError>
+    ensures ok { OnOk result (binds.new ≡ with_own number binds.old) }
+    ensures err { OnErr result (binds.new ≡ binds.old) }
+{
+    binds.push(number.to_be_bytes().as_slice(), number)
+}
+
+/// Lets the handle of an object go.
+fn forget_own(binds: &mut Binds, number: u64)
+    ensures { binds.new ≡ without_own number binds.old }
+{
+    binds.forget(number.to_be_bytes().as_slice());
 }
 
 /// Takes the step of a call, with its own handle bound where it may make an object. The handle stays bound where the object is
@@ -66,19 +101,24 @@ fn step_with_handle(
     number: u64,
     call: &NfsCall,
     outcome: &Outcome,
-) -> Result<TreeStep, StepFault> {
-    let handle = number.to_be_bytes();
-    binds.push(handle.as_slice(), number)?;
+) -> Result<TreeStep, StepFault>
+    requires { object_of binds.old (handle_of number) ≡ None }
+    ensures taken { IfOk result (TakesStep true binds.old tree.old number call.now outcome.now binds.new tree.new) }
+    ensures refused { result ≡ Err StepFault.NotAllowed → next_tree (with_own number binds.old) tree.old number call.now outcome.now ≡ None }
+    ensures tree { OnErr result (tree.new ≡ tree.old) }
+    ensures binds { OnErr result (NameAlike binds.new binds.old) }
+{
+    bind_own(binds, number)?;
     match tree.step(binds, number, call, outcome) {
         Ok(undo) => {
-            let made = tree.nodes().node(number).is_some();
+            let made = stands(tree, number);
             if !made {
-                binds.forget(handle.as_slice());
+                forget_own(binds, number);
             }
             Ok(TreeStep { undo, made })
         }
         Err(fault) => {
-            binds.forget(handle.as_slice());
+            forget_own(binds, number);
             Err(fault)
         }
     }
@@ -91,7 +131,13 @@ fn take_step(
     number: u64,
     call: &NfsCall,
     outcome: &Outcome,
-) -> Result<TreeStep, StepFault> {
+) -> Result<TreeStep, StepFault>
+    requires { object_of binds.old (handle_of number) ≡ None }
+    ensures taken { IfOk result (TakesStep (may_make call.now) binds.old tree.old number call.now outcome.now binds.new tree.new) }
+    ensures refused { result ≡ Err StepFault.NotAllowed → next_tree (bound_if (may_make call.now) number binds.old) tree.old number call.now outcome.now ≡ None }
+    ensures tree { OnErr result (tree.new ≡ tree.old) }
+    ensures binds { OnErr result (NameAlike binds.new binds.old) }
+{
     if may_make(call) {
         return step_with_handle(tree, binds, number, call, outcome);
     }
@@ -99,15 +145,42 @@ fn take_step(
     Ok(TreeStep { undo, made: false })
 }
 
+/// Notes where a call was placed.
+fn note_state(calls: &mut [CallState], number: u64, place: usize, made: bool)
+    requires from_one { 1 ≤ number }
+    requires within { number ≤ length calls.old }
+    ensures { calls.new ≡ slice_set calls.old (number - 1) (record { place = Some place; made = made }) }
+{
+    calls[number as usize - 1] = CallState {
+        place: Some(place),
+        made,
+    };
+}
+
 impl Ledger {
-    /// Whether the server may give this reply, where the tree allows it.
-    fn check_reply(&self, number: u64, outcome: &Outcome) -> Result<(), PlaceFault> {
-        let call = call_asked(&self.history, number);
-        if let Some(verifier) = verifier_of(call, outcome) {
-            if verifier != self.history.eras() {
-                return Err(PlaceFault::NotLegal);
-            }
+    /// Whether a reply shows no other write verifier than this era's.
+    fn shows_now(&self, number: u64, outcome: &Outcome) -> bool
+        requires { IsAsked self.now.history.known.calls number }
+        ensures { MatchBool result (ShowsNow self.now number outcome.now) (¬ ShowsNow self.now number outcome.now) }
+    {
+        match verifier_of(call_asked(&self.history, number), outcome) {
+            Some(verifier) => verifier == self.history.eras(),
+            None => true,
         }
+    }
+
+    /// Whether the server may give this reply, where the tree allows it.
+    fn check_reply(&self, number: u64, outcome: &Outcome) -> Result<(), PlaceFault>
+        requires asked { IsAsked self.now.history.known.calls number }
+        requires received { IsReceived outcome.now }
+        requires stands { IsSome self.now.tree }
+        ensures fits { OnOk result (ShowsNow self.now number outcome.now × GivesAllowed self.now number outcome.now) }
+        ensures refused { IfErr result (StopsWhere (¬ (ShowsNow self.now number outcome.now × MayGive self.now number outcome.now))) }
+    {
+        if !self.shows_now(number, outcome) {
+            return Err(PlaceFault::NotLegal);
+        }
+        let call = call_asked(&self.history, number);
         let (Some(tree), Outcome::Received(reply)) = (&self.tree, outcome) else {
             unreachable!();
         };
@@ -119,7 +192,14 @@ impl Ledger {
     }
 
     /// The journal's record of a call with its reply, where it has one.
-    fn entry_of(&self, number: u64, outcome: &Outcome) -> Result<Option<Vec<u8>>, PlaceFault> {
+    fn entry_of(&self, number: u64, outcome: &Outcome) -> Result<Option<Vec<u8>>, PlaceFault>
+        requires tied { IsTied self.now }
+        requires asked { IsAsked self.now.history.known.calls number }
+        requires received { IsReceived outcome.now }
+        ensures entry { IfOk result (IsEntry self.now number outcome.now) }
+        ensures fits { OnOk result (IsShortAnswer self.now number outcome.now) }
+        ensures refused { IfErr result (StopsWhere (¬ IsShortAnswer self.now number outcome.now)) }
+    {
         let Outcome::Received(reply) = outcome else {
             unreachable!();
         };
@@ -142,7 +222,17 @@ impl Ledger {
         &mut self,
         number: u64,
         outcome: &Outcome,
-    ) -> Result<Option<Vec<u8>>, PlaceFault> {
+    ) -> Result<Option<Vec<u8>>, PlaceFault>
+        requires tied { IsTied self.old }
+        requires asked { IsAsked self.old.history.known.calls number }
+        requires received { IsReceived outcome.now }
+        requires stands { IsSome self.old.tree }
+        ensures same { IsSame self.old self.new }
+        ensures room { OnOk result (HasRoom self.new) }
+        ensures entry { IfOk result (IsEntry self.new number outcome.now) }
+        ensures fits { OnOk result (ShowsNow self.new number outcome.now × GivesAllowed self.new number outcome.now × IsShortAnswer self.new number outcome.now) }
+        ensures refused { IfErr result (StopsWhere (¬ (ShowsNow self.new number outcome.now × MayGive self.new number outcome.now × IsShortAnswer self.new number outcome.now))) }
+    {
         self.check_reply(number, outcome)?;
         let entry = self.entry_of(number, outcome)?;
         self.placed.reserve(1)?;
@@ -151,7 +241,14 @@ impl Ledger {
     }
 
     /// Takes the step of a call in the tree.
-    pub(crate) fn step(&mut self, number: u64, outcome: &Outcome) -> Result<TreeStep, StepFault> {
+    pub(crate) fn step(&mut self, number: u64, outcome: &Outcome) -> Result<TreeStep, StepFault>
+        requires asked { IsAsked self.old.history.known.calls number }
+        requires stands { IsSome self.old.tree }
+        requires free { object_of self.old.binds (handle_of number) ≡ None }
+        ensures taken { IfOk result (λ step. HasStepped self.old number outcome.now step self.new) }
+        ensures refused { result ≡ Err StepFault.NotAllowed → HasNoStep self.old number outcome.now }
+        ensures kept { OnErr result (HasStayed self.old self.new) }
+    {
         let Some(tree) = &mut self.tree else {
             unreachable!();
         };
@@ -159,25 +256,27 @@ impl Ledger {
         take_step(tree, &mut self.binds, number, call, outcome)
     }
 
-    /// Places a call that took its step.
+    /// Places a call that took its step, behind which there are so many records. Room is set aside for it.
     pub(crate) fn note_place(
         &mut self,
         number: u64,
         outcome: Outcome,
         step: TreeStep,
         recorded: bool,
-    ) {
+        records: u64,
+    )
+        requires room { HasRoom self.old }
+        requires from_one { 1 ≤ number }
+        requires within { number ≤ length self.old.calls.items }
+        ensures { HasPlaced self.old number outcome step recorded records self.new }
+    {
         let TreeStep { undo, made } = step;
-        let mut records = self.records();
         if recorded {
-            records += 1;
             self.undos.push(undo).unwrap();
         } else {
             drop(undo);
         }
-        let state = &mut self.calls[number as usize - 1];
-        state.place = Some(self.placed.len());
-        state.made = made;
+        note_state(&mut self.calls, number, self.placed.len(), made);
         let placed = PlacedCall {
             number,
             outcome,
@@ -186,14 +285,17 @@ impl Ledger {
         self.placed.push(placed).unwrap();
     }
 
-    /// Lets the tree go that a call took its step in, which isn't placed.
-    pub(crate) fn lose_step(&mut self, number: u64, step: TreeStep) {
+    /// Lets the tree go that a call took its step in, which isn't placed. The book is down from then on.
+    pub(crate) fn lose_step(&mut self, number: u64, step: TreeStep)
+        ensures { HasLost self.old number step.made self.new }
+    {
         let TreeStep { undo, made } = step;
         drop(undo);
         if made {
-            self.binds.forget(number.to_be_bytes().as_slice());
+            forget_own(&mut self.binds, number);
         }
         drop(self.tree.take());
         self.undos.clear();
+        self.condition = Condition::Down;
     }
 }
