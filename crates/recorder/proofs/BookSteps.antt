@@ -141,7 +141,7 @@ module _ (old prepared : Ledger) (device : Device) (number : ℕ) (reply : NfsRe
     pub may_be_placed : (new : Book) × Places (book_of old device) number reply new
     may_be_placed =
         let takes = subst (λ (tree : Tree). TakesStep (may_make (asked_by prepared.history.known.calls number)) prepared.binds tree number (asked_by prepared.history.known.calls number) (outcomes.Received reply) stepped.binds s.after step)
-            (same_tree_there s.stood r.stood) s.takes in
+        (same_tree_there s.stood r.stood) s.takes in
         let p = placed_so (parts_of prepared) device number s.before r reply given_so stepped.binds s.after step takes in
         subst (λ (b : Book). (new : Book) × Places b number reply new) both.1 (as_some p)
 
@@ -154,7 +154,7 @@ module _ (old prepared : Ledger) (device : Device) (number : ℕ) (reply : NfsRe
         let kept = device_then prepared device number reply s.before r in
         let after_is : after ≡ kept = put ∙ puts_is b bytes entry device holds in
         let done = new_place prepared device number reply s.before r stepped new step records given_so s
-            (subst (λ (c : Bool). HasPlaced stepped number (outcomes.Received reply) step c records new) (holds_is b bytes entry holds) h) (count ∙ ap (λ (d : Device). length d.records) after_is) in (
+        (subst (λ (c : Bool). HasPlaced stepped number (outcomes.Received reply) step c records new) (holds_is b bytes entry holds) h) (count ∙ ap (λ (d : Device). length d.records) after_is) in (
           subst (AreTied new) (sym after_is) done.0,
           subst (λ (d : Device). Places (book_of old device) number reply (book_of new d)) (sym after_is) (subst (λ (c : Book). Places c number reply (book_of new kept)) both.1 done.1),
         )
@@ -195,10 +195,15 @@ module _ (old prepared : Ledger) (device : Device) (number : ℕ) (reply : NfsRe
       → StopsWhere (¬ (ShowsNow prepared number (outcomes.Received reply) × MayGive prepared number (outcomes.Received reply) × IsShortAnswer prepared number (outcomes.Received reply))) fault
       → PlaceStops (book_of old device) number reply fault × IsLeft (book_of old device) fault (book_of prepared device)
   refused_early before stood place.NotLegal stops = (
-    (turn.running, turn.now, turn.unplaced, (λ p.
-    let there = subst (λ (b : Book). Places b number reply p.0) (sym both.1) p.1 in
-    let r = ready_then before stood in
-    stops (shows prepared device number reply before r p.0 there, gives prepared device number reply before r p.0 there, is_short prepared device number reply before r p.0 there))),
+    (
+      turn.running,
+      turn.now,
+      turn.unplaced,
+      (λ p.
+          let there = subst (λ (b : Book). Places b number reply p.0) (sym both.1) p.1 in
+          let r = ready_then before stood in
+          stops (shows prepared device number reply before r p.0 there, gives prepared device number reply before r p.0 there, is_short prepared device number reply before r p.0 there)),
+    ),
     left_so prepared place.NotLegal both.1 refl,
   )
   refused_early before stood place.NoMemory stops = ((turn.running, turn.now, turn.unplaced), left_so prepared place.NoMemory both.1 refl)
@@ -215,8 +220,13 @@ module _ (old prepared : Ledger) (device : Device) (number : ℕ) (reply : NfsRe
       let left = stayed_tied prepared new device stayed both.0 in (
         left.0,
         (
-          (turn.running, turn.now, turn.unplaced, (λ p.
-          not_without_step prepared device number reply before (ready_then before stood) p.0 (subst (λ (b : Book). Places b number reply p.0) (sym both.1) p.1) none)),
+          (
+            turn.running,
+            turn.now,
+            turn.unplaced,
+            (λ p.
+                not_without_step prepared device number reply before (ready_then before stood) p.0 (subst (λ (b : Book). Places b number reply p.0) (sym both.1) p.1) none),
+          ),
           left_so new place.NotLegal (left.1 ∙ both.1) refl,
         ),
       )

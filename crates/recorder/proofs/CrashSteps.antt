@@ -135,8 +135,10 @@ sound_all : (recorded : List RecordedCall) (e : ℕ) (over : List EraOver) (plac
 sound_all recorded e [] placed known cuts = tt
 sound_all recorded e (era ∷ over) placed known cuts =
     let steps = map (placed_in recorded) era.placed.items in (
-      (kept_few era.kept (front_with cuts.0.count steps) (length steps) (length era.placed.items) cuts.0.front (front_few cuts.0.count steps) (length-map era.placed.items (placed_in recorded)),
-        asked_all recorded e era.placed.items known.0),
+      (
+        kept_few era.kept (front_with cuts.0.count steps) (length steps) (length era.placed.items) cuts.0.front (front_few cuts.0.count steps) (length-map era.placed.items (placed_in recorded)),
+        asked_all recorded e era.placed.items known.0,
+      ),
       sound_all recorded (e + 1) over placed known.1 cuts.1,
     )
 
@@ -221,7 +223,7 @@ can_go_back ledger device keep lost tree t is loses =
     let later = drop (length undos - lost) undos in
     let count : length later ≡ lost = left_over (length undos) lost (length later) le (length-drop (length undos - lost) undos) in
     let known = value_of (tree_behind (book_of ledger device) keep)
-        (behind_stands (parts_of ledger) device (to_parts ledger device t) (front_with (keep - records_kept (book_of ledger device)) (book_of ledger device).placed)) in
+    (behind_stands (parts_of ledger) device (to_parts ledger device t) (front_with (keep - records_kept (book_of ledger device)) (book_of ledger device).placed)) in
     record {
       there = le;
       before = known.0;

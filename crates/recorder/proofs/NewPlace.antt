@@ -311,7 +311,7 @@ module _ (p : Parts) (device : Device) (number : ℕ) (before : Tree) (r : IsRea
           subst (λ (us : List Undo). UndoesAll TakesBack us after back) (sym none) (some_is (sym full ∙ behind))
       go (inr parts) =
           let ahead = r.tied.undone earlier parts.0 before back parts.1 r.stood
-              (sym (behind_same (length device.records - length parts.0) (few (length parts.0))) ∙ ap (tree_behind new_book) (sym (left parts.0 parts.2)) ∙ behind) in
+          (sym (behind_same (length device.records - length parts.0) (few (length parts.0))) ∙ ap (tree_behind new_book) (sym (left parts.0 parts.2)) ∙ behind) in
           subst (λ (us : List Undo). UndoesAll TakesBack us after back) (sym parts.2) (one_more_undone TakesBack parts.0 step.undo after before back ahead takes.back)
 
     undos_by : (b : Bool) → length (if b then p.undos ++ step.undo ∷ [] else p.undos) + (with_record b bytes device).mark ≡ length (with_record b bytes device).records

@@ -130,12 +130,14 @@ counted_more ahead recorded [] last counted is = (drop_zero ahead _ _ is, tt) wh
   drop_zero : (a b c : ℕ) → c ≡ a + 0 + b → c ≡ a + b
   drop_zero a b c e = omega (arith, e)
 counted_more ahead recorded (x ∷ placed) last counted is =
-    let parts = records_append (placed_in recorded x ∷ []) (map (placed_in recorded) placed) in
-    (counted.0, counted_more x.records recorded placed last counted.1
-        (further last.records ahead (records_in (placed_in recorded x ∷ map (placed_in recorded) placed)) (records_in (placed_in recorded x ∷ [])) (records_in (map (placed_in recorded) placed))
-        (records_in (placed_in recorded last ∷ [])) x.records is parts counted.0)) where
-          further : (r a all one rest last' x' : ℕ) → r ≡ a + all + last' → all ≡ one + rest → x' ≡ a + one → r ≡ x' + rest + last'
-          further r a all one rest last' x' e f g = omega (arith, e, f, g)
+    let parts = records_append (placed_in recorded x ∷ []) (map (placed_in recorded) placed) in (
+      counted.0,
+      counted_more x.records recorded placed last counted.1
+          (further last.records ahead (records_in (placed_in recorded x ∷ map (placed_in recorded) placed)) (records_in (placed_in recorded x ∷ [])) (records_in (map (placed_in recorded) placed))
+          (records_in (placed_in recorded last ∷ [])) x.records is parts counted.0),
+    ) where
+      further : (r a all one rest last' x' : ℕ) → r ≡ a + all + last' → all ≡ one + rest → x' ≡ a + one → r ≡ x' + rest + last'
+      further r a all one rest last' x' e f g = omega (arith, e, f, g)
 
 -- ---- where each call stands
 

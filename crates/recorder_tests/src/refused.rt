@@ -36,11 +36,20 @@ fn a_lane_is_open_until_its_close(rt: HostRuntime) -> Result<(), Fail> {
     let alloc = rt.alloc();
     let mut book = book(alloc, None, None)?;
     let token = begin(alloc, &mut book, 1, CREATE)??;
-    assert_eq!(rt; begin(alloc, &mut book, 1, CREATE)?, Err(BeginFault::XidInUse));
+    assert_eq!(rt;
+        begin(alloc, &mut book, 1, CREATE)?,
+        Err(BeginFault::XidInUse)
+    );
     assert_eq!(rt; book.close_lane(1), Ok(()));
     assert_eq!(rt; book.close_lane(1), Err(CloseFault::LaneClosed));
-    assert_eq!(rt; place(alloc, &mut book, token, 8, MADE)?, Err(PlaceFault::LaneClosed));
-    assert_eq!(rt; begin(alloc, &mut book, 2, NULL)?, Err(BeginFault::BadRecord));
+    assert_eq!(rt;
+        place(alloc, &mut book, token, 8, MADE)?,
+        Err(PlaceFault::LaneClosed)
+    );
+    assert_eq!(rt;
+        begin(alloc, &mut book, 2, NULL)?,
+        Err(BeginFault::BadRecord)
+    );
     Ok(())
 }
 
@@ -51,7 +60,10 @@ fn a_lane_ends_with_its_era(rt: HostRuntime) -> Result<(), Fail> {
     let token = begin(alloc, &mut book, 1, CREATE)??;
     book.close_lane(2)?;
     assert_eq!(rt; crash(&mut book, 0), (Ok(()), 0));
-    assert_eq!(rt; place(alloc, &mut book, token, 8, MADE)?, Err(PlaceFault::EraOver(2)));
+    assert_eq!(rt;
+        place(alloc, &mut book, token, 8, MADE)?,
+        Err(PlaceFault::EraOver(2))
+    );
     assert_eq!(rt; book.close_lane(1), Err(CloseFault::EraOver(2)));
     assert_eq!(rt; book.close_lane(2), Err(CloseFault::EraOver(2)));
     assert_eq!(rt; book.close_lane(3), Ok(()));
@@ -64,7 +76,10 @@ fn a_call_is_placed_once(rt: HostRuntime) -> Result<(), Fail> {
     let mut book = book(alloc, None, None)?;
     let token = begin(alloc, &mut book, 1, CREATE)??;
     assert_eq!(rt; place(alloc, &mut book, token, 8, MADE)?, Ok(()));
-    assert_eq!(rt; place(alloc, &mut book, token, 8, MADE)?, Err(PlaceFault::OutOfTurn));
+    assert_eq!(rt;
+        place(alloc, &mut book, token, 8, MADE)?,
+        Err(PlaceFault::OutOfTurn)
+    );
     Ok(())
 }
 
@@ -77,7 +92,10 @@ fn a_reply_that_is_not_served_brings_the_book_down(rt: HostRuntime) -> Result<()
     assert!(rt; placed_create(alloc, MADE)? == (Ok(()), Ok(())));
     assert_eq!(rt; placed_write(alloc, WROTE)?, Ok(()));
     assert_eq!(rt; placed_write(alloc, WROTE_TWO)?, Err(PlaceFault::NotLegal));
-    assert_eq!(rt; placed_write(alloc, WROTE_OTHER)?, Err(PlaceFault::NotLegal));
+    assert_eq!(rt;
+        placed_write(alloc, WROTE_OTHER)?,
+        Err(PlaceFault::NotLegal)
+    );
     Ok(())
 }
 
@@ -86,7 +104,10 @@ fn a_book_that_is_down_comes_up_in_a_crash(rt: HostRuntime) -> Result<(), Fail> 
     let alloc = rt.alloc();
     let mut book = book(alloc, None, None)?;
     let token = begin(alloc, &mut book, 1, CREATE)??;
-    assert_eq!(rt; place(alloc, &mut book, token, 8, MADE_NINE)?, Err(PlaceFault::NotLegal));
+    assert_eq!(rt;
+        place(alloc, &mut book, token, 8, MADE_NINE)?,
+        Err(PlaceFault::NotLegal)
+    );
     assert_eq!(rt; crash(&mut book, 0), (Ok(()), 0));
     let token = begin(alloc, &mut book, 2, CREATE)??;
     assert_eq!(rt; token.number(), 2);
@@ -98,7 +119,10 @@ fn a_call_whose_record_is_refused_is_not_placed(rt: HostRuntime) -> Result<(), F
     let alloc = rt.alloc();
     let mut book = book(alloc, Some(1), None)?;
     let token = begin(alloc, &mut book, 1, CREATE)??;
-    assert_eq!(rt; place(alloc, &mut book, token, 8, MADE)?, Err(PlaceFault::DeviceFault));
+    assert_eq!(rt;
+        place(alloc, &mut book, token, 8, MADE)?,
+        Err(PlaceFault::DeviceFault)
+    );
     let mut out = Vec::new(alloc);
     book.print_tree(&mut out)?;
     // One node, the root directory.

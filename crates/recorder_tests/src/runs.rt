@@ -1,15 +1,14 @@
 //! Runs of a book, whose certificates are witnesses of their histories.
 
-use crate::samples::{
-    CREATE, MADE, WRITE, WROTE, answer, begin, book, crash, is_explained, place,
-};
+use crate::samples::{CREATE, MADE, WRITE, WROTE, answer, begin, book, crash, is_explained, place};
 use recorder::{AnswerFault, BeginFault, Book, CrashFault, FlushFault, SimDevice, rebuild};
 use replay_law::Replayable;
 use std::alloc::Global;
 use std::test::Fail;
 
 /// The tree with an empty file `a` as object 1, in hex.
-const TREE: &str = "00000002000000000000000000000000000000020000000100000001610000000000000000000001\
+const TREE: &str =
+    "00000002000000000000000000000000000000020000000100000001610000000000000000000001\
     000000010000000000000000";
 
 /// The reply to the CREATE, in hex.
@@ -78,7 +77,10 @@ fn a_crash_keeps_what_is_safe(rt: HostRuntime) -> Result<(), Fail> {
     assert_eq!(rt; crash(&mut book, 0), (Err(CrashFault::KeepTooSmall(1)), 2));
     assert_eq!(rt; crash(&mut book, 3), (Err(CrashFault::KeepTooLarge(2)), 2));
     assert_eq!(rt; crash(&mut book, 1), (Ok(()), 1));
-    assert_eq!(rt; begin(alloc, &mut book, 1, CREATE)?, Err(BeginFault::EraOver(2)));
+    assert_eq!(rt;
+        begin(alloc, &mut book, 1, CREATE)?,
+        Err(BeginFault::EraOver(2))
+    );
     Ok(())
 }
 

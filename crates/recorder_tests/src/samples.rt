@@ -83,11 +83,7 @@ pub fn answer(book: &mut Book<SimDevice>, token: Token) -> Result<usize, AnswerF
 }
 
 /// Whether the book's certificate has this text, and is a witness of its history.
-pub fn is_explained(
-    alloc: Global,
-    book: &Book<SimDevice>,
-    text: &str,
-) -> Result<bool, Fail> {
+pub fn is_explained(alloc: Global, book: &Book<SimDevice>, text: &str) -> Result<bool, Fail> {
     let certificate = book.certificate()?;
     let out = write_certificate(alloc, &certificate)?;
     let yes = matches!(check(alloc, book.history(), &certificate)?, Verdict::Yes);
