@@ -1,0 +1,84 @@
+#!/usr/bin/env python3
+"""Writes what crates/stored_books is run on, and what it has to answer: make_books.py FOLDER [COMMANDS [SEED]].
+
+The commands are drawn at random, and a model of a book, written apart from the crates' code, says what each is answered.
+FOLDER gets `stdin` with a command a line, and `stdout` with an answer a line. COMMANDS is about how many there are, 100,000
+if it is left out. How often each refusal was reached is printed; the status is 1 where one never was.
+
+A few long books have some sixty eras, and many short ones a few each. In all of them calls of all kinds run side by side on
+several lanes, records are lost in crashes, devices fail, and replies are tried that no server may give.
+"""
+import pathlib
+import random
+import sys
+
+from books.calls import Calls
+from books.report import print_report
+from books.run import Run
+from books.wrong import KINDS
+
+LONG_BOOKS, LONG_ERAS = 6, 10
+# Of the commands this part goes to short books.
+SHORT_PART = 0.2
+
+
+def run_long_book(run: Run, commands: int, kinds: list[str], last: bool) -> None:
+    """A book whose eras end in crashes, most of them behind a reply that is refused or a fault of the device."""
+    appends = commands // 8
+    faults = [run.dice.randrange(1, appends + 2), run.dice.randrange(1, appends // 2 + 2), LONG_ERAS + 1]
+    run.new_book(tuple(faults))
+    for _ in range(LONG_ERAS):
+        run.run_era(commands // LONG_ERAS)
+        if run.calls.chance(60) and kinds and run.book.condition == "running":
+            run.try_wrong(kinds.pop())
+        run.end_era()
+    run.run_era(20)
+    run.end_era()
+    run.end_book()
+
+
+def run_short_book(run: Run, kinds: list[str]) -> None:
+    """A book of a few commands, with one reply or two that are refused."""
+    faults = [run.dice.choice((0, run.dice.randrange(1, 30))) for _ in range(2)]
+    run.new_book((*faults, run.dice.choice((0, 0, 1, 2))))
+    for _ in range(run.dice.randrange(1, 4)):
+        run.run_era(run.dice.randrange(10, 90))
+        if kinds and run.book.condition == "running":
+            run.try_wrong(kinds.pop())
+        run.end_era()
+        if run.book.condition == "dead":
+            break
+    run.end_book()
+
+
+def drawn_kinds(dice: random.Random, turns: int) -> list[str]:
+    out = []
+    for _ in range(turns):
+        kinds = list(KINDS)
+        dice.shuffle(kinds)
+        out += kinds
+    return out
+
+
+def make(commands: int, seed: int) -> Run:
+    dice = random.Random(seed)
+    run = Run(Calls(dice))
+    kinds = drawn_kinds(dice, 40)
+    for book in range(LONG_BOOKS):
+        run_long_book(run, int(commands * (1 - SHORT_PART)) // LONG_BOOKS, kinds, book == LONG_BOOKS - 1)
+    while len(run.given) < commands:
+        run_short_book(run, kinds)
+    return run
+
+
+def main() -> int:
+    folder = pathlib.Path(sys.argv[1])
+    commands = int(sys.argv[2]) if len(sys.argv) > 2 else 100_000
+    run = make(commands, int(sys.argv[3]) if len(sys.argv) > 3 else 1)
+    (folder / "stdin").write_text("\n".join(run.given) + "\n")
+    (folder / "stdout").write_text("\n".join(run.wanted) + "\n")
+    return print_report(run)
+
+
+if __name__ == "__main__":
+    sys.exit(main())
