@@ -12,27 +12,49 @@ import pathlib
 import random
 import sys
 
+from books.book import DEAD, RUNNING
 from books.calls import Calls
+from books.large import run_large_book
 from books.report import print_report
 from books.run import Run
 from books.wrong import KINDS
 
 LONG_BOOKS, LONG_ERAS = 6, 10
+ARMED_BOOKS = 4
 # Of the commands this part goes to short books.
 SHORT_PART = 0.2
 
 
-def run_long_book(run: Run, commands: int, kinds: list[str], last: bool) -> None:
+def try_kind(run: Run, kinds: list[str]) -> None:
+    """A reply of the next kind that is refused. Where no call is to be had for it, its turn comes again."""
+    if run.book.condition == RUNNING:
+        kind = kinds.pop()
+        if not run.try_wrong(kind):
+            kinds.insert(0, kind)
+
+
+def run_long_book(run: Run, commands: int, kinds: list[str]) -> None:
     """A book whose eras end in crashes, most of them behind a reply that is refused or a fault of the device."""
     appends = commands // 8
     faults = [run.dice.randrange(1, appends + 2), run.dice.randrange(1, appends // 2 + 2), LONG_ERAS + 1]
     run.new_book(tuple(faults))
     for _ in range(LONG_ERAS):
-        run.run_era(commands // LONG_ERAS)
-        if run.calls.chance(60) and kinds and run.book.condition == "running":
-            run.try_wrong(kinds.pop())
+        run.run_era(commands // LONG_ERAS // 2)
+        if run.calls.chance(30):
+            run.look()
+        run.run_era(commands // LONG_ERAS // 2)
+        if run.calls.chance(60):
+            try_kind(run, kinds)
         run.end_era()
     run.run_era(20)
+    run.end_era()
+    run.end_book()
+
+
+def run_armed_book(run: Run) -> None:
+    """A book whose device fails at its first record, behind a reply that is refused."""
+    run.new_book((1, 0, 0))
+    run.try_fault()
     run.end_era()
     run.end_book()
 
@@ -43,15 +65,14 @@ def run_short_book(run: Run, kinds: list[str]) -> None:
     run.new_book((*faults, run.dice.choice((0, 0, 1, 2))))
     for _ in range(run.dice.randrange(1, 4)):
         run.run_era(run.dice.randrange(10, 90))
-        if kinds and run.book.condition == "running":
-            run.try_wrong(kinds.pop())
+        try_kind(run, kinds)
         run.end_era()
-        if run.book.condition == "dead":
+        if run.book.condition == DEAD:
             break
     run.end_book()
 
 
-def drawn_kinds(dice: random.Random, turns: int) -> list[str]:
+def shuffled_kinds(dice: random.Random, turns: int) -> list[str]:
     out = []
     for _ in range(turns):
         kinds = list(KINDS)
@@ -61,12 +82,16 @@ def drawn_kinds(dice: random.Random, turns: int) -> list[str]:
 
 
 def make(commands: int, seed: int) -> Run:
-    dice = random.Random(seed)
-    run = Run(Calls(dice))
-    kinds = drawn_kinds(dice, 40)
-    for book in range(LONG_BOOKS):
-        run_long_book(run, int(commands * (1 - SHORT_PART)) // LONG_BOOKS, kinds, book == LONG_BOOKS - 1)
-    while len(run.given) < commands:
+    run = Run(Calls(random.Random(seed)))
+    kinds = shuffled_kinds(run.dice, 100)
+    for _ in range(LONG_BOOKS):
+        run_long_book(run, int(commands * (1 - SHORT_PART)) // LONG_BOOKS, kinds)
+    run_large_book(run)
+    for _ in range(ARMED_BOOKS):
+        run_armed_book(run)
+    for _ in range(commands):
+        if len(run.given) >= commands and all(run.wrong[kind] for kind in KINDS):
+            break
         run_short_book(run, kinds)
     return run
 

@@ -57,10 +57,16 @@ class Run:
             self.add_lane()
 
     def add_lane(self) -> None:
+        """One more lane that is open."""
         self.next_lane += 1
+        while not self.book.is_open(self.next_lane):
+            self.next_lane += 1
         self.lanes.append(self.next_lane)
 
     def xid(self) -> int:
+        """A transaction number, now and then one that was used before."""
+        if self.next_xid and self.calls.chance(5):
+            return self.dice.randrange(max(1, self.next_xid - 60), self.next_xid + 1)
         self.next_xid += 1
         return self.next_xid
 
@@ -149,9 +155,7 @@ class Run:
         return self.dice.choice(sorted(waiting)) if waiting else self.xid()
 
     def begin_drawn(self) -> None:
-        # A number that was answered may be used again.
-        call = self.calls.call(self.book)
-        self.begin(self.lane(), self.xid(), call, self.calls.chance(2))
+        self.begin(self.lane(), self.xid(), self.calls.call(self.book), self.calls.chance(2))
 
     def placeable(self) -> list[int]:
         return [number for number in self.unplaced if self.book.is_open(self.book.begun(number).lane)]
@@ -226,27 +230,43 @@ class Run:
         while len(self.given) < last and self.book.condition == RUNNING:
             self.step()
 
+    def begin_one(self, kind: str) -> int | None:
+        """Begins a call that a reply of this kind may be of, or another one, which makes the tree richer."""
+        procedure = self.dice.choice(KINDS[kind][1]) if self.calls.chance(60) else None
+        return self.begin(self.lane(), self.xid(), self.calls.call(self.book, procedure))
+
+    def found_wrong(self, kind: str, number: int) -> dict | None:
+        call = self.book.begun(number).call
+        for _ in range(4):
+            reply = wrong_reply(self.calls, self.book, kind, number, call)
+            if reply is not None:
+                return reply
+        return None
+
     def try_wrong(self, kind: str) -> bool:
         """A reply that is refused, of this kind if there is a call for it."""
-        procedures = KINDS[kind][1]
         for _ in range(60):
-            call = self.calls.call(self.book, self.dice.choice(procedures))
-            number = self.begin(self.lane(), self.xid(), call)
+            number = self.begin_one(kind)
             if number is None:
-                return False
-            for _ in range(4):
-                reply = wrong_reply(self.calls, self.book, kind, number, call)
-                if reply is not None:
-                    break
-            if reply is None:
-                self.place(number, self.calls.right_reply(self.book, number, call))
-                if self.book.condition != RUNNING:
-                    return False
                 continue
-            self.place(number, reply)
-            self.wrong[kind] += 1
-            return True
+            reply = self.found_wrong(kind, number)
+            if reply is not None:
+                self.place(number, reply)
+                self.wrong[kind] += 1
+                return True
+            self.place(number, self.calls.right_reply(self.book, number, self.book.begun(number).call))
+            if self.book.condition != RUNNING:
+                return False
         return False
+
+    def try_fault(self) -> None:
+        """A reply that is refused, and then a right one, where the device fails at the next record."""
+        while self.book.condition == RUNNING:
+            self.try_wrong("another handle of what is made")
+        self.end_era()
+        while self.book.condition == RUNNING:
+            self.begin_drawn()
+            self.place_drawn()
 
     def run_down(self, commands: int) -> None:
         """Commands to a book that is down, or to any."""

@@ -14,7 +14,7 @@ use Rattle.nfs_history.proofs.Lanes.{cut_off_is, is_cut_off, closed_is, open_is}
 
 -- a lane that is closed, and isn't cut off, has its close
 only_closed : (lane : ℕ) (before : List Event) → was_cut_off lane before ≡ false → was_closed lane before ≡ true → (¬ IsCutOff lane before) × Contains before (close lane)
-only_closed lane before uncut closed = (no_cut, elim (closed_is lane before closed) [ | inl there ↦ there | inr cut ↦ absurd (no_cut cut) ]) where
+only_closed lane before uncut closed = (no_cut, elim (closed_is lane before closed) [ inl there ↦ there | inr cut ↦ absurd (no_cut cut) ]) where
   no_cut : ¬ IsCutOff lane before
   no_cut = λ cut. absurd (false≢true (sym uncut ∙ is_cut_off lane before cut))
 
