@@ -12,7 +12,7 @@ LONG_NAME = 800_000
 
 def place_next(run: Run, call: dict, reply: dict) -> None:
     """Begins a call and places it."""
-    number = run.begin(run.lane(), run.xid(), call)
+    number = run.begin(run.lane(), run.new_xid(), call)
     run.place(number, {"procedure": call["procedure"], "status": 0} | reply)
 
 
@@ -24,7 +24,7 @@ def try_links(run: Run) -> None:
     """A SYMLINK as long as a record may be, and one byte more; texts about the longest that a server has to take."""
     head = len(call_message(1, link(b"l", 0)))
     longest = RECORD_LIMIT - head
-    xid = run.xid()
+    xid = run.new_xid()
     message = call_message(xid, link(b"l", longest + 1))
     run.ask("begin", f"raw {run.lanes[0]} {spell(message)}", run.book.begin(run.lanes[0], xid, None))
     place_next(run, link(b"l", longest), {"status": NAMETOOLONG})

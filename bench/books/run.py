@@ -67,6 +67,9 @@ class Run:
         """A transaction number, now and then one that was used before."""
         if self.next_xid and self.calls.chance(5):
             return self.dice.randrange(max(1, self.next_xid - 60), self.next_xid + 1)
+        return self.new_xid()
+
+    def new_xid(self) -> int:
         self.next_xid += 1
         return self.next_xid
 

@@ -3,8 +3,8 @@
 use crate::command::{Asked, Command, Faults, Replied};
 use crate::letters::read_letters;
 use crate::telling::{
-    tell_answered, tell_begun, tell_certificate, tell_check, tell_done, tell_journal,
-    tell_rebuilt, tell_tree,
+    tell_answered, tell_begun, tell_certificate, tell_check, tell_done, tell_journal, tell_rebuilt,
+    tell_tree,
 };
 use anyhow::{Context, Result};
 use nfs3_msgs::read_result;

@@ -32,10 +32,7 @@ pub fn tell_begun<W: Write>(output: &mut W, came: &Result<Token, BeginFault>) ->
 }
 
 /// Tells the message of a reply.
-pub fn tell_answered<W: Write>(
-    output: &mut W,
-    came: &Result<Vec<u8>, AnswerFault>,
-) -> Result<()> {
+pub fn tell_answered<W: Write>(output: &mut W, came: &Result<Vec<u8>, AnswerFault>) -> Result<()> {
     match came {
         Ok(message) => {
             write!(output, "ok ")?;
