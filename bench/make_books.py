@@ -21,6 +21,8 @@ from books.wrong import KINDS
 
 LONG_BOOKS, LONG_ERAS = 6, 10
 ARMED_BOOKS = 4
+# A run of at least so many commands has a book of long messages, which cost an unoptimized program some forty seconds.
+LARGE_FROM = 50_000
 # Of the commands this part goes to short books.
 SHORT_PART = 0.2
 
@@ -86,7 +88,8 @@ def make(commands: int, seed: int) -> Run:
     kinds = shuffled_kinds(run.dice, 100)
     for _ in range(LONG_BOOKS):
         run_long_book(run, int(commands * (1 - SHORT_PART)) // LONG_BOOKS, kinds)
-    run_large_book(run)
+    if commands >= LARGE_FROM:
+        run_large_book(run)
     for _ in range(ARMED_BOOKS):
         run_armed_book(run)
     for _ in range(commands):

@@ -3,12 +3,12 @@ import random
 
 from books.book import Book
 from books.tree import (
-    CAUSED, DIRECTORY, EXCUSED, FILE, LINK, NAMETOOLONG, NOT_SYNC, ROOT, SERVERFAULT, TOOSMALL, TRANSFER_LIMIT, allows,
-    asked_bytes, created, handle_of, permitted,
+    DIRECTORY, EXCUSED, FILE, LINK, NAMETOOLONG, TOOSMALL, TRANSFER_LIMIT, allows, asked_bytes, created, handle_of,
+    permitted,
 )
 from books.wire import (
     COMMIT, CREATE, EXCLUSIVE, GETATTR, GUARDED, LOOKUP, MKDIR, READ, READDIR, READDIRPLUS, READLINK, REMOVE, RENAME,
-    RMDIR, SETATTR, SYMLINK, UNCHECKED, WRITE, words,
+    RMDIR, SETATTR, SYMLINK, UNCHECKED, WRITE,
 )
 
 WEIGHTS = {GETATTR: 6, SETATTR: 7, LOOKUP: 8, READLINK: 3, READ: 10, WRITE: 18, CREATE: 14, MKDIR: 7, SYMLINK: 4,
@@ -192,7 +192,8 @@ class Calls:
         entry = book.tree.entry(directory, name)
         handle = self.dice.choice((None, b"odd")) if entry is None else handle_of(entry[0])
         fileid = 0 if entry is None else entry[0]
-        return {"name": name, "fileid": fileid, "cookie": cookie, "handle": None if self.chance(20) else handle}
+        shown = {"name": name, "fileid": fileid, "cookie": cookie, "attributes": self.attributes()}
+        return shown | {"handle": None if self.chance(20) else handle}
 
     def right_reply(self, book: Book, number: int, call: dict) -> dict:
         """A reply that the server may give."""

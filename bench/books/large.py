@@ -2,7 +2,7 @@
 from books.run import Run
 from books.tree import FILE_LIMIT, NAMETOOLONG, TRANSFER_LIMIT, handle_of
 from books.wire import (
-    CREATE, MKDIR, READ, READDIR, RECORD_LIMIT, REMOVE, SETATTR, SYMLINK, UNCHECKED, WRITE, call_message, spell,
+    CREATE, READ, READDIR, RECORD_LIMIT, REMOVE, SETATTR, SYMLINK, UNCHECKED, WRITE, call_message, spell,
 )
 
 ROOT = handle_of(0)

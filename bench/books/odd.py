@@ -1,10 +1,9 @@
 """Messages that a book takes though they are spelled oddly, and messages that it refuses."""
-from books.book import Book
 from books.calls import Calls
 from books.tree import FILE_LIMIT, handle_of
 from books.wire import (
-    COMMIT, CREATE, EXCLUSIVE, GETATTR, GUARDED, JUDGED, LOOKUP, READ, SETATTR, UNCHECKED, WRITE, arguments,
-    call_message, opaque, reply_message, words,
+    CREATE, GETATTR, GUARDED, LOOKUP, REMOVE, RMDIR, SETATTR, UNCHECKED, WRITE, arguments, call_message, opaque,
+    reply_message, words,
 )
 
 
@@ -30,7 +29,7 @@ def with_padded_name(calls: Calls, xid: int, call: dict) -> bytes:
 
 def odd_message(calls: Calls, xid: int, call: dict) -> bytes:
     forms = [with_padding, with_credential]
-    if call["procedure"] in (WRITE, LOOKUP, 12, 13):
+    if call["procedure"] in (WRITE, LOOKUP, REMOVE, RMDIR):
         forms.append(with_padded_name)
     return calls.dice.choice(forms)(calls, xid, call)
 

@@ -4,7 +4,8 @@ from collections import Counter
 from books.book import RUNNING, Book
 from books.calls import Calls
 from books.odd import BAD, bad_message, odd_message
-from books.wire import NAMES, arguments, call_message, result, spell
+from books.tree import handle_of
+from books.wire import MKDIR, NAMES, READ, arguments, result, spell
 from books.wrong import KINDS, wrong_reply
 
 
@@ -65,6 +66,8 @@ class Run:
 
     def xid(self) -> int:
         """A transaction number, now and then one that was used before."""
+        if self.calls.chance(1):
+            return self.dice.choice((0, 2 ** 32 - 1))
         if self.next_xid and self.calls.chance(5):
             return self.dice.randrange(max(1, self.next_xid - 60), self.next_xid + 1)
         return self.new_xid()
@@ -93,7 +96,7 @@ class Run:
         self.bad[kind] += 1
 
     def place(self, number: int, reply: dict) -> bool:
-        line = f"place {number} {reply['procedure']} {spell(result(reply))}"
+        line = f"place {number} {reply['procedure']} {spell(self.spelled(reply))}"
         placed = self.ask("place", line, self.book.place(number, reply)) == "ok"
         if placed:
             self.unplaced.remove(number)
@@ -101,6 +104,14 @@ class Run:
             how = "success" if reply["status"] == 0 else "failure"
             self.done[NAMES[reply["procedure"]], how] += 1
         return placed
+
+    def spelled(self, reply: dict) -> bytes:
+        """A result, now and then with bytes in the padding of what ends it. Those are read as none, and aren't sent."""
+        text = result(reply)
+        padding = -len(reply.get("data", b"")) % 4
+        if reply["procedure"] == READ and reply["status"] == 0 and padding and self.calls.chance(20):
+            return text[:-padding] + b"\xff" * padding
+        return text
 
     def answer(self, number: int) -> None:
         if self.ask("answer", f"answer {number}", self.book.answer(number)).startswith("ok"):
@@ -137,6 +148,8 @@ class Run:
     def any_lane(self) -> int:
         """A lane of any kind, most often one that isn't open."""
         draw = self.dice.random()
+        if draw < 0.02:
+            return self.dice.choice((0, 2 ** 32 - 1))
         if draw < 0.3:
             return self.lane()
         if draw < 0.6 and self.book.closed:
@@ -263,7 +276,15 @@ class Run:
         return False
 
     def try_fault(self) -> None:
-        """A reply that is refused, and then a right one, where the device fails at the next record."""
+        """Where the device fails at the next record: a place on a closed lane and in a later era, a reply that is refused, and
+        then a right one."""
+        call = {"procedure": MKDIR, "handle": handle_of(0), "name": b"d", "size": None}
+        number = self.begin(self.lane(), self.new_xid(), call)
+        reply = {"procedure": MKDIR, "status": 0, "handle": handle_of(number)}
+        self.close(self.book.begun(number).lane)
+        self.place(number, reply)
+        self.end_era()
+        self.place(number, reply)
         while self.book.condition == RUNNING:
             self.try_wrong("another handle of what is made")
         self.end_era()
@@ -288,12 +309,19 @@ class Run:
             reply = self.calls.right_reply(self.book, number, call)
             self.place(number, reply if self.calls.chance(70) else self.calls.failure(call, 5))
 
-    def end_era(self) -> None:
+    def crash_drawn(self) -> None:
         """A crash that as many records outlive as is drawn."""
-        if self.book.condition != RUNNING:
-            self.run_down(self.dice.randrange(4, 12))
         mark, records = self.book.device.mark, len(self.book.device.trees)
         self.crash(self.dice.choice((mark, records, self.dice.randrange(mark, records + 1))))
+
+    def end_era(self) -> None:
         if self.book.condition != RUNNING:
             self.run_down(self.dice.randrange(4, 12))
+            if self.calls.chance(30):
+                self.look()
+        self.crash_drawn()
+        if self.book.condition != RUNNING:
+            self.run_down(self.dice.randrange(4, 12))
+        elif self.calls.chance(5):
+            self.crash_drawn()
         self.look()

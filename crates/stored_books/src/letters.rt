@@ -1,5 +1,5 @@
-//! How bytes are spelled: parts joined by points. A part is a number, which stands for its four bytes, `x` and bytes in lower case
-//! hex, or a byte and a count joined by a star.
+//! How bytes are spelled: parts joined by points. A part is a number, which stands for its four bytes, `x` and bytes in lower
+//! case hex, or a byte and a count joined by a star.
 
 use anyhow::{Context, Result};
 use std::alloc::Global;
