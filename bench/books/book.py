@@ -30,10 +30,6 @@ class Begun:
     place: Placed | None = None
     answered: bool = False
 
-    def changes(self) -> bool:
-        """Whether it was placed as a successful modifying call."""
-        return self.place is not None and self.place.recorded
-
 
 @dataclass
 class Device:

@@ -3,8 +3,7 @@ import random
 
 from books.book import Book
 from books.tree import (
-    DIRECTORY, EXCUSED, FILE, LINK, NAMETOOLONG, TOOSMALL, TRANSFER_LIMIT, allows, asked_bytes, created, handle_of,
-    permitted,
+    DIRECTORY, EXCUSED, FILE, LINK, TOOSMALL, TRANSFER_LIMIT, allows, asked_bytes, created, handle_of, permitted,
 )
 from books.wire import (
     COMMIT, CREATE, EXCLUSIVE, GETATTR, GUARDED, LOOKUP, MKDIR, READ, READDIR, READDIRPLUS, READLINK, REMOVE, RENAME,
@@ -110,6 +109,8 @@ class Calls:
         if procedure == CREATE:
             call["mode"] = self.dice.choice((UNCHECKED, UNCHECKED, UNCHECKED, GUARDED, EXCLUSIVE, EXCLUSIVE))
             call["verifier"] = self.dice.choice((0, 1, 2 ** 64 - 1))
+            if self.chance(15):
+                return call | self.made_before(book)
         elif procedure == SYMLINK:
             call["text"] = self.dice.choice((b"", b"a", b"../x", b"dir/a"))
         elif procedure == RENAME:
@@ -122,6 +123,16 @@ class Calls:
             kinds = {REMOVE: (FILE, LINK), RMDIR: (DIRECTORY,)}[procedure] if self.chance(80) else (FILE, DIRECTORY, LINK)
             call["name"] = self.name(book, handle, 85, kinds)
         return call
+
+    def made_before(self, book: Book) -> dict:
+        """What asks once more for a file that an EXCLUSIVE CREATE made, where there is one."""
+        made = [(path, node) for path, node in book.tree.nodes.items() if node[3] is not None]
+        if not made:
+            return {}
+        path, node = self.dice.choice(made)
+        directory = book.tree.nodes[path[:-1]][0]
+        again = {"handle": handle_of(directory), "name": path[-1], "mode": EXCLUSIVE, "size": None}
+        return again | {"verifier": node[3] if self.chance(80) else 3}
 
     # Replies.
 
@@ -200,8 +211,6 @@ class Calls:
         sight = book.sight()
         if call["procedure"] in (READDIR, READDIRPLUS) and self.chance(10):
             return self.failure(call, TOOSMALL)
-        if call["procedure"] == SYMLINK and len(call["text"]) > TRANSFER_LIMIT and self.chance(50):
-            return self.failure(call, NAMETOOLONG)
         if allows(sight, call):
             return self.success(book, number, call)
         judged = sorted(permitted(sight, call))

@@ -288,7 +288,7 @@ class Run:
         while self.book.condition == RUNNING:
             self.try_wrong("another handle of what is made")
         self.end_era()
-        while self.book.condition == RUNNING:
+        while not self.book.device.faults:
             self.begin_drawn()
             self.place_drawn()
 

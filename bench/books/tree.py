@@ -103,10 +103,6 @@ class Sight:
         path = self.path_of(handle)
         return path if path is not None and self.tree.nodes[path][1] == DIRECTORY else None
 
-    def is_file(self, handle: bytes) -> bool:
-        node = self.node_of(handle)
-        return node is not None and node[1] == FILE
-
     def found(self, directory: tuple, name: bytes):
         """What a LOOKUP of the name finds: its object."""
         if name == b".":

@@ -31,13 +31,11 @@ def success_for_failure(calls: Calls, book: Book, number: int, call: dict) -> di
 
 
 def failure_for_success(calls: Calls, book: Book, number: int, call: dict) -> dict | None:
-    """A failure that is permitted, where a success is possible."""
-    if not allows(book.sight(), call):
-        return None
+    """A judged failure that has a cause, where a success is possible."""
     judged = sorted(permitted(book.sight(), call) - {TOOSMALL})
-    if judged:
-        return calls.failure(call, calls.dice.choice(judged))
-    return calls.failure(call, calls.dice.choice(EXCUSED))
+    if not judged or not allows(book.sight(), call):
+        return None
+    return calls.failure(call, calls.dice.choice(judged))
 
 
 def excused_for_success(calls: Calls, book: Book, number: int, call: dict) -> dict | None:
@@ -145,8 +143,8 @@ KINDS = {
     "success for a failure to make": (success_for_failure, MAKERS),
     "success for a failure to remove": (success_for_failure, (REMOVE, RMDIR, RENAME)),
     "success for a failure of data": (success_for_failure, (READ, WRITE, COMMIT, SETATTR)),
-    "permitted failure for a success": (failure_for_success, ALL),
-    "permitted failure of an exclusive CREATE": (failure_for_success, (CREATE, SETATTR)),
+    "permitted failure for a success": (failure_for_success, (SETATTR, READDIR, READDIRPLUS)),
+    "permitted failure of an exclusive CREATE": (failure_for_success, (CREATE,)),
     "excused failure for a success": (excused_for_success, ALL),
     "judged failure without a cause": (judged_without_cause, ALL),
     "judged failure of a name without a cause": (judged_without_cause, (LOOKUP, CREATE, REMOVE, RMDIR, RENAME)),
