@@ -116,13 +116,26 @@ class Calls:
         elif procedure == RENAME:
             call["name"] = self.name(book, handle, 90)
             call["to_handle"] = self.handle(book, DIRECTORY) if self.chance(70) else handle
-            call["to_name"] = call["name"] if self.chance(8) else self.name(book, call["to_handle"], 45)
+            call["to_name"] = self.target_name(book, call)
         elif procedure == LOOKUP:
             call["name"] = self.dice.choice((b".", b"..")) if self.chance(10) else self.name(book, handle, 70)
         elif procedure in (REMOVE, RMDIR):
             kinds = {REMOVE: (FILE, LINK), RMDIR: (DIRECTORY,)}[procedure] if self.chance(80) else (FILE, DIRECTORY, LINK)
             call["name"] = self.name(book, handle, 85, kinds)
         return call
+
+    def target_name(self, book: Book, call: dict) -> bytes:
+        """The name that a RENAME gives: now and then its own, or one that means no entry, or another directory's for a
+        directory's."""
+        if self.chance(8):
+            return call["name"]
+        if self.chance(5):
+            return self.dice.choice(ODD_NAMES)
+        source = book.sight().directory_of(call["handle"])
+        entry = None if source is None else book.tree.entry(source, call["name"])
+        is_directory = entry is not None and entry[1] == DIRECTORY
+        kinds = (DIRECTORY,) if is_directory and self.chance(60) else (FILE, DIRECTORY, LINK)
+        return self.name(book, call["to_handle"], 45, kinds)
 
     def made_before(self, book: Book) -> dict:
         """What asks once more for a file that an EXCLUSIVE CREATE made, where there is one."""

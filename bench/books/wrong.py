@@ -2,14 +2,16 @@
 where they are given: some are not, where the tree is as it happens to be."""
 from books.book import Book
 from books.calls import Calls, PLAIN_NAMES
-from books.tree import CAUSED, EXCUSED, NAMETOOLONG, TOOSMALL, allows, handle_of, permitted
+from books.tree import CAUSED, EXCUSED, NAMETOOLONG, TOOSMALL, allows, created, handle_of, permitted
 from books.wire import (
     COMMIT, CREATE, GETATTR, JUDGED, LOOKUP, MKDIR, READ, READDIR, READDIRPLUS, READLINK, REMOVE, RENAME, RMDIR,
     SETATTR, SYMLINK, WRITE,
 )
 
 
-def of_other_procedure(calls: Calls, book: Book, number: int, call: dict) -> dict:
+def of_other_procedure(calls: Calls, book: Book, number: int, call: dict) -> dict | None:
+    if allows(book.sight(), call) and calls.chance(70):
+        return None
     other = calls.dice.choice([procedure for procedure in JUDGED if procedure != call["procedure"]])
     return {"procedure": other, "status": calls.dice.choice(EXCUSED)}
 
@@ -78,6 +80,10 @@ def other_handle(calls, book, call, reply):
     return reply | {"handle": calls.dice.choice([handle_of(number) for number in wrong] + [b"", b"odd"])}
 
 
+def other_handle_there(calls, book, call, reply):
+    return None if created(book.sight(), call) == "new" else other_handle(calls, book, call, reply)
+
+
 def other_text(calls, book, call, reply):
     return reply | {"text": reply["text"] + b"x" if calls.chance(50) else reply["text"][1:]}
 
@@ -142,6 +148,8 @@ KINDS = {
     "success for a failure": (success_for_failure, ALL),
     "success for a failure to make": (success_for_failure, MAKERS),
     "success for a failure to remove": (success_for_failure, (REMOVE, RMDIR, RENAME)),
+    "success for a failure to look": (success_for_failure, (LOOKUP, READDIR, READDIRPLUS)),
+    "success for a failure to create": (success_for_failure, (CREATE,)),
     "success for a failure of data": (success_for_failure, (READ, WRITE, COMMIT, SETATTR)),
     "permitted failure for a success": (failure_for_success, (SETATTR, READDIR, READDIRPLUS)),
     "permitted failure of an exclusive CREATE": (failure_for_success, (CREATE,)),
@@ -153,6 +161,7 @@ KINDS = {
     "another size": (changed(other_size), (GETATTR,)),
     "another handle": (changed(other_handle), (LOOKUP,)),
     "another handle of what is made": (changed(other_handle), MAKERS),
+    "another handle of what is there": (changed(other_handle_there), (CREATE,)),
     "another text": (changed(other_text), (READLINK,)),
     "other bytes": (changed(other_data), (READ,)),
     "more bytes": (changed(more_data), (READ,)),
