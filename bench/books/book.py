@@ -282,7 +282,7 @@ class Book:
                 kept = [at + 1 for at, (_, placed) in enumerate(listed)
                         if placed.recorded and placed.records <= self.kept[era]]
                 lines.append(f"cut {max(kept, default=0)}")
-        return ";".join(lines + ["end"]) + ";;"
+        return ";".join(lines + ["end"]) + ";"
 
 
 def is_change(reply: dict) -> bool:

@@ -7,13 +7,18 @@ use anyhow::{Context, Result, bail};
 pub enum Command<'a> {
     /// A new book, over a device of which these calls fail.
     New(Faults),
+    /// A call that comes on this lane.
     Begin(u32, Asked<'a>),
-    /// A call whose whole message is given.
+    /// A call that comes on this lane as this message, whatever it is.
     Raw(u32, &'a str),
+    /// A reply to the call with this number.
     Place(u64, Replied<'a>),
     Flush,
+    /// That the reply to the call with this number goes out.
     Answer(u64),
+    /// The end of this lane.
     Close(u32),
+    /// A crash that so many records outlive.
     Crash(u64),
     /// Whether the book's certificate is a witness of its history.
     Check,

@@ -105,9 +105,11 @@ pub fn tell_certificate<W: Write>(
 ) -> Result<()> {
     let certificate = book.certificate()?;
     let text = write_certificate(alloc, &certificate)?;
-    for line in text.as_slice().split(|byte| *byte == b'\n') {
+    for (index, line) in text.as_slice().split(|byte| *byte == b'\n').enumerate() {
+        if index > 0 {
+            write!(output, ";")?;
+        }
         output.write_all(line)?;
-        write!(output, ";")?;
     }
     writeln!(output)?;
     Ok(())
