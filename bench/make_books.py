@@ -27,15 +27,14 @@ LARGE_FROM = 50_000
 SHORT_PART = 0.2
 
 
-def try_kind(run: Run, kinds: list[str]) -> None:
-    """A reply of the next kind that is refused. Where no call is to be had for it, its turn comes again."""
+def try_kind(run: Run) -> None:
+    """A reply that is refused, most often of a kind that wasn't tried yet."""
+    missing = [kind for kind in KINDS if not run.wrong[kind]]
     if run.book.condition == RUNNING:
-        kind = kinds.pop()
-        if not run.try_wrong(kind):
-            kinds.insert(0, kind)
+        run.try_wrong(run.dice.choice(missing if missing and run.calls.chance(70) else list(KINDS)))
 
 
-def run_long_book(run: Run, commands: int, kinds: list[str]) -> None:
+def run_long_book(run: Run, commands: int) -> None:
     """A book whose eras end in crashes, most of them behind a reply that is refused or a fault of the device."""
     appends = commands // 8
     faults = [run.dice.randrange(1, appends + 2), run.dice.randrange(1, appends // 2 + 2), LONG_ERAS + 1]
@@ -46,7 +45,7 @@ def run_long_book(run: Run, commands: int, kinds: list[str]) -> None:
             run.look()
         run.run_era(commands // LONG_ERAS // 2)
         if run.calls.chance(60):
-            try_kind(run, kinds)
+            try_kind(run)
         run.end_era()
     run.run_era(20)
     run.end_era()
@@ -61,33 +60,23 @@ def run_armed_book(run: Run) -> None:
     run.end_book()
 
 
-def run_short_book(run: Run, kinds: list[str]) -> None:
+def run_short_book(run: Run) -> None:
     """A book of a few commands, with one reply or two that are refused."""
     faults = [run.dice.choice((0, run.dice.randrange(1, 30))) for _ in range(2)]
     run.new_book((*faults, run.dice.choice((0, 0, 1, 2))))
     for _ in range(run.dice.randrange(1, 4)):
         run.run_era(run.dice.randrange(10, 90))
-        try_kind(run, kinds)
+        try_kind(run)
         run.end_era()
         if run.book.condition == DEAD:
             break
     run.end_book()
 
 
-def shuffled_kinds(dice: random.Random, turns: int) -> list[str]:
-    out = []
-    for _ in range(turns):
-        kinds = list(KINDS)
-        dice.shuffle(kinds)
-        out += kinds
-    return out
-
-
 def make(commands: int, seed: int) -> Run:
     run = Run(Calls(random.Random(seed)))
-    kinds = shuffled_kinds(run.dice, 100)
     for _ in range(LONG_BOOKS):
-        run_long_book(run, int(commands * (1 - SHORT_PART)) // LONG_BOOKS, kinds)
+        run_long_book(run, int(commands * (1 - SHORT_PART)) // LONG_BOOKS)
     if commands >= LARGE_FROM:
         run_large_book(run)
     for _ in range(ARMED_BOOKS):
@@ -95,7 +84,7 @@ def make(commands: int, seed: int) -> Run:
     for _ in range(commands):
         if len(run.given) >= commands and all(run.wrong[kind] for kind in KINDS):
             break
-        run_short_book(run, kinds)
+        run_short_book(run)
     return run
 
 
