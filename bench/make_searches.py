@@ -8,6 +8,8 @@ overlapping-read        a WRITE on its way while a READ shows the bytes ahead of
 stale-read              a READ that begins behind the WRITE's reply, and shows the bytes ahead of it: it has none
 unstable-write-lost     a crash that took a WRITE answered UNSTABLE: it has one, which the order of the replies isn't
 unanswered-remove-lost  a REMOVE without a reply ahead of a crash, and the file behind it: it has one
+crashes-120-4, lanes-200-3  made with a certificate each, by clients of a model of a server. The order of the replies explains neither,
+                        and eight turns are too few to search either by branches
 """
 import pathlib
 import sys
@@ -19,6 +21,9 @@ CASES = [
     ("stale-read-1", "stale-read", 1, 100_000, "not found"),
     ("stale-read-4", "stale-read", 4, 100_000, "not found"),
     ("unstable-write-lost-one-turn", "unstable-write-lost", 1, 1, "out of turns"),
+    ("stale-read-one-turn", "stale-read", 1, 1, "out of turns"),
+    ("crashes-120-4", "crashes-120-4", 1, 8, "found"),
+    ("lanes-200-3", "lanes-200-3", 4, 8, "found"),
 ]
 
 

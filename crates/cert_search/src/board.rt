@@ -2,7 +2,7 @@
 
 use crate::end::Progress;
 use certificate::Certificate;
-use search_branches::Move;
+use search_problem::Move;
 use std::alloc::{AllocError, Global};
 
 /// A branch that is known, by the move that led to it.
@@ -103,6 +103,11 @@ impl Board {
     /// A branch was claimed that nobody had claimed before.
     pub(crate) fn count_state(&mut self) {
         self.states = self.states.saturating_add(1);
+    }
+
+    /// Whether fewer branches than so many were claimed as new.
+    pub(crate) fn has_room(&self, room: u64) -> bool {
+        self.states < room
     }
 
     /// A certificate was found that is a witness.

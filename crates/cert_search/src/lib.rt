@@ -4,8 +4,9 @@
 mod board;
 mod end;
 mod searching;
+mod telling;
 mod watch;
 mod worker;
 
 pub use end::{OpenSearch, Progress, SearchEnd, SearchGate};
-pub use searching::{Host, search, search_calls};
+pub use searching::{Host, search, search_by_branches, search_calls};

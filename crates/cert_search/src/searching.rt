@@ -10,12 +10,14 @@ ghost use Rattle.cert_search.specs.End.{IsFoundOnly, IsFoundOrNoMemory};
 
 use crate::board::{Board, Branch};
 use crate::end::{SearchEnd, SearchGate};
+use crate::telling::PassTeller;
 use crate::worker::{Seat, Team, work};
 use certificate::Certificate;
 use crossbeam_deque::{Stealer, Worker};
 use nfs_history::{History, KnownCalls};
 use reply_order::reply_order;
-use search_branches::Problem;
+use search_passes::plan_of;
+use search_problem::Problem;
 use seen_states::{Claimer, SeenTable};
 use std::alloc::{AllocError, Global};
 use std::sync::{Mutex, Wait};
@@ -23,8 +25,13 @@ use std::thread::{Threads, join};
 use std::time::Clock;
 use witness_check::{Verdict, check_calls};
 
-/// The table of seen states has 2^16 words.
-const TABLE_BITS: u32 = 16;
+/// The table of seen states has at least 2^16 words, and at most 2^22.
+const FEWEST_BITS: u32 = 16;
+
+const MOST_BITS: u32 = 22;
+
+/// How many branches each worker takes ahead of the passes, at most.
+const FIRST_BRANCHES: u64 = 1_000;
 
 /// How many branches a worker's own list has room for at first.
 const FIRST_ROOM: usize = 256;
@@ -122,6 +129,16 @@ fn outcome_of(board: &mut Board) -> (Option<Certificate>, Lack) {
     (found, Lack::Branches)
 }
 
+/// Of how many bits the number of a table's words is that has room for twice so many states.
+fn bits_for(states: u64) -> u32
+    ensures { result ≤ MOST_BITS }
+{
+    65u32
+        .saturating_sub(states.leading_zeros())
+        .max(FEWEST_BITS)
+        .min(MOST_BITS)
+}
+
 /// Has the workers search, and gives what they came to.
 fn run_workers<R: Host, G: SearchGate + Sync>(
     rt: &R,
@@ -133,7 +150,8 @@ fn run_workers<R: Host, G: SearchGate + Sync>(
     let alloc = rt.alloc();
     let problem = Problem::new(alloc, known)?;
     let Seats { seats, stealers } = Seats::new(alloc, workers)?;
-    let (table, claimer) = SeenTable::new(alloc, TABLE_BITS)?;
+    let bits = bits_for(turns.saturating_mul(u64::from(workers)));
+    let (table, claimer) = SeenTable::new(alloc, bits)?;
     let board = Mutex::new(Board::new(alloc));
     let team = Team {
         alloc,
@@ -142,6 +160,7 @@ fn run_workers<R: Host, G: SearchGate + Sync>(
         stealers: stealers.as_slice(),
         gate,
         turns,
+        room: (1u64 << bits) / 4 * 3,
     };
     work_all(rt, &team, &table, claimer, seats, workers.saturating_sub(1));
     let mut ended = board.lock(rt);
@@ -160,6 +179,24 @@ fn if_witness(
     match check_calls(alloc, known, &plan)? {
         Verdict::Yes => Ok(Some(plan)),
         Verdict::No(_) => Ok(None),
+    }
+}
+
+/// The plan that at most so many passes over the history come to, if it is a witness.
+fn pass_over<R: Host, G: SearchGate>(
+    rt: &R,
+    known: &KnownCalls<'_>,
+    turns: u64,
+    gate: &G,
+) -> Result<Option<Certificate>, AllocError>
+    ensures { IfOk result (λ found. IfSome found (λ plan. IsWitness known.now plan)) }
+{
+    let alloc = rt.alloc();
+    let problem = Problem::new(alloc, known)?;
+    let mut teller = PassTeller::new(rt, gate, known.count());
+    match plan_of(alloc, &problem, turns, &mut teller)? {
+        Some(plan) => if_witness(alloc, known, plan),
+        None => Ok(None),
     }
 }
 
@@ -184,7 +221,7 @@ fn settle(
 /// Searches a certificate of the history that these calls are of, with so many workers, each of which takes so many branches at most.
 /// A worker works in a thread of its own, or on the caller's where none can be made. Where the workers end without a witness, the
 /// plan that follows the replies is judged.
-pub fn search_calls<R: Host, G: SearchGate + Sync>(
+pub fn search_by_branches<R: Host, G: SearchGate + Sync>(
     rt: &R,
     known: &KnownCalls<'_>,
     workers: u32,
@@ -209,6 +246,54 @@ pub fn search_calls<R: Host, G: SearchGate + Sync>(
             Lack::Memory => SearchEnd::NoMemory,
         },
         Err(AllocError) => SearchEnd::NoMemory,
+    }
+}
+
+/// Searches a certificate by passes over the history, eight at most and no more than `turns`, and where these come to none by branches.
+fn search_on<R: Host, G: SearchGate + Sync>(
+    rt: &R,
+    known: &KnownCalls<'_>,
+    workers: u32,
+    turns: u64,
+    gate: &G,
+) -> SearchEnd
+    requires { (1 ≤ workers) × (workers ≤ 64) }
+    ensures found { IsFoundOnly result (λ plan. IsWitness known.now plan) }
+    ensures follows { (plan : Certificate) → IsReplyOrder known.now plan → IsWitness known.now plan → IsFoundOrNoMemory result }
+{
+    match pass_over(rt, known, turns, gate) {
+        Ok(Some(passed)) => SearchEnd::Found(passed),
+        Ok(None) | Err(AllocError) => search_by_branches(rt, known, workers, turns, gate),
+    }
+}
+
+/// How many branches each of so many workers takes ahead of the passes: in all five for each four calls, but no more than half of its
+/// turns, and 1,000.
+fn first_turns(turns: u64, calls: u64, workers: u32) -> u64 {
+    let share = calls.checked_div(u64::from(workers)).unwrap_or(calls);
+    let fair = share.saturating_add(share / 4).saturating_add(1);
+    fair.min(turns / 2).min(FIRST_BRANCHES)
+}
+
+/// Searches a certificate of the history that these calls are of: by branches, as many as five for each four calls; then by passes
+/// over the history; then by branches with the turns that are left, as [`search_by_branches`].
+pub fn search_calls<R: Host, G: SearchGate + Sync>(
+    rt: &R,
+    known: &KnownCalls<'_>,
+    workers: u32,
+    turns: u64,
+    gate: &G,
+) -> SearchEnd
+    requires { (1 ≤ workers) × (workers ≤ 64) }
+    // What is found is a witness.
+    ensures found { IsFoundOnly result (λ plan. IsWitness known.now plan) }
+    // Where the plan that follows the replies is a witness, one is found, memory aside.
+    ensures follows { (plan : Certificate) → IsReplyOrder known.now plan → IsWitness known.now plan → IsFoundOrNoMemory result }
+{
+    let first = first_turns(turns, known.count() as u64, workers);
+    match search_by_branches(rt, known, workers, first, gate) {
+        SearchEnd::OutOfTurns => search_on(rt, known, workers, turns.saturating_sub(first), gate),
+        end => end,
     }
 }
 

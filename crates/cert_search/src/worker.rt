@@ -1,6 +1,5 @@
 //! A worker: it takes branches, one by one.
 
-ghost use Rattle.std.specs.Prelude.{IfOk, IfSome};
 ghost use Rattle.search_branches.specs.Reversible.{CanGoBack};
 ghost use Rattle.seen_states.specs.Handles.{IsOf};
 
@@ -8,7 +7,8 @@ use crate::board::{Board, Branch};
 use crate::end::SearchGate;
 use crate::watch::Watch;
 use crossbeam_deque::{Steal, Stealer, Worker};
-use search_branches::{Move, Problem, State};
+use search_branches::State;
+use search_problem::{Move, Problem};
 use seen_states::{Claim, Claimer, SeenTable};
 use std::alloc::{AllocError, Global};
 use std::sync::{Mutex, Wait};
@@ -26,6 +26,8 @@ pub(crate) struct Team<'s, 'a, G> {
     pub(crate) gate: &'s G,
     /// How many branches each may take.
     pub(crate) turns: u64,
+    /// How many states are claimed, at most. A table that is nearly full takes long to look through.
+    pub(crate) room: u64,
 }
 
 /// A worker's own things.
@@ -61,48 +63,44 @@ fn is_on_way(state: &State, branch: Branch) -> bool {
 fn walk_to<R: Wait, G>(
     rt: &R,
     team: &Team<'_, '_, G>,
-    state: State,
+    state: &mut State,
     branch: Branch,
-) -> Result<(State, bool), AllocError>
-    requires { CanGoBack state }
-    ensures { IfOk result (λ walked. CanGoBack walked.0) }
+) -> Result<bool, AllocError>
+    requires { CanGoBack state.old }
+    ensures { CanGoBack state.new }
 {
-    if is_on_way(&state, branch) {
-        return Ok((state.back_to(team.problem, branch.depth)?, true));
+    if is_on_way(state, branch) {
+        state.back_to(team.problem, branch.depth)?;
+        return Ok(true);
     }
     let way = team.board.lock(rt).way_to(branch.parent, branch.depth)?;
-    let common = common_depth(&state, way.as_slice());
-    let mut state = state.back_to(team.problem, common)?;
+    let common = common_depth(state, way.as_slice());
+    state.back_to(team.problem, common)?;
     for (node, chosen) in way.iter().skip(common) {
-        let (next, is_legal) = state.make(team.problem, *chosen)?;
-        state = next;
-        if !is_legal {
-            return Ok((state, false));
+        if !state.make(team.problem, *chosen)? {
+            return Ok(false);
         }
         state.name(*node);
     }
-    Ok((state, true))
+    Ok(true)
 }
 
 /// Makes the first legal one of some moves, from a rank on, and gives it with its rank.
 fn make_first(
     problem: &Problem<'_, '_>,
-    state: State,
+    state: &mut State,
     moves: &[Move],
     rank: usize,
-) -> Result<(State, Option<(usize, Move)>), AllocError>
-    requires { CanGoBack state }
-    ensures { IfOk result (λ made. CanGoBack made.0) }
+) -> Result<Option<(usize, Move)>, AllocError>
+    requires { CanGoBack state.old }
+    ensures { CanGoBack state.new }
 {
-    let mut state = state;
     for (place, chosen) in moves.iter().enumerate().skip(rank) {
-        let (next, is_legal) = state.make(problem, *chosen)?;
-        state = next;
-        if is_legal {
-            return Ok((state, Some((place, *chosen))));
+        if state.make(problem, *chosen)? {
+            return Ok(Some((place, *chosen)));
         }
     }
-    Ok((state, None))
+    Ok(None)
 }
 
 /// Puts a branch among the worker's own, the newest.
@@ -135,13 +133,13 @@ fn judge_whole<R: Wait, G>(
     Ok(())
 }
 
-/// Claims a branch by its fingerprint; 0 stands for no fingerprint, so one with that isn't claimed.
-fn claim_state(table: &SeenTable, claimer: &mut Claimer, state: &State) -> Claim
+/// Claims a branch by its fingerprint, where there is room; 0 stands for no fingerprint, so one with that isn't claimed.
+fn claim_state(table: &SeenTable, claimer: &mut Claimer, state: &State, has_room: bool) -> Claim
     requires { IsOf claimer.old table.now }
     ensures { IsOf claimer.new table.now }
 {
     let fingerprint = state.fingerprint();
-    if fingerprint == 0 {
+    if fingerprint == 0 || !has_room {
         return Claim::Full;
     }
     table.claim(claimer, fingerprint)
@@ -184,36 +182,34 @@ fn take_branch<R: Wait, G: SearchGate>(
     table: &SeenTable,
     claimer: &mut Claimer,
     seat: &mut Seat,
-    state: State,
+    state: &mut State,
     branch: Branch,
-) -> Result<State, AllocError>
+) -> Result<(), AllocError>
     requires table { IsOf claimer.old table.now }
-    requires back { CanGoBack state }
+    requires back { CanGoBack state.old }
     ensures table { IsOf claimer.new table.now }
-    ensures back { IfOk result CanGoBack }
+    ensures back { CanGoBack state.new }
 {
-    let (state, is_there) = walk_to(rt, team, state, branch)?;
-    if !is_there {
-        return Ok(state);
+    if !walk_to(rt, team, state, branch)? {
+        return Ok(());
     }
     let moves = state.moves(team.problem)?;
-    let (state, made) = make_first(team.problem, state, moves.as_slice(), branch.rank)?;
+    let made = make_first(team.problem, state, moves.as_slice(), branch.rank)?;
     let Some((rank, chosen)) = made else {
-        return Ok(state);
+        return Ok(());
     };
-    let mut state = state;
     let depth = branch.depth.saturating_add(1);
     let node = team.board.lock(rt).add(branch.parent, chosen, depth)?;
     state.name(node);
     if state.is_whole(team.problem) {
-        judge_whole(rt, team, &state)?;
+        judge_whole(rt, team, state)?;
     }
     let is_last = rank.saturating_add(1) >= moves.len() || state.is_free(team.problem);
     let rest = rest_of(branch, rank, is_last);
-    let claim = claim_state(table, claimer, &state);
+    let has_room = team.board.lock(rt).has_room(team.room);
+    let claim = claim_state(table, claimer, state, has_room);
     let next = next_of(node, depth, note_claim(rt, team, claim));
-    grow(rt, team, seat, rest, next)?;
-    Ok(state)
+    grow(rt, team, seat, rest, next)
 }
 
 /// Another worker's oldest branch, if one is found.
@@ -264,30 +260,30 @@ fn next_of(node: u32, depth: usize, is_fresh: bool) -> Option<Branch> {
     })
 }
 
-/// Takes a branch, and comes back from the gate. Nothing is left of the worker's state where memory ran out.
+/// Takes a branch, and comes back from the gate. It says whether the worker may go on: it may not where memory ran out.
 fn turn<R: Wait, G: SearchGate>(
     rt: &R,
     team: &Team<'_, '_, G>,
     table: &SeenTable,
     claimer: &mut Claimer,
     seat: &mut Seat,
-    state: State,
+    state: &mut State,
     branch: Branch,
-) -> Option<State>
+) -> bool
     requires table { IsOf claimer.old table.now }
-    requires back { CanGoBack state }
+    requires back { CanGoBack state.old }
     ensures table { IsOf claimer.new table.now }
-    ensures back { IfSome result CanGoBack }
+    ensures back { CanGoBack state.new }
 {
     match take_branch(rt, team, table, claimer, seat, state, branch) {
-        Ok(state) => {
+        Ok(()) => {
             team.gate.at(seat.number);
             team.board.lock(rt).close_one();
-            Some(state)
+            true
         }
         Err(AllocError) => {
             team.board.lock(rt).lack_memory();
-            None
+            false
         }
     }
 }
@@ -333,9 +329,8 @@ fn take_branches<R: Wait + Clock, G: SearchGate>(
             continue;
         };
         left -= 1;
-        match turn(rt, team, table, claimer, seat, state, branch) {
-            Some(next) => state = next,
-            None => return,
+        if !turn(rt, team, table, claimer, seat, &mut state, branch) {
+            return;
         }
     }
     team.board.lock(rt).stop_worker();

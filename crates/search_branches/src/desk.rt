@@ -1,23 +1,11 @@
 //! What is known of a branch beside its tree: its calls, its binds, and which calls may come next.
 
 use crate::digest::Digest;
-use crate::problem::{EraSpan, Nature, Problem};
-use certificate::Bind;
 use nfs3_types::FileHandle;
+use search_problem::{EraSpan, Move, Nature, Problem};
 use std::alloc::{AllocError, Global};
 use std::collections::BTreeMap;
 use tree_handles::Binds;
-
-/// What a branch adds to the one that it grows from. Calls are named by their numbers.
-#[derive(Clone, Copy, PartialEq, Eq)]
-pub enum Move {
-    /// A call is placed with its reply.
-    Answer(u64),
-    /// A call is placed as done in full, though no reply came.
-    Take(u64),
-    /// The era ends, and so many of its places are kept.
-    Cut(usize),
-}
 
 /// How far a branch is. All of it is put back when the branch is left.
 #[derive(Clone, Copy)]
@@ -29,9 +17,9 @@ pub(crate) struct Front {
     /// Where the first reply stands, in the list of all, whose call may be unplaced.
     next_reply: usize,
     /// The number of the first call that begins too late to come next.
-    frontier: u64,
+    pub(crate) frontier: u64,
     /// How many handles are bound.
-    bound: usize,
+    pub(crate) bound: usize,
     pub(crate) digest: Digest,
 }
 
@@ -45,13 +33,27 @@ pub(crate) struct Step {
     pub(crate) before: Front,
 }
 
+/// A handle that was bound.
+#[derive(Drop)]
+pub(crate) struct BoundHandle {
+    pub(crate) handle: FileHandle,
+    /// What it is bound to, where it wasn't let go for good.
+    pub(crate) object: Option<u64>,
+}
+
 /// What is known of a branch beside its tree.
 #[derive(Drop)]
 pub(crate) struct Desk {
     pub(crate) alloc: Global,
+    /// Whether fingerprints are asked of the branch.
+    pub(crate) is_hashed: bool,
+    /// Whether no object has more than one handle.
+    pub(crate) has_one_handle: bool,
     pub(crate) binds: Binds,
     /// The handles that are bound, in the order in which they were.
-    pub(crate) bound: Vec<Bind>,
+    pub(crate) bound: Vec<BoundHandle>,
+    /// The objects that handles are bound to, each with how many.
+    named: BTreeMap<u64, u64>,
     pub(crate) path: Vec<Step>,
     pub(crate) front: Front,
     /// By the call's number.
@@ -67,13 +69,17 @@ impl Desk {
     pub(crate) fn new(
         alloc: Global,
         problem: &Problem<'_, '_>,
+        is_hashed: bool,
         tree_digest: u64,
     ) -> Result<Desk, AllocError> {
-        let calls = problem.known.count().saturating_add(1);
+        let calls = problem.known().count().saturating_add(1);
         let mut desk = Desk {
             alloc,
-            binds: Binds::of_root(alloc, problem.known.root().as_slice())?,
+            is_hashed,
+            has_one_handle: false,
+            binds: Binds::of_root(alloc, problem.known().root().as_slice())?,
             bound: Vec::new(alloc),
+            named: BTreeMap::new(alloc),
             path: Vec::new(alloc),
             front: Front {
                 era: 0,
@@ -93,16 +99,7 @@ impl Desk {
 
     /// The calls and replies of the era.
     pub(crate) fn span(&self, problem: &Problem<'_, '_>) -> EraSpan {
-        match problem.spans.get(self.front.era) {
-            Some(span) => *span,
-            None => EraSpan {
-                first_call: 1,
-                end_call: 1,
-                first_reply: 0,
-                end_reply: 0,
-                is_shown_again: false,
-            },
-        }
+        problem.span(self.front.era)
     }
 
     /// Whether a call is placed.
@@ -124,12 +121,12 @@ impl Desk {
     fn first_unplaced_end(&mut self, problem: &Problem<'_, '_>) -> u64 {
         let span = self.span(problem);
         for place in self.front.next_reply.max(span.first_reply)..span.end_reply {
-            let Some(number) = problem.replies.get(place) else {
+            let Some(number) = problem.reply_at(place) else {
                 break;
             };
-            if !self.is_placed(*number) {
+            if !self.is_placed(number) {
                 self.front.next_reply = place;
-                return problem.known.end(*number).unwrap_or(u64::MAX);
+                return problem.known().end(number).unwrap_or(u64::MAX);
             }
         }
         self.front.next_reply = span.end_reply;
@@ -142,7 +139,7 @@ impl Desk {
         let span = self.span(problem);
         let first = self.front.frontier.max(span.first_call);
         for number in first..span.end_call {
-            if problem.known.begin(number) >= limit {
+            if problem.known().begin(number) >= limit {
                 self.front.frontier = number;
                 return Ok(());
             }
@@ -152,11 +149,14 @@ impl Desk {
         Ok(())
     }
 
-    /// Puts a call among those that may come next, if it can have a place.
+    /// Puts a call among those that may come next, if it can have a place and has none.
     fn offer(&mut self, problem: &Problem<'_, '_>, number: u64) -> Result<(), AllocError> {
+        if self.is_placed(number) {
+            return Ok(());
+        }
         match problem.nature(number) {
             Nature::Looking | Nature::Changing => {
-                if let Some(end) = problem.known.end(number) {
+                if let Some(end) = problem.known().end(number) {
                     self.open.insert(end, number)?;
                 }
             }
@@ -170,7 +170,7 @@ impl Desk {
 
     /// Takes a call from among those that may come next.
     fn withdraw(&mut self, problem: &Problem<'_, '_>, number: u64) {
-        if let Some(end) = problem.known.end(number) {
+        if let Some(end) = problem.known().end(number) {
             self.open.remove(&end);
         }
         self.waiting.remove(&number);
@@ -190,6 +190,50 @@ impl Desk {
         self.let_in(problem)
     }
 
+    /// The answered calls that may come next, by their replies, from one of such a number on.
+    pub(crate) fn open_calls(&self, from: u64) -> Result<Vec<u64>, AllocError> {
+        let mut calls = Vec::new(self.alloc);
+        for (_, number) in self.open.iter() {
+            if *number >= from {
+                calls.push(*number)?;
+            }
+        }
+        Ok(calls)
+    }
+
+    /// The calls to which no reply came that may come next, by their numbers.
+    pub(crate) fn waiting_calls(&self) -> Result<Vec<u64>, AllocError> {
+        let mut calls = Vec::new(self.alloc);
+        for (number, _) in self.waiting.iter() {
+            calls.push(*number)?;
+        }
+        Ok(calls)
+    }
+
+    /// The answered call that may come next whose reply came first.
+    pub(crate) fn due(&self) -> Option<u64> {
+        self.open.iter().next().map(|(_, number)| *number)
+    }
+
+    /// Whether a call may come next.
+    pub(crate) fn is_open(&self, problem: &Problem<'_, '_>, number: u64) -> bool {
+        match problem.known().end(number) {
+            Some(end) => self.open.contains_key(&end),
+            None => self.waiting.contains_key(&number),
+        }
+    }
+
+    /// Goes on without a call.
+    pub(crate) fn give_up(
+        &mut self,
+        problem: &Problem<'_, '_>,
+        number: u64,
+    ) -> Result<(), AllocError> {
+        self.withdraw(problem, number);
+        self.mark(number, true);
+        self.let_in(problem)
+    }
+
     /// Puts back how far the branch was ahead of a call that was placed last.
     pub(crate) fn unplace(
         &mut self,
@@ -202,39 +246,84 @@ impl Desk {
         }
         self.mark(number, false);
         self.front = before;
-        self.unbind(problem)?;
-        self.offer(problem, number)
+        self.unbind();
+        if number >= self.span(problem).first_call {
+            self.offer(problem, number)?;
+        }
+        Ok(())
     }
 
-    /// Binds a handle to an object, unless it is bound.
-    pub(crate) fn bind(&mut self, handle: &FileHandle, object: u64) -> Result<(), AllocError> {
-        let bytes = handle.as_slice();
-        if bytes.is_empty() || self.binds.object(bytes).is_some() {
+    /// Notes that one handle more is bound to an object.
+    fn note_named(&mut self, object: u64) -> Result<(), AllocError> {
+        if let Some(handles) = self.named.get_mut(&object) {
+            *handles = handles.saturating_add(1);
             return Ok(());
         }
-        let kept = Bind {
+        self.named.insert(object, 1)?;
+        Ok(())
+    }
+
+    /// Notes that one handle fewer is bound to an object.
+    fn note_unnamed(&mut self, object: u64) {
+        if let Some(handles) = self.named.get_mut(&object) {
+            *handles = handles.saturating_sub(1);
+        }
+    }
+
+    /// Lets go the handles of an object, for good: going back doesn't bind them again.
+    pub(crate) fn release(&mut self, object: u64) {
+        for bind in self.bound.iter_mut() {
+            if bind.object == Some(object) {
+                self.binds.forget(bind.handle.as_slice());
+                bind.object = None;
+            }
+        }
+        self.named.remove(&object);
+    }
+
+    /// Whether one handle more may name an object.
+    fn may_name(&self, object: u64) -> bool {
+        !self.has_one_handle || !self.is_named(object)
+    }
+
+    /// Binds a handle to an object, unless it is bound, or no more than one may name that.
+    pub(crate) fn bind(&mut self, handle: &FileHandle, object: u64) -> Result<(), AllocError> {
+        let bytes = handle.as_slice();
+        if bytes.is_empty() || self.binds.object(bytes).is_some() || !self.may_name(object) {
+            return Ok(());
+        }
+        let kept = BoundHandle {
             handle: handle.clone()?,
-            object,
+            object: Some(object),
         };
         self.bound.push(kept)?;
         self.binds.push(bytes, object)?;
+        self.note_named(object)?;
         self.front.bound = self.bound.len();
-        self.front.digest = self.front.digest.with_bind(bytes, object);
+        if self.is_hashed {
+            self.front.digest = self.front.digest.with_bind(bytes, object);
+        }
         Ok(())
     }
 
     /// Lets go the handles that aren't bound as far as the branch is.
-    pub(crate) fn unbind(&mut self, problem: &Problem<'_, '_>) -> Result<(), AllocError> {
-        if self.bound.len() <= self.front.bound {
-            return Ok(());
+    pub(crate) fn unbind(&mut self) {
+        for _ in self.front.bound..self.bound.len() {
+            if let Some(bind) = self.bound.pop() {
+                self.binds.forget(bind.handle.as_slice());
+                if let Some(object) = bind.object {
+                    self.note_unnamed(object);
+                }
+            }
         }
-        self.bound.truncate(self.front.bound);
-        let mut binds = Binds::of_root(self.alloc, problem.known.root().as_slice())?;
-        for bind in self.bound.iter() {
-            binds.push(bind.handle.as_slice(), bind.object)?;
+    }
+
+    /// Whether a handle is bound to an object.
+    pub(crate) fn is_named(&self, object: u64) -> bool {
+        match self.named.get(&object) {
+            Some(handles) => *handles > 0,
+            None => false,
         }
-        self.binds = binds;
-        Ok(())
     }
 
     /// Whether the last move bound no handle.

@@ -1,11 +1,11 @@
 //! The handles that replies give, bound to the objects that they name.
 
 use crate::desk::Desk;
-use crate::found::Found;
 use nfs3_types::{
     Answer, CreateSuccess, DirectoryName, FileHandle, NfsCall, NfsReply, Outcome,
     ReadDirPlusSuccess,
 };
+use search_problem::Found;
 use std::alloc::AllocError;
 use tree_handles::{View, directory_of, entry_at, named};
 use tree_nodes::Nodes;

@@ -3,14 +3,10 @@
 
 mod desk;
 mod digest;
-mod found;
 mod giving;
 mod moves;
-mod problem;
 mod state;
 mod trial;
 mod whole;
 
-pub use desk::Move;
-pub use problem::Problem;
 pub use state::State;

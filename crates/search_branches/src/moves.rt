@@ -1,10 +1,9 @@
 //! Which moves may follow a branch, the likeliest first.
 
-use crate::desk::{Desk, Move};
-use crate::found::{Found, find};
-use crate::problem::{Nature, Problem};
+use crate::desk::Desk;
 use cut_check::Stability;
 use nfs3_types::{Answer, NfsCall, NfsReply, Outcome};
+use search_problem::{Found, Move, Nature, Problem, find};
 use std::alloc::AllocError;
 
 /// Whether a call is a WRITE that was answered with bytes written.
@@ -71,14 +70,14 @@ impl Desk {
 
     /// How many places of the era a crash can't take: up to the last stable one, and where a later era shows the era's write
     /// verifier up to the last WRITE.
-    fn least_cut(&self, problem: &Problem<'_, '_>) -> Result<usize, AllocError> {
+    pub(crate) fn least_cut(&self, problem: &Problem<'_, '_>) -> Result<usize, AllocError> {
         let is_shown_again = self.span(problem).is_shown_again;
         let mut stability = Stability::new(self.alloc);
         let mut last_write = 0;
         let mut position = 0usize;
         for step in self.path.iter().skip(self.front.era_start) {
             position = position.saturating_add(1);
-            let Some(found) = find(self.alloc, problem.known, step.chosen)? else {
+            let Some(found) = find(self.alloc, problem.known(), step.chosen)? else {
                 continue;
             };
             stability.note(self.object_of(&found.call), &found.call, &found.outcome)?;

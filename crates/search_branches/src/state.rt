@@ -1,20 +1,21 @@
 //! A branch with its tree.
 
 ghost use Rattle.std.specs.Prelude.{IfOk};
-ghost use Rattle.search_branches.specs.Reversible.{CanGoBack};
+ghost use Rattle.search_branches.specs.Reversible.{CanGoBack, HasBase};
 
-use crate::desk::{Desk, Move, Step};
-use crate::found::{Found, find};
-use crate::problem::{Nature, Problem};
+use crate::desk::{Desk, Front, Step};
 use crate::trial::Trial;
+use nfs3_types::FileHandle;
+use search_problem::{Found, Move, Nature, Problem, find};
 use seen_states::fingerprint;
 use std::alloc::{AllocError, Global};
 use tree_handles::Binds;
+use tree_nodes::Nodes;
 
-/// The branch that a worker is at.
+/// The branch that a worker is at. Where memory ran out in a step its tree is lost, and each later step fails.
 #[derive(Drop)]
 pub struct State {
-    trial: Trial,
+    trial: Option<Trial>,
     pub(crate) desk: Desk,
 }
 
@@ -38,13 +39,44 @@ impl State {
     pub fn begin(alloc: Global, problem: &Problem<'_, '_>) -> Result<State, AllocError>
         ensures { IfOk result CanGoBack }
     {
-        let binds = Binds::of_root(alloc, problem.known.root().as_slice())?;
+        let binds = Binds::of_root(alloc, problem.known().root().as_slice())?;
         let trial = Trial::begin(alloc, &binds)?;
         let digest = digest_of(alloc, &trial)?;
         Ok(State {
-            trial,
-            desk: Desk::new(alloc, problem, digest)?,
+            trial: Some(trial),
+            desk: Desk::new(alloc, problem, true, digest)?,
         })
+    }
+
+    /// At the branch without a move, where no fingerprints are asked for. Where objects have one handle each, a call whose reply gives
+    /// another one is no legal move.
+    pub fn begin_plain(
+        alloc: Global,
+        problem: &Problem<'_, '_>,
+        has_one_handle: bool,
+    ) -> Result<State, AllocError>
+        ensures { IfOk result CanGoBack }
+    {
+        let binds = Binds::of_root(alloc, problem.known().root().as_slice())?;
+        let trial = Trial::begin(alloc, &binds)?;
+        let mut desk = Desk::new(alloc, problem, false, 0)?;
+        desk.has_one_handle = has_one_handle;
+        Ok(State {
+            trial: Some(trial),
+            desk,
+        })
+    }
+
+    /// Takes the tree out of the branch.
+    fn take_trial(&mut self) -> Result<Trial, AllocError>
+        requires { CanGoBack self.old }
+        ensures taken { IfOk result HasBase }
+        ensures left { CanGoBack self.new }
+    {
+        match self.trial.take() {
+            Some(trial) => Ok(trial),
+            None => Err(AllocError),
+        }
     }
 
     /// Takes the step of a call on the tree, and says whether it is a legal one; else nothing changes.
@@ -57,17 +89,16 @@ impl State {
         requires { CanGoBack self.old }
         ensures { CanGoBack self.new }
     {
+        let mut trial = self.take_trial()?;
         let before = self.desk.front;
-        self.desk.bind_given(self.trial.nodes(), number, found)?;
-        if self
-            .trial
-            .step(&self.desk.binds, number, &found.call, &found.outcome)?
-        {
-            return Ok(true);
+        self.desk.bind_given(trial.nodes(), number, found)?;
+        let is_legal = trial.step(&self.desk.binds, number, &found.call, &found.outcome)?;
+        self.trial = Some(trial);
+        if !is_legal {
+            self.desk.front = before;
+            self.desk.unbind();
         }
-        self.desk.front = before;
-        self.desk.unbind(problem)?;
-        Ok(false)
+        Ok(is_legal)
     }
 
     /// Places a call next, and says whether that is legal; else nothing changes.
@@ -76,7 +107,7 @@ impl State {
         ensures { CanGoBack self.new }
     {
         let before = self.desk.front;
-        let Some(found) = find(self.desk.alloc, problem.known, chosen)? else {
+        let Some(found) = find(self.desk.alloc, problem.known(), chosen)? else {
             return Ok(false);
         };
         let number = number_of(chosen);
@@ -94,36 +125,38 @@ impl State {
     }
 
     /// Ends the era, and keeps so many of its places.
-    fn cut(self, problem: &Problem<'_, '_>, kept: usize) -> Result<State, AllocError>
-        requires { CanGoBack self }
-        ensures { IfOk result CanGoBack }
+    fn cut(&mut self, problem: &Problem<'_, '_>, kept: usize) -> Result<(), AllocError>
+        requires { CanGoBack self.old }
+        ensures { CanGoBack self.new }
     {
-        let State { trial, desk } = self;
-        let mut desk = desk;
-        let places = desk.path.len().saturating_sub(desk.front.era_start);
-        let trial = trial.back(places.saturating_sub(kept))?;
-        let before = desk.front;
-        desk.path.push(Step {
+        let places = self.places();
+        let trial = self.take_trial()?.back(places.saturating_sub(kept))?;
+        let before = self.desk.front;
+        self.desk.path.push(Step {
             node: 0,
             chosen: Move::Cut(kept),
             before,
         })?;
-        let digest = digest_of(desk.alloc, &trial)?;
-        desk.begin_era(problem, digest)?;
-        Ok(State { trial, desk })
+        let digest = if self.desk.is_hashed {
+            digest_of(self.desk.alloc, &trial)?
+        } else {
+            0
+        };
+        self.trial = Some(trial);
+        self.desk.begin_era(problem, digest)?;
+        Ok(())
     }
 
     /// Makes a move, and says whether it is a legal one; else nothing changes.
-    pub fn make(self, problem: &Problem<'_, '_>, chosen: Move) -> Result<(State, bool), AllocError>
-        requires { CanGoBack self }
-        ensures { IfOk result (λ made. CanGoBack made.0) }
+    pub fn make(&mut self, problem: &Problem<'_, '_>, chosen: Move) -> Result<bool, AllocError>
+        requires { CanGoBack self.old }
+        ensures { CanGoBack self.new }
     {
         if let Move::Cut(kept) = chosen {
-            return Ok((self.cut(problem, kept)?, true));
+            self.cut(problem, kept)?;
+            return Ok(true);
         }
-        let mut state = self;
-        let is_legal = state.place(problem, chosen)?;
-        Ok((state, is_legal))
+        self.place(problem, chosen)
     }
 
     /// Takes the step of a move again.
@@ -131,16 +164,17 @@ impl State {
         requires { CanGoBack self.old }
         ensures { CanGoBack self.new }
     {
-        if let Some(found) = find(self.desk.alloc, problem.known, chosen)? {
+        if let Some(found) = find(self.desk.alloc, problem.known(), chosen)? {
             let number = number_of(chosen);
-            self.trial
-                .step(&self.desk.binds, number, &found.call, &found.outcome)?;
+            let mut trial = self.take_trial()?;
+            trial.step(&self.desk.binds, number, &found.call, &found.outcome)?;
+            self.trial = Some(trial);
         }
         Ok(())
     }
 
     /// The move on the way to the branch behind so many others, where there is one.
-    fn move_at(&self, place: usize) -> Option<Move> {
+    pub fn move_at(&self, place: usize) -> Option<Move> {
         match self.desk.path.get(place) {
             Some(step) => Some(step.chosen),
             None => None,
@@ -161,43 +195,49 @@ impl State {
         Ok(())
     }
 
-    /// Goes back to the branch ahead of the last move, where there is one.
-    fn back_once(self, problem: &Problem<'_, '_>) -> Result<State, AllocError>
-        requires { CanGoBack self }
-        ensures { IfOk result CanGoBack }
+    /// Takes the step of a call back that was placed last, before which the branch was so far.
+    fn back_call(
+        &mut self,
+        problem: &Problem<'_, '_>,
+        number: u64,
+        before: Front,
+    ) -> Result<(), AllocError>
+        requires { CanGoBack self.old }
+        ensures { CanGoBack self.new }
     {
-        let State { trial, desk } = self;
-        let mut desk = desk;
-        let Some(step) = desk.path.pop() else {
-            return Ok(State { trial, desk });
+        let trial = self.take_trial()?.back(1)?;
+        self.trial = Some(trial);
+        self.desk.unplace(problem, number, before)
+    }
+
+    /// Goes back to the branch ahead of the last move, where there is one.
+    fn back_once(&mut self, problem: &Problem<'_, '_>) -> Result<(), AllocError>
+        requires { CanGoBack self.old }
+        ensures { CanGoBack self.new }
+    {
+        let Some(step) = self.desk.path.pop() else {
+            return Ok(());
         };
         match step.chosen {
             Move::Answer(number) | Move::Take(number) => {
-                desk.unplace(problem, number, step.before)?;
-                Ok(State {
-                    trial: trial.back(1)?,
-                    desk,
-                })
+                self.back_call(problem, number, step.before)
             }
             Move::Cut(kept) => {
-                desk.leave_era(problem, step.before)?;
-                let mut state = State { trial, desk };
-                state.redo(problem, kept)?;
-                Ok(state)
+                self.desk.leave_era(problem, step.before)?;
+                self.redo(problem, kept)
             }
         }
     }
 
     /// Goes back to where so many moves were made.
-    pub fn back_to(self, problem: &Problem<'_, '_>, depth: usize) -> Result<State, AllocError>
-        requires { CanGoBack self }
-        ensures { IfOk result CanGoBack }
+    pub fn back_to(&mut self, problem: &Problem<'_, '_>, depth: usize) -> Result<(), AllocError>
+        requires { CanGoBack self.old }
+        ensures { CanGoBack self.new }
     {
-        let mut state = self;
-        for _ in depth..state.desk.path.len() {
-            state = state.back_once(problem)?;
+        for _ in depth..self.desk.path.len() {
+            self.back_once(problem)?;
         }
-        Ok(state)
+        Ok(())
     }
 
     /// Names the branch that the last move led to.
@@ -229,6 +269,123 @@ impl State {
             Some(step) => Some(step.node),
             None => None,
         }
+    }
+
+    /// The nodes of the tree, where it isn't lost.
+    pub fn nodes(&self) -> Option<&Nodes> {
+        match &self.trial {
+            Some(trial) => Some(trial.nodes()),
+            None => None,
+        }
+    }
+
+    /// Whether an object stands in the tree.
+    pub fn stands(&self, object: u64) -> bool {
+        match &self.trial {
+            Some(trial) => trial.nodes().node(object).is_some(),
+            None => false,
+        }
+    }
+
+    /// Whether a handle names an object.
+    pub fn is_named(&self, object: u64) -> bool {
+        self.desk.is_named(object)
+    }
+
+    /// What the handles name that are bound so far.
+    pub fn binds(&self) -> &Binds {
+        &self.desk.binds
+    }
+
+    /// The number of the era, from 0 on.
+    pub fn era(&self) -> usize {
+        self.desk.front.era
+    }
+
+    /// How many places the era has so far.
+    pub fn places(&self) -> usize {
+        self.desk
+            .path
+            .len()
+            .saturating_sub(self.desk.front.era_start)
+    }
+
+    /// The move of a place of the era, counted from 0.
+    pub fn place_at(&self, place: usize) -> Option<Move> {
+        self.move_at(self.desk.front.era_start.saturating_add(place))
+    }
+
+    /// Whether the answered calls of the era are all placed, or given up.
+    pub fn is_era_done(&self) -> bool {
+        self.desk.is_era_done()
+    }
+
+    /// The answered calls that may come next, by their replies, from one of such a number on.
+    pub fn open_calls(&self, from: u64) -> Result<Vec<u64>, AllocError> {
+        self.desk.open_calls(from)
+    }
+
+    /// The calls to which no reply came that may come next, by their numbers.
+    pub fn waiting_calls(&self) -> Result<Vec<u64>, AllocError> {
+        self.desk.waiting_calls()
+    }
+
+    /// The answered call that may come next whose reply came first.
+    pub fn due(&self) -> Option<u64> {
+        self.desk.due()
+    }
+
+    /// Whether a call may come next.
+    pub fn is_open(&self, problem: &Problem<'_, '_>, number: u64) -> bool {
+        self.desk.is_open(problem, number)
+    }
+
+    /// The number of the first call that begins too late to come next.
+    pub fn frontier(&self) -> u64 {
+        self.desk.front.frontier
+    }
+
+    /// How many places of the era a crash can't take.
+    pub fn least_cut(&self, problem: &Problem<'_, '_>) -> Result<usize, AllocError> {
+        self.desk.least_cut(problem)
+    }
+
+    /// Goes on without a call, as if it were placed and did nothing. That isn't taken back.
+    pub fn give_up(&mut self, problem: &Problem<'_, '_>, number: u64) -> Result<(), AllocError>
+        requires { CanGoBack self.old }
+        ensures { CanGoBack self.new }
+    {
+        self.desk.give_up(problem, number)
+    }
+
+    /// Binds a handle to an object, unless it is bound. It is let go with the branch's last move.
+    pub fn bind(&mut self, handle: &FileHandle, object: u64) -> Result<(), AllocError>
+        requires { CanGoBack self.old }
+        ensures { CanGoBack self.new }
+    {
+        self.desk.bind(handle, object)
+    }
+
+    /// How many handles are bound.
+    pub fn bound(&self) -> usize {
+        self.desk.front.bound
+    }
+
+    /// Lets go the handles that were bound past so many.
+    pub fn let_go(&mut self, bound: usize)
+        requires { CanGoBack self.old }
+        ensures { CanGoBack self.new }
+    {
+        self.desk.front.bound = self.desk.front.bound.min(bound);
+        self.desk.unbind();
+    }
+
+    /// Lets go the handles of an object for good: they aren't bound again where the branch is left.
+    pub fn release(&mut self, object: u64)
+        requires { CanGoBack self.old }
+        ensures { CanGoBack self.new }
+    {
+        self.desk.release(object);
     }
 
     /// The moves that may come next, the likeliest first.

@@ -1,31 +1,32 @@
 //! The certificate of a branch in which every era has its places.
 
-use crate::desk::Move;
-use crate::found::{find, full_count};
-use crate::problem::Problem;
+use crate::desk::BoundHandle;
 use crate::state::State;
 use certificate::{Bind, BindList, Certificate, EraPlan, EraPlanList, Place, PlaceList};
+use search_problem::{Move, Problem, find, full_count};
 use std::alloc::{AllocError, Global};
 use std::collections::BTreeMap;
 
 /// The place of a call to which no reply came.
 fn taken_place(alloc: Global, problem: &Problem<'_, '_>, number: u64) -> Result<Place, AllocError> {
-    match find(alloc, problem.known, Move::Take(number))? {
+    match find(alloc, problem.known(), Move::Take(number))? {
         Some(found) => Ok(Place::Taken(number, full_count(&found.call))),
         None => Ok(Place::Taken(number, None)),
     }
 }
 
 /// The binds in the order of their handles.
-fn sorted_binds(alloc: Global, bound: &[Bind]) -> Result<BindList, AllocError> {
+fn sorted_binds(alloc: Global, bound: &[BoundHandle]) -> Result<BindList, AllocError> {
     let mut objects = BTreeMap::new(alloc);
     for bind in bound {
-        let key = Vec::from_slice(alloc, bind.handle.as_slice())?;
-        let kept = Bind {
-            handle: bind.handle.clone()?,
-            object: bind.object,
-        };
-        objects.insert(key, kept)?;
+        if let Some(object) = bind.object {
+            let key = Vec::from_slice(alloc, bind.handle.as_slice())?;
+            let kept = Bind {
+                handle: bind.handle.clone()?,
+                object,
+            };
+            objects.insert(key, kept)?;
+        }
     }
     let mut binds = Vec::new(alloc);
     for (_, bind) in objects.iter() {

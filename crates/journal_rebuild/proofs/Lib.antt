@@ -1,0 +1,4 @@
+pub mod Numbers
+pub mod Growing
+pub mod Records
+pub mod Rebuilt

@@ -1,0 +1,7 @@
+use Rattle.std.proofs.Common.{take}
+use Rattle.journal_rebuild.specs.Taking.{Stands}
+use Rattle.journal_rebuild.proofs.rebuilding.take_records.Given as goal
+
+-- the records so far are taken
+abbrev pub invariant-loop-index : goal.invariant-loop-index
+invariant-loop-index l = Stands (take l.index l.records) l.binds l.tree

@@ -1,0 +1,3 @@
+pub mod Rebuilding
+pub mod Taking
+pub mod FaultText

@@ -1,0 +1,58 @@
+-- The tree that a journal's records lead to (a journal of this project's own; what a call makes of a tree is RFC 1813's).
+use Rattle.std.specs.Prelude.{◌≡◌, ℕ, ◌+◌, List, [], ◌∷◌, ◌++◌, length, map, Some}
+use Rattle.xdr_records.specs.Texts.{long_text}
+use Rattle.nfs3_types.specs.declared.calls.NfsCall.{NfsCall}
+use Rattle.nfs3_types.specs.declared.replies.Outcome.{Outcome}
+use Rattle.nfs3_types.specs.declared.replies.Outcome.TheVariants.{Received}
+use Rattle.replay_law.specs.Run.{Taken, state_after}
+use Rattle.journal_records.specs.declared.change.Change.{Change}
+use Rattle.journal_records.specs.Journal.{IsRecord}
+use Rattle.tree_nodes.specs.Tree.{Tree, opening}
+use Rattle.tree_handles.specs.Binding.{Bindings}
+use Rattle.file_tree.specs.Success.{next_tree}
+use Rattle.journal_rebuild.specs.declared.fault.RebuildFault.{RebuildFault}
+use Rattle.journal_rebuild.specs.declared.fault.RebuildFault.TheVariants.{NoRecord, NotLegal, NoMemory}
+
+-- the handle of an object is its number in eight bytes, the highest first
+abbrev pub handle_of : ℕ → List ℕ
+handle_of object = long_text object
+
+-- what handles name: the root's object 0, and that of each of these numbers that object
+abbrev pub bindings_made : List ℕ → Bindings
+bindings_made numbers = record { root = handle_of 0; pairs = map (λ object. (handle_of object, object)) numbers }
+
+-- the records are those of these changes
+abbrev pub AreRecords : List (List ℕ) → List Change → Type 0
+AreRecords [] [] = Unit {0}
+AreRecords (bytes ∷ records) (change ∷ changes) = IsRecord bytes change × AreRecords records changes
+AreRecords records changes = ⊥
+
+-- a change as a step of a run: its call, under the call's own number, with the reply
+abbrev pub step_in : Change → Taken NfsCall Outcome
+step_in change = record { number = change.written.number; call = change.call; outcome = Received change.reply }
+
+abbrev pub numbers_in : List Change → List ℕ
+numbers_in changes = map (λ change. change.written.number) changes
+
+-- the tree behind the records: each reads as a change, and the changes are a legal run to that tree, where the handle of each call's number names
+-- the object that the call made
+pub record Rebuilds (records : List (List ℕ)) (tree : Tree) : Type 0 where
+  pub changes : List Change
+  pub are : AreRecords records changes
+  pub leads : state_after (next_tree (bindings_made (numbers_in changes))) opening (map step_in changes) ≡ Some tree
+
+-- this record is the first at fault, by its number from 1: those ahead of it lead to a tree, and with it they lead to none
+pub record IsFirstBad (records : List (List ℕ)) (number : ℕ) (bad : List ℕ) : Type 0 where
+  pub ahead : List (List ℕ)
+  pub behind : List (List ℕ)
+  pub parts : records ≡ ahead ++ bad ∷ behind
+  pub place : number ≡ length ahead + 1
+  pub tree : Tree
+  pub leads : Rebuilds ahead tree
+  pub stops : (after : Tree) → ¬ Rebuilds (ahead ++ bad ∷ []) after
+
+-- what a fault says: the first record at fault isn't that of a change, or it is, and its change isn't legal there
+abbrev pub FaultHolds : List (List ℕ) → RebuildFault → Type 0
+FaultHolds records (NoRecord number) = (bad : List ℕ) × IsFirstBad records number bad × ((change : Change) → ¬ IsRecord bad change)
+FaultHolds records (NotLegal number) = (bad : List ℕ) × IsFirstBad records number bad × ((change : Change) × IsRecord bad change)
+FaultHolds records NoMemory = Unit {0}
