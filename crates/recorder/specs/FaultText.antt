@@ -12,8 +12,6 @@ use Rattle.recorder.specs.declared.fault.CloseFault.{CloseFault}
 use Rattle.recorder.specs.declared.fault.CloseFault.TheVariants as close_fault
 use Rattle.recorder.specs.declared.fault.CrashFault.{CrashFault}
 use Rattle.recorder.specs.declared.fault.CrashFault.TheVariants as crash_fault
-use Rattle.recorder.specs.declared.fault.RebuildFault.{RebuildFault}
-use Rattle.recorder.specs.declared.fault.RebuildFault.TheVariants as rebuild_fault
 
 abbrev pub begin_fault_words : BeginFault → List ℕ
 begin_fault_words begin_fault.Down = codes "Down"
@@ -55,7 +53,3 @@ crash_fault_words (crash_fault.KeepTooSmall n) = codes "KeepTooSmall " ++ decima
 crash_fault_words (crash_fault.KeepTooLarge n) = codes "KeepTooLarge " ++ decimal n
 crash_fault_words crash_fault.DeviceFault = codes "DeviceFault"
 crash_fault_words crash_fault.NoMemory = codes "out of memory"
-
-abbrev pub rebuild_fault_words : RebuildFault → List ℕ
-rebuild_fault_words (rebuild_fault.BadJournal n) = codes "BadJournal " ++ decimal n
-rebuild_fault_words rebuild_fault.NoMemory = codes "out of memory"

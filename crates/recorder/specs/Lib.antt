@@ -3,7 +3,6 @@ pub mod JoinedFaults
 pub mod Recordable
 pub mod Serving
 pub mod Refusals
-pub mod Rebuilding
 pub mod Turns
 pub mod Inside
 pub mod Undoing

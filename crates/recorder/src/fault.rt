@@ -365,51 +365,6 @@ impl<T: Drop> From<AllocFailed<T>> for CrashFault {
     }
 }
 
-/// Why records give no tree.
-#[derive(Clone, Copy, Debug, PartialEq, Eq, Drop, Error)]
-pub enum RebuildFault {
-    /// The first record, from 1 on, that is none of a change, or of one that isn't allowed there.
-    BadJournal(u64),
-    /// A growth was refused.
-    NoMemory,
-}
-
-impl fmt::Display for RebuildFault {
-    ghost use Rattle.std.specs.Prelude.{Some};
-    ghost use Rattle.recorder.specs.FaultText.{rebuild_fault_words};
-
-    ghost output = { λ fault. Some (rebuild_fault_words fault) };
-
-    fn fmt<W: fmt::Write>(&self, f: &mut fmt::Formatter<W>) -> fmt::Result {
-        match self {
-            RebuildFault::BadJournal(number) => write!(f, "BadJournal {number}"),
-            RebuildFault::NoMemory => f.write_str("out of memory"),
-        }
-    }
-}
-
-impl From<AllocError> for RebuildFault {
-    ghost use Rattle.std.specs.Prelude.{◌≡◌};
-    ghost use Rattle.recorder.specs.declared.fault.RebuildFault.TheVariants.{NoMemory};
-
-    ghost from_gives = { λ _ fault. fault ≡ NoMemory };
-
-    fn from(_error: AllocError) -> RebuildFault {
-        RebuildFault::NoMemory
-    }
-}
-
-impl<T: Drop> From<AllocFailed<T>> for RebuildFault {
-    ghost use Rattle.std.specs.Prelude.{◌≡◌};
-    ghost use Rattle.recorder.specs.declared.fault.RebuildFault.TheVariants.{NoMemory};
-
-    ghost from_gives = { λ _ fault. fault ≡ NoMemory };
-
-    fn from(_error: AllocFailed<T>) -> RebuildFault {
-        RebuildFault::NoMemory
-    }
-}
-
 /// Why a call can't be placed or answered.
 #[derive(Clone, Copy)]
 pub(crate) enum TokenFault {

@@ -14,14 +14,11 @@ mod ledger;
 mod lookups;
 mod placed;
 mod placing;
-mod rebuilding;
 mod served;
 mod token;
 
 pub use book::Book;
-pub use fault::{
-    AnswerFault, BeginFault, CloseFault, CrashFault, FlushFault, PlaceFault, RebuildFault,
-};
+pub use fault::{AnswerFault, BeginFault, CloseFault, CrashFault, FlushFault, PlaceFault};
 pub use journal_device::{DevFault, JournalDevice, Record, SimDevice};
-pub use rebuilding::rebuild;
+pub use journal_rebuild::{RebuildFault, rebuild};
 pub use token::Token;

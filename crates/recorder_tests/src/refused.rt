@@ -139,7 +139,7 @@ fn what_is_no_record_gives_no_tree(rt: HostRuntime) -> Result<(), Fail> {
     device.append(b"abc".as_slice())?;
     match rebuild(alloc, device.records()) {
         Ok(_) => assert!(rt; false),
-        Err(fault) => assert_eq!(rt; fault, RebuildFault::BadJournal(1)),
+        Err(fault) => assert_eq!(rt; fault, RebuildFault::NoRecord(1)),
     }
     Ok(())
 }
