@@ -249,7 +249,7 @@ pub fn search_by_branches<R: Host, G: SearchGate + Sync>(
     }
 }
 
-/// Searches a certificate by passes over the history, eight at most and no more than `turns`, and where these come to none by branches.
+/// Searches a certificate by passes over the history, no more than `turns` of a kind, and where these come to none by branches.
 fn search_on<R: Host, G: SearchGate + Sync>(
     rt: &R,
     known: &KnownCalls<'_>,
