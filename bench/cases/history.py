@@ -53,10 +53,14 @@ class Cases:
         self.asked, self.answered, self.names = [], [], set()
 
     def add(self, case, asked, answer):
+        self.add_text(case, asked, "%s: %s\n" % (case, answer))
+
+    def add_text(self, case, asked, answer):
+        """The same where the answer is the whole text."""
         assert case not in self.names and " " not in case, case
         self.names.add(case)
         self.asked.append(asked)
-        self.answered.append("%s: %s\n" % (case, answer))
+        self.answered.append(answer)
 
     def judge(self, case, answer, history, text):
         """The answer that a history file and a certificate's text get."""

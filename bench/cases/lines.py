@@ -422,7 +422,8 @@ def show(cases, case, data, *selection, told=None):
     assert told is None or lines == told, (case, lines)
     assert all(" " <= letter <= "~" for line in lines for letter in line), case
     first, last, only = (*selection, 1, 1_000_000, 0)[:3] if len(selection) == 3 else (1, 1_000_000, 0)
-    cases.add_text("%s %d %d %d %s\n" % (case, first, last, only, data.hex()), "".join(line + "\n" for line in [case + ":", *lines]))
+    case = "lines-of-" + case
+    cases.add_text(case, "%s lines %d %d %d %s\n" % (case, first, last, only, data.hex()), "".join(line + "\n" for line in [case + ":", *lines]))
 
 
 def one_call(procedure, data, result=None, lane=1, xid=7, **head):
@@ -518,7 +519,7 @@ def of_replies(cases):
         return call_message(xid, procedure, data)
 
     stale = word(STALE)
-    show(cases, "reply-to-no-call", history_file([reply_event(1, reply_message(9, stale)), reply_event(1, word(9) + word(1) + word(1) + word(1) + word(1))]),
+    show(cases, "replies-to-no-call", history_file([reply_event(1, reply_message(9, stale)), reply_event(1, word(9) + word(1) + word(1) + word(1) + word(1))]),
          told=["1 reply to no call lane 1 xid 0x00000009 SUCCESS results 4 bytes 00000046",
                "2 reply to no call lane 1 xid 0x00000009 AUTH_ERROR AUTH_BADCRED"])
     show(cases, "replies-in-another-order", history_file([

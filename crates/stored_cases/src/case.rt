@@ -1,6 +1,7 @@
 //! What a line asks for.
 
 use anyhow::{Context, Result, bail};
+use history_lines::Selection;
 
 /// What a text is.
 #[derive(Clone, Copy, PartialEq, Eq)]
@@ -15,11 +16,30 @@ pub enum Kind {
     Certificate,
 }
 
-/// A text to read and to write again.
-#[derive(Clone, Copy, PartialEq, Eq)]
+/// What is to be done with a text.
+#[derive(Clone, Copy)]
+pub enum Asked {
+    /// It is read, and what was read is written again.
+    Again(Kind),
+    /// These events of a history file are shown.
+    Lines(Selection),
+    /// A certificate of a history file is searched.
+    Search(Effort),
+}
+
+/// What a search may take.
+#[derive(Clone, Copy)]
+pub struct Effort {
+    pub workers: u32,
+    /// How many branches each worker may take.
+    pub turns: u64,
+}
+
+/// A text, and what is to be done with it.
+#[derive(Clone, Copy)]
 pub struct Case<'a> {
     pub name: &'a str,
-    pub kind: Kind,
+    pub asked: Asked,
     /// The text in hex.
     pub digits: &'a str,
 }
@@ -35,22 +55,51 @@ fn split_procedure(line: &str) -> Result<(u32, &str)> {
     Ok((number.parse().context("no number")?, rest))
 }
 
-// Splits off what a text is.
-fn split_kind(line: &str) -> Result<(Kind, &str)> {
+// Splits off a number.
+fn split_number(line: &str) -> Result<(u64, &str)> {
+    let (number, rest) = split_word(line)?;
+    Ok((number.parse().context("no number")?, rest))
+}
+
+// Splits off which events are shown.
+fn split_selection(line: &str) -> Result<(Asked, &str)> {
+    let (from, rest) = split_number(line)?;
+    let (to, rest) = split_number(rest)?;
+    let (call, digits) = split_number(rest)?;
+    let selection = Selection {
+        from,
+        to,
+        call: if call == 0 { None } else { Some(call) },
+    };
+    Ok((Asked::Lines(selection), digits))
+}
+
+// Splits off what a search may take.
+fn split_effort(line: &str) -> Result<(Asked, &str)> {
+    let (workers, rest) = split_procedure(line)?;
+    let (turns, digits) = split_number(rest)?;
+    let workers = workers.clamp(1, 64);
+    Ok((Asked::Search(Effort { workers, turns }), digits))
+}
+
+// Splits off what is asked for.
+fn split_asked(line: &str) -> Result<(Asked, &str)> {
     let (kind, rest) = split_word(line)?;
     match kind {
         "call" => {
             let (number, digits) = split_procedure(rest)?;
-            Ok((Kind::Call(number), digits))
+            Ok((Asked::Again(Kind::Call(number)), digits))
         }
         "result" => {
             let (number, digits) = split_procedure(rest)?;
-            Ok((Kind::Result(number), digits))
+            Ok((Asked::Again(Kind::Result(number)), digits))
         }
-        "rpc-call" => Ok((Kind::RpcCall, rest)),
-        "rpc-reply" => Ok((Kind::RpcReply, rest)),
-        "history" => Ok((Kind::History, rest)),
-        "certificate" => Ok((Kind::Certificate, rest)),
+        "rpc-call" => Ok((Asked::Again(Kind::RpcCall), rest)),
+        "rpc-reply" => Ok((Asked::Again(Kind::RpcReply), rest)),
+        "history" => Ok((Asked::Again(Kind::History), rest)),
+        "certificate" => Ok((Asked::Again(Kind::Certificate), rest)),
+        "lines" => split_selection(rest),
+        "search" => split_effort(rest),
         _ => bail!("no kind"),
     }
 }
@@ -59,7 +108,11 @@ impl<'a> Case<'a> {
     /// What a line asks for.
     pub fn parse(line: &'a str) -> Result<Case<'a>> {
         let (name, rest) = split_word(line)?;
-        let (kind, digits) = split_kind(rest)?;
-        Ok(Case { name, kind, digits })
+        let (asked, digits) = split_asked(rest)?;
+        Ok(Case {
+            name,
+            asked,
+            digits,
+        })
     }
 }

@@ -1,44 +1,74 @@
 //! Answers the cases on standard input, and tells each one's name and answer. `bench/make_cases.py` writes them.
 //!
 //! A case of a verdict is a line with its name, a line with a history file in lower case hex, the lines of a certificate, and
-//! an empty line. A case of a format is one line: a name, a kind, for arguments and results the procedure's number, and a text
-//! in lower case hex, which is read, and what was read is written again.
+//! an empty line. Another case is one line: a name, a kind, and a text in lower case hex. Of a format, with the procedure's number for
+//! arguments and results, the text is read, and what was read is written again. Of kind `lines`, with the first and the last event that
+//! are shown and the call or 0, the lines of a history file are told; of kind `search`, with how many workers there are and how many
+//! branches each may take, how the search of its certificate ends.
 #![tactic(auto)]
 
 mod again;
 mod case;
+mod lines;
+mod search;
 
 use again::written_again;
 use anyhow::Result;
-use case::Case;
+use case::{Asked, Case, Kind};
+use cert_search::Host;
+use lines::tell_lines;
 use nfsbench_engine::judge;
+use search::search;
 use std::alloc::Global;
 use std::io::{self, BufWriter, Write};
 
 // How a text is spelled when it is written again.
-fn spelling(alloc: Global, case: &Case<'_>, text: &[u8], again: &[u8]) -> &'static str {
+fn spelling(alloc: Global, kind: Kind, text: &[u8], again: &[u8]) -> &'static str {
     if again == text {
         return "ok";
     }
     // Where the text has bytes in its padding, what is written is another text, which has to be read as the same.
-    match written_again(alloc, case.kind, again) {
+    match written_again(alloc, kind, again) {
         Ok(third) if third.as_slice() == again => "respelled",
         _ => "unlike",
     }
 }
 
-// Tells what came of a text, in a line.
-fn tell_text<W: Write>(output: &mut W, alloc: Global, case: &Case<'_>) -> Result<()> {
-    let name = case.name;
-    let text = hex::decode(alloc, case.digits)?;
-    match written_again(alloc, case.kind, &text) {
+// Tells what came of a text that is read and written again, in a line.
+fn tell_again<W: Write>(
+    output: &mut W,
+    alloc: Global,
+    name: &str,
+    kind: Kind,
+    text: &[u8],
+) -> Result<()> {
+    match written_again(alloc, kind, text) {
         Ok(again) => {
-            let words = spelling(alloc, case, &text, &again);
+            let words = spelling(alloc, kind, text, &again);
             writeln!(output, "{name}: {words}")?;
         }
         Err(fault) => writeln!(output, "{name}: {fault}")?,
     }
     Ok(())
+}
+
+// Tells what came of a text.
+fn tell_text<R: Host, W: Write>(rt: &R, output: &mut W, case: &Case<'_>) -> Result<()> {
+    let name = case.name;
+    let alloc = rt.alloc();
+    let text = hex::decode(alloc, case.digits)?;
+    match case.asked {
+        Asked::Again(kind) => tell_again(output, alloc, name, kind, &text),
+        Asked::Lines(selection) => {
+            writeln!(output, "{name}:")?;
+            tell_lines(output, alloc, &text, selection)
+        }
+        Asked::Search(effort) => {
+            let said = search(rt, &text, effort)?;
+            writeln!(output, "{name}: {said}")?;
+            Ok(())
+        }
+    }
 }
 
 // Tells what is said of a bundle, in a line.
@@ -50,13 +80,14 @@ fn tell_bundle<W: Write>(output: &mut W, alloc: Global, name: &str, bundle: &[u8
 }
 
 // Tells of each case.
-fn tell_all<W: Write>(output: &mut W, alloc: Global, cases: &str) -> Result<()> {
+fn tell_all<R: Host, W: Write>(rt: &R, output: &mut W, cases: &str) -> Result<()> {
+    let alloc = rt.alloc();
     let mut name = None;
     let mut bundle = Vec::new(alloc);
     for line in cases.split('\n') {
         match name {
             None if line.is_empty() => {}
-            None if line.contains(' ') => tell_text(output, alloc, &Case::parse(line)?)?,
+            None if line.contains(' ') => tell_text(rt, output, &Case::parse(line)?)?,
             None => name = Some(line),
             // The line of an empty history file is empty, and ends no case.
             Some(its_name) if line.is_empty() && !bundle.is_empty() => {
@@ -76,7 +107,7 @@ fn tell_all<W: Write>(output: &mut W, alloc: Global, cases: &str) -> Result<()> 
 fn main(rt: HostRuntime) -> Result<()> {
     let cases = io::read_to_string(rt.alloc(), rt.reader())?;
     let mut output = BufWriter::new(rt.alloc(), io::writer(&rt))?;
-    tell_all(&mut output, rt.alloc(), &cases)?;
+    tell_all(&rt, &mut output, &cases)?;
     output.flush()?;
     Ok(())
 }

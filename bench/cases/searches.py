@@ -1,7 +1,5 @@
-#!/usr/bin/env python3
-"""Writes the cases of crates/stored_searches: make_searches.py HISTORIES FOLDER.
-
-HISTORIES is a folder of history files NAME.hist. What is wanted of each is said here, by the profile:
+"""Searches of certificates: whole history files in hex, as they stand in `searches.txt`. What is wanted of each is said here, by the
+profile:
 
 read-back               a WRITE, and a READ by another client behind it: it has a witness
 overlapping-read        a WRITE on its way while a READ shows the bytes ahead of it: it has one
@@ -11,11 +9,10 @@ unanswered-remove-lost  a REMOVE without a reply ahead of a crash, and the file 
 crashes-120-4, lanes-200-3  made with a certificate each, by clients of a model of a server. The order of the replies explains neither,
                         and eight turns are too few to search either by branches
 """
-import pathlib
-import sys
+import os
 
 FOUND = ("read-back", "overlapping-read", "unstable-write-lost", "unanswered-remove-lost")
-CASES = [
+SEARCHES = [
     # name, history, workers, turns, wanted
     *((f"{history}-{workers}", history, workers, 100_000, "found") for history in FOUND for workers in (1, 4)),
     ("stale-read-1", "stale-read", 1, 100_000, "not found"),
@@ -27,13 +24,13 @@ CASES = [
 ]
 
 
-def main() -> None:
-    histories, folder = map(pathlib.Path, sys.argv[1:3])
-    with open(folder / "stdin", "w") as given, open(folder / "stdout", "w") as wanted:
-        for name, history, workers, turns, answer in CASES:
-            events = (histories / f"{history}.hist").read_bytes().hex()
-            given.write(f"{name} {workers} {turns} {events}\n")
-            wanted.write(f"{name}: {answer}\n")
+def histories():
+    """The digits of each history by its name."""
+    with open(os.path.join(os.path.dirname(__file__), "searches.txt")) as file:
+        return dict(entry.split("\n") for entry in file.read().split("\n\n") if entry)
 
 
-main()
+def add_all(cases):
+    digits = histories()
+    for case, history, workers, turns, answer in SEARCHES:
+        cases.add("search-" + case, "search-%s search %d %d %s\n" % (case, workers, turns, digits[history]), answer)
