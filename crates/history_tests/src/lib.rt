@@ -1,4 +1,5 @@
-//! Tests of what a history shows of its calls and eras, through the public calls of `nfs_history`.
+//! Tests of what a history shows of its calls and eras, of what is counted of histories and plans, and of a recorder's log and its pumps,
+//! through the public calls of their crates.
 #![tactic(auto)]
 
 #[cfg(test)]
@@ -6,4 +7,16 @@ mod appending;
 #[cfg(test)]
 mod eras;
 #[cfg(test)]
+mod log;
+#[cfg(test)]
+mod messages;
+#[cfg(test)]
+mod numbers;
+#[cfg(test)]
+mod pumps;
+#[cfg(test)]
 mod reading;
+#[cfg(test)]
+mod reported;
+#[cfg(test)]
+mod streams;

@@ -1,8 +1,10 @@
-//! Tests of a server's journal, through the public calls of its crates: a device that fails once and goes on, and records of changes.
-
+//! Tests of a server's journal, through the public calls of its crates: a device that fails once and goes on, records of changes, and a
+//! tree that is rebuilt from them.
 #![tactic(auto)]
 
 #[cfg(test)]
 mod devices;
+#[cfg(test)]
+mod journals;
 #[cfg(test)]
 mod records;

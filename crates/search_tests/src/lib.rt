@@ -1,7 +1,14 @@
-//! Tests of the search by threads: two workers, and a gate that holds one of them.
+//! Tests of the search by threads, two workers and a gate that holds one of them, and of the table of seen states, alone and by several
+//! threads, through the public calls of their crates.
 #![tactic(auto)]
 
+#[cfg(test)]
+mod claims;
+#[cfg(test)]
+mod fingerprints;
 #[cfg(test)]
 mod held;
 #[cfg(test)]
 mod samples;
+#[cfg(test)]
+mod threads;

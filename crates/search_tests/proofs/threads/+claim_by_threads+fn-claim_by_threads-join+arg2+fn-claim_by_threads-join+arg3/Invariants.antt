@@ -1,5 +1,5 @@
 use Rattle.std.proofs.Common.{◌+◌, ◌*◌}
-use Rattle.seen_tests.proofs.threads.+claim_by_threads+fn-claim_by_threads-join+arg2+fn-claim_by_threads-join+arg3.Given as goal
+use Rattle.search_tests.proofs.threads.+claim_by_threads+fn-claim_by_threads-join+arg2+fn-claim_by_threads-join+arg3.Given as goal
 
 abbrev pub decreases-claim_by_threads : goal.decreases-claim_by_threads
 decreases-claim_by_threads g l = 2 * l.depth

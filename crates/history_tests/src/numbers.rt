@@ -1,6 +1,6 @@
 //! The numbers of a history, and how many places its plan lost.
 
-use crate::files::{GARBAGE_READ, REFUSED_REMOVE, REMOVE_IN_A_CRASH};
+use crate::reported::{GARBAGE_READ, REFUSED_REMOVE, REMOVE_IN_A_CRASH};
 use certificate::{Certificate, read_certificate};
 use history_report::{Report, lost_of, report_of};
 use nfs_history::{History, read_history};
