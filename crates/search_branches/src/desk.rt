@@ -282,7 +282,7 @@ impl Desk {
     }
 
     /// Whether one handle more may name an object.
-    fn may_name(&self, object: u64) -> bool {
+    pub(crate) fn may_name(&self, object: u64) -> bool {
         !self.has_one_handle || !self.is_named(object)
     }
 

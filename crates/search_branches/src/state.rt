@@ -292,6 +292,11 @@ impl State {
         self.desk.is_named(object)
     }
 
+    /// Whether one handle more may name an object.
+    pub fn may_name(&self, object: u64) -> bool {
+        self.desk.may_name(object)
+    }
+
     /// What the handles name that are bound so far.
     pub fn binds(&self) -> &Binds {
         &self.desk.binds
