@@ -26,8 +26,6 @@ pub(crate) struct Front {
 /// A move on the way to a branch.
 #[derive(Clone, Copy)]
 pub(crate) struct Step {
-    /// The branch that it led to.
-    pub(crate) node: u32,
     pub(crate) chosen: Move,
     /// How far the branch ahead of it was.
     pub(crate) before: Front,
