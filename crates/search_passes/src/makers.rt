@@ -243,7 +243,8 @@ impl<'p, 's, 'a> Pass<'p, 's, 'a> {
         self.state.binds().object(handle?.as_slice())
     }
 
-    /// The object of the handle that a call's reply gives, if that handle could name what stands at the call's name or what the call makes.
+    /// The object of the handle that a call's reply gives, if that handle could name what stands at the call's name, or what the call
+    /// makes.
     fn given_amiss(&self, found: &Found, entry: Option<u64>) -> Option<u64> {
         let given = self.object_of(given_by(found))?;
         let fits = match entry {

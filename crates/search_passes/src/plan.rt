@@ -71,8 +71,8 @@ fn plan_with<W: PassWatch>(
     Ok(None)
 }
 
-/// A plan in which each call of a history has a place that was legal, where so many passes come to one, or sixteen, whichever are fewer.
-/// That an object would have a second handle shows that a guess of an unanswered call was wrong; so the first eight allow none.
+/// A plan in which each call of a history has a place that was legal, where so many passes come to one, or sixteen, whichever are
+/// fewer. That an object would have a second handle shows that a guess of an unanswered call was wrong; so the first eight allow none.
 pub fn plan_of<W: PassWatch>(
     alloc: Global,
     problem: &Problem<'_, '_>,
