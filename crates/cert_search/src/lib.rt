@@ -6,6 +6,7 @@ mod end;
 mod searching;
 mod telling;
 mod watch;
+mod ways;
 mod worker;
 
 pub use end::{OpenSearch, Progress, SearchEnd, SearchGate};

@@ -11,6 +11,7 @@ ghost use Rattle.cert_search.specs.End.{IsFoundOnly, IsFoundOrNoMemory};
 use crate::board::{Board, Branch};
 use crate::end::{SearchEnd, SearchGate};
 use crate::telling::PassTeller;
+use crate::ways::Ways;
 use crate::worker::{Seat, Team, work};
 use certificate::Certificate;
 use crossbeam_deque::{Stealer, Worker};
@@ -20,7 +21,7 @@ use search_passes::plan_of;
 use search_problem::Problem;
 use seen_states::{Claimer, SeenTable};
 use std::alloc::{AllocError, Global};
-use std::sync::{Mutex, Wait};
+use std::sync::Wait;
 use std::thread::{Threads, join};
 use std::time::Clock;
 use witness_check::{Verdict, check_calls};
@@ -44,7 +45,7 @@ where
     R: Threads + Wait + Clock + AllocGlobal + Sync,
 {}
 
-/// The seats of so many workers, and for each worker the way to its branches.
+/// The seats of so many workers, and for each worker what others steal its branches by.
 #[derive(Drop)]
 struct Seats {
     seats: Vec<Seat>,
@@ -52,22 +53,17 @@ struct Seats {
 }
 
 impl Seats {
-    /// For so many workers, of which the last has the root branch.
+    /// For so many workers, of which the last has the first branch.
     fn new(alloc: Global, workers: u32) -> Result<Seats, AllocError> {
         let mut seats = Vec::new(alloc);
         let mut stealers = Vec::new(alloc);
         for number in 0..workers {
             let own = Worker::new_lifo(alloc, FIRST_ROOM)?;
             stealers.push(own.stealer()?)?;
-            seats.push(Seat { number, own })?;
+            seats.push(Seat::new(number, own))?;
         }
         if let Some(seat) = seats.last_mut() {
-            let root = Branch {
-                parent: 0,
-                depth: 0,
-                rank: 0,
-            };
-            if seat.own.push(root).is_err() {
+            if seat.own.push(Branch::FIRST).is_err() {
                 return Err(AllocError);
             }
         }
@@ -118,12 +114,12 @@ enum Lack {
 }
 
 /// What the workers came to: the plan that they found, and what they lacked else.
-fn outcome_of(board: &mut Board) -> (Option<Certificate>, Lack) {
-    let found = board.take_found();
-    if board.lacked_memory {
+fn outcome_of<R: Wait>(rt: &R, board: &Board) -> (Option<Certificate>, Lack) {
+    let found = board.take_found(rt);
+    if board.lacked_memory() {
         return (found, Lack::Memory);
     }
-    if board.left_branches {
+    if board.left_branches() {
         return (found, Lack::Turns);
     }
     (found, Lack::Branches)
@@ -152,19 +148,20 @@ fn run_workers<R: Host, G: SearchGate + Sync>(
     let Seats { seats, stealers } = Seats::new(alloc, workers)?;
     let bits = bits_for(turns.saturating_mul(u64::from(workers)));
     let (table, claimer) = SeenTable::new(alloc, bits)?;
-    let board = Mutex::new(Board::new(alloc));
+    let board = Board::new();
+    let ways = Ways::new(alloc, workers)?;
     let team = Team {
         alloc,
         problem: &problem,
         board: &board,
+        ways: &ways,
         stealers: stealers.as_slice(),
         gate,
         turns,
         room: (1u64 << bits) / 4 * 3,
     };
     work_all(rt, &team, &table, claimer, seats, workers.saturating_sub(1));
-    let mut ended = board.lock(rt);
-    Ok(outcome_of(&mut ended))
+    Ok(outcome_of(rt, &board))
 }
 
 /// A plan, if it is a witness.

@@ -3,15 +3,16 @@
 ghost use Rattle.search_branches.specs.Reversible.{CanGoBack};
 ghost use Rattle.seen_states.specs.Handles.{IsOf};
 
-use crate::board::{Board, Branch};
+use crate::board::{Board, Branch, Tally};
 use crate::end::SearchGate;
 use crate::watch::Watch;
+use crate::ways::Ways;
 use crossbeam_deque::{Steal, Stealer, Worker};
 use search_branches::State;
 use search_problem::{Move, Problem};
 use seen_states::{Claim, Claimer, SeenTable};
 use std::alloc::{AllocError, Global};
-use std::sync::{Mutex, Wait};
+use std::sync::Wait;
 use std::thread;
 use std::time::{Clock, Duration};
 use witness_check::{Verdict, check_calls};
@@ -21,7 +22,8 @@ use witness_check::{Verdict, check_calls};
 pub(crate) struct Team<'s, 'a, G> {
     pub(crate) alloc: Global,
     pub(crate) problem: &'s Problem<'s, 'a>,
-    pub(crate) board: &'s Mutex<Board>,
+    pub(crate) board: &'s Board,
+    pub(crate) ways: &'s Ways,
     pub(crate) stealers: &'s [Stealer<Branch>],
     pub(crate) gate: &'s G,
     /// How many branches each may take.
@@ -36,16 +38,61 @@ pub(crate) struct Seat {
     /// From 0 on.
     pub(crate) number: u32,
     pub(crate) own: Worker<Branch>,
+    tally: Tally,
+    /// Whether more states might be claimed when it last told what it counted.
+    has_room: bool,
+}
+
+impl Seat {
+    /// Of a worker with such branches of its own.
+    pub(crate) fn new(number: u32, own: Worker<Branch>) -> Seat {
+        Seat {
+            number,
+            own,
+            tally: Tally::NONE,
+            has_room: true,
+        }
+    }
+
+    /// Tells what the worker counted.
+    fn tell<G>(&mut self, team: &Team<'_, '_, G>) {
+        team.board.count(self.tally);
+        self.tally = Tally::NONE;
+        self.has_room = team.board.has_room(team.room);
+    }
+
+    /// Counts a branch that the worker has taken, and now and then tells what it counted.
+    fn count_turn<G>(&mut self, team: &Team<'_, '_, G>) {
+        self.tally.turns = self.tally.turns.saturating_add(1);
+        if self.tally.turns >= TOLD_AFTER {
+            self.tell(team);
+        }
+    }
+}
+
+/// A branch that a worker is to take.
+#[derive(Clone, Copy)]
+enum Next {
+    /// One of its own: it grows from the way that the worker has come.
+    Own(Branch),
+    /// One of another worker's.
+    Stolen(Branch),
 }
 
 /// How many milliseconds a worker sleeps that finds no branch.
 const PAUSE: u64 = 1;
 
-/// How many moves the ways of a state and to a branch have in common.
-fn common_depth(state: &State, way: &[(u32, Move)]) -> usize {
+/// How many branches a worker takes until it tells what it counted.
+const TOLD_AFTER: u64 = 64;
+
+/// How often a worker tries to steal from another one whose oldest branch is taken meanwhile.
+const TRIES: u32 = 8;
+
+/// How many first moves of a way the state has made.
+fn common_depth(state: &State, way: &[Move]) -> usize {
     let mut depth = 0usize;
-    for (node, _) in way {
-        if state.node_at(depth.saturating_add(1)) != Some(*node) {
+    for chosen in way {
+        if state.move_at(depth) != Some(*chosen) {
             break;
         }
         depth = depth.saturating_add(1);
@@ -53,13 +100,7 @@ fn common_depth(state: &State, way: &[(u32, Move)]) -> usize {
     depth
 }
 
-/// Whether a branch grows from the state's way.
-fn is_on_way(state: &State, branch: Branch) -> bool {
-    branch.depth == 0 || state.node_at(branch.depth) == Some(branch.parent)
-}
-
-/// Goes to a branch: back to it where the worker has come through it, else by its moves from where the ways part. Says whether it
-/// got there.
+/// Goes to where a stolen branch grows, by the moves from where the ways part. Says whether it got there.
 fn walk_to<R: Wait, G>(
     rt: &R,
     team: &Team<'_, '_, G>,
@@ -69,20 +110,40 @@ fn walk_to<R: Wait, G>(
     requires { CanGoBack state.old }
     ensures { CanGoBack state.new }
 {
-    if is_on_way(state, branch) {
-        state.back_to(team.problem, branch.depth)?;
-        return Ok(true);
-    }
-    let way = team.board.lock(rt).way_to(branch.parent, branch.depth)?;
+    let way = team.ways.to(rt, branch.parent, branch.depth)?;
     let common = common_depth(state, way.as_slice());
     state.back_to(team.problem, common)?;
-    for (node, chosen) in way.iter().skip(common) {
+    for chosen in way.iter().skip(common) {
         if !state.make(team.problem, *chosen)? {
             return Ok(false);
         }
-        state.name(*node);
     }
     Ok(true)
+}
+
+/// Goes to where a branch grows, and gives the branch if it got there.
+fn go_to<R: Wait, G>(
+    rt: &R,
+    team: &Team<'_, '_, G>,
+    state: &mut State,
+    next: Next,
+) -> Result<Option<Branch>, AllocError>
+    requires { CanGoBack state.old }
+    ensures { CanGoBack state.new }
+{
+    match next {
+        Next::Own(branch) => {
+            state.back_to(team.problem, branch.depth)?;
+            Ok(Some(branch))
+        }
+        Next::Stolen(branch) => {
+            if walk_to(rt, team, state, branch)? {
+                Ok(Some(branch))
+            } else {
+                Ok(None)
+            }
+        }
+    }
 }
 
 /// Makes the first legal one of some moves, from a rank on, and gives it with its rank.
@@ -103,20 +164,11 @@ fn make_first(
     Ok(None)
 }
 
-/// Puts a branch among the worker's own, the newest.
-fn push_branch<R: Wait, G>(
-    rt: &R,
-    team: &Team<'_, '_, G>,
-    seat: &mut Seat,
-    branch: Branch,
-) -> Result<(), AllocError> {
-    team.board.lock(rt).open_more();
-    match seat.own.push(branch) {
-        Ok(()) => Ok(()),
-        Err(_) => {
-            team.board.lock(rt).drop_one();
-            Err(AllocError)
-        }
+/// Puts a branch, where there is one, among the worker's own as the newest. It says whether there was room.
+fn push_branch(seat: &mut Seat, branch: Option<Branch>) -> bool {
+    match branch {
+        Some(branch) => seat.own.push(branch).is_ok(),
+        None => true,
     }
 }
 
@@ -128,7 +180,7 @@ fn judge_whole<R: Wait, G>(
 ) -> Result<(), AllocError> {
     let certificate = state.certificate(team.problem)?;
     if let Verdict::Yes = check_calls(team.alloc, team.problem.known(), &certificate)? {
-        team.board.lock(rt).succeed(certificate);
+        team.board.succeed(rt, certificate);
     }
     Ok(())
 }
@@ -145,12 +197,13 @@ fn claim_state(table: &SeenTable, claimer: &mut Claimer, state: &State, has_room
     table.claim(claimer, fingerprint)
 }
 
-/// Counts a branch that was claimed as new, and says whether it is to be gone on with: nobody claimed one with its fingerprint, or
-/// there was no room.
-fn note_claim<R: Wait, G>(rt: &R, team: &Team<'_, '_, G>, claim: Claim) -> bool {
+/// Counts a branch that was claimed, and says whether it is to be gone on with: nobody claimed one with its fingerprint, or there
+/// was no room.
+fn note_claim(seat: &mut Seat, claim: Claim, depth: usize) -> bool {
+    seat.tally.depth = seat.tally.depth.max(depth);
     match claim {
         Claim::New => {
-            team.board.lock(rt).count_state();
+            seat.tally.states = seat.tally.states.saturating_add(1);
             true
         }
         Claim::Full => true,
@@ -159,20 +212,22 @@ fn note_claim<R: Wait, G>(rt: &R, team: &Team<'_, '_, G>, claim: Claim) -> bool 
 }
 
 /// Pushes what may be tried in the place of a move, and what grows from it.
-fn grow<R: Wait, G>(
-    rt: &R,
+fn grow<G>(
     team: &Team<'_, '_, G>,
     seat: &mut Seat,
     rest: Option<Branch>,
     next: Option<Branch>,
 ) -> Result<(), AllocError> {
-    if let Some(rest) = rest {
-        push_branch(rt, team, seat, rest)?;
+    team.board
+        .open(u64::from(rest.is_some()) + u64::from(next.is_some()));
+    let is_rest_pushed = push_branch(seat, rest);
+    let is_next_pushed = push_branch(seat, next);
+    if is_rest_pushed && is_next_pushed {
+        return Ok(());
     }
-    if let Some(next) = next {
-        push_branch(rt, team, seat, next)?;
-    }
-    Ok(())
+    team.board
+        .close(u64::from(!is_rest_pushed) + u64::from(!is_next_pushed));
+    Err(AllocError)
 }
 
 /// Takes a branch: goes there, makes its move, claims where it leads to, and pushes what follows.
@@ -183,45 +238,62 @@ fn take_branch<R: Wait, G: SearchGate>(
     claimer: &mut Claimer,
     seat: &mut Seat,
     state: &mut State,
-    branch: Branch,
+    next: Next,
 ) -> Result<(), AllocError>
     requires table { IsOf claimer.old table.now }
     requires back { CanGoBack state.old }
     ensures table { IsOf claimer.new table.now }
     ensures back { CanGoBack state.new }
 {
-    if !walk_to(rt, team, state, branch)? {
+    let Some(branch) = go_to(rt, team, state, next)? else {
         return Ok(());
-    }
+    };
     let moves = state.moves(team.problem)?;
     let made = make_first(team.problem, state, moves.as_slice(), branch.rank)?;
     let Some((rank, chosen)) = made else {
         return Ok(());
     };
-    let depth = branch.depth.saturating_add(1);
-    let node = team.board.lock(rt).add(branch.parent, chosen, depth)?;
-    state.name(node);
     if state.is_whole(team.problem) {
         judge_whole(rt, team, state)?;
     }
     let is_last = rank.saturating_add(1) >= moves.len() || state.is_free(team.problem);
     let rest = rest_of(branch, rank, is_last);
-    let has_room = team.board.lock(rt).has_room(team.room);
-    let claim = claim_state(table, claimer, state, has_room);
-    let next = next_of(node, depth, note_claim(rt, team, claim));
-    grow(rt, team, seat, rest, next)
+    let depth = branch.depth.saturating_add(1);
+    let claim = claim_state(table, claimer, state, seat.has_room);
+    let mut grown = None;
+    if note_claim(seat, claim, depth) {
+        let parent = team.ways.add(rt, seat.number, branch.parent, chosen)?;
+        grown = Some(Branch {
+            parent,
+            depth,
+            rank: 0,
+        });
+    }
+    grow(team, seat, rest, grown)
+}
+
+/// The oldest branch of a worker, if one is found.
+fn steal_from(stealer: &Stealer<Branch>) -> Option<Branch> {
+    for _ in 0..TRIES {
+        match stealer.steal() {
+            Steal::Success(branch) => return Some(branch),
+            Steal::Empty => return None,
+            Steal::Retry => {}
+        }
+    }
+    None
 }
 
 /// Another worker's oldest branch, if one is found.
 fn steal<G>(team: &Team<'_, '_, G>, number: u32) -> Option<Branch> {
     let first = (number as usize).saturating_add(1);
     for stealer in team.stealers.iter().skip(first) {
-        if let Steal::Success(branch) = stealer.steal() {
+        if let Some(branch) = steal_from(stealer) {
             return Some(branch);
         }
     }
     for stealer in team.stealers.iter().take(number as usize) {
-        if let Steal::Success(branch) = stealer.steal() {
+        if let Some(branch) = steal_from(stealer) {
             return Some(branch);
         }
     }
@@ -229,11 +301,14 @@ fn steal<G>(team: &Team<'_, '_, G>, number: u32) -> Option<Branch> {
 }
 
 /// The worker's newest branch, or another's oldest.
-fn find_branch<G>(team: &Team<'_, '_, G>, seat: &mut Seat) -> Option<Branch> {
+fn find_next<G>(team: &Team<'_, '_, G>, seat: &mut Seat) -> Option<Next> {
     if let Some(branch) = seat.own.pop() {
-        return Some(branch);
+        return Some(Next::Own(branch));
     }
-    steal(team, seat.number)
+    match steal(team, seat.number) {
+        Some(branch) => Some(Next::Stolen(branch)),
+        None => None,
+    }
 }
 
 /// What may be tried in the place of a branch's move, unless that is the last one.
@@ -248,18 +323,6 @@ fn rest_of(branch: Branch, rank: usize, is_last: bool) -> Option<Branch> {
     })
 }
 
-/// What grows from a branch that is gone on with.
-fn next_of(node: u32, depth: usize, is_fresh: bool) -> Option<Branch> {
-    if !is_fresh {
-        return None;
-    }
-    Some(Branch {
-        parent: node,
-        depth,
-        rank: 0,
-    })
-}
-
 /// Takes a branch, and comes back from the gate. It says whether the worker may go on: it may not where memory ran out.
 fn turn<R: Wait, G: SearchGate>(
     rt: &R,
@@ -268,28 +331,30 @@ fn turn<R: Wait, G: SearchGate>(
     claimer: &mut Claimer,
     seat: &mut Seat,
     state: &mut State,
-    branch: Branch,
+    next: Next,
 ) -> bool
     requires table { IsOf claimer.old table.now }
     requires back { CanGoBack state.old }
     ensures table { IsOf claimer.new table.now }
     ensures back { CanGoBack state.new }
 {
-    match take_branch(rt, team, table, claimer, seat, state, branch) {
+    match take_branch(rt, team, table, claimer, seat, state, next) {
         Ok(()) => {
             team.gate.at(seat.number);
-            team.board.lock(rt).close_one();
+            team.board.close(1);
+            seat.count_turn(team);
             true
         }
         Err(AllocError) => {
-            team.board.lock(rt).lack_memory();
+            team.board.close(1);
+            team.board.lack_memory();
             false
         }
     }
 }
 
 /// Has the first worker tell how far the search is, where it is time to.
-fn tell_progress<R: Wait + Clock, G: SearchGate>(
+fn tell_progress<R: Clock, G: SearchGate>(
     rt: &R,
     team: &Team<'_, '_, G>,
     number: u32,
@@ -299,8 +364,7 @@ fn tell_progress<R: Wait + Clock, G: SearchGate>(
         return;
     }
     let calls = team.problem.known().count();
-    let progress = team.board.lock(rt).progress(calls);
-    team.gate.tell(progress);
+    team.gate.tell(team.board.progress(calls));
 }
 
 /// Takes branches until a certificate is found, none is left, or as many are taken as may be.
@@ -321,19 +385,19 @@ fn take_branches<R: Wait + Clock, G: SearchGate>(
     let mut watch = Watch::new(rt);
     for _ in rt.forever() {
         tell_progress(rt, team, seat.number, &mut watch);
-        if left == 0 || team.board.lock(rt).is_over() {
+        if left == 0 || team.board.is_over() {
             break;
         }
-        let Some(branch) = find_branch(team, seat) else {
+        let Some(next) = find_next(team, seat) else {
             thread::sleep(rt, Duration::from_millis(PAUSE));
             continue;
         };
         left -= 1;
-        if !turn(rt, team, table, claimer, seat, &mut state, branch) {
+        if !turn(rt, team, table, claimer, seat, &mut state, next) {
             return;
         }
     }
-    team.board.lock(rt).stop_worker();
+    team.board.stop_worker();
 }
 
 /// Works until there is nothing more to do.
@@ -350,6 +414,7 @@ pub(crate) fn work<R: Wait + Clock, G: SearchGate>(
     let mut seat = seat;
     match State::begin(team.alloc, team.problem) {
         Ok(state) => take_branches(rt, team, table, &mut claimer, &mut seat, state),
-        Err(AllocError) => team.board.lock(rt).lack_state(),
+        Err(AllocError) => team.board.lack_memory(),
     }
+    seat.tell(team);
 }

@@ -26,8 +26,6 @@ pub(crate) struct Front {
 /// A move on the way to a branch.
 #[derive(Clone, Copy)]
 pub(crate) struct Step {
-    /// The branch that it led to.
-    pub(crate) node: u32,
     pub(crate) chosen: Move,
     /// How far the branch ahead of it was.
     pub(crate) before: Front,
@@ -282,7 +280,7 @@ impl Desk {
     }
 
     /// Whether one handle more may name an object.
-    fn may_name(&self, object: u64) -> bool {
+    pub(crate) fn may_name(&self, object: u64) -> bool {
         !self.has_one_handle || !self.is_named(object)
     }
 

@@ -114,11 +114,7 @@ impl State {
         if !self.step(problem, number, &found)? {
             return Ok(false);
         }
-        self.desk.path.push(Step {
-            node: 0,
-            chosen,
-            before,
-        })?;
+        self.desk.path.push(Step { chosen, before })?;
         let is_taken = matches!(chosen, Move::Take(_));
         self.desk.place(problem, number, is_taken)?;
         Ok(true)
@@ -133,7 +129,6 @@ impl State {
         let trial = self.take_trial()?.back(places.saturating_sub(kept))?;
         let before = self.desk.front;
         self.desk.path.push(Step {
-            node: 0,
             chosen: Move::Cut(kept),
             before,
         })?;
@@ -240,16 +235,6 @@ impl State {
         Ok(())
     }
 
-    /// Names the branch that the last move led to.
-    pub fn name(&mut self, node: u32)
-        requires { CanGoBack self.old }
-        ensures { CanGoBack self.new }
-    {
-        if let Some(step) = self.desk.path.last_mut() {
-            step.node = node;
-        }
-    }
-
     /// Whether every era has its places.
     pub fn is_whole(&self, problem: &Problem<'_, '_>) -> bool {
         self.desk.is_era_done() && problem.is_last(self.desk.front.era)
@@ -258,17 +243,6 @@ impl State {
     /// How many moves led to the branch.
     pub fn depth(&self) -> usize {
         self.desk.path.len()
-    }
-
-    /// The branch that the way led through behind so many moves.
-    pub fn node_at(&self, depth: usize) -> Option<u32> {
-        if depth == 0 {
-            return None;
-        }
-        match self.desk.path.get(depth - 1) {
-            Some(step) => Some(step.node),
-            None => None,
-        }
     }
 
     /// The nodes of the tree, where it isn't lost.
@@ -290,6 +264,11 @@ impl State {
     /// Whether a handle names an object.
     pub fn is_named(&self, object: u64) -> bool {
         self.desk.is_named(object)
+    }
+
+    /// Whether one handle more may name an object.
+    pub fn may_name(&self, object: u64) -> bool {
+        self.desk.may_name(object)
     }
 
     /// What the handles name that are bound so far.

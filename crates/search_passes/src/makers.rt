@@ -243,6 +243,17 @@ impl<'p, 's, 'a> Pass<'p, 's, 'a> {
         self.state.binds().object(handle?.as_slice())
     }
 
+    /// The object of the handle that a call's reply gives, if that handle could name what stands at the call's name, or what the call
+    /// makes.
+    fn given_amiss(&self, found: &Found, entry: Option<u64>) -> Option<u64> {
+        let given = self.object_of(given_by(found))?;
+        let fits = match entry {
+            Some(entry) => self.state.may_name(entry),
+            None => made_by(&found.call).is_some(),
+        };
+        if fits { Some(given) } else { None }
+    }
+
     /// Takes back that an unanswered call made what a call's handles name, or what stands at its names, and guesses another one. It says
     /// whether that was guessed.
     pub(crate) fn refute_makers(&mut self, number: u64, found: &Found) -> Result<bool, AllocError>
@@ -253,7 +264,7 @@ impl<'p, 's, 'a> Pass<'p, 's, 'a> {
         let (from, to) = self.objects_named(found);
         let one = self.object_of(one);
         let other = self.object_of(other);
-        let given = self.object_of(given_by(found));
+        let given = self.given_amiss(found, from);
         let refuted = self
             .lessons
             .refute_first([one, other, from, to, given].as_slice())?;

@@ -71,9 +71,8 @@ fn plan_with<W: PassWatch>(
     Ok(None)
 }
 
-/// A plan in which each call of a history has a place that was legal, where so many passes come to one, or eight, whichever are fewer.
-/// What passes guess of a lost reply shows as wrong where an object would have a second handle; so they allow one only if they come to
-/// no plan without.
+/// A plan in which each call of a history has a place that was legal, where so many passes come to one, or sixteen, whichever are
+/// fewer. That an object would have a second handle shows that a guess of an unanswered call was wrong; so the first eight allow none.
 pub fn plan_of<W: PassWatch>(
     alloc: Global,
     problem: &Problem<'_, '_>,
@@ -83,6 +82,9 @@ pub fn plan_of<W: PassWatch>(
     let names = NamesGiven::of(alloc, problem)?;
     match plan_with(alloc, problem, &names, turns, true, watch)? {
         Some(plan) => Ok(Some(plan)),
-        None => plan_with(alloc, problem, &names, turns, false, watch),
+        None => {
+            let left = turns.saturating_sub(MOST_PASSES);
+            plan_with(alloc, problem, &names, left, false, watch)
+        }
     }
 }
