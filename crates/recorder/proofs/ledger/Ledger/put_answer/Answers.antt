@@ -1,0 +1,8 @@
+use Rattle.std.proofs.Common.{◌∙◌}
+use Rattle.recorder.proofs.Answered.{put_so}
+use Rattle.recorder.proofs.ledger.Ledger.put_answer.Goals as goal
+
+pub returns-in-Ok-clause-taken : goal.returns-in-Ok-clause-taken
+returns-in-Ok-clause-taken c = λ call at.
+    put_so c.args.self.now.history c.append.new.self c.call.result.now call _ c.in_ok-message.message c.args.answer.items c.call.ensures at (c.in_ok-message.ensures ∙ c.as_slice.ensures.value)
+    (record { history = c.in-Ok.ensures.found; events = c.in-Ok.ensures.behind; spare = c.in-Ok.ensures.taken })

@@ -1,0 +1,9 @@
+pub mod FaultText
+pub mod JoinedFaults
+pub mod Recordable
+pub mod Serving
+pub mod Refusals
+pub mod Turns
+pub mod Inside
+pub mod Undoing
+pub mod PlaceSteps

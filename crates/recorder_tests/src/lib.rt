@@ -1,0 +1,10 @@
+//! Tests of the book of a journal server, through its public calls.
+
+#![tactic(auto)]
+
+#[cfg(test)]
+mod refused;
+#[cfg(test)]
+mod runs;
+#[cfg(test)]
+mod samples;
