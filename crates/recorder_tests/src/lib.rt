@@ -3,6 +3,10 @@
 #![tactic(auto)]
 
 #[cfg(test)]
+mod first;
+#[cfg(test)]
+mod memory;
+#[cfg(test)]
 mod refused;
 #[cfg(test)]
 mod runs;

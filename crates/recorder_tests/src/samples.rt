@@ -27,6 +27,9 @@ pub const NULL: &str = "000000010000000000000002000186a30000000300000000\
 /// The result of a CREATE that made object 1, in hex.
 pub const MADE: &str = "0000000000000001000000080000000000000001000000000000000000000000";
 
+/// The same of object 2.
+pub const MADE_TWO: &str = "0000000000000001000000080000000000000002000000000000000000000000";
+
 /// The same with the handle of object 9.
 pub const MADE_NINE: &str = "0000000000000001000000080000000000000009000000000000000000000000";
 
@@ -49,6 +52,12 @@ pub fn book(
     fail_barrier: Option<u64>,
 ) -> Result<Book<SimDevice>, Fail> {
     let device = SimDevice::new(alloc, fail_append, fail_barrier, None);
+    Ok(Book::new(alloc, device)?)
+}
+
+/// A book over a device whose first recovery fails.
+pub fn book_lost_in_a_crash(alloc: Global) -> Result<Book<SimDevice>, Fail> {
+    let device = SimDevice::new(alloc, None, None, Some(1));
     Ok(Book::new(alloc, device)?)
 }
 
