@@ -505,9 +505,15 @@ module _ (old new : Ledger) (number place mark : ℕ) (stands : StandsAt old num
       answers_so old device t number place ready.1 (running_book old.condition ready.0) ready.2 answer given given_named durable_here new only follows states,
     )
 
-pub memory_stops : (old : Ledger) (device : Device) (number : ℕ) (fault : AnswerFault) → fault ≡ answer_faults.NoMemory → condition_of old.condition ≡ running → IsNow (book_of old device) number
+pub memory_stops : (old : Ledger) (device : Device) (number place mark : ℕ) (stands : StandsAt old number place) → device.mark ≡ mark → condition_of old.condition ≡ running → IsNow (book_of old device) number
+    → end_of old.history.known.calls number ≡ None → IsDurableAt (records_kept (book_of old device)) mark (book_of old device).placed place → (fault : AnswerFault) → fault ≡ answer_faults.NoMemory
     → AnswerStops (book_of old device) number fault
-memory_stops old device number fault is runs now = subst (λ (f : AnswerFault). AnswerStops (book_of old device) number f) (sym is) (runs, now)
+memory_stops old device number place mark stands at runs now unanswered durable fault is =
+    let step = placed_in old.history.known.calls stands.0 in
+    let there = mapped_parts (placed_in old.history.known.calls) old.placed.items place stands.0 stands.1 in
+    let safe = subst (λ (n : ℕ). IsDurable (records_kept (book_of old device)) n there.ahead step) (sym at) (durable there.ahead there.behind step there.parts there.length_is) in
+    subst (λ (f : AnswerFault). AnswerStops (book_of old device) number f) (sym is)
+    (runs, (there.ahead, step, answerable old device number place now unanswered stands.0 stands.1 stands.2 there, safe))
 
 pub far_from : (b : Bool) (P : Type 0) → b ≡ false → (P → IsTrue b) → ¬ P
 far_from b P e told p = wrong b e (told p) where

@@ -1,22 +1,19 @@
 -- the trees behind the records of a book, with one call more
-use Rattle.std.proofs.Common.{◌≡◌, ◌≢◌, ◌⊎◌, inl, inr, ℕ, zero, suc, ◌+◌, ◌-◌, ◌<◌, ◌≤◌, ◌^◌, Bool, true, false, List, [], ◌∷◌, ◌++◌, length, take, drop, Option, Some, None, refl, sym, ap, ◌∙◌, subst, arith}
-use Rattle.std.specs.Prelude.{IsSome, ◌&&◌, not, is_none, if◌then◌else◌, option_and_then}
-use Rattle.std.specs.List.{AllByRecursion}
+use Rattle.std.proofs.Common.{◌≡◌, ℕ, zero, suc, ◌+◌, ◌-◌, ◌≤◌, Bool, true, false, List, [], ◌∷◌, ◌++◌, length, take, drop, Some, refl, sym, ap, ◌∙◌, subst, arith}
+use Rattle.std.specs.Prelude.{◌&&◌, not, if◌then◌else◌}
 use Rattle.std.proofs.lemmas.List.{append_assoc, take-append-drop}
 use Rattle.nfs3_types.specs.declared.replies.Outcome.{Outcome}
-use Rattle.nfs3_types.specs.declared.replies.Outcome.TheVariants as outcomes
 use Rattle.cut_check.specs.Effect.{succeeded}
 use Rattle.nfs_history.specs.declared.history.RecordedCall.{RecordedCall}
 use Rattle.replay_law.specs.Run.{state_after, kept_steps}
 use Rattle.replay_law.proofs.Runs.{state_after-append}
-use Rattle.tree_nodes.specs.Tree.{Tree, opening, entry_of}
-use Rattle.tree_nodes.proofs.Chains.{chained, value_of, decide}
+use Rattle.tree_nodes.specs.Tree.{Tree, opening}
+use Rattle.tree_nodes.proofs.Chains.{chained}
 use Rattle.tree_handles.specs.Binding.{Bindings}
 use Rattle.file_tree.specs.Success.{next_tree}
 use Rattle.tree_laws.specs.Leaving.{only_looks}
 use Rattle.book_machine.specs.Placing.{Placed, is_recorded, records_in, front_with}
-use Rattle.book_machine.specs.Book.{Book, bindings, bindings_made, tree_of, records_kept}
-use Rattle.book_machine.specs.Steps.{with_object}
+use Rattle.book_machine.specs.Book.{Book, bindings, tree_of, records_kept}
 use Rattle.book_machine.proofs.Invariant.{Over, IsKnown, AreKnown, AllKnown, IsInvariant}
 use Rattle.book_machine.proofs.Lists.{all_behind}
 use Rattle.book_machine.proofs.Stable.{records_append}

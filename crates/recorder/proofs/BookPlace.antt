@@ -1,12 +1,12 @@
 -- what a place leaves of a book, from what each of its calls ensures
-use Rattle.std.proofs.Common.{◌≡◌, ℕ, ◌≤◌, Bool, List, length, Option, Err, refl, sym, ap, ◌∙◌, subst}
+use Rattle.std.proofs.Common.{◌≡◌, ℕ, ◌≤◌, Bool, length, Option, Err, sym, subst}
 use Rattle.std.specs.Prelude.{is_some}
 use Rattle.std.specs.declared.vec.Vec.{Vec}
 use Rattle.std.specs.declared.alloc.Global.{Global}
 use Rattle.nfs3_types.specs.declared.replies.NfsReply.{NfsReply}
 use Rattle.nfs3_types.specs.declared.replies.Outcome.{Outcome}
 use Rattle.nfs3_types.specs.declared.replies.Outcome.TheVariants as outcomes
-use Rattle.journal_device.specs.Device.{Device, Leaves, failed}
+use Rattle.journal_device.specs.Device.{Device, Leaves}
 use Rattle.journal_device.specs.declared.device.DevFault.{DevFault}
 use Rattle.journal_device.specs.declared.device.DevFault.TheVariants as devices
 use Rattle.book_machine.specs.Steps.{Places}

@@ -1,9 +1,8 @@
 -- a book's crash and the place of a call, over its parts and its device
-use Rattle.std.proofs.Common.{◌≡◌, ◌≢◌, ◌⊎◌, inl, inr, ℕ, ◌+◌, ◌-◌, ◌<◌, ◌≤◌, ◌^◌, Bool, true, false, List, [], ◌∷◌, ◌++◌, length, Option, Some, None, Err, refl, sym, ap, ◌∙◌, subst, arith}
-use Rattle.std.specs.Prelude.{IsSome, IfSome, is_some, if◌then◌else◌}
+use Rattle.std.proofs.Common.{◌≡◌, ◌≢◌, ℕ, ◌+◌, ◌-◌, ◌<◌, ◌≤◌, ◌^◌, Bool, true, false, List, [], ◌∷◌, ◌++◌, length, Option, Some, None, Err, refl, sym, ap, ◌∙◌, subst, arith}
+use Rattle.std.specs.Prelude.{is_some}
 use Rattle.std.specs.declared.vec.Vec.{Vec}
 use Rattle.std.specs.declared.alloc.Global.{Global}
-use Rattle.nfs3_types.specs.declared.calls.NfsCall.{NfsCall}
 use Rattle.nfs3_types.specs.declared.replies.NfsReply.{NfsReply}
 use Rattle.nfs3_types.specs.declared.replies.Outcome.{Outcome}
 use Rattle.nfs3_types.specs.declared.replies.Outcome.TheVariants as outcomes
@@ -11,18 +10,16 @@ use Rattle.nfs_history.specs.HistoryValue.{HistoryValue}
 use Rattle.tree_nodes.specs.Tree.{Tree}
 use Rattle.tree_nodes.proofs.Chains.{value_of}
 use Rattle.tree_handles.specs.Binding.{object_of}
-use Rattle.journal_device.specs.Device.{Device, Leaves, appended, recovered, failed}
+use Rattle.journal_device.specs.Device.{Device, Leaves, recovered, failed}
 use Rattle.journal_device.specs.declared.device.DevFault.{DevFault}
 use Rattle.journal_device.specs.declared.device.DevFault.TheVariants as devices
 use Rattle.replay_law.specs.declared.replay.StepFault.{StepFault}
 use Rattle.replay_law.specs.declared.replay.StepFault.TheVariants as steps
-use Rattle.book_machine.specs.Placing.{Placed, is_recorded}
 use Rattle.book_machine.specs.Book.{Book, Condition, handle_of}
 use Rattle.book_machine.specs.Book.Condition.{running as is_running, down as is_down, dead as is_dead}
-use Rattle.book_machine.specs.Steps.{IsUnplaced, Places, Crashes, step_of, with_record, reply_message, journal_record}
+use Rattle.book_machine.specs.Steps.{IsUnplaced, Places, Crashes, with_record, reply_message, journal_record}
 use Rattle.recorder.specs.Recordable.{may_make}
-use Rattle.recorder.specs.Refusals.{IsNow, PlaceStops, after_place, CrashStops, after_crash}
-use Rattle.recorder.specs.declared.placed.Condition as code
+use Rattle.recorder.specs.Refusals.{IsNow, PlaceStops, after_place, after_crash}
 use Rattle.recorder.specs.declared.placed.Condition.TheVariants as codes
 use Rattle.recorder.specs.declared.placing.TreeStep.{TreeStep}
 use Rattle.recorder.specs.declared.ledger.Ledger.{Ledger}
@@ -31,9 +28,9 @@ use Rattle.recorder.specs.declared.fault.PlaceFault.TheVariants as place
 use Rattle.recorder.specs.declared.fault.CrashFault.TheVariants as crash
 use Rattle.recorder.specs.JoinedFaults.{of_step}
 use Rattle.recorder.specs.Inside.{IsAsked, asked_by, book_of, tree_behind, AreTied, Goes}
-use Rattle.recorder.specs.Undoing.{Loses, GoesDown, IsReady, Restarts}
+use Rattle.recorder.specs.Undoing.{GoesDown, IsReady, Restarts}
 use Rattle.recorder.specs.PlaceSteps.{HoldsBytes, TakesStep, HasStepped, HasNoStep, HasStayed, ShowsNow, MayGive, GivesAllowed, IsShortAnswer, IsEntry, HasPlaced, HasLost, IsSame, IsLeft, StopsWhere, entry_put}
-use Rattle.recorder.proofs.Parts.{Parts, parts_of, book_with, Tied, to_parts, from_parts, failed_tied}
+use Rattle.recorder.proofs.Parts.{parts_of, to_parts, from_parts, failed_tied}
 use Rattle.recorder.proofs.Reaching.{reached_asked}
 use Rattle.recorder.proofs.NewPlace.{IsReadyFor, IsGiven, is_free, placed_so}
 use Rattle.recorder.proofs.PlaceTurns.{runs_now, ready, same_tied, stayed_tied, lost_tied, new_place, device_then, recorded, same_tree_there, not_without_step, shows, gives, is_short}

@@ -1,10 +1,10 @@
 -- the end of an era: what is kept of it, and the tree that the next one begins with
-use Rattle.std.proofs.Common.{◌≡◌, ◌⊎◌, inl, inr, ℕ, zero, suc, ◌+◌, ◌-◌, ◌<◌, ◌≤◌, Bool, true, false, cond, List, [], ◌∷◌, ◌++◌, length, map, take, drop, Option, Some, None, refl, sym, ap, ◌∙◌, subst, arith, min}
-use Rattle.std.specs.Prelude.{IsSome, IfSome, nat_le, if◌then◌else◌, ◌==◌, position, slice_get, option_and_then}
+use Rattle.std.proofs.Common.{◌≡◌, ℕ, zero, suc, ◌+◌, ◌-◌, ◌<◌, ◌≤◌, Bool, true, false, cond, List, [], ◌∷◌, ◌++◌, length, map, take, drop, Option, Some, None, refl, sym, ap, ◌∙◌, subst, arith, min}
+use Rattle.std.specs.Prelude.{IsSome, nat_le, if◌then◌else◌, ◌==◌, position, slice_get}
 use Rattle.std.specs.Option.{option_map_or}
 use Rattle.std.specs.List.{AllByRecursion, position_from}
-use Rattle.std.proofs.lemmas.Bool.{leb-true, leb-false, lt-leb}
-use Rattle.std.proofs.lemmas.List.{append-nil, map-append, length-map, length-drop, length-take, length-append, take-map, take_all, take-append-drop}
+use Rattle.std.proofs.lemmas.Bool.{leb-true, leb-false}
+use Rattle.std.proofs.lemmas.List.{append-nil, map-append, length-map, length-drop, length-take, take-map, take_all, take-append-drop}
 use Rattle.std.proofs.lemmas.Iterator.Adapters.{position_from-zero}
 use Rattle.history_file.specs.declared.event.Event.TheVariants as owns
 use Rattle.history_file.specs.Event.{Event}
@@ -14,8 +14,8 @@ use Rattle.nfs3_types.specs.declared.calls.NfsCall.{NfsCall}
 use Rattle.nfs3_types.specs.declared.replies.Outcome.{Outcome}
 use Rattle.nfs_history.specs.declared.history.RecordedCall.{RecordedCall}
 use Rattle.nfs_history.specs.Calls.{CallEvent, calls_from, calls_of, eras_from}
-use Rattle.nfs_history.specs.HistoryValue.{CallsValue, HistoryValue}
-use Rattle.nfs_history.specs.History.{AreRecorded, AreCallsOf, IsHistory, recording_of}
+use Rattle.nfs_history.specs.HistoryValue.{HistoryValue}
+use Rattle.nfs_history.specs.History.{AreRecorded, AreCallsOf, IsHistory}
 use Rattle.nfs_history.specs.Appending.{with_event}
 use Rattle.nfs_history.specs.Precedence.{call_at}
 use Rattle.nfs_history.proofs.OneHistory.{known_once}
@@ -24,16 +24,16 @@ use Rattle.replay_law.specs.Undone.{UndoesAll}
 use Rattle.tree_nodes.specs.declared.undo.Undo.{Undo}
 use Rattle.tree_nodes.specs.Tree.{Tree, opening}
 use Rattle.tree_nodes.specs.Undo.{TakesBack}
-use Rattle.tree_nodes.proofs.Chains.{value_of, decide}
-use Rattle.tree_handles.specs.Binding.{Bindings, object_of}
+use Rattle.tree_nodes.proofs.Chains.{value_of}
+use Rattle.tree_handles.specs.Binding.{Bindings}
 use Rattle.file_tree.specs.Success.{next_tree}
 use Rattle.journal_device.specs.Device.{Device, recovered}
-use Rattle.book_machine.specs.Placing.{Placed, is_recorded, records_in, front_with}
-use Rattle.book_machine.specs.Book.{Book, bindings, bindings_made, tree_of, records_kept}
+use Rattle.book_machine.specs.Placing.{Placed, is_recorded, front_with}
+use Rattle.book_machine.specs.Book.{Book, bindings, tree_of, records_kept}
 use Rattle.book_machine.specs.Book.Condition.{dead as is_dead}
-use Rattle.book_machine.specs.Steps.{with_crash, Crashes, Steps}
+use Rattle.book_machine.specs.Steps.{Crashes}
 use Rattle.book_machine.specs.Steps.Steps.{crashes}
-use Rattle.book_machine.proofs.Invariant.{Over, IsKnown, AreKnown, AllKnown, AllRun, IsCutSafely, IsInvariant}
+use Rattle.book_machine.proofs.Invariant.{Over, AreKnown, AllKnown, AllRun, IsCutSafely, IsInvariant}
 use Rattle.book_machine.proofs.Growing.{IsGenuine, genuine_crash}
 use Rattle.book_machine.proofs.Bound.{tree_stands, front_runs}
 use Rattle.book_machine.proofs.Lists.{all_append}
@@ -41,14 +41,13 @@ use Rattle.replay_law.proofs.Crashes.{kept_one_more}
 use Rattle.book_machine.proofs.Pushed.{SameNames, same_next}
 use Rattle.recorder.specs.declared.placed.PlacedCall.{PlacedCall}
 use Rattle.recorder.specs.declared.placed.EraOver.{EraOver}
-use Rattle.recorder.specs.declared.placed.CallState.{CallState}
 use Rattle.recorder.specs.declared.placed.Condition as code
 use Rattle.recorder.specs.declared.placed.Condition.TheVariants as codes
 use Rattle.recorder.specs.declared.ledger.Ledger.{Ledger}
-use Rattle.recorder.specs.Inside.{AreAsked, IsAsked, placed_in, era_in, condition_of, book_of, IsReached, AreCounted, tree_behind, IsShort, AreTied, Goes}
+use Rattle.recorder.specs.Inside.{AreAsked, placed_in, era_in, condition_of, book_of, IsReached, AreCounted, tree_behind, IsShort, AreTied, Goes}
 use Rattle.recorder.specs.Undoing.{IsSoundEra, steps_kept, CanRunAgain, LeadBack, Loses, GoesDown, IsReady, Restarts}
 use Rattle.recorder.proofs.Reaching.{reached_holds, reach_more}
-use Rattle.recorder.proofs.Parts.{Parts, parts_of, book_with, HavePlaces, Tied, to_parts, from_parts, same_parts, down_tied, treeless}
+use Rattle.recorder.proofs.Parts.{Parts, parts_of, book_with, Tied, to_parts, from_parts, same_parts, down_tied, treeless}
 
 -- ---- how many calls are kept
 

@@ -11,11 +11,13 @@ pub mod Answered
 pub mod Plans
 pub mod Opening
 pub mod Whole
+pub mod Explaining
 pub mod Begun
 pub mod Flushed
 pub mod Reaching
 pub mod Undoing
 pub mod Parts
+pub mod Rising
 pub mod CrashSteps
 pub mod Naming
 pub mod Making

@@ -1,6 +1,6 @@
 -- which calls make the object of their number, and what its handle means to them
-use Rattle.std.proofs.Common.{◌≡◌, ◌≢◌, ◌⊎◌, inl, inr, ℕ, suc, ◌<◌, Bool, true, false, cond, List, [], ◌∷◌, ◌++◌, length, replicate, Option, Some, None, refl, sym, ap, ◌∙◌, subst, eq-eqb, arith}
-use Rattle.std.specs.Prelude.{IsSome, ◌==◌, ◌&&◌, is_some, is_none, nat_lt, nat_le, if◌then◌else◌, option_and_then, option_map}
+use Rattle.std.proofs.Common.{◌≡◌, ◌≢◌, inl, inr, ℕ, suc, Bool, true, false, List, [], ◌∷◌, ◌++◌, replicate, Option, Some, None, refl, sym, ap, ◌∙◌, subst, eq-eqb, arith}
+use Rattle.std.specs.Prelude.{IsSome, ◌==◌, if◌then◌else◌, option_and_then, option_map}
 use Rattle.std.specs.Option.{option_map_or}
 use Rattle.std.specs.FinMap as map
 use Rattle.nfs3_types.specs.declared.calls.NfsCall.{NfsCall}
@@ -11,29 +11,26 @@ use Rattle.nfs3_types.specs.declared.calls.DirectoryName.{DirectoryName}
 use Rattle.nfs3_types.specs.declared.replies.Answer.TheVariants.{Done}
 use Rattle.nfs3_types.specs.declared.replies.NfsReply.{NfsReply}
 use Rattle.nfs3_types.specs.declared.replies.NfsReply.TheVariants as replies
-use Rattle.nfs3_types.specs.declared.replies.Outcome.{Outcome}
 use Rattle.nfs3_types.specs.declared.replies.Outcome.TheVariants as outcomes
 use Rattle.nfs3_types.specs.declared.status.Failure.{Failure}
 use Rattle.nfs3_types.specs.Procedures.{failure_in}
-use Rattle.nfs3_types.specs.Limits.{file_limit}
 use Rattle.tree_nodes.specs.declared.node.Node.{Node}
 use Rattle.tree_nodes.specs.declared.node.Content.{Content}
 use Rattle.tree_nodes.specs.declared.node.Content.TheVariants as contents
-use Rattle.tree_nodes.specs.Files.{node_limit, file_node}
+use Rattle.tree_nodes.specs.Files.{file_node}
 use Rattle.tree_nodes.specs.Tree.{Names, Tree, entry_of}
-use Rattle.tree_nodes.proofs.Chains.{chained, mapped, passed, same_some, decide}
+use Rattle.tree_nodes.proofs.Chains.{chained, mapped, same_some}
 use Rattle.tree_nodes.proofs.Found.{some_found}
 use Rattle.tree_handles.specs.Binding.{Bindings, object_of, is_bound, gives_object}
 use Rattle.tree_handles.specs.Live.{live_entry, as_directory, directory_of}
 use Rattle.tree_handles.specs.Entry.{is_plain}
 use Rattle.file_tree.specs.Change.{Change}
-use Rattle.file_tree.specs.Change.Change.{Keep, Put}
+use Rattle.file_tree.specs.Change.Change.{Put}
 use Rattle.file_tree.specs.Made as made
 use Rattle.file_tree.specs.Success.{changed, change_done, change_answered, next_tree}
 use Rattle.tree_laws.specs.Agreeing.{AgreeOn}
 use Rattle.tree_laws.proofs.Agreeing.{others_dont_matter}
 use Rattle.tree_laws.proofs.Keeping.{put_there}
-use Rattle.tree_laws.proofs.Kept.{failure_leaves}
 use Rattle.book_machine.proofs.Bound.{stays_absent}
 use Rattle.recorder.specs.Recordable.{may_make}
 use Rattle.recorder.proofs.Naming.{named_so}

@@ -1,6 +1,6 @@
 -- what handles name, with the handle of an object bound or let go
 use Rattle.std.proofs.Common.{◌≡◌, ◌≢◌, ◌⊎◌, inl, inr, ℕ, ◌<◌, ◌^◌, Bool, true, false, cond, List, [], ◌∷◌, ◌++◌, map, Option, Some, None, refl, sym, ap, ◌∙◌, eq-eqb, arith}
-use Rattle.std.specs.Prelude.{IsSome, ◌==◌, not, if◌then◌else◌, filter}
+use Rattle.std.specs.Prelude.{◌==◌, not, if◌then◌else◌}
 use Rattle.std.specs.Option.{option_map_or}
 use Rattle.std.specs.List.{AllByRecursion}
 use Rattle.std.specs.Map.{lookup}
@@ -10,13 +10,13 @@ use Rattle.std.proofs.lemmas.Bool.{eqb-true}
 use Rattle.xdr_records.specs.Texts.{long_text}
 use Rattle.xdr_records.specs.Items.{long_of}
 use Rattle.xdr_records.proofs.Written.{long_spelled}
-use Rattle.tree_nodes.proofs.Chains.{decide, differ, isnt}
+use Rattle.tree_nodes.proofs.Chains.{decide}
 use Rattle.tree_handles.specs.Binding.{Bindings, same_bytes, object_of, is_bound, pairs_without}
 use Rattle.tree_handles.proofs.Lookups.{same_is}
 use Rattle.file_tree.specs.Success.{next_tree}
 use Rattle.book_machine.specs.Book.{handle_of, bindings_made}
 use Rattle.book_machine.specs.Steps.{with_object}
-use Rattle.book_machine.proofs.Handles.{pair, is_paired, without_own as never_paired}
+use Rattle.book_machine.proofs.Handles.{pair, without_own as never_paired}
 use Rattle.book_machine.proofs.Pushed.{SameNames, same_next, pushed}
 use Rattle.recorder.specs.PlaceSteps.{with_own, without_own, NameAlike}
 

@@ -1,18 +1,13 @@
 -- the parts of a book behind the place of a call
-use Rattle.std.proofs.Common.{◌≡◌, ◌≢◌, ◌⊎◌, inl, inr, ℕ, zero, suc, ◌+◌, ◌-◌, ◌<◌, ◌≤◌, ◌^◌, Bool, true, false, cond, List, [], ◌∷◌, ◌++◌, length, map, take, Option, Some, None, refl, sym, ap, ◌∙◌, subst, arith}
-use Rattle.std.specs.Prelude.{IsSome, IfSome, ◌&&◌, not, is_none, is_some, if◌then◌else◌, slice_get, slice_set, option_and_then}
-use Rattle.std.specs.Option.{option_map_or}
+use Rattle.std.proofs.Common.{◌≡◌, ◌≢◌, ◌⊎◌, inl, inr, ℕ, zero, suc, ◌+◌, ◌-◌, ◌<◌, ◌≤◌, ◌^◌, Bool, true, false, List, [], ◌∷◌, ◌++◌, length, take, Option, Some, None, refl, sym, ap, ◌∙◌, subst, arith}
+use Rattle.std.specs.Prelude.{IsSome, IfSome, ◌&&◌, is_some, if◌then◌else◌, slice_get, slice_set}
 use Rattle.std.specs.List.{AllByRecursion}
 use Rattle.std.proofs.lemmas.List.{map-append, length-append, append_assoc}
-use Rattle.std.proofs.lemmas.Option.{slice_get_within, slice_get-get_or}
-use Rattle.std.proofs.Common.{get_or}
+use Rattle.std.proofs.lemmas.Option.{slice_get_within}
 use Rattle.xdr_records.specs.Record.{record_limit}
 use Rattle.nfs3_types.specs.declared.calls.NfsCall.{NfsCall}
-use Rattle.nfs3_types.specs.declared.calls.NfsCall.TheVariants as calls
 use Rattle.nfs3_types.specs.declared.replies.NfsReply.{NfsReply}
-use Rattle.nfs3_types.specs.declared.replies.Outcome.{Outcome}
 use Rattle.nfs3_types.specs.declared.replies.Outcome.TheVariants as outcomes
-use Rattle.nfs_history.specs.declared.history.Meaning.{Meaning}
 use Rattle.nfs_history.specs.declared.history.Meaning.TheVariants as meanings
 use Rattle.nfs_history.specs.declared.history.RecordedCall.{RecordedCall}
 use Rattle.nfs_history.specs.Precedence.{call_at}
@@ -29,10 +24,10 @@ use Rattle.journal_device.specs.Device.{Device}
 use Rattle.book_machine.specs.Placing.{Placed, is_recorded, records_in, front_with}
 use Rattle.book_machine.specs.Book.{Book, handle_of, bindings, bindings_made, tree_of, records_kept}
 use Rattle.book_machine.specs.Served.{IsServed}
-use Rattle.book_machine.specs.Steps.{IsOfNow, IsUnplaced, HasMessage, ShowsEra, Places, Steps, step_of, with_object, with_made, with_record, reply_message, journal_record}
+use Rattle.book_machine.specs.Steps.{IsOfNow, IsUnplaced, HasMessage, ShowsEra, Places, step_of, with_object, with_made, with_record, reply_message, journal_record}
 use Rattle.book_machine.specs.Steps.Steps.{places}
 use Rattle.book_machine.proofs.Invariant.{IsInvariant}
-use Rattle.book_machine.proofs.Lists.{all_append, all_each, all_ahead}
+use Rattle.book_machine.proofs.Lists.{all_append, all_each}
 use Rattle.book_machine.proofs.Legal.{opening_alone}
 use Rattle.book_machine.proofs.Bound.{AreApart, apart_front, kept_apart, run_same}
 use Rattle.book_machine.proofs.Running.{unrecorded_leaves}
@@ -43,8 +38,8 @@ use Rattle.recorder.specs.declared.placed.PlacedCall.{PlacedCall}
 use Rattle.recorder.specs.declared.placed.CallState.{CallState}
 use Rattle.recorder.specs.declared.placed.Condition.TheVariants as codes
 use Rattle.recorder.specs.declared.placing.TreeStep.{TreeStep}
-use Rattle.recorder.specs.Inside.{AreAsked, asked_by, call_in, placed_in, made_from, condition_of, IsReached, tree_behind}
-use Rattle.recorder.specs.PlaceSteps.{with_own, bound_if, NameAlike, TakesStep}
+use Rattle.recorder.specs.Inside.{asked_by, placed_in, made_from, condition_of, IsReached, tree_behind}
+use Rattle.recorder.specs.PlaceSteps.{bound_if, TakesStep}
 use Rattle.recorder.proofs.Reaching.{reached_holds, reach_more}
 use Rattle.recorder.proofs.Parts.{Parts, book_with, HavePlaces, Tied}
 use Rattle.recorder.proofs.CrashSteps.{now_asked}
@@ -53,7 +48,7 @@ use Rattle.recorder.proofs.Making.{none_made}
 use Rattle.recorder.proofs.Apart.{isnt_zero, apart_eras, apart_all, others, absent}
 use Rattle.recorder.proofs.Noting.{made_more, made_same, hadnt_made, counted_more, placing, places_more}
 use Rattle.recorder.proofs.Behind.{front_same, behind_all}
-use Rattle.recorder.proofs.PlaceSteps.{nothing, step_made, given}
+use Rattle.recorder.proofs.PlaceSteps.{step_made, given}
 
 -- a call that may be placed, ahead of its step
 pub record IsReadyFor (p : Parts) (device : Device) (number : ℕ) (before : Tree) : Type 0 where

@@ -1,10 +1,10 @@
 -- what of a book's parts in memory is seen, without where it lies
-use Rattle.std.proofs.Common.{◌≡◌, ◌⊎◌, inl, inr, ℕ, ◌+◌, ◌-◌, true, false, List, [], ◌∷◌, ◌++◌, length, map, Option, Some, None, refl, sym, ap, ◌∙◌, subst}
+use Rattle.std.proofs.Common.{◌≡◌, inl, inr, ℕ, ◌+◌, ◌-◌, true, false, List, ◌++◌, length, map, Option, Some, None, refl, sym, ◌∙◌}
 use Rattle.std.specs.Prelude.{IsSome, IfSome, slice_get}
 use Rattle.std.specs.List.{AllByRecursion}
 use Rattle.history_file.specs.declared.event.Event.{Event}
 use Rattle.nfs_history.specs.declared.history.RecordedCall.{RecordedCall}
-use Rattle.nfs_history.specs.HistoryValue.{CallsValue, HistoryValue}
+use Rattle.nfs_history.specs.HistoryValue.{CallsValue}
 use Rattle.nfs_history.specs.Precedence.{call_at}
 use Rattle.replay_law.specs.Undone.{UndoesAll}
 use Rattle.tree_nodes.specs.declared.undo.Undo.{Undo}
@@ -14,7 +14,7 @@ use Rattle.tree_handles.specs.Binding.{Bindings, object_of}
 use Rattle.journal_device.specs.Device.{Device, failed}
 use Rattle.book_machine.specs.Book.{Book, Condition, bindings, tree_of, records_kept}
 use Rattle.book_machine.specs.Book.Condition.{running as is_running, down as is_down, dead as is_dead}
-use Rattle.book_machine.specs.Steps.{MayBecome, Refuses, Steps}
+use Rattle.book_machine.specs.Steps.{MayBecome}
 use Rattle.book_machine.specs.Steps.Steps.{refuses}
 use Rattle.recorder.specs.declared.placed.PlacedCall.{PlacedCall}
 use Rattle.recorder.specs.declared.placed.EraOver.{EraOver}
@@ -22,7 +22,7 @@ use Rattle.recorder.specs.declared.placed.CallState.{CallState}
 use Rattle.recorder.specs.declared.placed.Condition as code
 use Rattle.recorder.specs.declared.placed.Condition.TheVariants as codes
 use Rattle.recorder.specs.declared.ledger.Ledger.{Ledger}
-use Rattle.recorder.specs.Inside.{placed_in, era_in, made_from, condition_of, book_of, IsReached, AreCounted, tree_behind, ArePlaced, IsShort, AreTied}
+use Rattle.recorder.specs.Inside.{placed_in, era_in, made_from, condition_of, IsReached, AreCounted, tree_behind, IsShort, AreTied}
 use Rattle.recorder.proofs.Reaching.{reach_more}
 
 pub record Parts : Type 0 where

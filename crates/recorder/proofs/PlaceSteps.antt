@@ -1,11 +1,9 @@
 -- the place of a call: the step of the book, and how its parts belong together afterwards
-use Rattle.std.proofs.Common.{◌≡◌, ◌≢◌, ◌⊎◌, inl, inr, ℕ, zero, suc, ◌+◌, ◌-◌, ◌<◌, ◌≤◌, ◌^◌, Bool, true, false, cond, List, [], ◌∷◌, ◌++◌, length, map, take, Option, Some, None, refl, sym, ap, ◌∙◌, subst, arith}
-use Rattle.std.specs.Prelude.{IsSome, IfSome, ◌&&◌, ◌==◌, is_some, if◌then◌else◌, slice_get, slice_set, option_and_then}
+use Rattle.std.proofs.Common.{◌≡◌, ◌≢◌, inl, inr, ℕ, ◌<◌, ◌^◌, Bool, true, false, cond, List, Option, Some, None, refl, sym, ap, ◌∙◌, subst}
+use Rattle.std.specs.Prelude.{IsSome, ◌==◌, is_some, if◌then◌else◌, option_and_then}
 use Rattle.std.specs.Option.{option_map_or}
 use Rattle.std.specs.List.{AllByRecursion}
-use Rattle.std.proofs.lemmas.List.{map-append, length-append}
 use Rattle.std.proofs.lemmas.Bool.{ne_eqb}
-use Rattle.xdr_records.specs.Record.{record_limit}
 use Rattle.nfs3_types.specs.declared.calls.NfsCall.{NfsCall}
 use Rattle.nfs3_types.specs.declared.calls.NfsCall.TheVariants as calls
 use Rattle.nfs3_types.specs.declared.replies.Answer.TheVariants.{Done}
@@ -15,34 +13,20 @@ use Rattle.nfs3_types.specs.declared.replies.Outcome.{Outcome}
 use Rattle.nfs3_types.specs.declared.replies.Outcome.TheVariants as outcomes
 use Rattle.nfs3_types.specs.declared.status.Failure.{Failure}
 use Rattle.nfs3_types.specs.Procedures.{failure_in}
-use Rattle.nfs_history.specs.declared.history.Meaning.TheVariants as meanings
-use Rattle.nfs_history.specs.declared.history.RecordedCall.{RecordedCall}
-use Rattle.nfs_history.specs.Precedence.{call_at}
-use Rattle.replay_law.specs.Run.{state_after, kept_steps}
-use Rattle.replay_law.specs.Undone.{UndoesAll}
-use Rattle.replay_law.proofs.Undos.{one_more_undone}
-use Rattle.tree_nodes.specs.declared.undo.Undo.{Undo}
 use Rattle.tree_nodes.specs.declared.node.Node.{Node}
-use Rattle.tree_nodes.specs.Tree.{Names, Tree, opening, entry_of}
-use Rattle.tree_nodes.specs.Undo.{TakesBack}
+use Rattle.tree_nodes.specs.Tree.{Names, Tree, entry_of}
 use Rattle.tree_handles.specs.Binding.{Bindings, object_of, is_bound}
 use Rattle.tree_handles.specs.Live.{as_file, file_of}
 use Rattle.file_tree.specs.Allows.{AllowsSuccess}
 use Rattle.file_tree.specs.Success.{next_tree}
 use Rattle.tree_laws.proofs.Kept.{failure_leaves}
-use Rattle.journal_device.specs.Device.{Device}
-use Rattle.book_machine.specs.Placing.{Placed, is_recorded, records_in, front_with}
-use Rattle.book_machine.specs.Book.{Book, handle_of, bindings, bindings_made, tree_of, records_kept}
-use Rattle.book_machine.specs.Served.{IsFull, IsFailed, serves, IsServed}
-use Rattle.book_machine.specs.Steps.{IsOpen, IsOfNow, IsUnplaced, HasMessage, ShowsEra, Places, Steps, step_of, with_object, with_made, with_record, reply_message, journal_record}
-use Rattle.book_machine.specs.Steps.Steps.{places}
-use Rattle.book_machine.proofs.Invariant.{IsInvariant}
-use Rattle.book_machine.proofs.Running.{unrecorded_leaves}
+use Rattle.book_machine.specs.Book.{bindings_made}
+use Rattle.book_machine.specs.Served.{IsFull, serves, IsServed}
+use Rattle.book_machine.specs.Steps.{with_object, with_made}
 use Rattle.recorder.specs.Recordable.{may_make}
 use Rattle.recorder.specs.Serving.{IsAllowed}
-use Rattle.recorder.specs.declared.placing.TreeStep.{TreeStep}
-use Rattle.recorder.specs.PlaceSteps.{with_own, bound_if, NameAlike, TakesStep}
-use Rattle.recorder.proofs.Naming.{alike_same, alike_own, own_is, first_of, own_next, own_alike, alike_next}
+use Rattle.recorder.specs.PlaceSteps.{with_own, bound_if, NameAlike}
+use Rattle.recorder.proofs.Naming.{own_is, first_of, own_next, alike_next}
 use Rattle.recorder.proofs.Making.{none_made, stays_so}
 
 pub nothing : {X : Type 0} (o : Option X) → is_some o ≡ false → o ≡ None

@@ -1,6 +1,6 @@
 -- the turns of a call that is placed, over the parts in memory
-use Rattle.std.proofs.Common.{◌≡◌, ◌≢◌, ◌⊎◌, inl, inr, ℕ, zero, suc, ◌+◌, ◌-◌, ◌<◌, ◌≤◌, ◌^◌, Bool, true, false, List, [], ◌∷◌, ◌++◌, length, map, Option, Some, None, refl, sym, ap, ◌∙◌, subst, arith}
-use Rattle.std.specs.Prelude.{IsSome, IfSome, is_some, if◌then◌else◌, slice_get, slice_set, option_map}
+use Rattle.std.proofs.Common.{◌≡◌, ℕ, zero, suc, ◌-◌, ◌<◌, ◌≤◌, ◌^◌, Bool, true, false, List, [], ◌∷◌, ◌++◌, length, Option, Some, None, refl, sym, ap, ◌∙◌, subst}
+use Rattle.std.specs.Prelude.{IfSome, is_some, if◌then◌else◌, slice_get, slice_set, option_map}
 use Rattle.std.specs.Option.{option_map_or}
 use Rattle.std.proofs.lemmas.Option.{slice_get-map}
 use Rattle.xdr_records.specs.Record.{record_limit}
@@ -11,10 +11,8 @@ use Rattle.nfs3_types.specs.declared.replies.Outcome.{Outcome}
 use Rattle.nfs3_types.specs.declared.replies.Outcome.TheVariants as outcomes
 use Rattle.history_file.specs.declared.event.Event as owned
 use Rattle.history_file.specs.declared.event.Event.TheVariants as owns
-use Rattle.history_file.specs.Event.{Event}
-use Rattle.history_file.specs.Event.Event.{call, reply, close, crash}
+use Rattle.history_file.specs.Event.Event.{call}
 use Rattle.history_file.specs.Owning.{happened, all_happened}
-use Rattle.nfs_history.specs.declared.history.Meaning.{Meaning}
 use Rattle.nfs_history.specs.declared.history.Meaning.TheVariants as meanings
 use Rattle.nfs_history.specs.declared.history.RecordedCall.{RecordedCall}
 use Rattle.nfs_history.specs.HistoryValue.{HistoryValue}
@@ -26,11 +24,11 @@ use Rattle.cut_check.specs.Verifier.{verifier_of}
 use Rattle.tree_handles.specs.Binding.{Bindings, object_of}
 use Rattle.file_tree.specs.Success.{next_tree}
 use Rattle.journal_device.specs.Device.{Device}
-use Rattle.book_machine.specs.Placing.{Placed, is_recorded}
-use Rattle.book_machine.specs.Book.{Book, handle_of, bindings, bindings_made, tree_of}
+use Rattle.book_machine.specs.Placing.{is_recorded}
+use Rattle.book_machine.specs.Book.{Book, bindings, bindings_made}
 use Rattle.book_machine.specs.Book.Condition.{running as is_running, down as is_down}
 use Rattle.book_machine.specs.Served.{IsServed}
-use Rattle.book_machine.specs.Steps.{IsOfNow, IsUnplaced, HasMessage, Places, step_of, with_made, with_record, reply_message, journal_record}
+use Rattle.book_machine.specs.Steps.{IsUnplaced, Places, step_of, with_made, with_record, reply_message, journal_record}
 use Rattle.book_machine.proofs.Growing.{IsGenuine, event_of}
 use Rattle.recorder.specs.Refusals.{IsNow}
 use Rattle.recorder.specs.Recordable.{may_make}
@@ -38,8 +36,8 @@ use Rattle.recorder.specs.declared.placed.Condition as code
 use Rattle.recorder.specs.declared.placed.Condition.TheVariants as codes
 use Rattle.recorder.specs.declared.placing.TreeStep.{TreeStep}
 use Rattle.recorder.specs.declared.ledger.Ledger.{Ledger}
-use Rattle.recorder.specs.Inside.{call_in, asked_by, condition_of, book_of, IsReached, IsAsked, AreTied}
-use Rattle.recorder.specs.PlaceSteps.{with_own, without_own, bound_if, NameAlike, TakesStep, HasStepped, HasNoStep, HasStayed, ShowsNow, MayGive, GivesAllowed, IsShortAnswer, HasPlaced, HasLost, IsSame}
+use Rattle.recorder.specs.Inside.{call_in, asked_by, condition_of, book_of, AreTied}
+use Rattle.recorder.specs.PlaceSteps.{without_own, bound_if, NameAlike, TakesStep, HasStepped, HasNoStep, HasStayed, ShowsNow, MayGive, IsShortAnswer, HasPlaced, HasLost, IsSame}
 use Rattle.recorder.proofs.Reaching.{reached_holds, reached_asked}
 use Rattle.recorder.proofs.Parts.{Parts, parts_of, book_with, Tied, to_parts, from_parts, same_parts, down_tied, treeless}
 use Rattle.recorder.proofs.Naming.{forgotten_so, alike_next}

@@ -1,10 +1,11 @@
 -- from the parts of a book to the book
-use Rattle.std.proofs.Common.{◌≡◌, ℕ, Result, Ok, Err, subst}
+use Rattle.std.proofs.Common.{◌≡◌, ℕ, List, Result, Ok, Err, subst}
 use Rattle.std.specs.Prelude.{IfOk, IfErr, OnOk}
 use Rattle.journal_device.specs.Device.{Device}
 use Rattle.book_machine.specs.Book.{Book}
 use Rattle.recorder.specs.declared.ledger.Ledger.{Ledger}
 use Rattle.recorder.specs.Inside.{book_of, AreTied, Goes, GoesAt}
+use Rattle.recorder.specs.Sending.{IsSent}
 
 -- what goes over every device goes over this one
 module _ (old new : Ledger) (device : Device) (t : AreTied old device) (o n : Book) (is : book_of old device ≡ o) (is_new : book_of new device ≡ n) where
@@ -22,6 +23,11 @@ module _ (old new : Ledger) (device : Device) (t : AreTied old device) (o n : Bo
   pub if_err_whole : {X E : Type 0} (Step : E → Book → Book → Type 0) (r : Result X E) → IfErr r (λ e. Goes (Step e) old new) → IfErr r (λ e. Step e o n)
   if_err_whole Step (Ok x) goes = tt
   if_err_whole Step (Err e) goes = step_whole (Step e) (goes device t).1
+
+  -- what goes out is what was recorded
+  pub sent_whole : {X E : Type 0} (items : X → List ℕ) (r : Result X E) → IfOk r (λ x. IsSent old.history (items x) new.history) → IfOk r (λ x. IsSent o.history (items x) n.history)
+  sent_whole items (Ok x) sent = step_whole (λ a b. IsSent a.history (items x) b.history) sent
+  sent_whole items (Err e) sent = tt
 
   module _ (mark : ℕ) (at : device.mark ≡ mark) where
     pub on_ok_at : {X E : Type 0} (Step : Book → Book → Type 0) (r : Result X E) → OnOk r (GoesAt mark Step old new) → OnOk r (Step o n)

@@ -3,6 +3,7 @@ pub mod JoinedFaults
 pub mod Recordable
 pub mod Serving
 pub mod Refusals
+pub mod Sending
 pub mod Turns
 pub mod Inside
 pub mod Undoing

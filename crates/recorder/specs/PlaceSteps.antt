@@ -1,5 +1,5 @@
 -- What is said to the prover of a call that is placed: the step that it takes in the tree, and what stands of it afterwards.
-use Rattle.std.specs.Prelude.{◌≡◌, ◌≢◌, ◌&&◌, ℕ, ◌+◌, ◌-◌, ◌<◌, ◌≤◌, Bool, true, false, List, [], ◌∷◌, ◌++◌, length, slice_get, slice_set, vec_len, vec_capacity, Option, Some, None, IsSome, IfSome, is_some, ⊤, if◌then◌else◌}
+use Rattle.std.specs.Prelude.{◌≡◌, ◌≢◌, ◌&&◌, ℕ, ◌-◌, ◌<◌, ◌≤◌, Bool, true, false, List, [], ◌∷◌, ◌++◌, length, slice_get, slice_set, vec_len, vec_capacity, Option, Some, None, IfSome, is_some, ⊤, if◌then◌else◌}
 use Rattle.std.specs.declared.vec.Vec.{Vec}
 use Rattle.std.specs.declared.alloc.Global.{Global}
 use Rattle.xdr_records.specs.Record.{record_limit}
@@ -18,10 +18,9 @@ use Rattle.cut_check.specs.Verifier.{verifier_of}
 use Rattle.journal_device.specs.Device.{Device, appended}
 use Rattle.book_machine.specs.Book.{Book, handle_of}
 use Rattle.book_machine.specs.Book.Condition.{down, dead}
-use Rattle.book_machine.specs.Placing.{Placed, is_recorded}
+use Rattle.book_machine.specs.Placing.{is_recorded}
 use Rattle.book_machine.specs.Served.{IsServed}
 use Rattle.book_machine.specs.Steps.{reply_message, journal_record}
-use Rattle.recorder.specs.declared.placed.PlacedCall.{PlacedCall}
 use Rattle.recorder.specs.declared.placed.Condition.TheVariants as codes
 use Rattle.recorder.specs.declared.placing.TreeStep.{TreeStep}
 use Rattle.recorder.specs.declared.ledger.Ledger.{Ledger}

@@ -1,6 +1,6 @@
 -- When a call of a book is refused, and what stands afterwards: of each call the refusals in their order, each where those ahead of it
 -- don't apply. The want of memory says nothing of the call.
-use Rattle.std.specs.Prelude.{◌≡◌, ◌≢◌, ◌⊎◌, ℕ, ◌<◌, true, List, ◌∷◌, ◌++◌, length, Some, None, Contains, Result, IfErr}
+use Rattle.std.specs.Prelude.{◌≡◌, ◌≢◌, ◌⊎◌, ℕ, ◌<◌, ◌≤◌, true, List, ◌∷◌, ◌++◌, length, Some, None, Contains, Result, IfErr}
 use Rattle.nfs3_types.specs.declared.replies.NfsReply.{NfsReply}
 use Rattle.history_file.specs.Owning.{all_happened}
 use Rattle.history_file.specs.Event.Event.{close}
@@ -109,19 +109,25 @@ AnswerStops book number answer.OutOfTurn =
 AnswerStops book number (answer.NotDurable mark) =
     (book.condition ≡ running) × (mark ≡ book.device.mark)
     × ((ahead : List Placed) × (step : Placed) × IsAnswerable book number ahead step × (¬ IsDurable (records_kept book) mark ahead step))
-AnswerStops book number answer.NoMemory = (book.condition ≡ running) × IsNow book number
+AnswerStops book number answer.NoMemory =
+    (book.condition ≡ running)
+    × ((ahead : List Placed) × (step : Placed) × IsAnswerable book number ahead step × IsDurable (records_kept book) book.device.mark ahead step)
 
 abbrev pub CloseStops : Book → ℕ → CloseFault → Type 0
 CloseStops book lane (closing.EraOver now) = IsOfEarlierEra book lane × (now ≡ book.history.known.eras)
 CloseStops book lane closing.LaneClosed = WasClosed book lane
 CloseStops book lane closing.NoMemory = IsOpen book lane
 
+-- a crash may leave so many records
+abbrev pub MayKeep : Book → ℕ → Type 0
+MayKeep book keep = (book.device.mark ≤ keep) × (keep ≤ length book.device.records)
+
 abbrev pub CrashStops : Book → ℕ → CrashFault → Type 0
 CrashStops book keep crash.Down = book.condition ≡ dead
 CrashStops book keep (crash.KeepTooSmall mark) = (book.condition ≢ dead) × (mark ≡ book.device.mark) × (keep < mark)
 CrashStops book keep (crash.KeepTooLarge len) = (book.condition ≢ dead) × (len ≡ length book.device.records) × (len < keep)
-CrashStops book keep crash.DeviceFault = book.condition ≢ dead
-CrashStops book keep crash.NoMemory = book.condition ≢ dead
+CrashStops book keep crash.DeviceFault = (book.condition ≢ dead) × MayKeep book keep
+CrashStops book keep crash.NoMemory = (book.condition ≢ dead) × MayKeep book keep
 
 abbrev pub after_crash : Book → CrashFault → Book
 after_crash book crash.DeviceFault = record book { condition = dead; device = failed book.device }

@@ -10,6 +10,7 @@ ghost use Rattle.book_machine.specs.Book.{records_kept};
 ghost use Rattle.book_machine.specs.Steps.{Answers};
 ghost use Rattle.recorder.specs.Inside.{IsTied, StandsAt, OnlyHistory, GoesAt, Holds};
 ghost use Rattle.recorder.specs.Refusals.{IsNow, AnswerStops};
+ghost use Rattle.recorder.specs.Sending.{IsSent};
 ghost use Rattle.recorder.specs.Turns.{IsDurableAt, IsAnswerAt};
 
 use crate::calls::promises;
@@ -56,6 +57,7 @@ impl Ledger {
         ensures as_far { self.new.calls.items ≡ self.old.calls.items }
         ensures taken { OnOk result ((call : RecordedCall) → call_at self.old.history.known.calls number ≡ Some call
             → Follows self.old.history (events.Reply call.lane answer.items) self.new.history) }
+        ensures sent { IfOk result (λ message. IsSent self.old.history message.items self.new.history) }
         ensures kept { OnErr result (self.new.history ≡ self.old.history) }
         ensures memory { IfErr result (λ fault. fault ≡ AnswerFault.NoMemory) }
     {
@@ -79,6 +81,7 @@ impl Ledger {
         requires ready { Holds (λ book. (book.condition ≡ running) × IsNow book number × (end_of book.history.known.calls number ≡ None)) self.old }
         requires durable { Holds (λ book. IsDurableAt (records_kept book) mark book.placed place) self.old }
         ensures answered { OnOk result (GoesAt mark (λ old new. Answers old number new) self.old self.new) }
+        ensures sent { IfOk result (λ message. IsSent self.old.history message.items self.new.history) }
         ensures refused { IfErr result (λ fault. GoesAt mark (λ old new. AnswerStops old number fault × (new ≡ old)) self.old self.new) }
     {
         let _ = mark;
@@ -99,6 +102,7 @@ impl Ledger {
         requires stands { StandsAt self.old number place }
         requires ready { Holds (λ book. (book.condition ≡ running) × IsNow book number × (end_of book.history.known.calls number ≡ None)) self.old }
         ensures answered { OnOk result (GoesAt mark (λ old new. Answers old number new) self.old self.new) }
+        ensures sent { IfOk result (λ message. IsSent self.old.history message.items self.new.history) }
         ensures refused { IfErr result (λ fault. GoesAt mark (λ old new. AnswerStops old number fault × (new ≡ old)) self.old self.new) }
     {
         let durable = self.is_durable(number, place, mark);
@@ -113,6 +117,7 @@ impl Ledger {
     pub(crate) fn answer(&mut self, number: u64, mark: u64) -> Result<Vec<u8>, AnswerFault>
         requires { IsTied self.old }
         ensures answered { OnOk result (GoesAt mark (λ old new. Answers old number new) self.old self.new) }
+        ensures sent { IfOk result (λ message. IsSent self.old.history message.items self.new.history) }
         ensures refused { IfErr result (λ fault. GoesAt mark (λ old new. AnswerStops old number fault × (new ≡ old)) self.old self.new) }
     {
         match self.check_placed(number) {

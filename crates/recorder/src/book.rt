@@ -11,6 +11,8 @@ ghost use Rattle.book_machine.specs.Plan.{plan_of};
 ghost use Rattle.book_machine.specs.Book.Condition.{running};
 ghost use Rattle.book_machine.specs.Steps.{opening_book, IsUnplaced, Begins, Places, Flushes, Answers, Closes, Crashes};
 ghost use Rattle.recorder.specs.PlaceSteps.{entry_put, IsReceived, IsLeft};
+ghost use Rattle.witness_check.specs.Witness.{IsWitness};
+ghost use Rattle.recorder.specs.Sending.{IsSent};
 ghost use Rattle.recorder.specs.Refusals.{IsNow, PlaceStops, BeginRefused, PlaceRefused, FlushRefused, AnswerRefused, CloseRefused, CrashRefused};
 
 use crate::fault::{AnswerFault, BeginFault, CloseFault, CrashFault, FlushFault, PlaceFault};
@@ -147,6 +149,8 @@ impl<D: JournalDevice> Book<D> {
     /// Answers a call with the reply that it was placed with, as a message.
     pub fn answer(&mut self, token: Token) -> Result<Vec<u8>, AnswerFault>
         ensures answered { OnOk result (Answers self.old token.number self.new) }
+        // The message is the one that was recorded.
+        ensures sent { IfOk result (λ message. IsSent self.old.history message.items self.new.history) }
         ensures refused { AnswerRefused self.old token.number result self.new }
     {
         self.ledger.answer(token.number(), self.device.mark())
@@ -207,16 +211,18 @@ impl<D: JournalDevice> Book<D> {
         ledger.into_history()
     }
 
-    /// Its own commit order.
+    /// Its own commit order, which explains what it recorded.
     pub fn certificate(&self) -> Result<Certificate, AllocError>
-        ensures { IfOk result (λ certificate. certificate ≡ plan_of self.now) }
+        ensures plan { IfOk result (λ certificate. certificate ≡ plan_of self.now) }
+        // Whatever the book has been through, it is a witness of its history.
+        ensures explains { IfOk result (λ certificate. IsWitness self.now.history.known certificate) }
     {
         self.ledger.certificate()
     }
 
     /// Appends the bytes of its tree, as `docs/FORMATS.md` says.
     pub fn print_tree(&self, out: &mut Vec<u8>) -> Result<(), AllocError>
-        ensures ok { OnOk result ((tree : Tree) → tree_of self.now ≡ Some tree → out.new.items ≡ out.old.items ++ tree_text tree) }
+        ensures ok { OnOk result ((tree : Tree) × (tree_of self.now ≡ Some tree) × (out.new.items ≡ out.old.items ++ tree_text tree)) }
         ensures err { OnErr result (out.new.items ≡ out.old.items) }
     {
         self.ledger.print_tree(out)

@@ -1,6 +1,7 @@
 //! Eras that end.
 
-ghost use Rattle.std.specs.Prelude.{◌≡◌, ◌≢◌, ◌<◌, ◌≤◌, ◌-◌, ◌++◌, length, nat_le, position, vec_len, vec_capacity, IfOk, OnOk, OnErr, IsSome, Some};
+ghost use Rattle.std.specs.Prelude.{◌≡◌, ◌≢◌, ◌<◌, ◌≤◌, ◌-◌, ◌++◌, length, nat_le, position, vec_len, vec_capacity, IfOk, OnOk, OnErr, IfSome, IsSome, Some};
+ghost use Rattle.std.specs.List.Sorted.{IsNonDecreasingBy};
 ghost use Rattle.replay_law.specs.Run.{state_after};
 ghost use Rattle.tree_nodes.specs.Printed.{tree_text};
 ghost use Rattle.tree_nodes.specs.Tree.{Tree, opening};
@@ -74,11 +75,17 @@ fn take_back(tree: FileTree, undos: &mut Vec<Undo>, count: u64) -> Result<FileTr
     Ok(tree)
 }
 
-/// The first of these calls behind which there are so many records.
+/// The first of these calls behind which there are so many records, which never fall.
 fn place_with(placed: &[PlacedCall], keep: u64) -> Option<usize>
-    ensures { result ≡ position (λ call. nat_le keep call.records) placed.now }
+    ensures first { IsNonDecreasingBy (λ call. call.records) placed.now → result ≡ position (λ call. nat_le keep call.records) placed.now }
+    ensures within { IfSome result (λ place. place < length placed.now) }
 {
-    placed.iter().position(|call| keep <= call.records)
+    let place = placed.partition_point(|call| call.records < keep);
+    if place < placed.len() {
+        Some(place)
+    } else {
+        None
+    }
 }
 
 impl Ledger {

@@ -1,4 +1,4 @@
-use Rattle.std.proofs.Common.{◌≡◌, List, take, Some, arith, subst}
+use Rattle.std.proofs.Common.{◌≡◌, List, Some, subst}
 use Rattle.std.proofs.lemmas.List.{take_all}
 use Rattle.recorder.specs.declared.placed.PlacedCall.{PlacedCall}
 use Rattle.recorder.specs.Inside.{IsAsked}

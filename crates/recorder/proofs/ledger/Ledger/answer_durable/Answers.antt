@@ -31,8 +31,10 @@ returns-in-Ok-clause-refused c =
     if_err_by c.put_answer.result (λ fault. fault ≡ NoMemory) _ (new.history ≡ old.history) (λ fault is kept device t at.
     (let ready = c.requires.ready device t in (
       same_tied old new device t c.put_answer.ensures.only kept c.put_answer.ensures.as_far,
-      (memory_stops old device c.args.number fault is ready.0 ready.1, same_book old new device t c.put_answer.ensures.only kept c.put_answer.ensures.as_far),
+      (memory_stops old device c.args.number c.args.place c.args.mark c.requires.stands at ready.0 ready.1 ready.2 (c.requires.durable device t) fault is, same_book old new device t c.put_answer.ensures.only kept c.put_answer.ensures.as_far),
     ))) c.put_answer.ensures.memory c.put_answer.ensures.kept
 
 pub returns-in-Err-clause-refused : goal.returns-in-Err-clause-refused
-returns-in-Err-clause-refused c = λ device t at. (let ready = c.requires.ready device t in (t, ((ready.0, ready.1), refl)))
+returns-in-Err-clause-refused c = λ device t at.
+    (let ready = c.requires.ready device t in
+    (t, (memory_stops c.args.self.now device c.args.number c.args.place c.args.mark c.requires.stands at ready.0 ready.1 ready.2 (c.requires.durable device t) NoMemory refl, refl)))

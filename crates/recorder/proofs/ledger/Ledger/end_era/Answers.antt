@@ -1,8 +1,7 @@
-use Rattle.std.proofs.Common.{◌≡◌, ◌∷◌, ◌++◌, [], Bool, true, false, Some, Result, Ok, Err, refl, sym, ap, ◌∙◌, rules}
+use Rattle.std.proofs.Common.{◌≡◌, ◌∷◌, ◌++◌, [], Bool, true, false, Some, Result, Ok, Err, refl, ap, ◌∙◌, rules}
 use Rattle.std.specs.Prelude.{OnOk, if◌then◌else◌, is_ok, is_err}
 use Rattle.nfs_history.specs.declared.fault.HistoryFault.{HistoryFault}
 use Rattle.recorder.specs.declared.placed.EraOver.{EraOver}
-use Rattle.recorder.specs.declared.placed.PlacedCall.{PlacedCall}
 use Rattle.recorder.specs.declared.placed.Condition.TheVariants as codes
 use Rattle.recorder.specs.declared.ledger.Ledger.{Ledger}
 use Rattle.recorder.proofs.CrashSteps.{restarts}
