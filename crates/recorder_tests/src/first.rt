@@ -23,11 +23,20 @@ fn a_lane_is_refused_ahead_of_a_message(rt: HostRuntime) -> Result<(), Fail> {
     let alloc = rt.alloc();
     let mut book = book(alloc, None, Some(1))?;
     begin(alloc, &mut book, 1, CREATE)??;
-    assert_eq!(rt; begin(alloc, &mut book, 1, NULL)?, Err(BeginFault::BadRecord));
+    assert_eq!(rt;
+        begin(alloc, &mut book, 1, NULL)?,
+        Err(BeginFault::BadRecord)
+    );
     book.close_lane(1)?;
-    assert_eq!(rt; begin(alloc, &mut book, 1, NULL)?, Err(BeginFault::LaneClosed));
+    assert_eq!(rt;
+        begin(alloc, &mut book, 1, NULL)?,
+        Err(BeginFault::LaneClosed)
+    );
     assert_eq!(rt; crash(&mut book, 0), (Ok(()), 0));
-    assert_eq!(rt; begin(alloc, &mut book, 1, NULL)?, Err(BeginFault::EraOver(2)));
+    assert_eq!(rt;
+        begin(alloc, &mut book, 1, NULL)?,
+        Err(BeginFault::EraOver(2))
+    );
     assert_eq!(rt; book.flush(), Err(FlushFault::DeviceFault));
     assert_eq!(rt; begin(alloc, &mut book, 1, NULL)?, Err(BeginFault::Down));
     assert_eq!(rt; book.flush(), Err(FlushFault::Down));
@@ -121,6 +130,12 @@ fn a_crash_in_which_the_device_fails_is_the_last(rt: HostRuntime) -> Result<(), 
     assert_eq!(rt; begin(alloc, &mut book, 2, CREATE)?, Err(BeginFault::Down));
     assert_eq!(rt; book.close_lane(1), Ok(()));
     assert_eq!(rt; book.close_lane(1), Err(CloseFault::LaneClosed));
-    assert!(rt; is_explained(alloc, &book, "witness 1\nbind 0000000000000001 1\ntake 1\nend\n")?);
+    assert!(rt;
+        is_explained(
+            alloc,
+            &book,
+            "witness 1\nbind 0000000000000001 1\ntake 1\nend\n"
+        )?
+    );
     Ok(())
 }
