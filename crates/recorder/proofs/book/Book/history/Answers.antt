@@ -1,0 +1,6 @@
+use Rattle.std.proofs.Common.{ap}
+use Rattle.book_machine.specs.Book.{Book}
+use Rattle.recorder.proofs.book.Book.history.Goals as goal
+
+pub returns : goal.returns
+returns g c = (ap (λ (b : Book). b.history.known) c.self.view_is, ap (λ (b : Book). b.history.events) c.self.view_is)

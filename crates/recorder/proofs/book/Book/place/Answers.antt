@@ -1,0 +1,11 @@
+use Rattle.std.proofs.Common.{ℕ, refl, ap, subst, ◌∙◌}
+use Rattle.book_machine.specs.Book.{Book}
+use Rattle.book_machine.specs.Book.Condition.{down}
+use Rattle.recorder.specs.Refusals.{PlaceStops}
+use Rattle.recorder.proofs.book.Book.place.Goals as goal
+
+pub returns-in-Err-clause-refused : goal.returns-in-Err-clause-refused
+returns-in-Err-clause-refused g c =
+    let left = c.in-Err.ensures.refused c.args.reply refl in
+    let goes = c.go_down.ensures (g.D.JournalDevice.device c.self-2.inside.device) c.self-2.invariant in
+    (subst (λ (n : ℕ). PlaceStops c.args.self.now n c.args.reply c.in-Err.fault) c.number-2.ensures left.0, goes.1 ∙ ap (λ (b : Book). record b { condition = down }) c.self-2.view_is ∙ left.1.downed)

@@ -1,0 +1,10 @@
+pub mod FaultText
+pub mod JoinedFaults
+pub mod Recordable
+pub mod Serving
+pub mod Refusals
+pub mod Sending
+pub mod Turns
+pub mod Inside
+pub mod Undoing
+pub mod PlaceSteps

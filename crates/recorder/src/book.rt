@@ -1,0 +1,237 @@
+//! The book of a journal server.
+
+ghost use Rattle.std.specs.Prelude.{◌≡◌, ◌++◌, [], IfOk, OnOk, OnErr, length, IfErr};
+ghost use Rattle.journal_device.specs.Device.{Device, Leaves};
+ghost use Rattle.nfs3_types.specs.declared.replies.NfsReply.{NfsReply};
+ghost use Rattle.nfs3_types.specs.declared.replies.Outcome.TheVariants.{Received};
+ghost use Rattle.tree_nodes.specs.Printed.{tree_text};
+ghost use Rattle.tree_nodes.specs.Tree.{Tree};
+ghost use Rattle.book_machine.specs.Book.{Book, tree_of};
+ghost use Rattle.book_machine.specs.Plan.{plan_of};
+ghost use Rattle.book_machine.specs.Book.Condition.{running};
+ghost use Rattle.book_machine.specs.Steps.{opening_book, IsUnplaced, Begins, Places, Flushes, Answers, Closes, Crashes};
+ghost use Rattle.recorder.specs.PlaceSteps.{entry_put, IsReceived, IsLeft};
+ghost use Rattle.witness_check.specs.Witness.{IsWitness};
+ghost use Rattle.recorder.specs.Sending.{IsSent};
+ghost use Rattle.recorder.specs.Refusals.{IsNow, PlaceStops, BeginRefused, PlaceRefused, FlushRefused, AnswerRefused, CloseRefused, CrashRefused};
+
+use crate::fault::{AnswerFault, BeginFault, CloseFault, CrashFault, FlushFault, PlaceFault};
+use crate::ledger::Ledger;
+use crate::placed::Condition;
+use crate::token::Token;
+use certificate::Certificate;
+use journal_device::{DevFault, JournalDevice};
+use nfs_history::History;
+use nfs3_types::{NfsReply, Outcome};
+use std::alloc::{AllocError, Global};
+use std::marker::Model;
+
+/// What a journal server records, over its device. A contract sees it as a `Book`. Each call is to be made under one lock.
+pub struct Book<D: JournalDevice> {
+    ledger: Ledger,
+    device: D,
+}
+
+impl<D: JournalDevice> Model for Book<D> {
+    ghost use Rattle.book_machine.specs.Book as machine;
+    ghost use Rattle.recorder.specs.Inside.{book_of, AreTied};
+
+    ghost Value = { machine.Book };
+
+    ghost view = { λ b. book_of b.ledger (D.device b.device) };
+
+    // A run of steps leads to it, and its parts belong together.
+    ghost invariant = { λ b. AreTied b.ledger (D.device b.device) };
+}
+
+impl<D: JournalDevice> Drop for Book<D> {
+    fn drop(self) {
+        let Book { ledger, device } = self;
+        drop(ledger);
+        drop(device);
+    }
+}
+
+/// Puts a record into the journal, where there is one.
+fn put_entry<D: JournalDevice>(device: &mut D, entry: &Option<Vec<u8>>) -> Result<(), DevFault>
+    ensures { Leaves (D.device device.old) (entry_put entry.now (D.device device.old)) result (D.device device.new) }
+{
+    match entry {
+        Some(bytes) => device.append(bytes.as_slice()),
+        None => Ok(()),
+    }
+}
+
+impl<D: JournalDevice> Book<D> {
+    /// A book ahead of its first step.
+    pub fn new(alloc: Global, device: D) -> Result<Book<D>, AllocError>
+        // The device is empty.
+        requires records { (D.device device).records ≡ [] }
+        requires mark { (D.device device).mark ≡ 0 }
+        ensures { IfOk result (λ book. book ≡ opening_book (D.device device).faults) }
+    {
+        Ok(Book {
+            ledger: Ledger::new(alloc)?,
+            device,
+        })
+    }
+
+    /// Begins a call, and gives what names it.
+    pub fn begin(&mut self, lane: u32, message: &[u8]) -> Result<Token, BeginFault>
+        ensures begun { IfOk result (λ token. Begins self.old lane message.now self.new × (token.number ≡ length self.new.history.known.calls)) }
+        ensures refused { BeginRefused self.old lane message.now result self.new }
+    {
+        self.ledger.begin(lane, message)
+    }
+
+    /// Places a call whose turn it is.
+    fn put_place(&mut self, number: u64, outcome: Outcome) -> Result<(), PlaceFault>
+        requires running { self.old.condition ≡ running }
+        requires now { IsNow self.old number }
+        requires unplaced { IsUnplaced self.old.placed number }
+        requires received { IsReceived outcome }
+        ensures placed { OnOk result ((reply : NfsReply) → outcome ≡ Received reply → Places self.old number reply self.new) }
+        ensures refused { IfErr result (λ fault. (reply : NfsReply) → outcome ≡ Received reply → PlaceStops self.old number reply fault × IsLeft self.old fault self.new) }
+    {
+        let entry = self.ledger.prepare_place(number, &outcome)?;
+        let step = self.ledger.step(number, &outcome)?;
+        match put_entry(&mut self.device, &entry) {
+            Ok(()) => {
+                let records = self.device.len();
+                self.ledger
+                    .note_place(number, outcome, step, entry.is_some(), records);
+                Ok(())
+            }
+            Err(fault) => {
+                self.ledger.lose_step(number, step);
+                Err(PlaceFault::from(fault))
+            }
+        }
+    }
+
+    /// Gives a call the next place in the serial order, with its reply.
+    pub fn place(&mut self, token: Token, reply: NfsReply) -> Result<(), PlaceFault>
+        ensures placed { OnOk result (Places self.old token.number reply self.new) }
+        ensures refused { PlaceRefused self.old token.number reply result self.new }
+    {
+        self.ledger.check_unplaced(token.number())?;
+        match self.put_place(token.number(), Outcome::Received(reply)) {
+            Ok(()) => Ok(()),
+            Err(fault) => {
+                self.ledger.go_down();
+                Err(fault)
+            }
+        }
+    }
+
+    /// Puts all records on stable storage.
+    pub fn flush(&mut self) -> Result<(), FlushFault>
+        ensures flushed { OnOk result (Flushes self.old self.new) }
+        ensures refused { FlushRefused self.old result self.new }
+    {
+        match self.ledger.condition {
+            Condition::Running => {}
+            Condition::Down => return Err(FlushFault::Down),
+            Condition::Dead => return Err(FlushFault::Down),
+        }
+        match self.device.barrier() {
+            Ok(()) => {
+                self.ledger.settle();
+                Ok(())
+            }
+            Err(_) => {
+                self.ledger.go_down();
+                Err(FlushFault::DeviceFault)
+            }
+        }
+    }
+
+    /// Answers a call with the reply that it was placed with, as a message.
+    pub fn answer(&mut self, token: Token) -> Result<Vec<u8>, AnswerFault>
+        ensures answered { OnOk result (Answers self.old token.number self.new) }
+        // The message is the one that was recorded.
+        ensures sent { IfOk result (λ message. IsSent self.old.history message.items self.new.history) }
+        ensures refused { AnswerRefused self.old token.number result self.new }
+    {
+        self.ledger.answer(token.number(), self.device.mark())
+    }
+
+    /// Closes a lane: no more calls come on it.
+    pub fn close_lane(&mut self, lane: u32) -> Result<(), CloseFault>
+        ensures closed { OnOk result (Closes self.old lane self.new) }
+        ensures refused { CloseRefused self.old lane result self.new }
+    {
+        self.ledger.close_lane(lane)
+    }
+
+    /// Goes on after a crash that the first `keep` records outlived.
+    pub fn crash(&mut self, keep: u64) -> Result<(), CrashFault>
+        ensures crashed { OnOk result (Crashes self.old keep self.new) }
+        ensures refused { CrashRefused self.old keep result self.new }
+    {
+        if self.ledger.condition == Condition::Dead {
+            return Err(CrashFault::Down);
+        }
+        let (mark, len) = (self.device.mark(), self.device.len());
+        if keep < mark {
+            return Err(CrashFault::KeepTooSmall(mark));
+        }
+        if len < keep {
+            return Err(CrashFault::KeepTooLarge(len));
+        }
+        let Ok(tree) = self.ledger.prepare_crash(keep, len - keep) else {
+            self.ledger.die();
+            return Err(CrashFault::NoMemory);
+        };
+        match self.device.recover(keep) {
+            Ok(()) => {
+                self.ledger.end_era(keep, tree);
+                Ok(())
+            }
+            Err(_) => {
+                self.ledger.die();
+                Err(CrashFault::DeviceFault)
+            }
+        }
+    }
+
+    /// What it recorded.
+    pub fn history(&self) -> &History
+        ensures { (result.now.known ≡ self.now.history.known) × (result.now.events ≡ self.now.history.events) }
+    {
+        &self.ledger.history
+    }
+
+    /// The history alone.
+    pub fn into_history(self) -> History
+        ensures { (result.known ≡ self.history.known) × (result.events ≡ self.history.events) }
+    {
+        let Book { ledger, device } = self;
+        drop(device);
+        ledger.into_history()
+    }
+
+    /// Its own commit order, which explains what it recorded.
+    pub fn certificate(&self) -> Result<Certificate, AllocError>
+        ensures plan { IfOk result (λ certificate. certificate ≡ plan_of self.now) }
+        // Whatever the book has been through, it is a witness of its history.
+        ensures explains { IfOk result (λ certificate. IsWitness self.now.history.known certificate) }
+    {
+        self.ledger.certificate()
+    }
+
+    /// Appends the bytes of its tree, as `docs/FORMATS.md` says.
+    pub fn print_tree(&self, out: &mut Vec<u8>) -> Result<(), AllocError>
+        ensures ok { OnOk result ((tree : Tree) × (tree_of self.now ≡ Some tree) × (out.new.items ≡ out.old.items ++ tree_text tree)) }
+        ensures err { OnErr result (out.new.items ≡ out.old.items) }
+    {
+        self.ledger.print_tree(out)
+    }
+
+    /// Its device.
+    pub fn device(&self) -> &D
+        ensures { D.device result.now ≡ self.now.device }
+    {
+        &self.device
+    }
+}

@@ -1,0 +1,140 @@
+//! What a line asks for.
+
+use anyhow::{Context, Result, bail};
+
+/// What a line asks for.
+#[derive(Clone, Copy)]
+pub enum Command<'a> {
+    /// A new book, over a device of which these calls fail.
+    New(Faults),
+    /// A call that comes on this lane.
+    Begin(u32, Asked<'a>),
+    /// A call that comes on this lane as this message, whatever it is.
+    Raw(u32, &'a str),
+    /// A reply to the call with this number.
+    Place(u64, Replied<'a>),
+    Flush,
+    /// That the reply to the call with this number goes out.
+    Answer(u64),
+    /// The end of this lane.
+    Close(u32),
+    /// A crash that so many records outlive.
+    Crash(u64),
+    /// Whether the book's certificate is a witness of its history.
+    Check,
+    /// Whether the journal alone gives the book's tree.
+    Rebuild,
+    /// How many records the journal has, how many are safe, how often it failed, and how many events the history has.
+    Journal,
+    /// The bytes of the tree.
+    Tree,
+    /// The text of the certificate.
+    Certificate,
+}
+
+/// Which call of each kind a device fails at, counted from 1; none at 0.
+#[derive(Clone, Copy)]
+pub struct Faults {
+    pub append: u64,
+    pub barrier: u64,
+    pub recover: u64,
+}
+
+/// A call of NFS version 3.
+#[derive(Clone, Copy)]
+pub struct Asked<'a> {
+    pub xid: u32,
+    pub procedure: u32,
+    pub arguments: &'a str,
+}
+
+/// A reply to one.
+#[derive(Clone, Copy)]
+pub struct Replied<'a> {
+    pub procedure: u32,
+    pub text: &'a str,
+}
+
+// Splits off a word.
+fn split_word(line: &str) -> (&str, &str) {
+    line.split_once(' ').unwrap_or((line, ""))
+}
+
+// Splits off a number.
+fn split_u32(line: &str) -> Result<(u32, &str)> {
+    let (word, rest) = split_word(line);
+    Ok((word.parse().context("no number")?, rest))
+}
+
+// Splits off a number.
+fn split_u64(line: &str) -> Result<(u64, &str)> {
+    let (word, rest) = split_word(line);
+    Ok((word.parse().context("no number")?, rest))
+}
+
+fn parse_faults(line: &str) -> Result<Faults> {
+    let (append, line) = split_u64(line)?;
+    let (barrier, line) = split_u64(line)?;
+    let (recover, _) = split_u64(line)?;
+    Ok(Faults {
+        append,
+        barrier,
+        recover,
+    })
+}
+
+fn parse_asked(line: &str) -> Result<Asked<'_>> {
+    let (xid, line) = split_u32(line)?;
+    let (procedure, arguments) = split_u32(line)?;
+    Ok(Asked {
+        xid,
+        procedure,
+        arguments,
+    })
+}
+
+fn parse_begin(line: &str) -> Result<Command<'_>> {
+    let (lane, line) = split_u32(line)?;
+    Ok(Command::Begin(lane, parse_asked(line)?))
+}
+
+fn parse_raw(line: &str) -> Result<Command<'_>> {
+    let (lane, message) = split_u32(line)?;
+    Ok(Command::Raw(lane, message))
+}
+
+fn parse_place(line: &str) -> Result<Command<'_>> {
+    let (number, line) = split_u64(line)?;
+    let (procedure, text) = split_u32(line)?;
+    Ok(Command::Place(number, Replied { procedure, text }))
+}
+
+// What a line asks for that is one word.
+fn parse_word(word: &str) -> Result<Command<'_>> {
+    match word {
+        "flush" => Ok(Command::Flush),
+        "check" => Ok(Command::Check),
+        "rebuild" => Ok(Command::Rebuild),
+        "journal" => Ok(Command::Journal),
+        "tree" => Ok(Command::Tree),
+        "certificate" => Ok(Command::Certificate),
+        _ => bail!("no command"),
+    }
+}
+
+impl<'a> Command<'a> {
+    /// What a line asks for.
+    pub fn parse(line: &'a str) -> Result<Command<'a>> {
+        let (word, rest) = split_word(line);
+        match word {
+            "new" => Ok(Command::New(parse_faults(rest)?)),
+            "begin" => parse_begin(rest),
+            "raw" => parse_raw(rest),
+            "place" => parse_place(rest),
+            "answer" => Ok(Command::Answer(split_u64(rest)?.0)),
+            "close" => Ok(Command::Close(split_u32(rest)?.0)),
+            "crash" => Ok(Command::Crash(split_u64(rest)?.0)),
+            _ => parse_word(word),
+        }
+    }
+}
