@@ -139,14 +139,14 @@ def main() -> int:
     most = int(sys.argv[2]) if len(sys.argv) > 2 else 1_000_000
     folder = pathlib.Path(tempfile.mkdtemp())
     path = folder / "commands"
-    runs = [(most // 100, 1, ()), (most // 10, 1, ()), (most, 1, ()), (most, 10, ()), (most, 100, ()), (most, 10_000, ()),
-            (most, 1, ("check",)), (most, 1, ("rebuild",))]
+    runs = [(most // 100, 1, ()), (most // 10, 1, ()), (most, 1, ()), (most, 100, ()), (most, most // 100, ()),
+            (most, 1, ("certificate",)), (most, 1, ("check",)), (most, 1, ("rebuild",))]
     for calls, eras, last in runs:
         write_book(path, calls, eras, last)
         seconds, memory, told = measure(program, path)
         size = path.stat().st_size
-        print(f"{calls} calls, {eras} eras {' '.join(last)}: {seconds:.2f} s, {calls / seconds:.0f} calls a second, "
-              f"{(memory - size) / calls:.0f} bytes a call, {told}", flush=True)
+        print(f"{calls} calls, eras: {eras}{''.join(', ' + line for line in last)}: {seconds:.2f} s, {calls / seconds:.0f} calls a second, "
+              f"{(memory - size) / calls:.0f} bytes a call, {told[:40]}", flush=True)
     return 0
 
 
