@@ -246,7 +246,7 @@ pub fn search_by_branches<R: Host, G: SearchGate + Sync>(
     }
 }
 
-/// Searches a certificate by passes over the history, no more than `turns` of a kind, and where these come to none by branches.
+/// Searches a certificate by passes over the history, no more than `turns`, and where these come to none by branches.
 fn search_on<R: Host, G: SearchGate + Sync>(
     rt: &R,
     known: &KnownCalls<'_>,
