@@ -12,6 +12,7 @@ ghost use Rattle.book_machine.specs.Book.Condition.{running};
 ghost use Rattle.book_machine.specs.Steps.{opening_book, IsUnplaced, Begins, Places, Flushes, Answers, Closes, Crashes};
 ghost use Rattle.recorder.specs.PlaceSteps.{entry_put, IsReceived, IsLeft};
 ghost use Rattle.witness_check.specs.Witness.{IsWitness};
+ghost use Rattle.served_laws.specs.ServedPlan.{EachServed};
 ghost use Rattle.recorder.specs.Sending.{IsSent};
 ghost use Rattle.recorder.specs.Refusals.{IsNow, PlaceStops, BeginRefused, PlaceRefused, FlushRefused, AnswerRefused, CloseRefused, CrashRefused};
 
@@ -216,6 +217,8 @@ impl<D: JournalDevice> Book<D> {
         ensures plan { IfOk result (λ certificate. certificate ≡ plan_of self.now) }
         // Whatever the book has been through, it is a witness of its history.
         ensures explains { IfOk result (λ certificate. IsWitness self.now.history.known certificate) }
+        // Each reply that it recorded is as full as can be, in the tree ahead of its place.
+        ensures serves { IfOk result (λ certificate. EachServed self.now.history.known certificate) }
     {
         self.ledger.certificate()
     }

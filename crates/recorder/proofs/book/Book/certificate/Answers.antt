@@ -1,7 +1,7 @@
 use Rattle.std.proofs.Common.{◌≡◌}
 use Rattle.book_machine.specs.Plan.{plan_of}
 use Rattle.recorder.proofs.Flushed.{if_ok_holds}
-use Rattle.recorder.proofs.Explaining.{explained_so, explains}
+use Rattle.recorder.proofs.Explaining.{explained_so, explains, served_so, serves}
 use Rattle.recorder.proofs.book.Book.certificate.Goals as goal
 
 pub certificate-requires : goal.certificate-requires
@@ -14,4 +14,10 @@ pub returns-clause-explains : goal.returns-clause-explains
 returns-clause-explains g c =
     let device = g.D.JournalDevice.device c.self.inside.device in
     explains c.args.self.now (explained_so c.self.inside.ledger device c.self.invariant c.args.self.now c.self.view_is) c.certificate.result
+    (if_ok_holds (λ certificate book. certificate ≡ plan_of book) c.self.inside.ledger device c.self.invariant c.args.self.now c.self.view_is c.certificate.result c.certificate.ensures)
+
+pub returns-clause-serves : goal.returns-clause-serves
+returns-clause-serves g c =
+    let device = g.D.JournalDevice.device c.self.inside.device in
+    serves c.args.self.now (served_so c.self.inside.ledger device c.self.invariant c.args.self.now c.self.view_is) c.certificate.result
     (if_ok_holds (λ certificate book. certificate ≡ plan_of book) c.self.inside.ledger device c.self.invariant c.args.self.now c.self.view_is c.certificate.result c.certificate.ensures)

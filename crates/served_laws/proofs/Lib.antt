@@ -1,0 +1,6 @@
+pub mod Agreed
+pub mod Newcomer
+pub mod Serving
+pub mod Placing
+pub mod Planned
+pub mod EveryReply

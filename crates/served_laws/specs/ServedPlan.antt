@@ -1,0 +1,35 @@
+-- A plan whose replies are as full as can be: a server that serves as fully as it can may have given each of them (such a server is this
+-- project's own: `IsServed` of `book_machine`).
+use Rattle.std.specs.Prelude.{◌≡◌, ℕ, List, ◌∷◌, ◌++◌, Some}
+use Rattle.std.specs.List.{AllByRecursion}
+use Rattle.nfs3_types.specs.declared.calls.NfsCall.{NfsCall}
+use Rattle.nfs3_types.specs.declared.replies.NfsReply.{NfsReply}
+use Rattle.nfs3_types.specs.declared.replies.Outcome.{Outcome}
+use Rattle.nfs3_types.specs.declared.replies.Outcome.TheVariants.{Received}
+use Rattle.nfs_history.specs.declared.knowing.KnownCalls.{KnownCalls}
+use Rattle.certificate.specs.declared.plan.Certificate.{Certificate}
+use Rattle.cut_check.specs.Places.{bindings_of}
+use Rattle.replay_law.specs.Run.{Taken, Era, state_after, kept_steps}
+use Rattle.tree_nodes.specs.Tree.{Tree, opening}
+use Rattle.witness_check.specs.Run.{eras_of, next_of}
+use Rattle.book_machine.specs.Served.{IsServed}
+use Rattle.book_machine.specs.Book.{Book}
+use Rattle.book_machine.specs.Plan.{plan_of}
+use Rattle.book_machine.specs.Steps.{opening_book, IsRun}
+
+-- each reply that came, at a place of an era, is one that such a server may give in the tree ahead of the place: the tree to which the places
+-- lead that the eras ahead of this one kept, and behind these the places ahead of it in its era
+abbrev pub EachServed : KnownCalls → Certificate → Type 0
+EachServed history plan =
+    (ahead behind : List (Era NfsCall Outcome)) (era : Era NfsCall Outcome) (before after : List (Taken NfsCall Outcome)) (step : Taken NfsCall Outcome) (reply : NfsReply) (tree : Tree)
+    → eras_of history plan ≡ ahead ++ era ∷ behind → era.steps ≡ before ++ step ∷ after → step.outcome ≡ Received reply
+    → state_after (next_of history plan) opening (kept_steps ahead ++ before) ≡ Some tree → IsServed (bindings_of history.root plan.binds) tree step.number step.call reply
+
+-- the replies of the book's own certificate
+abbrev pub IsServedBook : Book → Type 0
+IsServedBook book = EachServed book.history.known (plan_of book)
+
+-- ahead of all steps and after each, also where crashes took places away
+abbrev pub EveryReplyIsServed : Type 0
+EveryReplyIsServed =
+    (faults : ℕ) (books : List Book) → IsRun (opening_book faults) books → IsServedBook (opening_book faults) × AllByRecursion IsServedBook books
