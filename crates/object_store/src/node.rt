@@ -1,0 +1,79 @@
+//! What an object holds.
+
+use names::Names;
+
+/// A file: its bytes, and the verifier of the EXCLUSIVE CREATE that made it (RFC 1813, section 3.3.8).
+#[derive(Drop)]
+pub struct File {
+    pub bytes: Vec<u8>,
+    pub verifier: Option<u64>,
+}
+
+/// What an object holds.
+pub enum Content {
+    /// Its names, with the numbers of their objects.
+    Directory(Names),
+    File(File),
+    /// Its text.
+    Link(Vec<u8>),
+}
+
+impl Drop for Content {
+    fn drop(self) {
+        match self {
+            Content::Directory(names) => drop(names),
+            Content::File(file) => drop(file),
+            Content::Link(text) => drop(text),
+        }
+    }
+}
+
+/// An object with its number.
+pub struct Node {
+    pub number: u64,
+    pub content: Content,
+}
+
+impl Drop for Node {
+    fn drop(self) {
+        let Node { number: _, content } = self;
+        drop(content);
+    }
+}
+
+impl Node {
+    /// The number, and what the object holds.
+    pub(crate) fn into_parts(self) -> (u64, Content) {
+        let Node { number, content } = self;
+        (number, content)
+    }
+
+    /// The names of a directory.
+    pub fn names(&self) -> Option<&Names> {
+        match &self.content {
+            Content::Directory(names) => Some(names),
+            _ => None,
+        }
+    }
+
+    /// The same, to be changed.
+    pub fn names_mut(&mut self) -> Option<&mut Names> {
+        match &mut self.content {
+            Content::Directory(names) => Some(names),
+            _ => None,
+        }
+    }
+
+    /// A file, to be changed.
+    pub fn file_mut(&mut self) -> Option<&mut File> {
+        match &mut self.content {
+            Content::File(file) => Some(file),
+            _ => None,
+        }
+    }
+
+    /// Whether it is a directory.
+    pub fn is_directory(&self) -> bool {
+        matches!(&self.content, Content::Directory(_))
+    }
+}

@@ -1,0 +1,150 @@
+//! Calls about one object: its attributes, its bytes, its text.
+
+ghost use Rattle.std.specs.Prelude.{◌≤◌, length};
+
+use crate::change::Change;
+use crate::decision::{Decision, Stop};
+use crate::failed::no_attributes;
+use crate::scene::Scene;
+use nfs3_types::{
+    Answer, CommitArguments, CommitSuccess, Data, Device, Failure, FileAttributes, FileHandle,
+    FileType, Held, LinkText, NfsReply, Optional, ReadArguments, ReadLinkSuccess, ReadSuccess,
+    SetAttrArguments, Time, Verifier, WriteArguments, WriteSuccess,
+};
+use object_store::{Content, Node};
+
+/// The most bytes that a READ gives, and that a list and a link's text may have.
+pub(crate) const TRANSFER_LIMIT: usize = 1_048_576;
+/// The mode of each object: its owner reads and writes it, everybody else reads it.
+const MODE: u32 = 420;
+
+/// The type and the size of an object.
+fn type_and_size(node: &Node) -> (FileType, u64) {
+    match &node.content {
+        Content::Directory(_) => (FileType::Directory, 0),
+        Content::File(file) => (FileType::Regular, file.bytes.len() as u64),
+        Content::Link(text) => (FileType::SymbolicLink, text.len() as u64),
+    }
+}
+
+/// An object's attributes. What isn't known of it is 0.
+fn attributes_of(node: &Node) -> FileAttributes {
+    let (file_type, size) = type_and_size(node);
+    let start = Time {
+        seconds: 0,
+        nanoseconds: 0,
+    };
+    FileAttributes {
+        file_type,
+        mode: MODE,
+        link_count: 1,
+        user: 0,
+        group: 0,
+        size,
+        used: 0,
+        device: Device { major: 0, minor: 0 },
+        file_system: 0,
+        file_number: node.number,
+        access_time: start,
+        modify_time: start,
+        change_time: start,
+    }
+}
+
+pub(crate) fn get_attributes<'a>(
+    scene: &Scene<'_>,
+    object: &FileHandle,
+) -> Result<Decision<'a>, Stop> {
+    let node = scene.live(object)?;
+    let attributes = Held::new(scene.alloc, attributes_of(node))?;
+    Ok(Decision::look(NfsReply::GetAttr(Answer::Done(attributes))))
+}
+
+pub(crate) fn set_attributes<'a>(
+    scene: &Scene<'_>,
+    call: &'a SetAttrArguments,
+) -> Result<Decision<'a>, Stop> {
+    let change = match call.attributes.size {
+        Some(size) => {
+            let (object, _) = scene.file(&call.object)?;
+            Change::Resize { object, size }
+        }
+        None => {
+            scene.live(&call.object)?;
+            Change::Nothing
+        }
+    };
+    Ok(Decision {
+        reply: NfsReply::SetAttr(Answer::Done(no_attributes())),
+        change,
+    })
+}
+
+pub(crate) fn read_link<'a>(scene: &Scene<'_>, link: &FileHandle) -> Result<Decision<'a>, Stop> {
+    let node = scene.live(link)?;
+    let Content::Link(text) = &node.content else {
+        return Err(Stop::Failed(Failure::Invalid));
+    };
+    if text.len() > TRANSFER_LIMIT {
+        return Err(Stop::Failed(Failure::NameTooLong));
+    }
+    let success = ReadLinkSuccess {
+        attributes: Optional::none(),
+        target: LinkText::from_slice(scene.alloc, text.as_slice())?,
+    };
+    Ok(Decision::look(NfsReply::ReadLink(Answer::Done(success))))
+}
+
+/// The bytes from an offset on, at most so many.
+fn part(bytes: &[u8], offset: u64, count: usize) -> &[u8]
+    ensures { length result.now ≤ count }
+{
+    let start = offset.min(bytes.len() as u64) as usize;
+    let behind = &bytes[start..];
+    &behind[..behind.len().min(count)]
+}
+
+pub(crate) fn read<'a>(scene: &Scene<'_>, call: &'a ReadArguments) -> Result<Decision<'a>, Stop> {
+    let (_, file) = scene.file(&call.file)?;
+    let count = (call.count as usize).min(TRANSFER_LIMIT);
+    let found = part(file.bytes.as_slice(), call.offset, count);
+    let left = (file.bytes.len() as u64).saturating_sub(call.offset);
+    let success = ReadSuccess {
+        attributes: Optional::none(),
+        count: found.len() as u32,
+        eof: left <= found.len() as u64,
+        bytes: Data::from_slice(scene.alloc, found)?,
+    };
+    Ok(Decision::look(NfsReply::Read(Answer::Done(success))))
+}
+
+pub(crate) fn write<'a>(scene: &Scene<'_>, call: &'a WriteArguments) -> Result<Decision<'a>, Stop> {
+    let (object, _) = scene.file(&call.file)?;
+    let bytes = call.bytes.as_slice();
+    let success = WriteSuccess {
+        wcc: no_attributes(),
+        count: bytes.len() as u32,
+        level: call.level,
+        verifier: Verifier { value: scene.era },
+    };
+    Ok(Decision {
+        reply: NfsReply::Write(Answer::Done(success)),
+        change: Change::Write {
+            object,
+            offset: call.offset,
+            bytes,
+        },
+    })
+}
+
+pub(crate) fn commit<'a>(
+    scene: &Scene<'_>,
+    call: &'a CommitArguments,
+) -> Result<Decision<'a>, Stop> {
+    scene.file(&call.file)?;
+    let success = CommitSuccess {
+        wcc: no_attributes(),
+        verifier: Verifier { value: scene.era },
+    };
+    Ok(Decision::look(NfsReply::Commit(Answer::Done(success))))
+}
