@@ -1,0 +1,80 @@
+//! The end of a server.
+
+ghost use Rattle.std.specs.Prelude.{◌≡◌, IfOk};
+ghost use Rattle.witness_check.specs.Witness.{IsWitness};
+ghost use Rattle.served_laws.specs.ServedPlan.{EachServed};
+ghost use Rattle.server_passes.specs.Matching.{IsTold, AreCovered};
+
+use crate::gate::Gate;
+use crate::server::Server;
+use certificate::Certificate;
+use nfs_history::History;
+use recorder::{Book, JournalDevice};
+use server_passes::{CloseFault, Pass, match_passes};
+
+/// What a server recorded, and the commit order that explains it.
+pub struct Closed {
+    pub history: History,
+    pub certificate: Certificate,
+}
+
+impl Drop for Closed {
+    fn drop(self) {
+        let Closed {
+            history,
+            certificate,
+        } = self;
+        drop(history);
+        drop(certificate);
+    }
+}
+
+impl Closed {
+    /// The history, and the certificate.
+    pub fn into_parts(self) -> (History, Certificate)
+        ensures history { result.0 ≡ self.history }
+        ensures certificate { result.1 ≡ self.certificate }
+    {
+        let Closed {
+            history,
+            certificate,
+        } = self;
+        (history, certificate)
+    }
+}
+
+impl<G: Gate, D: JournalDevice> Server<G, D> {
+    /// The book alone.
+    fn into_book(self) -> Book<D> {
+        let Server {
+            alloc: _,
+            gate,
+            objects,
+            desk,
+        } = self;
+        drop(gate);
+        drop(objects);
+        desk.into_inner().into_book()
+    }
+
+    /// Ends the server, and gives what it recorded, with its certificate. The passes have to tell of all calls that were answered: one
+    /// without an answered call may be left out.
+    pub fn close(self, passes: Vec<Pass>) -> Result<Closed, CloseFault>
+        // The certificate is a witness of the history.
+        ensures explains { IfOk result (λ closed. IsWitness closed.history.known closed.certificate) }
+        // Each reply that was given is as full as can be, in the tree ahead of its place.
+        ensures serves { IfOk result (λ closed. EachServed closed.history.known closed.certificate) }
+        // Each pass tells of the answered calls of its lane, with their replies, and the passes tell of all that was answered.
+        ensures told { IfOk result (λ closed. IsTold closed.history passes.items) }
+        ensures covered { IfOk result (λ closed. AreCovered closed.history passes.items) }
+    {
+        let alloc = self.alloc;
+        let book = self.into_book();
+        match_passes(alloc, book.history(), passes.as_slice())?;
+        let certificate = book.certificate()?;
+        Ok(Closed {
+            history: book.into_history(),
+            certificate,
+        })
+    }
+}

@@ -1,0 +1,167 @@
+//! How a call gets its place in the serial order.
+
+ghost use Rattle.std.specs.Prelude.{◌≡◌, ◌≢◌, [], IfOk, IfErr};
+
+use crate::desk::{Begun, promises};
+use crate::fault::CallFault;
+use crate::gate::{Gate, Point};
+use crate::server::Server;
+use nfs3_msgs::put_result;
+use nfs3_types::{NfsCall, NfsReply};
+use object_store::{Held, ObjectTable, Targets};
+use recorder::JournalDevice;
+use std::alloc::AllocError;
+use std::sync::Wait;
+use store_replies::{Decision, Prepared, Scene, Site, decide};
+
+/// The bytes of a reply's head: the transaction number, the type, the status, the empty verifier, and the status of the call.
+const REPLY_HEAD: usize = 24;
+
+/// A call that was placed.
+pub(crate) struct Placed {
+    /// So many records have to be on stable storage when it is answered.
+    pub records: Option<u64>,
+    /// Room for a copy of its reply.
+    pub room: Vec<u8>,
+    ghost empty: { room.items ≡ [] },
+}
+
+impl Drop for Placed {
+    fn drop(self) {
+        let Placed { records: _, room } = self;
+        drop(room);
+    }
+}
+
+impl Placed {
+    /// How many records have to be on stable storage, and the room.
+    pub(crate) fn into_parts(self) -> (Option<u64>, Vec<u8>)
+        ensures { result.1.items ≡ [] }
+    {
+        let Placed { records, room } = self;
+        (records, room)
+    }
+}
+
+impl<G: Gate, D: JournalDevice> Server<G, D> {
+    /// Room for a copy of a reply's message.
+    fn room_for(&self, reply: &NfsReply) -> Result<Vec<u8>, AllocError>
+        ensures { IfOk result (λ room. room.items ≡ []) }
+    {
+        let mut room = Vec::new(self.alloc);
+        put_result(&mut room, reply)?;
+        room.reserve(REPLY_HEAD)?;
+        room.clear();
+        Ok(room)
+    }
+
+    /// Gives a call its place, under the book's lock.
+    fn place_reply<R: Wait>(
+        &self,
+        rt: &R,
+        begun: Begun,
+        reply: NfsReply,
+    ) -> Result<Placed, CallFault>
+        ensures { IfErr result (λ fault. fault ≢ CallFault.BadRecord) }
+    {
+        let room = self.room_for(&reply)?;
+        let promises = promises(&reply);
+        let records = self.desk.lock(rt).place(begun.token, reply)?;
+        Ok(Placed {
+            records: promises.then_some(records),
+            room,
+        })
+    }
+
+    /// Says that the objects are lost.
+    fn lose<R: Wait>(&self, rt: &R) {
+        self.desk.lock(rt).lose();
+    }
+
+    /// Gives a call its place where its change is prepared, and makes the change.
+    fn place_prepared<R: Wait>(
+        &self,
+        rt: &R,
+        begun: Begun,
+        decision: Decision<'_>,
+        site: Site<'_>,
+        held: &mut Held,
+        prepared: Prepared,
+    ) -> Result<Placed, CallFault>
+        ensures { IfErr result (λ fault. fault ≢ CallFault.BadRecord) }
+    {
+        let (reply, change) = decision.into_parts();
+        match self.place_reply(rt, begun, reply) {
+            Ok(placed) => {
+                if site.make(rt, held, &change, prepared).is_err() {
+                    self.lose(rt);
+                    return Err(CallFault::Down);
+                }
+                Ok(placed)
+            }
+            Err(fault) => {
+                site.take_back(rt, held, &change);
+                Err(fault)
+            }
+        }
+    }
+
+    /// The reply to a call, and what it changes.
+    fn decide<'a>(
+        &self,
+        begun: Begun,
+        call: &'a NfsCall,
+        held: &Held,
+    ) -> Result<Decision<'a>, AllocError> {
+        let scene = Scene {
+            alloc: self.alloc,
+            held,
+            number: begun.token.number(),
+            era: begun.era,
+        };
+        decide(&scene, call)
+    }
+
+    /// Works out the reply to a call from its objects, and gives it its place.
+    fn place_with<R: Wait>(
+        &self,
+        rt: &R,
+        begun: Begun,
+        call: &NfsCall,
+        objects: &ObjectTable,
+        held: &mut Held,
+    ) -> Result<Placed, CallFault>
+        ensures { IfErr result (λ fault. fault ≢ CallFault.BadRecord) }
+    {
+        let decision = self.decide(begun, call, held)?;
+        let site = Site {
+            table: objects,
+            number: begun.token.number(),
+        };
+        match site.prepare(rt, self.alloc, held, &decision.change) {
+            Ok(prepared) => self.place_prepared(rt, begun, decision, site, held, prepared),
+            Err(_) => {
+                site.take_back(rt, held, &decision.change);
+                Err(CallFault::NoMemory)
+            }
+        }
+    }
+
+    /// Gives a call its place in the serial order: takes its objects, works out its reply, and gives the objects back.
+    pub(crate) fn place<R: Wait>(
+        &self,
+        rt: &R,
+        lane: u32,
+        begun: Begun,
+        call: &NfsCall,
+    ) -> Result<Placed, CallFault>
+        ensures { IfErr result (λ fault. fault ≢ CallFault.BadRecord) }
+    {
+        let objects = self.objects.read(rt);
+        let mut held = objects.hold(rt, self.alloc, &Targets::of_call(call))?;
+        self.gate.at(lane, Point::Locked);
+        let placed = self.place_with(rt, begun, call, &objects, &mut held);
+        objects.give_back(rt, held);
+        placed
+    }
+}
