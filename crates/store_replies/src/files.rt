@@ -127,13 +127,19 @@ pub(crate) fn write<'a>(scene: &Scene<'_>, call: &'a WriteArguments) -> Result<D
         level: call.level,
         verifier: Verifier { value: scene.era },
     };
-    Ok(Decision {
-        reply: NfsReply::Write(Answer::Done(success)),
-        change: Change::Write {
+    // A WRITE of no bytes may lie anywhere, and makes no file longer.
+    let change = if bytes.is_empty() {
+        Change::Nothing
+    } else {
+        Change::Write {
             object,
             offset: call.offset,
             bytes,
-        },
+        }
+    };
+    Ok(Decision {
+        reply: NfsReply::Write(Answer::Done(success)),
+        change,
     })
 }
 
