@@ -1,0 +1,61 @@
+#!/usr/bin/env python3
+"""Writes what crates/stored_servers is run on, and what it has to answer: make_servers.py FOLDER [COMMANDS [SEED]].
+
+A model of a journal server, written apart from the crates' code, says what each command is answered. FOLDER gets `stdin` with
+a command a line, and `stdout` with an answer a line. First come servers whose commands try one rule each in every way, then
+some whose commands are drawn at random, so many in all as COMMANDS says, 6,000 if it is left out. How often each answer was
+reached is printed; the status is 1 where one never was.
+"""
+import pathlib
+import sys
+
+from servers.named import CASES, LAST_CASES, run_large
+from servers.report import print_report
+from servers.run import Run
+
+# Of the servers that are drawn, those whose device fails somewhere, in percent.
+FAULTY = 40
+# A run of at least so many commands has a server of long messages, which cost an unoptimized program a minute.
+LARGE_FROM = 20_000
+
+
+def run_drawn(run: Run) -> None:
+    """A server of a few eras, often over a device that fails."""
+    faults = (0, 0, 0)
+    if run.calls.chance(FAULTY):
+        faults = tuple(run.dice.choice((0, run.dice.randrange(1, 40))) for _ in range(2))
+        faults = (*faults, run.dice.choice((0, 0, 1, 2)))
+    run.new_server(faults, lanes=2)
+    for _ in range(run.dice.randrange(1, 5)):
+        run.run_era(run.dice.randrange(10, 120))
+        run.end_era()
+        if run.server.is_dead():
+            break
+    run.run_era(run.dice.randrange(20))
+    run.end_server()
+
+
+def make(commands: int, seed: int) -> Run:
+    run = Run(seed)
+    for case in CASES:
+        case(run)
+    while run.commands() < commands:
+        run_drawn(run)
+    for case in LAST_CASES:
+        case(run)
+    if commands >= LARGE_FROM:
+        run_large(run)
+    return run
+
+
+def main() -> int:
+    folder = pathlib.Path(sys.argv[1])
+    commands = int(sys.argv[2]) if len(sys.argv) > 2 else 6_000
+    run = make(commands, int(sys.argv[3]) if len(sys.argv) > 3 else 1)
+    (folder / "stdin").write_text(run.stdin())
+    (folder / "stdout").write_text(run.stdout())
+    return print_report(run)
+
+
+if __name__ == "__main__":
+    sys.exit(main())
