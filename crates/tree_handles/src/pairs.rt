@@ -17,6 +17,11 @@ impl Model for Pairs {
     ghost also_owns = { λ _. ftrue };
 }
 
+// They own nothing, so any thread may have them or look at them.
+unsafe impl Send for Pairs {}
+
+unsafe impl Sync for Pairs {}
+
 impl Pairs {
     /// None so far.
     pub(crate) fn new() -> Pairs
