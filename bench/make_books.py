@@ -1,9 +1,10 @@
 #!/usr/bin/env python3
-"""Writes what crates/stored_books is run on, and what it has to answer: make_books.py FOLDER [COMMANDS [SEED]].
+"""Writes commands for crates/stored_journals, and what it has to answer: make_books.py FOLDER [COMMANDS [SEED]].
 
-The commands are drawn at random, and a model of a book, written apart from the crates' code, says what each is answered.
-FOLDER gets `stdin` with a command a line, and `stdout` with an answer a line. COMMANDS is about how many there are, 100,000
-if it is left out. How often each refusal was reached is printed; the status is 1 where one never was.
+First come books whose commands and answers were written by hand. The other commands are drawn at random, and a model of a
+book, written apart from the crates' code, says what each is answered. FOLDER gets `stdin` with a command a line, and `stdout`
+with an answer a line. COMMANDS is about how many are drawn, 100,000 if it is left out. How often each refusal was reached by
+those is printed; the status is 1 where one never was.
 
 A few long books have some sixty eras, and many short ones a few each. In all of them calls of all kinds run side by side on
 several lanes, records are lost in crashes, devices fail, and replies are tried that no server may give.
@@ -15,6 +16,7 @@ import sys
 from books.book import DEAD, RUNNING
 from books.calls import Calls
 from books.large import run_large_book
+from books.named import named_lines
 from books.report import print_report
 from books.run import Run
 from books.wrong import KINDS
@@ -75,6 +77,8 @@ def run_short_book(run: Run) -> None:
 
 def make(commands: int, seed: int) -> Run:
     run = Run(Calls(random.Random(seed)))
+    for line, answer in named_lines():
+        run.say(line, answer)
     for _ in range(LONG_BOOKS):
         run_long_book(run, int(commands * (1 - SHORT_PART)) // LONG_BOOKS)
     if commands >= LARGE_FROM:

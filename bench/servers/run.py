@@ -49,7 +49,7 @@ class Run:
     def new_server(self, faults: tuple[int, int, int] = (0, 0, 0), lanes: int = 0) -> list[int]:
         """Another server, and the passes that it gives."""
         self.server = Server(*faults)
-        self.blocks.append([f"new {faults[0]} {faults[1]} {faults[2]}"])
+        self.blocks.append([f"server {faults[0]} {faults[1]} {faults[2]}"])
         self.own, self.xid = [], 0
         self.eras += 1
         return self.join(lanes)

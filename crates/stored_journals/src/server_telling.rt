@@ -1,28 +1,19 @@
 //! What a server is told to have answered.
 
 use crate::letters::tell_letters;
+use crate::telling::tell_certificate;
 use anyhow::Result;
-use certificate::{Certificate, write_certificate};
+use certificate::Certificate;
 use history_file::write_history;
 use journal_server::{CallFault, CloseFault, Closed};
 use nfs_history::History;
 use sha2::{Digest, Sha256};
 use std::alloc::Global;
-use std::fmt::Display;
 use std::io::Write;
 use witness_check::{Verdict, check};
 
 /// The longest reply that is told whole.
 const LONGEST_TOLD: usize = 256;
-
-/// Tells whether a call of a server succeeded.
-pub fn tell_done<W: Write, E: Display + Drop>(output: &mut W, came: Result<(), E>) -> Result<()> {
-    match came {
-        Ok(()) => writeln!(output, "ok")?,
-        Err(fault) => writeln!(output, "{fault}")?,
-    }
-    Ok(())
-}
 
 // Tells how many bytes there are, and their digest.
 fn tell_digest<W: Write>(output: &mut W, alloc: Global, bytes: &[u8]) -> Result<()> {
@@ -51,22 +42,6 @@ pub fn tell_answered<W: Write>(
             writeln!(output)?;
         }
         Err(fault) => writeln!(output, "{fault}")?,
-    }
-    Ok(())
-}
-
-// Tells the text of a certificate, with a semicolon in place of each line feed.
-fn tell_certificate<W: Write>(
-    output: &mut W,
-    alloc: Global,
-    certificate: &Certificate,
-) -> Result<()> {
-    let text = write_certificate(alloc, certificate)?;
-    for (index, line) in text.as_slice().split(|byte| *byte == b'\n').enumerate() {
-        if index > 0 {
-            write!(output, ";")?;
-        }
-        output.write_all(line)?;
     }
     Ok(())
 }

@@ -1,6 +1,7 @@
 //! What a line asks for.
 
-use anyhow::{Context, Result, bail};
+use crate::numbers::{Faults, parse_faults, split_u32, split_u64, split_word};
+use anyhow::{Result, bail};
 
 /// What a line asks for.
 #[derive(Clone, Copy)]
@@ -32,14 +33,6 @@ pub enum Command<'a> {
     Certificate,
 }
 
-/// Which call of each kind a device fails at, counted from 1; none at 0.
-#[derive(Clone, Copy)]
-pub struct Faults {
-    pub append: u64,
-    pub barrier: u64,
-    pub recover: u64,
-}
-
 /// A call of NFS version 3.
 #[derive(Clone, Copy)]
 pub struct Asked<'a> {
@@ -53,34 +46,6 @@ pub struct Asked<'a> {
 pub struct Replied<'a> {
     pub procedure: u32,
     pub text: &'a str,
-}
-
-// Splits off a word.
-fn split_word(line: &str) -> (&str, &str) {
-    line.split_once(' ').unwrap_or((line, ""))
-}
-
-// Splits off a number.
-fn split_u32(line: &str) -> Result<(u32, &str)> {
-    let (word, rest) = split_word(line);
-    Ok((word.parse().context("no number")?, rest))
-}
-
-// Splits off a number.
-fn split_u64(line: &str) -> Result<(u64, &str)> {
-    let (word, rest) = split_word(line);
-    Ok((word.parse().context("no number")?, rest))
-}
-
-fn parse_faults(line: &str) -> Result<Faults> {
-    let (append, line) = split_u64(line)?;
-    let (barrier, line) = split_u64(line)?;
-    let (recover, _) = split_u64(line)?;
-    Ok(Faults {
-        append,
-        barrier,
-        recover,
-    })
 }
 
 fn parse_asked(line: &str) -> Result<Asked<'_>> {

@@ -1,5 +1,6 @@
 //! What a line asks for.
 
+use crate::numbers::{Faults, parse_faults, split_u64, split_word};
 use anyhow::{Context, Result, bail};
 
 /// What a line asks for of a server.
@@ -17,36 +18,9 @@ pub enum Command<'a> {
     Close(&'a str),
 }
 
-/// Which call of each kind a device fails at, counted from 1; none at 0.
-#[derive(Clone, Copy)]
-pub struct Faults {
-    pub append: u64,
-    pub barrier: u64,
-    pub recover: u64,
-}
-
-// Splits off a word.
-fn split_word(line: &str) -> (&str, &str) {
-    line.split_once(' ').unwrap_or((line, ""))
-}
-
-/// Splits off a number.
-pub fn split_number(line: &str) -> Result<(u64, &str)> {
-    let (word, rest) = split_word(line);
-    Ok((word.parse().context("no number")?, rest))
-}
-
 /// What the first line of a server asks for: which calls of its device fail.
-pub fn parse_new(line: &str) -> Result<Faults> {
-    let faults = line.strip_prefix("new ").context("no new server")?;
-    let (append, faults) = split_number(faults)?;
-    let (barrier, faults) = split_number(faults)?;
-    let (recover, _) = split_number(faults)?;
-    Ok(Faults {
-        append,
-        barrier,
-        recover,
-    })
+pub fn parse_server(line: &str) -> Result<Faults> {
+    parse_faults(line.strip_prefix("server ").context("no server")?)
 }
 
 impl<'a> Command<'a> {
@@ -56,7 +30,7 @@ impl<'a> Command<'a> {
         if word == "close" {
             return Ok(Command::Close(rest));
         }
-        let (number, rest) = split_number(rest)?;
+        let (number, rest) = split_u64(rest)?;
         match word {
             "join" => Ok(Command::Join(number)),
             "call" => Ok(Command::Call(number as usize, rest)),

@@ -1,23 +1,13 @@
 //! What a book is told to have answered.
 
 use crate::letters::tell_letters;
+use crate::telling::tell_certificate;
 use anyhow::Result;
-use certificate::write_certificate;
 use recorder::{AnswerFault, BeginFault, Book, JournalDevice, SimDevice, Token, rebuild};
 use replay_law::Replayable;
 use std::alloc::Global;
-use std::fmt::Display;
 use std::io::Write;
 use witness_check::{Verdict, check};
-
-/// Tells whether a call of a book succeeded.
-pub fn tell_done<W: Write, E: Display + Drop>(output: &mut W, came: Result<(), E>) -> Result<()> {
-    match came {
-        Ok(()) => writeln!(output, "ok")?,
-        Err(fault) => writeln!(output, "{fault}")?,
-    }
-    Ok(())
-}
 
 /// Tells the number of the call that began.
 pub fn tell_begun<W: Write>(output: &mut W, came: &Result<Token, BeginFault>) -> Result<()> {
@@ -97,20 +87,9 @@ pub fn tell_journal<W: Write>(output: &mut W, book: &Book<SimDevice>) -> Result<
     Ok(())
 }
 
-/// Tells the text of a book's certificate, with a semicolon in place of each line feed.
-pub fn tell_certificate<W: Write>(
-    output: &mut W,
-    alloc: Global,
-    book: &Book<SimDevice>,
-) -> Result<()> {
-    let certificate = book.certificate()?;
-    let text = write_certificate(alloc, &certificate)?;
-    for (index, line) in text.as_slice().split(|byte| *byte == b'\n').enumerate() {
-        if index > 0 {
-            write!(output, ";")?;
-        }
-        output.write_all(line)?;
-    }
+/// Tells the text of a book's certificate.
+pub fn tell_text<W: Write>(output: &mut W, alloc: Global, book: &Book<SimDevice>) -> Result<()> {
+    tell_certificate(output, alloc, &book.certificate()?)?;
     writeln!(output)?;
     Ok(())
 }

@@ -1,9 +1,11 @@
 //! A server that obeys commands.
 
-use crate::command::{Command, Faults, parse_new};
 use crate::letters::read_letters;
+use crate::numbers::Faults;
 use crate::passes::Passes;
-use crate::telling::{tell_answered, tell_closed, tell_done};
+use crate::server_command::{Command, parse_server};
+use crate::server_telling::{tell_answered, tell_closed};
+use crate::telling::tell_done;
 use anyhow::{Context, Result, bail};
 use journal_server::{JoinFault, OpenGate, Server, SimDevice};
 use server_passes::Pass;
@@ -90,7 +92,7 @@ pub fn run_server<R: Wait, W: Write>(
     block: &str,
 ) -> Result<()> {
     let (first, lines) = block.split_once('\n').context("no commands")?;
-    let server = new_server(alloc, parse_new(first)?)?;
+    let server = new_server(alloc, parse_server(first)?)?;
     match obey_all(rt, alloc, output, &server, passes, lines) {
         Ok(closing) => tell_closed(output, alloc, server.close(closing)),
         Err(error) => {

@@ -1,11 +1,12 @@
 //! A book that obeys commands.
 
-use crate::command::{Asked, Command, Faults, Replied};
-use crate::letters::read_letters;
-use crate::telling::{
-    tell_answered, tell_begun, tell_certificate, tell_check, tell_done, tell_journal, tell_rebuilt,
-    tell_tree,
+use crate::book_command::{Asked, Command, Replied};
+use crate::book_telling::{
+    tell_answered, tell_begun, tell_check, tell_journal, tell_rebuilt, tell_text, tell_tree,
 };
+use crate::letters::read_letters;
+use crate::numbers::Faults;
+use crate::telling::tell_done;
 use anyhow::{Context, Result};
 use nfs3_msgs::read_result;
 use recorder::{BeginFault, Book, SimDevice, Token};
@@ -128,8 +129,8 @@ impl Driver {
         Ok(())
     }
 
-    /// Does what a command asks for, and tells what came of it.
-    pub fn obey<W: Write>(&mut self, output: &mut W, command: Command<'_>) -> Result<()> {
+    // Does what a command asks for, and tells what came of it.
+    fn obey<W: Write>(&mut self, output: &mut W, command: Command<'_>) -> Result<()> {
         match command {
             Command::New(faults) => self.renew(output, faults),
             Command::Begin(lane, asked) => {
@@ -149,7 +150,15 @@ impl Driver {
             Command::Rebuild => tell_rebuilt(output, self.alloc, &self.book),
             Command::Journal => tell_journal(output, &self.book),
             Command::Tree => tell_tree(output, self.alloc, &self.book),
-            Command::Certificate => tell_certificate(output, self.alloc, &self.book),
+            Command::Certificate => tell_text(output, self.alloc, &self.book),
         }
+    }
+
+    /// Does what each line asks for, and tells what came of it.
+    pub fn obey_all<W: Write>(&mut self, output: &mut W, lines: &str) -> Result<()> {
+        for line in lines.lines() {
+            self.obey(output, Command::parse(line)?)?;
+        }
+        Ok(())
     }
 }
