@@ -1,0 +1,142 @@
+//! Calls on objects, and those that make files.
+
+ghost use Rattle.std.specs.Prelude.{◌<◌, ◌^◌, length};
+
+use crate::arguments::{call_in, call_on, put_attributes, put_head};
+use std::alloc::{AllocError, Global};
+use xdr_records::{put_opaque, put_u32, put_u64};
+
+/// How far a WRITE has to have come when it is answered.
+#[derive(Clone, Copy)]
+pub enum Level {
+    Unstable,
+    DataSync,
+    FileSync,
+}
+
+/// How a CREATE treats a name that is present; with a size, or a verifier.
+#[derive(Clone, Copy)]
+pub enum Creation {
+    Unchecked(Option<u64>),
+    Guarded(Option<u64>),
+    Exclusive(u64),
+}
+
+/// A call of this procedure without arguments.
+pub fn plain_call(alloc: Global, xid: u32, procedure: u32) -> Result<Vec<u8>, AllocError> {
+    let mut out = Vec::new(alloc);
+    put_head(&mut out, xid, procedure)?;
+    Ok(out)
+}
+
+/// GETATTR.
+pub fn get_attributes(alloc: Global, xid: u32, object: u64) -> Result<Vec<u8>, AllocError> {
+    call_on(alloc, xid, 1, object)
+}
+
+/// SETATTR of a size, or of nothing, without a guard.
+pub fn set_size(
+    alloc: Global,
+    xid: u32,
+    object: u64,
+    size: Option<u64>,
+) -> Result<Vec<u8>, AllocError> {
+    let mut out = call_on(alloc, xid, 2, object)?;
+    put_attributes(&mut out, size)?;
+    put_u32(&mut out, 0)?;
+    Ok(out)
+}
+
+/// READLINK.
+pub fn read_link(alloc: Global, xid: u32, object: u64) -> Result<Vec<u8>, AllocError> {
+    call_on(alloc, xid, 5, object)
+}
+
+/// READ.
+pub fn read(
+    alloc: Global,
+    xid: u32,
+    object: u64,
+    offset: u64,
+    count: u32,
+) -> Result<Vec<u8>, AllocError> {
+    let mut out = call_on(alloc, xid, 6, object)?;
+    put_u64(&mut out, offset)?;
+    put_u32(&mut out, count)?;
+    Ok(out)
+}
+
+/// The word of a level.
+fn level_word(level: Level) -> u32 {
+    match level {
+        Level::Unstable => 0,
+        Level::DataSync => 1,
+        Level::FileSync => 2,
+    }
+}
+
+/// WRITE of all these bytes.
+pub fn write(
+    alloc: Global,
+    xid: u32,
+    object: u64,
+    offset: u64,
+    level: Level,
+    bytes: &[u8],
+) -> Result<Vec<u8>, AllocError>
+    requires { length bytes.now < 2 ^ 32 }
+{
+    let mut out = call_on(alloc, xid, 7, object)?;
+    put_u64(&mut out, offset)?;
+    put_u32(&mut out, bytes.len() as u32)?;
+    put_u32(&mut out, level_word(level))?;
+    put_opaque(&mut out, bytes)?;
+    Ok(out)
+}
+
+/// How a CREATE treats a name that is present.
+fn put_creation(out: &mut Vec<u8>, creation: Creation) -> Result<(), AllocError> {
+    match creation {
+        Creation::Unchecked(size) => {
+            put_u32(out, 0)?;
+            put_attributes(out, size)
+        }
+        Creation::Guarded(size) => {
+            put_u32(out, 1)?;
+            put_attributes(out, size)
+        }
+        Creation::Exclusive(verifier) => {
+            put_u32(out, 2)?;
+            put_u64(out, verifier)
+        }
+    }
+}
+
+/// CREATE.
+pub fn create(
+    alloc: Global,
+    xid: u32,
+    directory: u64,
+    name: &[u8],
+    creation: Creation,
+) -> Result<Vec<u8>, AllocError>
+    requires { length name.now < 2 ^ 32 }
+{
+    let mut out = call_in(alloc, xid, 8, directory, name)?;
+    put_creation(&mut out, creation)?;
+    Ok(out)
+}
+
+/// COMMIT.
+pub fn commit(
+    alloc: Global,
+    xid: u32,
+    object: u64,
+    offset: u64,
+    count: u32,
+) -> Result<Vec<u8>, AllocError> {
+    let mut out = call_on(alloc, xid, 21, object)?;
+    put_u64(&mut out, offset)?;
+    put_u32(&mut out, count)?;
+    Ok(out)
+}

@@ -1,0 +1,316 @@
+//! How many calls a second a server answers, and how long its book is held for each.
+
+use crate::random::Random;
+use crate::told::{made_object, number_at, procedure_of};
+use anyhow::{Context, Result, bail};
+use client_calls::{Creation, Level, create, read, remove, rename, write};
+use history_file::Event;
+use journal_server::{CallFault, Closed, OpenGate, Pass, Server, SimDevice};
+use nfs3_msgs::read_result;
+use nfs3_types::NfsReply;
+use recorder::Book;
+use rpc_reader::{ReplyBody, read_reply};
+use std::alloc::Global;
+use std::io::Print;
+use std::process::ExitCode;
+use std::sync::Wait;
+use std::thread::{self, Threads};
+use std::time::{Clock, Instant};
+use witness_check::{Verdict, check};
+
+/// How many files there are ahead of the calls.
+const FILES: u64 = 64;
+
+/// What is written, and as much is read.
+const PIECE: &[u8; 64] = b"0123456789abcdef0123456789abcdef0123456789abcdef0123456789abcdef";
+
+/// What threads ask for.
+#[derive(Clone, Copy, PartialEq, Eq)]
+pub enum Kind {
+    /// WRITE, each to a file of its own.
+    Private,
+    /// CREATE, WRITE, RENAME and REMOVE in one directory.
+    Shared,
+    /// READ, four in five, and WRITE, of some files.
+    Reads,
+}
+
+/// What is measured.
+#[derive(Clone, Copy)]
+pub struct Plan {
+    pub threads: u64,
+    pub kind: Kind,
+    /// Of all threads together.
+    pub calls: u64,
+}
+
+type BenchServer = Server<OpenGate, SimDevice>;
+
+// A name in two letters.
+fn name_of(first: u8, number: u64) -> [u8; 2] {
+    [first, b'A'.saturating_add((number % 64) as u8)]
+}
+
+// Makes a call, and gives the object that it made, or 0.
+fn call<R: Wait>(
+    rt: &R,
+    server: &BenchServer,
+    pass: &mut Pass,
+    message: Vec<u8>,
+) -> Result<u64, CallFault> {
+    let reply = server.call(rt, pass, message.as_slice())?;
+    Ok(made_object(reply.as_slice()).unwrap_or(0))
+}
+
+// Makes the files, each as the object of its number.
+fn make_files<R: Wait>(rt: &R, alloc: Global, server: &BenchServer) -> Result<Pass, CallFault> {
+    let mut pass = match server.join_lane(rt) {
+        Ok(pass) => pass,
+        Err(_) => return Err(CallFault::NoMemory),
+    };
+    for number in 1..=FILES {
+        let name = name_of(b'f', number);
+        let made = create(alloc, 1, 0, name.as_slice(), Creation::Unchecked(None))?;
+        call(rt, server, &mut pass, made)?;
+    }
+    Ok(pass)
+}
+
+// One WRITE.
+fn write_once<R: Wait>(
+    rt: &R,
+    alloc: Global,
+    server: &BenchServer,
+    pass: &mut Pass,
+    file: u64,
+    turn: u64,
+) -> Result<(), CallFault> {
+    let offset = turn % 16 * 64;
+    let wrote = write(alloc, 1, file, offset, Level::Unstable, PIECE.as_slice())?;
+    call(rt, server, pass, wrote)?;
+    Ok(())
+}
+
+// One READ.
+fn read_once<R: Wait>(
+    rt: &R,
+    alloc: Global,
+    server: &BenchServer,
+    pass: &mut Pass,
+    file: u64,
+    turn: u64,
+) -> Result<(), CallFault> {
+    let look = read(alloc, 1, file, turn % 16 * 64, 64)?;
+    call(rt, server, pass, look)?;
+    Ok(())
+}
+
+// One of four calls in the root, by turns.
+fn change_once<R: Wait>(
+    rt: &R,
+    alloc: Global,
+    server: &BenchServer,
+    pass: &mut Pass,
+    last: u64,
+    turn: u64,
+) -> Result<u64, CallFault> {
+    let (one, two) = (
+        name_of(b'x', u64::from(pass.lane())),
+        name_of(b'y', u64::from(pass.lane())),
+    );
+    let message = match turn % 4 {
+        0 => create(alloc, 1, 0, one.as_slice(), Creation::Unchecked(None))?,
+        1 => write(alloc, 1, last, 0, Level::Unstable, PIECE.as_slice())?,
+        2 => rename(alloc, 1, (0, one.as_slice()), (0, two.as_slice()))?,
+        _ => remove(alloc, 1, 0, two.as_slice())?,
+    };
+    let made = call(rt, server, pass, message)?;
+    Ok(if turn % 4 == 0 { made } else { last })
+}
+
+// All calls of one thread.
+fn run_calls<R: Wait>(
+    rt: &R,
+    alloc: Global,
+    server: &BenchServer,
+    pass: &mut Pass,
+    kind: Kind,
+    calls: u64,
+) -> Result<(), CallFault> {
+    let mut random = Random::new(u64::from(pass.lane()));
+    let own = u64::from(pass.lane() % 64).max(1);
+    let mut last = 0;
+    for turn in 0..calls {
+        match kind {
+            Kind::Private => write_once(rt, alloc, server, pass, own, turn)?,
+            Kind::Shared => last = change_once(rt, alloc, server, pass, last, turn)?,
+            Kind::Reads => {
+                let file = 1 + random.below(8);
+                if random.below(5) == 0 {
+                    write_once(rt, alloc, server, pass, file, turn)?;
+                } else {
+                    read_once(rt, alloc, server, pass, file, turn)?;
+                }
+            }
+        }
+    }
+    Ok(())
+}
+
+// What one thread knows; nothing, if a call failed.
+fn run_thread<R: Wait>(rt: &R, alloc: Global, server: &BenchServer, plan: Plan) -> Option<Pass> {
+    let mut pass = server.join_lane(rt).ok()?;
+    let calls = plan.calls / plan.threads.max(1);
+    match run_calls(rt, alloc, server, &mut pass, plan.kind, calls) {
+        Ok(()) => Some(pass),
+        Err(_) => None,
+    }
+}
+
+// What all threads know, and how many microseconds they took.
+fn run_threads<R: Wait + Threads + Clock + Sync>(
+    rt: &R,
+    alloc: Global,
+    server: &BenchServer,
+    plan: Plan,
+) -> Option<(Vec<Pass>, u64)> {
+    let mut passes = Vec::new(alloc);
+    passes.push(make_files(rt, alloc, server).ok()?).ok()?;
+    let start = Instant::now(rt).ok()?;
+    let ran = thread::map_indices(
+        rt,
+        alloc,
+        plan.threads as usize,
+        &|_| { run_thread(rt, alloc, server, plan) },
+    );
+    let taken = u64::try_from(start.elapsed(rt).ok()?.as_micros()).ok()?;
+    for pass in ran.ok()? {
+        passes.push(pass?).ok()?;
+    }
+    Some((passes, taken))
+}
+
+// A call and its reply as they stand in a history.
+struct Recorded {
+    message: Vec<u8>,
+    reply: NfsReply,
+    /// Whether it is answered once its record is safe.
+    is_safe: bool,
+}
+
+impl Drop for Recorded {
+    fn drop(self) {
+        let Recorded {
+            message,
+            reply,
+            is_safe: _,
+        } = self;
+        drop(message);
+        drop(reply);
+    }
+}
+
+// A call and its reply, from their messages.
+fn read_exchange(alloc: Global, message: &[u8], reply: &[u8]) -> Result<Recorded> {
+    let procedure = procedure_of(message);
+    let head = read_reply(reply)?;
+    let ReplyBody::Success(results) = head.body else {
+        bail!("a call failed");
+    };
+    Ok(Recorded {
+        message: Vec::from_slice(alloc, message)?,
+        reply: read_result(alloc, u32::try_from(procedure)?, results)?,
+        is_safe: procedure >= 8 && number_at(results, 0, 4) == 0,
+    })
+}
+
+// The calls of a history in which each call is answered before the next one comes.
+fn recorded_calls(alloc: Global, events: &[Event]) -> Result<Vec<Recorded>> {
+    let mut calls = Vec::new(alloc);
+    for pair in events.chunks(2) {
+        let [
+            Event::Call { message, .. },
+            Event::Reply { message: reply, .. },
+        ] = pair
+        else {
+            bail!("calls overlapped");
+        };
+        calls.push(read_exchange(alloc, message.as_slice(), reply.as_slice())?)?;
+    }
+    Ok(calls)
+}
+
+// The steps of a book for one call.
+fn keep_book(book: &mut Book<SimDevice>, call: Recorded) -> Result<usize> {
+    let (message, reply, is_safe) = call.into_parts();
+    let token = book.begin(1, message.as_slice())?;
+    book.place(token, reply)?;
+    if is_safe {
+        book.flush()?;
+    }
+    let answer = book.answer(token)?;
+    Ok(answer.len())
+}
+
+impl Recorded {
+    fn into_parts(self) -> (Vec<u8>, NfsReply, bool) {
+        let Recorded {
+            message,
+            reply,
+            is_safe,
+        } = self;
+        (message, reply, is_safe)
+    }
+}
+
+// How many nanoseconds the steps of a book take for each of a history's calls, on one thread with nothing beside them.
+fn measure_book<R: Clock>(rt: &R, alloc: Global, closed: &Closed) -> Result<u64> {
+    let calls = recorded_calls(alloc, closed.history.events())?;
+    let count = (calls.len() as u64).max(1);
+    let mut book = Book::new(alloc, SimDevice::new(alloc, None, None, None))?;
+    let start = Instant::now(rt)?;
+    for call in calls {
+        keep_book(&mut book, call)?;
+    }
+    let taken = u64::try_from(start.elapsed(rt)?.as_micros())?;
+    Ok(taken.saturating_mul(1000) / count)
+}
+
+// Tells how it was.
+fn tell<R: Clock + Print>(
+    rt: &R,
+    alloc: Global,
+    closed: &Closed,
+    plan: Plan,
+    taken: u64,
+) -> Result<()> {
+    let speed = plan.calls.saturating_mul(1_000_000) / taken.max(1);
+    let Plan { threads, calls, .. } = plan;
+    println!(rt; "threads {threads}, calls {calls}, microseconds {taken}, calls a second {speed}")?;
+    if threads == 1 {
+        let book = measure_book(rt, alloc, closed)?;
+        println!(rt; "the book's steps of a call take {book} nanoseconds")?;
+    }
+    match check(alloc, &closed.history, &closed.certificate)? {
+        Verdict::Yes => println!(rt; "yes")?,
+        _ => println!(rt; "no")?,
+    }
+    Ok(())
+}
+
+/// Measures one server.
+pub fn measure<R: Wait + Threads + Clock + Print + Sync>(
+    rt: &R,
+    alloc: Global,
+    plan: Plan,
+) -> Result<ExitCode> {
+    let server = Server::new(alloc, OpenGate, SimDevice::new(alloc, None, None, None))?;
+    let ran = run_threads(rt, alloc, &server, plan);
+    let (passes, taken) = match ran {
+        Some(ran) => ran,
+        None => (Vec::new(alloc), 0),
+    };
+    let closed = server.close(passes).context("not closed")?;
+    tell(rt, alloc, &closed, plan, taken)?;
+    Ok(ExitCode::SUCCESS)
+}
