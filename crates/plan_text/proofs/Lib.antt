@@ -1,0 +1,11 @@
+pub mod Cuts
+pub mod Said
+pub mod Parts
+pub mod Listed
+pub mod Order
+pub mod Planned
+pub mod Begun
+pub mod Faults
+pub mod OneBadLine
+pub mod OneMeaning
+pub mod Pushed

@@ -1,0 +1,5 @@
+pub mod PlanText
+pub mod Line
+pub mod Draft
+pub mod BadLine
+pub mod FaultText

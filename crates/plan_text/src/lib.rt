@@ -1,0 +1,12 @@
+//! The text of a plan: what clients ask of a journal server, on which lanes, when it crashes, and how many records
+//! outlive each crash. `specs/PlanText.antt` says how it is written.
+#![tactic(auto)]
+
+mod line;
+mod operation;
+mod plan;
+mod reading;
+mod words;
+
+pub use plan::{LaneStep, Operation, Plan, PlanLevel, PlanName, Step, StepList};
+pub use reading::{PlanFault, read_plan};
