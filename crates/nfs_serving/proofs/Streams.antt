@@ -1,0 +1,262 @@
+-- A stream is read piece by piece, and its whole records are answered.
+use Rattle.std.proofs.Common.{◌≡◌, inl, ℕ, ◌+◌, ◌<◌, false, List, [], ◌∷◌, ◌++◌, length, Option, Result, Ok, Err, OnOk, IsErrOf, refl, sym, ap, subst, ◌∙◌, arith, zero-add, append_assoc}
+use Rattle.std.proofs.lemmas.List.{length-append, length-map}
+use Rattle.std.specs.Io.KnownBytes.{Appends, Consumes}
+use Rattle.xdr_records.specs.declared.fault.FeedFault.{FeedFault}
+use Rattle.xdr_records.specs.declared.fault.FeedFault.TheVariants as feed_faults
+use Rattle.xdr_records.specs.Record.{AreRecords, IsUnfinished, IsTooLong, IsCut}
+use Rattle.xdr_records.specs.Feed.{Feed, fresh, Grows, Breaks}
+use Rattle.xdr_records.proofs.Cutting.{unfinished_none, cut_join}
+use Rattle.nfs_tap.specs.Pumping.{frames, IsIdle}
+use Rattle.nfs_tap.proofs.Fronts.{none_appended, both_appended, none_consumed, both_consumed}
+use Rattle.server_passes.specs.PassValue.{ExchangeValue, PassValue}
+use Rattle.nfs_serving.specs.declared.end.StreamEnd.{StreamEnd}
+use Rattle.nfs_serving.specs.declared.end.StreamEnd.TheVariants as ends
+use Rattle.nfs_serving.specs.declared.intake.Intake.{Intake}
+use Rattle.nfs_serving.specs.Serving.{messages, replies, IsToldOf, IsSent, Behind, EndsIn, Serves}
+use Rattle.nfs_serving.specs.Steps.{Answers, Stops, IsReady, IsEmptied, Takes}
+use Rattle.nfs_serving.proofs.Answering.{messages-append, replies-append, frames_more, told_none, told_join, sent_behind, stop_behind}
+
+-- ---- a piece of the stream
+
+-- whatever stands behind
+cut_anyhow : (Rest : List ℕ → Type 0) (bytes : List ℕ) (records : List (List ℕ)) (rest : List ℕ) → IsCut Rest bytes records rest → IsCut (λ _. Unit {0}) bytes records rest
+cut_anyhow Rest bytes records rest cut = record { front = cut.front; parts = cut.parts; whole = cut.whole; left = tt }
+
+-- what the feed told of a piece
+pub record HasFed {X : Type 0} (r : Result X FeedFault) (old : Feed) (piece : List ℕ) (new : Feed) : Type 0 where
+  pub idle : IsIdle old
+  pub ok : OnOk r (Grows old piece new)
+  pub too_long : IsErrOf r feed_faults.RecordTooLong → Breaks old piece new
+  pub no_memory : IsErrOf r feed_faults.NoMemory → new ≡ old
+
+-- from the clauses of a feed
+pub has_fed : {X : Type 0} (r : Result X FeedFault) (old : Feed) (piece : List ℕ) (new : Feed) → IsIdle old → OnOk r (Grows old piece new)
+    → (IsErrOf r feed_faults.RecordTooLong → old.broken ≡ false → Breaks old piece new) → (IsErrOf r feed_faults.NoMemory → (old.broken ≡ false) × (new ≡ old)) → HasFed r old piece new
+has_fed r old piece new idle ok too_long no_memory = record { idle = idle; ok = ok; too_long = λ e. too_long e idle.1; no_memory = λ e. (no_memory e).1 }
+
+grown_all : (old : Feed) (piece : List ℕ) (new : Feed) → IsIdle old → (g : Grows old piece new) → new.waiting ≡ g.records
+grown_all old piece new idle g = g.waiting ∙ ap (λ (xs : List (List ℕ)). xs ++ g.records) idle.0
+
+broken_all : (old : Feed) (piece : List ℕ) (new : Feed) → IsIdle old → (b : Breaks old piece new) → new.waiting ≡ b.records
+broken_all old piece new idle b = ap (λ (f : Feed). f.waiting) b.now ∙ ap (λ (xs : List (List ℕ)). xs ++ b.records) idle.0
+
+-- the records that wait stand in the piece
+fed_cut : {X : Type 0} (r : Result X FeedFault) (old : Feed) (piece : List ℕ) (new : Feed) → HasFed r old piece new → (rest : List ℕ) × IsCut (λ _. Unit {0}) (old.rest ++ piece) new.waiting rest
+fed_cut (Ok x) old piece new fed =
+    let g = fed.ok in
+    (new.rest, subst (λ (xs : List (List ℕ)). IsCut (λ _. Unit {0}) (old.rest ++ piece) xs new.rest) (sym (grown_all old piece new fed.idle g)) (cut_anyhow IsUnfinished (old.rest ++ piece) g.records new.rest g.cut))
+fed_cut (Err feed_faults.RecordTooLong) old piece new fed =
+    let b = fed.too_long refl in
+    (b.stop, subst (λ (xs : List (List ℕ)). IsCut (λ _. Unit {0}) (old.rest ++ piece) xs b.stop) (sym (broken_all old piece new fed.idle b)) (cut_anyhow IsTooLong (old.rest ++ piece) b.records b.stop b.cut))
+fed_cut (Err feed_faults.NoMemory) old piece new fed =
+    let none : new.waiting ≡ [] = ap (λ (f : Feed). f.waiting) (fed.no_memory refl) ∙ fed.idle.0 in
+    (old.rest ++ piece, record { front = []; parts = refl; whole = subst (λ (xs : List (List ℕ)). AreRecords xs []) (sym none) refl; left = tt })
+
+-- the first records of more
+record Split (xs ys : List (List ℕ)) (bytes : List ℕ) : Type 0 where
+  front : List ℕ
+  back : List ℕ
+  parts : bytes ≡ front ++ back
+  first : AreRecords xs front
+  others : AreRecords ys back
+
+split : (xs ys : List (List ℕ)) (bytes : List ℕ) → AreRecords (xs ++ ys) bytes → Split xs ys bytes
+split [] ys bytes are = record { front = []; back = bytes; parts = refl; first = refl; others = are }
+split (x ∷ xs) ys bytes are =
+    let later = split xs ys are.back are.others in
+    record {
+      front = are.front ++ later.front;
+      back = later.back;
+      parts = are.parts ∙ ap (λ l. are.front ++ l) later.parts ∙ sym (append_assoc are.front later.front later.back);
+      first = record { front = are.front; back = later.front; parts = refl; first = are.first; others = later.first };
+      others = later.others;
+    }
+
+module _ (old : Feed) (piece : List ℕ) (new : Feed) (before after : PassValue) (held held' : Option (List ℕ)) where
+  -- it ended while the records were answered
+  pub stopped_in : {X : Type 0} (r : Result X FeedFault) (end : StreamEnd) (most : ℕ) → HasFed r old piece new → Stops end most new.waiting before after held held'
+      → EndsIn end most (old.rest ++ piece) before after held held'
+  stopped_in r end most fed s =
+      let some = fed_cut r old piece new fed in
+      let cut = some.1 in
+      let first = split (messages s.answers) s.behind cut.front (subst (λ (xs : List (List ℕ)). AreRecords xs cut.front) s.parts cut.whole) in
+      record {
+        answers = s.answers;
+        left = s.left;
+        count = s.count;
+        rest = first.back ++ some.0;
+        cut = record {
+          front = first.front;
+          parts = cut.parts ∙ ap (λ l. l ++ some.0) first.parts ∙ append_assoc first.front first.back some.0;
+          whole = first.first;
+          left = stop_behind end s.left s.behind first.back some.0 s.stop first.others;
+        };
+        told = s.told;
+        written = s.written;
+        appended = s.appended;
+        sent = s.sent;
+      }
+
+  counted : (a : Answers new.waiting before after held held') (most left : ℕ) → most ≡ length new.waiting + left → most ≡ length a.answers + left
+  counted a most left count =
+      let size : length new.waiting ≡ length a.answers = ap (λ (xs : List (List ℕ)). length xs) a.are ∙ length-map a.answers (λ (x : ExchangeValue). x.message) in
+      omega (arith, size, count)
+
+  -- it ended behind them
+  ended_at : (end : StreamEnd) (a : Answers new.waiting before after held held') (most left : ℕ) (rest : List ℕ) → most ≡ length new.waiting + left
+      → IsCut (Behind end left) (old.rest ++ piece) new.waiting rest → IsSent end (replies a.answers) (frames (replies a.answers)) → EndsIn end most (old.rest ++ piece) before after held held'
+  ended_at end a most left rest count cut sent = record {
+    answers = a.answers;
+    left = left;
+    count = counted a most left count;
+    rest = rest;
+    cut = subst (λ (xs : List (List ℕ)). IsCut (Behind end left) (old.rest ++ piece) xs rest) a.are cut;
+    told = a.told;
+    written = frames (replies a.answers);
+    appended = a.appended;
+    sent = sent;
+  }
+
+  pub too_long_in : {X : Type 0} (most left : ℕ) → HasFed {X = X} (Err feed_faults.RecordTooLong) old piece new → Answers new.waiting before after held held' → most ≡ length new.waiting + left
+      → EndsIn ends.RecordTooLong most (old.rest ++ piece) before after held held'
+  too_long_in most left fed a count =
+      let b = fed.too_long refl in
+      ended_at ends.RecordTooLong a most left b.stop count
+      (subst (λ (xs : List (List ℕ)). IsCut IsTooLong (old.rest ++ piece) xs b.stop) (sym (broken_all old piece new fed.idle b)) b.cut) refl
+
+  pub no_memory_in : {X : Type 0} (most left : ℕ) → HasFed {X = X} (Err feed_faults.NoMemory) old piece new → Answers new.waiting before after held held' → most ≡ length new.waiting + left
+      → EndsIn ends.NoMemory most (old.rest ++ piece) before after held held'
+  no_memory_in {X = X} most left fed a count =
+      let some = fed_cut {X = X} (Err feed_faults.NoMemory) old piece new fed in
+      ended_at ends.NoMemory a most left some.0 count some.1 (inl refl)
+
+-- a piece was taken
+pub grown_in : {X : Type 0} (x : X) (old now new : Intake) (piece : List ℕ) (before after : PassValue) (held held' : Option (List ℕ)) → HasFed (Ok x) old.feed piece now.feed → now.left ≡ old.left
+    → Answers now.feed.waiting before after held held' → IsEmptied now new → Takes old piece new before after held held'
+grown_in x old now new piece before after held held' fed same a e =
+    let g = fed.ok in
+    let are : g.records ≡ messages a.answers = sym (grown_all old.feed piece now.feed fed.idle g) ∙ a.are in
+    let cut : IsCut IsUnfinished (old.feed.rest ++ piece) (messages a.answers) now.feed.rest =
+    subst (λ (xs : List (List ℕ)). IsCut IsUnfinished (old.feed.rest ++ piece) xs now.feed.rest) are g.cut in
+    record {
+      ready = record { idle = (e.waiting, e.broken ∙ g.still); more = e.more };
+      answers = a.answers;
+      count = sym same ∙ counted old.feed piece now.feed before after held held' a now.left new.left e.count;
+      cut = subst (λ (l : List ℕ). IsCut IsUnfinished (old.feed.rest ++ piece) (messages a.answers) l) (sym e.rest) cut;
+      told = a.told;
+      appended = a.appended;
+    }
+
+-- ---- the whole stream
+
+-- what was done so far
+pub record HasServed (most : ℕ) (before after : PassValue) (left left' held held' : Option (List ℕ)) (intake : Intake) : Type 0 where
+  pub read : List ℕ
+  pub answers : List ExchangeValue
+  pub count : most ≡ length answers + intake.left
+  pub consumed : Consumes left left' read
+  pub cut : IsCut IsUnfinished read (messages answers) intake.feed.rest
+  pub told : IsToldOf answers before after
+  pub appended : Appends held held' (frames (replies answers))
+  pub ready : IsReady intake
+
+pub none_served : (pass : PassValue) (left held : Option (List ℕ)) (intake : Intake) → intake.feed ≡ fresh → 0 < intake.left → HasServed intake.left pass pass left left held held intake
+none_served pass left held intake is more = record {
+  read = [];
+  answers = [];
+  count = sym (zero-add intake.left);
+  consumed = none_consumed left;
+  cut = record { front = []; parts = sym (ap (λ (f : Feed). f.rest) is); whole = refl; left = subst (λ (f : Feed). IsUnfinished f.rest) (sym is) (0, 0, unfinished_none) };
+  told = told_none pass;
+  appended = none_appended held;
+  ready = record { idle = (ap (λ (f : Feed). f.waiting) is, ap (λ (f : Feed). f.broken) is); more = more };
+}
+
+-- nothing was read
+pub serves_none : (end : StreamEnd) (most : ℕ) (pass : PassValue) (left held : Option (List ℕ)) → Behind end most [] → IsSent end [] [] → Serves end most pass pass left left held held
+serves_none end most pass left held behind sent = record {
+  read = [];
+  consumed = none_consumed left;
+  ended = record {
+    answers = [];
+    left = most;
+    count = sym (zero-add most);
+    rest = [];
+    cut = record { front = []; parts = refl; whole = refl; left = behind };
+    told = told_none pass;
+    written = [];
+    appended = none_appended held;
+    sent = sent;
+  };
+}
+
+module _ (most : ℕ) (before mid : PassValue) (left unread held between : Option (List ℕ)) (intake : Intake) (so_far : HasServed most before mid left unread held between intake) where
+  -- a read that gave nothing
+  pub served_still : (left' : Option (List ℕ)) → ((bytes : List ℕ) → Consumes left unread bytes → Consumes left left' bytes) → HasServed most before mid left left' held between intake
+  served_still left' still = record {
+    read = so_far.read;
+    answers = so_far.answers;
+    count = so_far.count;
+    consumed = still so_far.read so_far.consumed;
+    cut = so_far.cut;
+    told = so_far.told;
+    appended = so_far.appended;
+    ready = so_far.ready;
+  }
+
+  -- a piece more
+  pub served_more : (after : PassValue) (left' held' : Option (List ℕ)) (new : Intake) (piece : List ℕ) → Consumes unread left' piece → Takes intake piece new mid after between held'
+      → HasServed most before after left left' held held' new
+  served_more after left' held' new piece gave t = record {
+    read = so_far.read ++ piece;
+    answers = so_far.answers ++ t.answers;
+    count = omega (arith, so_far.count, t.count, length-append so_far.answers t.answers);
+    consumed = both_consumed left unread left' so_far.read piece so_far.consumed gave;
+    cut = subst (λ (xs : List (List ℕ)). IsCut IsUnfinished (so_far.read ++ piece) xs new.feed.rest) (sym (messages-append so_far.answers t.answers))
+        (cut_join IsUnfinished IsUnfinished so_far.read piece intake.feed.rest new.feed.rest (messages so_far.answers) (messages t.answers) so_far.cut t.cut);
+    told = told_join so_far.answers t.answers before mid after so_far.told t.told;
+    appended = subst (Appends held held') (sym (frames_more so_far.answers t.answers))
+        (both_appended held between held' (frames (replies so_far.answers)) (frames (replies t.answers)) so_far.appended t.appended);
+    ready = t.ready;
+  }
+
+  -- it ended within a piece
+  pub serves_within : (end : StreamEnd) (after : PassValue) (left' held' : Option (List ℕ)) (piece : List ℕ) → Consumes unread left' piece
+      → EndsIn end intake.left (intake.feed.rest ++ piece) mid after between held' → Serves end most before after left left' held held'
+  serves_within end after left' held' piece gave e = record {
+    read = so_far.read ++ piece;
+    consumed = both_consumed left unread left' so_far.read piece so_far.consumed gave;
+    ended = record {
+      answers = so_far.answers ++ e.answers;
+      left = e.left;
+      count = omega (arith, so_far.count, e.count, length-append so_far.answers e.answers);
+      rest = e.rest;
+      cut = subst (λ (xs : List (List ℕ)). IsCut (Behind end e.left) (so_far.read ++ piece) xs e.rest) (sym (messages-append so_far.answers e.answers))
+          (cut_join IsUnfinished (Behind end e.left) so_far.read piece intake.feed.rest e.rest (messages so_far.answers) (messages e.answers) so_far.cut e.cut);
+      told = told_join so_far.answers e.answers before mid after so_far.told e.told;
+      written = frames (replies so_far.answers) ++ e.written;
+      appended = both_appended held between held' (frames (replies so_far.answers)) e.written so_far.appended e.appended;
+      sent = subst (λ (xs : List (List ℕ)). IsSent end xs (frames (replies so_far.answers) ++ e.written)) (sym (replies-append so_far.answers e.answers))
+          (sent_behind end (replies so_far.answers) (replies e.answers) e.written e.sent);
+    };
+  }
+
+  -- it ended behind a whole piece
+  pub serves_behind : (end : StreamEnd) → (IsUnfinished intake.feed.rest → Behind end intake.left intake.feed.rest) → ((given : List (List ℕ)) → IsSent end given (frames given))
+      → Serves end most before mid left unread held between
+  serves_behind end may sent = record {
+    read = so_far.read;
+    consumed = so_far.consumed;
+    ended = record {
+      answers = so_far.answers;
+      left = intake.left;
+      count = so_far.count;
+      rest = intake.feed.rest;
+      cut = record { front = so_far.cut.front; parts = so_far.cut.parts; whole = so_far.cut.whole; left = may so_far.cut.left };
+      told = so_far.told;
+      written = frames (replies so_far.answers);
+      appended = so_far.appended;
+      sent = sent (replies so_far.answers);
+    };
+  }
