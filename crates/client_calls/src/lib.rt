@@ -1,4 +1,4 @@
-//! Calls of NFS version 3 (RFC 1813) as the messages that a client sends to a journal server, for its tests. Each object stands for its
+//! Calls of NFS version 3 (RFC 1813) as the messages that a client sends to a journal server. Each object stands for its
 //! handle: eight bytes that spell its number; the root directory is 0.
 #![tactic(auto)]
 

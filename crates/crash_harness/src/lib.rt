@@ -1,0 +1,9 @@
+//! Runs of the bundled server that can be repeated: clients on threads, crashes, and failing devices, as a plan's text says.
+#![tactic(auto)]
+
+mod client;
+mod end;
+mod run;
+
+pub use end::RunEnd;
+pub use run::run_plan;
