@@ -1,8 +1,11 @@
-//! Tests of growth that is refused, of records in pieces, of messages that are copied, and of plans.
+//! Tests of growth that is refused, of records in pieces, of messages that are copied, of plans, and of what is
+//! answered ahead of a server.
 #![tactic(auto)]
 
 #[cfg(test)]
 mod items;
+#[cfg(test)]
+mod mounting;
 #[cfg(test)]
 mod plans;
 #[cfg(test)]
