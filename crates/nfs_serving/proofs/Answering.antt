@@ -6,11 +6,12 @@ use Rattle.nfs_tap.specs.Pumping.{frames}
 use Rattle.server_passes.specs.PassValue.{ExchangeValue, PassValue}
 use Rattle.journal_server.specs.declared.fault.CallFault.{CallFault}
 use Rattle.journal_server.specs.declared.fault.CallFault.TheVariants as faults
-use Rattle.journal_server.specs.Passing.{MayStop, IsAsBefore, IsAnswered}
+use Rattle.journal_server.specs.Passing.{MayStop, IsAsBefore}
+use Rattle.nfs_serving.specs.declared.export.Export.{Export}
 use Rattle.nfs_serving.specs.declared.end.StreamEnd.{StreamEnd}
 use Rattle.nfs_serving.specs.declared.end.StreamEnd.TheVariants as ends
 use Rattle.nfs_serving.specs.Serving.{messages, replies, AreNoted, IsToldOf, IsCutShort, IsWithoutLast, IsSent, Behind}
-use Rattle.nfs_serving.specs.Steps.{end_of, IsLost, IsStop}
+use Rattle.nfs_serving.specs.Steps.{end_of, IsLost, IsStop, IsAnsweredBy}
 
 pub messages-append : (xs ys : List ExchangeValue) → messages (xs ++ ys) ≡ messages xs ++ messages ys
 messages-append xs ys = map-append (λ (x : ExchangeValue). x.message) xs ys
@@ -27,34 +28,34 @@ frames_more xs ys = ap frames (replies-append xs ys) ∙ frames-append (replies 
 
 -- ---- the pass
 
-noted_join : (xs ys noted more : List ExchangeValue) → AreNoted xs noted → AreNoted ys more → AreNoted (xs ++ ys) (noted ++ more)
-noted_join [] ys noted more none behind = subst (λ (l : List ExchangeValue). AreNoted ys (l ++ more)) (sym none) behind
-noted_join (x ∷ xs) ys noted more (inl p) behind = inl (p.0, noted_join xs ys noted more p.1 behind)
-noted_join (x ∷ xs) ys noted more (inr p) behind =
-    inr (p.0, (p.1.0 ++ more, ap (λ (l : List ExchangeValue). l ++ more) p.1.1, noted_join xs ys p.1.0 more p.1.2 behind))
+noted_join : (export : Export) (xs ys noted more : List ExchangeValue) → AreNoted export xs noted → AreNoted export ys more → AreNoted export (xs ++ ys) (noted ++ more)
+noted_join export [] ys noted more none behind = subst (λ (l : List ExchangeValue). AreNoted export ys (l ++ more)) (sym none) behind
+noted_join export (x ∷ xs) ys noted more (inl p) behind = inl (p.0, noted_join export xs ys noted more p.1 behind)
+noted_join export (x ∷ xs) ys noted more (inr p) behind =
+    inr (p.0, (p.1.0 ++ more, ap (λ (l : List ExchangeValue). l ++ more) p.1.1, noted_join export xs ys p.1.0 more p.1.2 behind))
 
-pub told_none : (pass : PassValue) → IsToldOf [] pass pass
-told_none pass = record { lane = refl; noted = []; which = refl; behind = sym (append-nil pass.exchanges) }
+pub told_none : (export : Export) (pass : PassValue) → IsToldOf export [] pass pass
+told_none export pass = record { lane = refl; noted = []; which = refl; behind = sym (append-nil pass.exchanges) }
 
-pub told_then : (xs : List ExchangeValue) (a b c : PassValue) → IsToldOf xs a b → IsAsBefore b c → IsToldOf xs a c
-told_then xs a b c told kept = record { lane = kept.lane ∙ told.lane; noted = told.noted; which = told.which; behind = kept.same ∙ told.behind }
+pub told_then : (export : Export) (xs : List ExchangeValue) (a b c : PassValue) → IsToldOf export xs a b → IsAsBefore b c → IsToldOf export xs a c
+told_then export xs a b c told kept = record { lane = kept.lane ∙ told.lane; noted = told.noted; which = told.which; behind = kept.same ∙ told.behind }
 
-pub told_join : (xs ys : List ExchangeValue) (a b c : PassValue) → IsToldOf xs a b → IsToldOf ys b c → IsToldOf (xs ++ ys) a c
-told_join xs ys a b c s t = record {
+pub told_join : (export : Export) (xs ys : List ExchangeValue) (a b c : PassValue) → IsToldOf export xs a b → IsToldOf export ys b c → IsToldOf export (xs ++ ys) a c
+told_join export xs ys a b c s t = record {
   lane = t.lane ∙ s.lane;
   noted = s.noted ++ t.noted;
-  which = noted_join xs ys s.noted t.noted s.which t.which;
+  which = noted_join export xs ys s.noted t.noted s.which t.which;
   behind = t.behind ∙ ap (λ (l : List ExchangeValue). l ++ t.noted) s.behind ∙ append_assoc a.exchanges s.noted t.noted;
 }
 
 abbrev pub exchange : List ℕ → List ℕ → ExchangeValue
 exchange message reply = record { message = message; reply = reply }
 
-pub told_one : (message reply : List ℕ) (old new : PassValue) → IsAnswered old message reply new → IsToldOf (exchange message reply ∷ []) old new
-told_one message reply old new (inl p) =
-    subst (λ (pass : PassValue). IsToldOf (exchange message reply ∷ []) old pass) (sym p.1)
+pub told_one : (export : Export) (message reply : List ℕ) (old new : PassValue) → IsAnsweredBy export old message reply new → IsToldOf export (exchange message reply ∷ []) old new
+told_one export message reply old new (inl p) =
+    subst (λ (pass : PassValue). IsToldOf export (exchange message reply ∷ []) old pass) (sym p.1)
     (record { lane = refl; noted = []; which = inl (p.0, refl); behind = sym (append-nil old.exchanges) })
-told_one message reply old new (inr p) =
+told_one export message reply old new (inr p) =
     record { lane = p.1.lane; noted = exchange message reply ∷ []; which = inr (p.0, ([], refl, refl)); behind = p.1.behind }
 
 -- ---- what was written

@@ -1,3 +1,4 @@
 pub mod Answering
+pub mod Mounted
 pub mod Waiting
 pub mod Streams

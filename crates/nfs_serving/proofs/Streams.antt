@@ -10,6 +10,7 @@ use Rattle.xdr_records.proofs.Cutting.{unfinished_none, cut_join}
 use Rattle.nfs_tap.specs.Pumping.{frames, IsIdle}
 use Rattle.nfs_tap.proofs.Fronts.{none_appended, both_appended, none_consumed, both_consumed}
 use Rattle.server_passes.specs.PassValue.{ExchangeValue, PassValue}
+use Rattle.nfs_serving.specs.declared.export.Export.{Export}
 use Rattle.nfs_serving.specs.declared.end.StreamEnd.{StreamEnd}
 use Rattle.nfs_serving.specs.declared.end.StreamEnd.TheVariants as ends
 use Rattle.nfs_serving.specs.declared.intake.Intake.{Intake}
@@ -73,10 +74,10 @@ split (x ∷ xs) ys bytes are =
       others = later.others;
     }
 
-module _ (old : Feed) (piece : List ℕ) (new : Feed) (before after : PassValue) (held held' : Option (List ℕ)) where
+module _ (export : Export) (old : Feed) (piece : List ℕ) (new : Feed) (before after : PassValue) (held held' : Option (List ℕ)) where
   -- it ended while the records were answered
-  pub stopped_in : {X : Type 0} (r : Result X FeedFault) (end : StreamEnd) (most : ℕ) → HasFed r old piece new → Stops end most new.waiting before after held held'
-      → EndsIn end most (old.rest ++ piece) before after held held'
+  pub stopped_in : {X : Type 0} (r : Result X FeedFault) (end : StreamEnd) (most : ℕ) → HasFed r old piece new → Stops export end most new.waiting before after held held'
+      → EndsIn export end most (old.rest ++ piece) before after held held'
   stopped_in r end most fed s =
       let some = fed_cut r old piece new fed in
       let cut = some.1 in
@@ -98,14 +99,14 @@ module _ (old : Feed) (piece : List ℕ) (new : Feed) (before after : PassValue)
         sent = s.sent;
       }
 
-  counted : (a : Answers new.waiting before after held held') (most left : ℕ) → most ≡ length new.waiting + left → most ≡ length a.answers + left
+  counted : (a : Answers export new.waiting before after held held') (most left : ℕ) → most ≡ length new.waiting + left → most ≡ length a.answers + left
   counted a most left count =
       let size : length new.waiting ≡ length a.answers = ap (λ (xs : List (List ℕ)). length xs) a.are ∙ length-map a.answers (λ (x : ExchangeValue). x.message) in
       omega (arith, size, count)
 
   -- it ended behind them
-  ended_at : (end : StreamEnd) (a : Answers new.waiting before after held held') (most left : ℕ) (rest : List ℕ) → most ≡ length new.waiting + left
-      → IsCut (Behind end left) (old.rest ++ piece) new.waiting rest → IsSent end (replies a.answers) (frames (replies a.answers)) → EndsIn end most (old.rest ++ piece) before after held held'
+  ended_at : (end : StreamEnd) (a : Answers export new.waiting before after held held') (most left : ℕ) (rest : List ℕ) → most ≡ length new.waiting + left
+      → IsCut (Behind end left) (old.rest ++ piece) new.waiting rest → IsSent end (replies a.answers) (frames (replies a.answers)) → EndsIn export end most (old.rest ++ piece) before after held held'
   ended_at end a most left rest count cut sent = record {
     answers = a.answers;
     left = left;
@@ -118,23 +119,23 @@ module _ (old : Feed) (piece : List ℕ) (new : Feed) (before after : PassValue)
     sent = sent;
   }
 
-  pub too_long_in : {X : Type 0} (most left : ℕ) → HasFed {X = X} (Err feed_faults.RecordTooLong) old piece new → Answers new.waiting before after held held' → most ≡ length new.waiting + left
-      → EndsIn ends.RecordTooLong most (old.rest ++ piece) before after held held'
+  pub too_long_in : {X : Type 0} (most left : ℕ) → HasFed {X = X} (Err feed_faults.RecordTooLong) old piece new → Answers export new.waiting before after held held' → most ≡ length new.waiting + left
+      → EndsIn export ends.RecordTooLong most (old.rest ++ piece) before after held held'
   too_long_in most left fed a count =
       let b = fed.too_long refl in
       ended_at ends.RecordTooLong a most left b.stop count
       (subst (λ (xs : List (List ℕ)). IsCut IsTooLong (old.rest ++ piece) xs b.stop) (sym (broken_all old piece new fed.idle b)) b.cut) refl
 
-  pub no_memory_in : {X : Type 0} (most left : ℕ) → HasFed {X = X} (Err feed_faults.NoMemory) old piece new → Answers new.waiting before after held held' → most ≡ length new.waiting + left
-      → EndsIn ends.NoMemory most (old.rest ++ piece) before after held held'
+  pub no_memory_in : {X : Type 0} (most left : ℕ) → HasFed {X = X} (Err feed_faults.NoMemory) old piece new → Answers export new.waiting before after held held' → most ≡ length new.waiting + left
+      → EndsIn export ends.NoMemory most (old.rest ++ piece) before after held held'
   no_memory_in {X = X} most left fed a count =
       let some = fed_cut {X = X} (Err feed_faults.NoMemory) old piece new fed in
       ended_at ends.NoMemory a most left some.0 count some.1 (inl refl)
 
 -- a piece was taken
-pub grown_in : {X : Type 0} (x : X) (old now new : Intake) (piece : List ℕ) (before after : PassValue) (held held' : Option (List ℕ)) → HasFed (Ok x) old.feed piece now.feed → now.left ≡ old.left
-    → Answers now.feed.waiting before after held held' → IsEmptied now new → Takes old piece new before after held held'
-grown_in x old now new piece before after held held' fed same a e =
+pub grown_in : (export : Export) {X : Type 0} (x : X) (old now new : Intake) (piece : List ℕ) (before after : PassValue) (held held' : Option (List ℕ)) → HasFed (Ok x) old.feed piece now.feed → now.left ≡ old.left
+    → Answers export now.feed.waiting before after held held' → IsEmptied now new → Takes export old piece new before after held held'
+grown_in export x old now new piece before after held held' fed same a e =
     let g = fed.ok in
     let are : g.records ≡ messages a.answers = sym (grown_all old.feed piece now.feed fed.idle g) ∙ a.are in
     let cut : IsCut IsUnfinished (old.feed.rest ++ piece) (messages a.answers) now.feed.rest =
@@ -142,7 +143,7 @@ grown_in x old now new piece before after held held' fed same a e =
     record {
       ready = record { idle = (e.waiting, e.broken ∙ g.still); more = e.more };
       answers = a.answers;
-      count = sym same ∙ counted old.feed piece now.feed before after held held' a now.left new.left e.count;
+      count = sym same ∙ counted export old.feed piece now.feed before after held held' a now.left new.left e.count;
       cut = subst (λ (l : List ℕ). IsCut IsUnfinished (old.feed.rest ++ piece) (messages a.answers) l) (sym e.rest) cut;
       told = a.told;
       appended = a.appended;
@@ -151,31 +152,31 @@ grown_in x old now new piece before after held held' fed same a e =
 -- ---- the whole stream
 
 -- what was done so far
-pub record HasServed (most : ℕ) (before after : PassValue) (left left' held held' : Option (List ℕ)) (intake : Intake) : Type 0 where
+pub record HasServed (export : Export) (most : ℕ) (before after : PassValue) (left left' held held' : Option (List ℕ)) (intake : Intake) : Type 0 where
   pub read : List ℕ
   pub answers : List ExchangeValue
   pub count : most ≡ length answers + intake.left
   pub consumed : Consumes left left' read
   pub cut : IsCut IsUnfinished read (messages answers) intake.feed.rest
-  pub told : IsToldOf answers before after
+  pub told : IsToldOf export answers before after
   pub appended : Appends held held' (frames (replies answers))
   pub ready : IsReady intake
 
-pub none_served : (pass : PassValue) (left held : Option (List ℕ)) (intake : Intake) → intake.feed ≡ fresh → 0 < intake.left → HasServed intake.left pass pass left left held held intake
-none_served pass left held intake is more = record {
+pub none_served : (export : Export) (pass : PassValue) (left held : Option (List ℕ)) (intake : Intake) → intake.feed ≡ fresh → 0 < intake.left → HasServed export intake.left pass pass left left held held intake
+none_served export pass left held intake is more = record {
   read = [];
   answers = [];
   count = sym (zero-add intake.left);
   consumed = none_consumed left;
   cut = record { front = []; parts = sym (ap (λ (f : Feed). f.rest) is); whole = refl; left = subst (λ (f : Feed). IsUnfinished f.rest) (sym is) (0, 0, unfinished_none) };
-  told = told_none pass;
+  told = told_none export pass;
   appended = none_appended held;
   ready = record { idle = (ap (λ (f : Feed). f.waiting) is, ap (λ (f : Feed). f.broken) is); more = more };
 }
 
 -- nothing was read
-pub serves_none : (end : StreamEnd) (most : ℕ) (pass : PassValue) (left held : Option (List ℕ)) → Behind end most [] → IsSent end [] [] → Serves end most pass pass left left held held
-serves_none end most pass left held behind sent = record {
+pub serves_none : (export : Export) (end : StreamEnd) (most : ℕ) (pass : PassValue) (left held : Option (List ℕ)) → Behind end most [] → IsSent end [] [] → Serves export end most pass pass left left held held
+serves_none export end most pass left held behind sent = record {
   read = [];
   consumed = none_consumed left;
   ended = record {
@@ -184,16 +185,16 @@ serves_none end most pass left held behind sent = record {
     count = sym (zero-add most);
     rest = [];
     cut = record { front = []; parts = refl; whole = refl; left = behind };
-    told = told_none pass;
+    told = told_none export pass;
     written = [];
     appended = none_appended held;
     sent = sent;
   };
 }
 
-module _ (most : ℕ) (before mid : PassValue) (left unread held between : Option (List ℕ)) (intake : Intake) (so_far : HasServed most before mid left unread held between intake) where
+module _ (export : Export) (most : ℕ) (before mid : PassValue) (left unread held between : Option (List ℕ)) (intake : Intake) (so_far : HasServed export most before mid left unread held between intake) where
   -- a read that gave nothing
-  pub served_still : (left' : Option (List ℕ)) → ((bytes : List ℕ) → Consumes left unread bytes → Consumes left left' bytes) → HasServed most before mid left left' held between intake
+  pub served_still : (left' : Option (List ℕ)) → ((bytes : List ℕ) → Consumes left unread bytes → Consumes left left' bytes) → HasServed export most before mid left left' held between intake
   served_still left' still = record {
     read = so_far.read;
     answers = so_far.answers;
@@ -206,8 +207,8 @@ module _ (most : ℕ) (before mid : PassValue) (left unread held between : Optio
   }
 
   -- a piece more
-  pub served_more : (after : PassValue) (left' held' : Option (List ℕ)) (new : Intake) (piece : List ℕ) → Consumes unread left' piece → Takes intake piece new mid after between held'
-      → HasServed most before after left left' held held' new
+  pub served_more : (after : PassValue) (left' held' : Option (List ℕ)) (new : Intake) (piece : List ℕ) → Consumes unread left' piece → Takes export intake piece new mid after between held'
+      → HasServed export most before after left left' held held' new
   served_more after left' held' new piece gave t = record {
     read = so_far.read ++ piece;
     answers = so_far.answers ++ t.answers;
@@ -215,7 +216,7 @@ module _ (most : ℕ) (before mid : PassValue) (left unread held between : Optio
     consumed = both_consumed left unread left' so_far.read piece so_far.consumed gave;
     cut = subst (λ (xs : List (List ℕ)). IsCut IsUnfinished (so_far.read ++ piece) xs new.feed.rest) (sym (messages-append so_far.answers t.answers))
         (cut_join IsUnfinished IsUnfinished so_far.read piece intake.feed.rest new.feed.rest (messages so_far.answers) (messages t.answers) so_far.cut t.cut);
-    told = told_join so_far.answers t.answers before mid after so_far.told t.told;
+    told = told_join export so_far.answers t.answers before mid after so_far.told t.told;
     appended = subst (Appends held held') (sym (frames_more so_far.answers t.answers))
         (both_appended held between held' (frames (replies so_far.answers)) (frames (replies t.answers)) so_far.appended t.appended);
     ready = t.ready;
@@ -223,7 +224,7 @@ module _ (most : ℕ) (before mid : PassValue) (left unread held between : Optio
 
   -- it ended within a piece
   pub serves_within : (end : StreamEnd) (after : PassValue) (left' held' : Option (List ℕ)) (piece : List ℕ) → Consumes unread left' piece
-      → EndsIn end intake.left (intake.feed.rest ++ piece) mid after between held' → Serves end most before after left left' held held'
+      → EndsIn export end intake.left (intake.feed.rest ++ piece) mid after between held' → Serves export end most before after left left' held held'
   serves_within end after left' held' piece gave e = record {
     read = so_far.read ++ piece;
     consumed = both_consumed left unread left' so_far.read piece so_far.consumed gave;
@@ -234,7 +235,7 @@ module _ (most : ℕ) (before mid : PassValue) (left unread held between : Optio
       rest = e.rest;
       cut = subst (λ (xs : List (List ℕ)). IsCut (Behind end e.left) (so_far.read ++ piece) xs e.rest) (sym (messages-append so_far.answers e.answers))
           (cut_join IsUnfinished (Behind end e.left) so_far.read piece intake.feed.rest e.rest (messages so_far.answers) (messages e.answers) so_far.cut e.cut);
-      told = told_join so_far.answers e.answers before mid after so_far.told e.told;
+      told = told_join export so_far.answers e.answers before mid after so_far.told e.told;
       written = frames (replies so_far.answers) ++ e.written;
       appended = both_appended held between held' (frames (replies so_far.answers)) e.written so_far.appended e.appended;
       sent = subst (λ (xs : List (List ℕ)). IsSent end xs (frames (replies so_far.answers) ++ e.written)) (sym (replies-append so_far.answers e.answers))
@@ -244,7 +245,7 @@ module _ (most : ℕ) (before mid : PassValue) (left unread held between : Optio
 
   -- it ended behind a whole piece
   pub serves_behind : (end : StreamEnd) → (IsUnfinished intake.feed.rest → Behind end intake.left intake.feed.rest) → ((given : List (List ℕ)) → IsSent end given (frames given))
-      → Serves end most before mid left unread held between
+      → Serves export end most before mid left unread held between
   serves_behind end may sent = record {
     read = so_far.read;
     consumed = so_far.consumed;

@@ -7,6 +7,7 @@ use Rattle.xdr_records.specs.Feed.{TakesFirst}
 use Rattle.nfs_tap.specs.Pumping.{frames}
 use Rattle.nfs_tap.proofs.Fronts.{none_appended, both_appended}
 use Rattle.server_passes.specs.PassValue.{ExchangeValue, PassValue}
+use Rattle.nfs_serving.specs.declared.export.Export.{Export}
 use Rattle.nfs_serving.specs.declared.end.StreamEnd.{StreamEnd}
 use Rattle.nfs_serving.specs.declared.end.StreamEnd.TheVariants as ends
 use Rattle.nfs_serving.specs.declared.intake.Intake.{Intake}
@@ -15,20 +16,20 @@ use Rattle.nfs_serving.specs.Steps.{IsStop, IsServed, IsUnanswered, IsHalfServed
 use Rattle.nfs_serving.proofs.Answering.{messages-append, replies-append, frames_more, told_none, told_then, told_join, told_one, exchange, refused_sent, lost_sent, refused_stop, lost_stop}
 
 -- some of them are answered
-pub record HasAnswered (old now : Intake) (before after : PassValue) (held held' : Option (List ℕ)) : Type 0 where
+pub record HasAnswered (export : Export) (old now : Intake) (before after : PassValue) (held held' : Option (List ℕ)) : Type 0 where
   pub answers : List ExchangeValue
   pub parts : old.feed.waiting ≡ messages answers ++ now.feed.waiting
   pub rest : now.feed.rest ≡ old.feed.rest
   pub broken : now.feed.broken ≡ old.feed.broken
   pub count : old.left ≡ length answers + now.left
-  pub told : IsToldOf answers before after
+  pub told : IsToldOf export answers before after
   pub appended : Appends held held' (frames (replies answers))
 
-pub none_answered : (intake : Intake) (pass : PassValue) (held : Option (List ℕ)) → HasAnswered intake intake pass pass held held
-none_answered intake pass held = record { answers = []; parts = refl; rest = refl; broken = refl; count = sym (zero-add intake.left); told = told_none pass; appended = none_appended held }
+pub none_answered : (export : Export) (intake : Intake) (pass : PassValue) (held : Option (List ℕ)) → HasAnswered export intake intake pass pass held held
+none_answered export intake pass held = record { answers = []; parts = refl; rest = refl; broken = refl; count = sym (zero-add intake.left); told = told_none export pass; appended = none_appended held }
 
-module _ (old now new : Intake) (content : List ℕ) (before mid after : PassValue) (held between held' : Option (List ℕ))
-    (so_far : HasAnswered old now before mid held between) (t : TakesFirst now.feed content new.feed) (counted : now.left ≡ new.left + 1) where
+module _ (export : Export) (old now new : Intake) (content : List ℕ) (before mid after : PassValue) (held between held' : Option (List ℕ))
+    (so_far : HasAnswered export old now before mid held between) (t : TakesFirst now.feed content new.feed) (counted : now.left ≡ new.left + 1) where
   ahead : old.feed.waiting ≡ messages so_far.answers ++ content ∷ new.feed.waiting
   ahead = so_far.parts ∙ ap (λ (xs : List (List ℕ)). messages so_far.answers ++ xs) t.waiting
 
@@ -39,7 +40,7 @@ module _ (old now new : Intake) (content : List ℕ) (before mid after : PassVal
   counted_one : (reply : List ℕ) → old.left ≡ length (so_far.answers ++ exchange content reply ∷ []) + new.left
   counted_one reply = omega (arith, so_far.count, counted, length-append so_far.answers (exchange content reply ∷ []))
 
-  pub one_answered : IsServed content mid after between held' → HasAnswered old new before after held held'
+  pub one_answered : IsServed export content mid after between held' → HasAnswered export old new before after held held'
   one_answered s =
       let one = exchange content s.reply in
       let text : frames (replies (so_far.answers ++ one ∷ [])) ≡ frames (replies so_far.answers) ++ record_text s.reply =
@@ -50,11 +51,11 @@ module _ (old now new : Intake) (content : List ℕ) (before mid after : PassVal
         rest = t.rest ∙ so_far.rest;
         broken = t.broken ∙ so_far.broken;
         count = counted_one s.reply;
-        told = told_join so_far.answers (one ∷ []) before mid after so_far.told (told_one content s.reply mid after s.answered);
+        told = told_join export so_far.answers (one ∷ []) before mid after so_far.told (told_one export content s.reply mid after s.answered);
         appended = subst (Appends held held') (sym text) (both_appended held between held' (frames (replies so_far.answers)) (record_text s.reply) so_far.appended s.appended);
       }
 
-  stops_unanswered : (end : StreamEnd) → IsUnanswered end content mid after between held' → Stops end old.left old.feed.waiting before after held held'
+  stops_unanswered : (end : StreamEnd) → IsUnanswered end content mid after between held' → Stops export end old.left old.feed.waiting before after held held'
   stops_unanswered end u = record {
     answers = so_far.answers;
     behind = content ∷ new.feed.waiting;
@@ -62,13 +63,13 @@ module _ (old now new : Intake) (content : List ℕ) (before mid after : PassVal
     left = now.left;
     count = so_far.count;
     stop = subst (λ (e : StreamEnd). IsStop e now.left (content ∷ new.feed.waiting)) (sym u.is) (refused_stop u.fault now.left content new.feed.waiting u.stops);
-    told = told_then so_far.answers before mid after so_far.told u.kept;
+    told = told_then export so_far.answers before mid after so_far.told u.kept;
     written = frames (replies so_far.answers);
     appended = subst (λ (h : Option (List ℕ)). Appends held h (frames (replies so_far.answers))) (sym u.same) so_far.appended;
     sent = subst (λ (e : StreamEnd). IsSent e (replies so_far.answers) (frames (replies so_far.answers))) (sym u.is) (refused_sent u.fault (replies so_far.answers));
   }
 
-  stops_half : (end : StreamEnd) → IsHalfServed end content mid after between held' → Stops end old.left old.feed.waiting before after held held'
+  stops_half : (end : StreamEnd) → IsHalfServed export end content mid after between held' → Stops export end old.left old.feed.waiting before after held held'
   stops_half end h =
       let one = exchange content h.reply in
       let written = frames (replies so_far.answers) ++ take h.unsent.count (record_text h.reply) in
@@ -79,20 +80,20 @@ module _ (old now new : Intake) (content : List ℕ) (before mid after : PassVal
         left = new.left;
         count = counted_one h.reply;
         stop = lost_stop end h.unsent.count new.left new.feed.waiting h.unsent.lost;
-        told = told_join so_far.answers (one ∷ []) before mid after so_far.told (told_one content h.reply mid after h.answered);
+        told = told_join export so_far.answers (one ∷ []) before mid after so_far.told (told_one export content h.reply mid after h.answered);
         written = written;
         appended = both_appended held between held' (frames (replies so_far.answers)) (take h.unsent.count (record_text h.reply)) so_far.appended h.unsent.appended;
         sent = subst (λ (xs : List (List ℕ)). IsSent end xs written) (sym (replies-append so_far.answers (one ∷ [])))
             (lost_sent end h.unsent.count h.unsent.lost (replies so_far.answers) h.reply h.unsent.within);
       }
 
-  pub stops_later : (end : StreamEnd) → IsUnanswered end content mid after between held' ⊎ IsHalfServed end content mid after between held'
-      → Stops end old.left old.feed.waiting before after held held'
+  pub stops_later : (end : StreamEnd) → IsUnanswered end content mid after between held' ⊎ IsHalfServed export end content mid after between held'
+      → Stops export end old.left old.feed.waiting before after held held'
   stops_later end (inl u) = stops_unanswered end u
   stops_later end (inr h) = stops_half end h
 
-module _ (old now : Intake) (before after : PassValue) (held held' : Option (List ℕ)) (so_far : HasAnswered old now before after held held') where
-  pub stops_at_bound : now.left ≡ 0 → Stops ends.Bound old.left old.feed.waiting before after held held'
+module _ (export : Export) (old now : Intake) (before after : PassValue) (held held' : Option (List ℕ)) (so_far : HasAnswered export old now before after held held') where
+  pub stops_at_bound : now.left ≡ 0 → Stops export ends.Bound old.left old.feed.waiting before after held held'
   stops_at_bound none = record {
     answers = so_far.answers;
     behind = now.feed.waiting;
@@ -109,7 +110,7 @@ module _ (old now : Intake) (before after : PassValue) (held held' : Option (Lis
   whole : now.feed.waiting ≡ [] → old.feed.waiting ≡ messages so_far.answers
   whole none = so_far.parts ∙ ap (λ (xs : List (List ℕ)). messages so_far.answers ++ xs) none ∙ append-nil (messages so_far.answers)
 
-  pub all_answered : now.feed.waiting ≡ [] → Answers old.feed.waiting before after held held'
+  pub all_answered : now.feed.waiting ≡ [] → Answers export old.feed.waiting before after held held'
   all_answered none = record { answers = so_far.answers; are = whole none; told = so_far.told; appended = so_far.appended }
 
   pub all_emptied : now.feed.waiting ≡ [] → 0 < now.left → IsEmptied old now

@@ -8,6 +8,9 @@ use Rattle.server_passes.specs.PassValue.{ExchangeValue, PassValue}
 use Rattle.journal_server.specs.declared.fault.CallFault.{CallFault}
 use Rattle.journal_server.specs.declared.fault.CallFault.TheVariants as faults
 use Rattle.journal_server.specs.Passing.{IsAnsweredAs, IsToRecord, MayStop}
+use Rattle.mount_answers.specs.Mounting.{IsMountedAs, IsLeft}
+use Rattle.nfs_serving.specs.declared.export.Export.{Export}
+use Rattle.nfs_serving.specs.declared.export.Export.TheVariants as exports
 use Rattle.nfs_serving.specs.declared.end.StreamEnd.{StreamEnd}
 use Rattle.nfs_serving.specs.declared.end.StreamEnd.TheVariants as ends
 
@@ -18,18 +21,24 @@ messages answers = map (λ (x : ExchangeValue). x.message) answers
 abbrev pub replies : List ExchangeValue → List (List ℕ)
 replies answers = map (λ (x : ExchangeValue). x.reply) answers
 
--- Of these answers those are noted, in order, that are of calls to be recorded. Every other is the one that the server gives by itself.
-abbrev pub AreNoted : List ExchangeValue → List ExchangeValue → Type 0
-AreNoted [] noted = noted ≡ []
-AreNoted (x ∷ xs) noted =
-    (IsAnsweredAs x.message x.reply × AreNoted xs noted)
-    ⊎ (IsToRecord x.message × ((others : List ExchangeValue) × (noted ≡ x ∷ others) × AreNoted xs others))
+-- the answer to a call that isn't recorded: the one that the server gives by itself, and ahead of it, where stock clients may mount the server,
+-- the one that lets them
+abbrev pub IsAnsweredSo : Export → List ℕ → List ℕ → Type 0
+IsAnsweredSo exports.Plain message reply = IsAnsweredAs message reply
+IsAnsweredSo exports.Mountable message reply = IsMountedAs message reply ⊎ (IsLeft message × IsAnsweredAs message reply)
+
+-- Of these answers those are noted, in order, that are of calls to be recorded. No other is of such a call.
+abbrev pub AreNoted : Export → List ExchangeValue → List ExchangeValue → Type 0
+AreNoted export [] noted = noted ≡ []
+AreNoted export (x ∷ xs) noted =
+    (IsAnsweredSo export x.message x.reply × AreNoted export xs noted)
+    ⊎ (IsToRecord x.message × ((others : List ExchangeValue) × (noted ≡ x ∷ others) × AreNoted export xs others))
 
 -- the pass knows what it knew, and behind it what is noted of these answers
-pub record IsToldOf (answers : List ExchangeValue) (old new : PassValue) : Type 0 where
+pub record IsToldOf (export : Export) (answers : List ExchangeValue) (old new : PassValue) : Type 0 where
   pub lane : new.lane ≡ old.lane
   pub noted : List ExchangeValue
-  pub which : AreNoted answers noted
+  pub which : AreNoted export answers noted
   pub behind : new.exchanges ≡ old.exchanges ++ noted
 
 -- these replies were written whole, but for the last, of which a front was written, or nothing
@@ -77,19 +86,19 @@ Behind end left rest = Unit {0}
 
 -- so it ended in these bytes, of which at most so many records may be answered: what was answered, what the pass knows of it, and what was
 -- written of it
-pub record EndsIn (end : StreamEnd) (most : ℕ) (bytes : List ℕ) (old new : PassValue) (held held' : Option (List ℕ)) : Type 0 where
+pub record EndsIn (export : Export) (end : StreamEnd) (most : ℕ) (bytes : List ℕ) (old new : PassValue) (held held' : Option (List ℕ)) : Type 0 where
   pub answers : List ExchangeValue
   pub left : ℕ
   pub count : most ≡ length answers + left
   pub rest : List ℕ
   pub cut : IsCut (Behind end left) bytes (messages answers) rest
-  pub told : IsToldOf answers old new
+  pub told : IsToldOf export answers old new
   pub written : List ℕ
   pub appended : Appends held held' written
   pub sent : IsSent end (replies answers) written
 
 -- what becomes of the pass, and of the bytes that the reader has left and that the writer holds, where these are known
-pub record Serves (end : StreamEnd) (most : ℕ) (old new : PassValue) (left left' held held' : Option (List ℕ)) : Type 0 where
+pub record Serves (export : Export) (end : StreamEnd) (most : ℕ) (old new : PassValue) (left left' held held' : Option (List ℕ)) : Type 0 where
   pub read : List ℕ
   pub consumed : Consumes left left' read
-  pub ended : EndsIn end most read old new held held'
+  pub ended : EndsIn export end most read old new held held'

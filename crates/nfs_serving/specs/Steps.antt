@@ -1,16 +1,17 @@
 -- What the private functions say to the prover.
-use Rattle.std.specs.Prelude.{◌≡◌, ◌≢◌, ◌<◌, ◌≤◌, ℕ, ◌+◌, List, [], ◌∷◌, ◌++◌, length, take, Option}
+use Rattle.std.specs.Prelude.{◌≡◌, ◌≢◌, ◌⊎◌, ◌<◌, ◌≤◌, ℕ, ◌+◌, List, [], ◌∷◌, ◌++◌, length, take, Option}
 use Rattle.std.specs.Io.KnownBytes.{Appends}
 use Rattle.xdr_records.specs.Record.{IsUnfinished, IsCut, record_text}
 use Rattle.nfs_tap.specs.Pumping.{frames, IsIdle}
 use Rattle.server_passes.specs.PassValue.{ExchangeValue, PassValue}
 use Rattle.journal_server.specs.declared.fault.CallFault.{CallFault}
 use Rattle.journal_server.specs.declared.fault.CallFault.TheVariants as faults
-use Rattle.journal_server.specs.Passing.{MayStop, IsAsBefore, IsAnswered}
+use Rattle.journal_server.specs.Passing.{MayStop, IsAsBefore, IsNoted, IsToRecord}
+use Rattle.nfs_serving.specs.declared.export.Export.{Export}
 use Rattle.nfs_serving.specs.declared.end.StreamEnd.{StreamEnd}
 use Rattle.nfs_serving.specs.declared.end.StreamEnd.TheVariants as ends
 use Rattle.nfs_serving.specs.declared.intake.Intake.{Intake}
-use Rattle.nfs_serving.specs.Serving.{messages, replies, IsToldOf, IsSent}
+use Rattle.nfs_serving.specs.Serving.{messages, replies, IsAnsweredSo, IsToldOf, IsSent}
 
 -- the end of a stream of which a call was refused
 abbrev pub end_of : CallFault → StreamEnd
@@ -30,10 +31,14 @@ pub record IsUnsent (end : StreamEnd) (held held' : Option (List ℕ)) (text : L
   pub appended : Appends held held' (take count text)
   pub lost : IsLost end count
 
+-- a call was answered
+abbrev pub IsAnsweredBy : Export → PassValue → List ℕ → List ℕ → PassValue → Type 0
+IsAnsweredBy export old message reply new = (IsAnsweredSo export message reply × (new ≡ old)) ⊎ (IsToRecord message × IsNoted old message reply new)
+
 -- a record was answered, and the reply written
-pub record IsServed (message : List ℕ) (old new : PassValue) (held held' : Option (List ℕ)) : Type 0 where
+pub record IsServed (export : Export) (message : List ℕ) (old new : PassValue) (held held' : Option (List ℕ)) : Type 0 where
   pub reply : List ℕ
-  pub answered : IsAnswered old message reply new
+  pub answered : IsAnsweredBy export old message reply new
   pub appended : Appends held held' (record_text reply)
 
 -- a record got no reply, and nothing was written
@@ -45,16 +50,16 @@ pub record IsUnanswered (end : StreamEnd) (message : List ℕ) (old new : PassVa
   pub same : held' ≡ held
 
 -- a record was answered, and a front of the reply written
-pub record IsHalfServed (end : StreamEnd) (message : List ℕ) (old new : PassValue) (held held' : Option (List ℕ)) : Type 0 where
+pub record IsHalfServed (export : Export) (end : StreamEnd) (message : List ℕ) (old new : PassValue) (held held' : Option (List ℕ)) : Type 0 where
   pub reply : List ℕ
-  pub answered : IsAnswered old message reply new
+  pub answered : IsAnsweredBy export old message reply new
   pub unsent : IsUnsent end held held' (record_text reply)
 
 -- these records were answered
-pub record Answers (records : List (List ℕ)) (old new : PassValue) (held held' : Option (List ℕ)) : Type 0 where
+pub record Answers (export : Export) (records : List (List ℕ)) (old new : PassValue) (held held' : Option (List ℕ)) : Type 0 where
   pub answers : List ExchangeValue
   pub are : records ≡ messages answers
-  pub told : IsToldOf answers old new
+  pub told : IsToldOf export answers old new
   pub appended : Appends held held' (frames (replies answers))
 
 -- so it ended at the first of these records, where `left` of them might be answered
@@ -67,14 +72,14 @@ IsStop (ends.Refused fault) left (x ∷ xs) = MayStop x fault × (fault ≢ faul
 IsStop end left records = ⊥
 
 -- so it ended in these records, of which at most so many may be answered
-pub record Stops (end : StreamEnd) (most : ℕ) (records : List (List ℕ)) (old new : PassValue) (held held' : Option (List ℕ)) : Type 0 where
+pub record Stops (export : Export) (end : StreamEnd) (most : ℕ) (records : List (List ℕ)) (old new : PassValue) (held held' : Option (List ℕ)) : Type 0 where
   pub answers : List ExchangeValue
   pub behind : List (List ℕ)
   pub parts : records ≡ messages answers ++ behind
   pub left : ℕ
   pub count : most ≡ length answers + left
   pub stop : IsStop end left behind
-  pub told : IsToldOf answers old new
+  pub told : IsToldOf export answers old new
   pub written : List ℕ
   pub appended : Appends held held' written
   pub sent : IsSent end (replies answers) written
@@ -93,10 +98,10 @@ pub record IsEmptied (old new : Intake) : Type 0 where
   pub more : 0 < new.left
 
 -- a piece of the stream was taken, and the records were answered that it made whole
-pub record Takes (old : Intake) (piece : List ℕ) (new : Intake) (before after : PassValue) (held held' : Option (List ℕ)) : Type 0 where
+pub record Takes (export : Export) (old : Intake) (piece : List ℕ) (new : Intake) (before after : PassValue) (held held' : Option (List ℕ)) : Type 0 where
   pub ready : IsReady new
   pub answers : List ExchangeValue
   pub count : old.left ≡ length answers + new.left
   pub cut : IsCut IsUnfinished (old.feed.rest ++ piece) (messages answers) new.feed.rest
-  pub told : IsToldOf answers before after
+  pub told : IsToldOf export answers before after
   pub appended : Appends held held' (frames (replies answers))

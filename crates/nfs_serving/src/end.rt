@@ -2,6 +2,7 @@
 
 use journal_server::CallFault;
 use std::alloc::AllocError;
+use std::fmt;
 
 /// How the serving of a stream ended.
 #[derive(Clone, Copy, Debug, PartialEq, Eq)]
@@ -21,6 +22,20 @@ pub enum StreamEnd {
     /// A growth was refused, by the server too. The last call that is noted in the pass may have no byte of its reply
     /// written.
     NoMemory,
+}
+
+impl fmt::Display for StreamEnd {
+    fn fmt<W: fmt::Write>(&self, f: &mut fmt::Formatter<W>) -> fmt::Result {
+        match self {
+            StreamEnd::End => f.write_str("End"),
+            StreamEnd::Bound => f.write_str("Bound"),
+            StreamEnd::ReadFault => f.write_str("ReadFault"),
+            StreamEnd::WriteFault => f.write_str("WriteFault"),
+            StreamEnd::RecordTooLong => f.write_str("RecordTooLong"),
+            StreamEnd::Refused(fault) => write!(f, "Refused {fault}"),
+            StreamEnd::NoMemory => f.write_str("out of memory"),
+        }
+    }
 }
 
 impl From<CallFault> for StreamEnd {

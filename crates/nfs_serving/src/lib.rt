@@ -2,9 +2,13 @@
 #![tactic(auto)]
 
 mod end;
+mod export;
 mod intake;
+mod laws;
 mod sending;
 mod serving;
 
 pub use end::StreamEnd;
-pub use serving::serve_stream;
+pub use export::Export;
+pub use laws::no_mounted_call_is_recorded;
+pub use serving::{serve_export, serve_stream};

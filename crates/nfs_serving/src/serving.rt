@@ -1,14 +1,17 @@
 //! The records of a stream, each answered as it comes.
 
-ghost use Rattle.std.specs.Prelude.{◌≡◌, ◌≢◌, ◌⊎◌, ◌++◌, OnOk, IfOk, IfErr, vec_len};
+ghost use Rattle.std.specs.Prelude.{◌≡◌, ◌≢◌, ◌⊎◌, ◌++◌, OnOk, OnErr, IfOk, IfErr, vec_len};
 ghost use Rattle.std.specs.Io.KnownBytes.{IsAtEnd};
 ghost use Rattle.nfs_serving.specs.Serving.{Serves, EndsIn};
-ghost use Rattle.nfs_serving.specs.Steps.{IsServed, IsUnanswered, IsHalfServed, Answers, Stops, IsReady, IsEmptied, Takes};
+ghost use Rattle.journal_server.specs.Passing.{IsAsBefore, MayStop};
+ghost use Rattle.nfs_serving.specs.Steps.{IsAnsweredBy, IsServed, IsUnanswered, IsHalfServed, Answers, Stops, IsReady, IsEmptied, Takes};
 
 use crate::end::StreamEnd;
+use crate::export::Export;
 use crate::intake::Intake;
 use crate::sending::send;
-use journal_server::{Gate, JournalDevice, Pass, Server};
+use journal_server::{CallFault, Gate, JournalDevice, Pass, Server};
+use mount_answers::mount_reply;
 use std::alloc::{AllocError, Global};
 use std::io::{ErrorKind, Read, Write};
 use std::sync::Wait;
@@ -20,20 +23,43 @@ const READ_SIZE: usize = 65_536;
 /// How many times a stream is read.
 const READ_LIMIT: u32 = 1_000_000;
 
+/// The reply to a message.
+fn answer<R: Wait, G: Gate, D: JournalDevice>(
+    rt: &R,
+    alloc: Global,
+    export: Export,
+    server: &Server<G, D>,
+    pass: &mut Pass,
+    message: &[u8],
+) -> Result<Vec<u8>, CallFault>
+    ensures answered { IfOk result (λ reply. IsAnsweredBy export pass.old message.now reply.items pass.new) }
+    ensures kept { OnErr result (IsAsBefore pass.old pass.new) }
+    ensures refused { IfErr result (MayStop message.now) }
+{
+    match export {
+        Export::Plain => server.call(rt, pass, message),
+        Export::Mountable => match mount_reply(alloc, message)? {
+            Some(reply) => Ok(reply),
+            None => server.call(rt, pass, message),
+        },
+    }
+}
+
 /// Has a record answered, and writes the reply.
 fn serve_record<R: Wait, W: Write, G: Gate, D: JournalDevice>(
     rt: &R,
     alloc: Global,
+    export: Export,
     server: &Server<G, D>,
     pass: &mut Pass,
     writer: &mut W,
     content: &[u8],
 ) -> Result<(), StreamEnd>
-    ensures ok { OnOk result (IsServed content.now pass.old pass.new (W.contents writer.old) (W.contents writer.new)) }
+    ensures ok { OnOk result (IsServed export content.now pass.old pass.new (W.contents writer.old) (W.contents writer.new)) }
     ensures err { IfErr result (λ end. IsUnanswered end content.now pass.old pass.new (W.contents writer.old) (W.contents writer.new)
-        ⊎ IsHalfServed end content.now pass.old pass.new (W.contents writer.old) (W.contents writer.new)) }
+        ⊎ IsHalfServed export end content.now pass.old pass.new (W.contents writer.old) (W.contents writer.new)) }
 {
-    let reply = server.call(rt, pass, content)?;
+    let reply = answer(rt, alloc, export, server, pass, content)?;
     send(alloc, writer, reply.as_slice())
 }
 
@@ -41,18 +67,19 @@ fn serve_record<R: Wait, W: Write, G: Gate, D: JournalDevice>(
 fn serve_waiting<R: Wait, W: Write, G: Gate, D: JournalDevice>(
     rt: &R,
     alloc: Global,
+    export: Export,
     server: &Server<G, D>,
     pass: &mut Pass,
     writer: &mut W,
     intake: &mut Intake,
 ) -> Result<(), StreamEnd>
-    ensures ok { OnOk result (Answers intake.old.feed.waiting pass.old pass.new (W.contents writer.old) (W.contents writer.new)) }
+    ensures ok { OnOk result (Answers export intake.old.feed.waiting pass.old pass.new (W.contents writer.old) (W.contents writer.new)) }
     ensures emptied { OnOk result (IsEmptied intake.old intake.new) }
-    ensures err { IfErr result (λ end. Stops end intake.old.left intake.old.feed.waiting pass.old pass.new
+    ensures err { IfErr result (λ end. Stops export end intake.old.left intake.old.feed.waiting pass.old pass.new
         (W.contents writer.old) (W.contents writer.new)) }
 {
     while let Some(content) = intake.next() {
-        serve_record(rt, alloc, server, pass, writer, content.as_slice())?;
+        serve_record(rt, alloc, export, server, pass, writer, content.as_slice())?;
     }
     if intake.left == 0 {
         return Err(StreamEnd::Bound);
@@ -64,6 +91,7 @@ fn serve_waiting<R: Wait, W: Write, G: Gate, D: JournalDevice>(
 fn serve_piece<R: Wait, W: Write, G: Gate, D: JournalDevice>(
     rt: &R,
     alloc: Global,
+    export: Export,
     server: &Server<G, D>,
     pass: &mut Pass,
     writer: &mut W,
@@ -71,13 +99,13 @@ fn serve_piece<R: Wait, W: Write, G: Gate, D: JournalDevice>(
     piece: &[u8],
 ) -> Result<(), StreamEnd>
     requires { IsReady intake.old }
-    ensures ok { OnOk result (Takes intake.old piece.now intake.new pass.old pass.new (W.contents writer.old) (W.contents writer.new)) }
-    ensures err { IfErr result (λ end. EndsIn end intake.old.left (intake.old.feed.rest ++ piece.now) pass.old pass.new
+    ensures ok { OnOk result (Takes export intake.old piece.now intake.new pass.old pass.new (W.contents writer.old) (W.contents writer.new)) }
+    ensures err { IfErr result (λ end. EndsIn export end intake.old.left (intake.old.feed.rest ++ piece.now) pass.old pass.new
         (W.contents writer.old) (W.contents writer.new)) }
     ensures unended { IfErr result (λ end. end ≢ StreamEnd.End) }
 {
     let fed = intake.feed.feed(piece);
-    serve_waiting(rt, alloc, server, pass, writer, intake)?;
+    serve_waiting(rt, alloc, export, server, pass, writer, intake)?;
     match fed {
         Ok(()) => Ok(()),
         Err(fault) => match fault {
@@ -95,16 +123,18 @@ fn empty_buffer(alloc: Global, size: usize) -> Result<Vec<u8>, AllocError>
 }
 
 /// Serves a stream of calls: has each of its records answered by the server, as it comes whole, and writes each reply as one fragment
-/// (RFC 5531, section 11). It ends once so many records are answered, or behind 1,000,000 reads of at most 65,536 bytes. Bytes that came
-/// behind the last record that may be answered are dropped.
+/// (RFC 5531, section 11). Where stock clients may mount the server, what they ask first is answered ahead of it. It ends once so many
+/// records are answered, or behind 1,000,000 reads of at most 65,536 bytes. Bytes that came behind the last record that may be
+/// answered are dropped.
 ///
 /// Where the reader and the writer tell their bytes: whole records from the front of what was read are answered, in order, at most so
 /// many; what the pass knows more are the exchanges of those that are recorded; and what was written is the frames of all replies, but
 /// that of the last there may be a front at `WriteFault`, and nothing at `NoMemory`. It isn't claimed that a fault comes only where a
 /// read, a write or a growth failed, nor that `Bound` comes only where the stream may go on, nor how often it is read.
-pub fn serve_stream<R: Wait, I: Read, W: Write, G: Gate, D: JournalDevice>(
+pub fn serve_export<R: Wait, I: Read, W: Write, G: Gate, D: JournalDevice>(
     rt: &R,
     alloc: Global,
+    export: Export,
     reader: &mut I,
     writer: &mut W,
     server: &Server<G, D>,
@@ -112,7 +142,7 @@ pub fn serve_stream<R: Wait, I: Read, W: Write, G: Gate, D: JournalDevice>(
     records: u64,
 ) -> StreamEnd
     ensures ended { result ≡ StreamEnd.End → IsAtEnd (I.remaining reader.new) }
-    ensures served { Serves result records pass.old pass.new (I.remaining reader.old) (I.remaining reader.new)
+    ensures served { Serves export result records pass.old pass.new (I.remaining reader.old) (I.remaining reader.new)
         (W.contents writer.old) (W.contents writer.new) }
 {
     if records == 0 {
@@ -132,7 +162,7 @@ pub fn serve_stream<R: Wait, I: Read, W: Write, G: Gate, D: JournalDevice>(
             Ok(0) => return StreamEnd::End,
             Ok(count) => {
                 let piece = &buffer[..count];
-                match serve_piece(rt, alloc, server, pass, writer, &mut intake, piece) {
+                match serve_piece(rt, alloc, export, server, pass, writer, &mut intake, piece) {
                     Ok(()) => {}
                     Err(end) => return end,
                 }
@@ -142,4 +172,30 @@ pub fn serve_stream<R: Wait, I: Read, W: Write, G: Gate, D: JournalDevice>(
         }
     }
     StreamEnd::Bound
+}
+
+/// Serves a stream of calls, as [`serve_export`] to clients that mount nothing.
+pub fn serve_stream<R: Wait, I: Read, W: Write, G: Gate, D: JournalDevice>(
+    rt: &R,
+    alloc: Global,
+    reader: &mut I,
+    writer: &mut W,
+    server: &Server<G, D>,
+    pass: &mut Pass,
+    records: u64,
+) -> StreamEnd
+    ensures ended { result ≡ StreamEnd.End → IsAtEnd (I.remaining reader.new) }
+    ensures served { Serves Export.Plain result records pass.old pass.new (I.remaining reader.old) (I.remaining reader.new)
+        (W.contents writer.old) (W.contents writer.new) }
+{
+    serve_export(
+        rt,
+        alloc,
+        Export::Plain,
+        reader,
+        writer,
+        server,
+        pass,
+        records,
+    )
 }
