@@ -18,6 +18,8 @@ mod recordings;
 #[cfg(test)]
 mod samples;
 #[cfg(test)]
+mod served;
+#[cfg(test)]
 mod streams;
 #[cfg(test)]
 mod words;

@@ -34,7 +34,7 @@ pub(crate) fn connect<R: Host>(rt: &R, port: u16) -> io::Result<TcpStream> {
 }
 
 /// Whether just this record comes next.
-fn comes(stream: &mut TcpStream, record: &[u8]) -> bool {
+pub(crate) fn comes(stream: &mut TcpStream, record: &[u8]) -> bool {
     let mut buffer = [0; 64];
     if record.len() > buffer.len() {
         return false;

@@ -18,13 +18,13 @@ fn path_of<R: Recorder>(rt: &R, port: u16) -> Result<String, AllocError> {
     format!(in rt.alloc(); "/tmp/nfsbench_{port}.hist")
 }
 
-/// Whether `tap`, with these words more, says this and ends well.
-fn taps<R: Recorder, I: Input>(rt: &R, line: &str, input: &mut I, says: &[u8]) -> bool {
+/// Whether the words of a line are told this, and end well.
+pub(crate) fn says<R: Recorder, I: Input>(rt: &R, line: &str, input: &mut I, text: &[u8]) -> bool {
     let Ok(words) = line.split(' ').collect::<Vec<&str>>(rt.alloc()) else {
         return false;
     };
     let mut told = Vec::new(rt.alloc());
-    run_words(rt, words.as_slice(), input, &mut told) == 0 && told.as_slice() == says
+    run_words(rt, words.as_slice(), input, &mut told) == 0 && told.as_slice() == text
 }
 
 /// Whether a client that comes to this port is answered twice.
@@ -49,7 +49,7 @@ fn records_a_lane<R: Recorder>(rt: &R, server: &TcpListener, port: u16, line: &s
     thread::scope(thread::scope_env(), rt, |scope| {
         let answered = scope.spawn(move || answer(server, 2));
         let called = begin_client(scope, rt, port);
-        let tapped = taps(rt, line, &mut b"".as_slice(), b"calls 2\n");
+        let tapped = says(rt, line, &mut b"".as_slice(), b"calls 2\n");
         let (Ok(answered), Some(called)) = (answered, called) else {
             return false;
         };
@@ -94,7 +94,7 @@ fn records_a_crash<R: Recorder>(
         let answered = scope.spawn(move || answer(server, 1) && answer(server, 1));
         let called = begin_clients(scope, rt, ports);
         let tapped = match control.accept() {
-            Ok((orders, _)) => taps(rt, line, &mut Stream::new(orders), b"calls 2\n"),
+            Ok((orders, _)) => says(rt, line, &mut Stream::new(orders), b"calls 2\n"),
             Err(_) => false,
         };
         let (Ok(answered), Some(called)) = (answered, called) else {

@@ -1,4 +1,5 @@
 pub mod Bundle
+pub mod Ran
 pub mod Report
 pub mod Reported
 pub mod Shown

@@ -1,4 +1,4 @@
-//! The two files of a check, as they can be read.
+//! Files, as they can be read.
 
 ghost use Rattle.std.specs.Prelude.{◌≡◌, ℕ, List, IfOk, Option};
 ghost use Rattle.nfsbench_engine.specs.Report.{IsSaidOfRead};
@@ -53,6 +53,17 @@ pub(crate) fn read_history_file<R: Files + AllocGlobal>(
     path: &str,
 ) -> Result<Option<Vec<u8>>, AllocError> {
     read_file(rt, path, HISTORY_READ)
+}
+
+/// How many bytes of a run's text are read. It has at most 10,000 lines of less than 200 bytes, so the first bad line of a longer one begins in these.
+const PLAN_READ: u64 = 2_097_152;
+
+/// The bytes of a run's text, or none where it can't be read.
+pub(crate) fn read_plan_file<R: Files + AllocGlobal>(
+    rt: &R,
+    path: &str,
+) -> Result<Option<Vec<u8>>, AllocError> {
+    read_file(rt, path, PLAN_READ)
 }
 
 /// What is said of the files at two paths. Both are read, in this order, before anything is judged.

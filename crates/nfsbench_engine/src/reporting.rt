@@ -52,7 +52,12 @@ fn find(alloc: Global, history: &History, certificate: &[u8]) -> Result<Finding,
 }
 
 /// Writes a line of a word and a number behind a text.
-fn put_number(alloc: Global, text: &mut String, word: &str, number: u64) -> Result<(), AllocError>
+pub(crate) fn put_number(
+    alloc: Global,
+    text: &mut String,
+    word: &str,
+    number: u64,
+) -> Result<(), AllocError>
     ensures { IfOk result (λ _. string_bytes text.new ≡ string_bytes text.old ++ number_line word.now number) }
 {
     let line = format!(in alloc; "{word} {number}\n")?;

@@ -10,12 +10,16 @@ ghost use Rattle.witness_check.specs.declared.fault.Fault.{Fault};
 
 use crate::engine::run_bundle;
 use crate::files::{check_paths, read_history_file, report_paths};
+use crate::runs::{run_path, serve_words};
 use crate::show_words::{ShowRequest, show_command, show_request};
 use crate::showing::show_bytes;
 use bench_streams::{Input, Output, tell, tell_answer, tell_want_of_memory};
 use clap::error::ErrorKind;
 use clap::{Arg, Command};
 use nfs_recording::{Recorder, TapRequest, run_tap, tap_command, tap_request};
+use nfs_running::{
+    RunRequest, ServeRequest, run_command, run_request, serve_command, serve_request,
+};
 use nfs_searching::{SearchRequest, search_command, search_history, search_request};
 use std::alloc::{AllocError, Global};
 use std::convert::AsStr;
@@ -42,6 +46,10 @@ enum Request<'a> {
     Search(SearchRequest<'a>),
     /// A recording.
     Tap(TapRequest<'a>),
+    /// A run of a plan.
+    Run(RunRequest<'a>),
+    /// Connections to the bundled server.
+    Serve(ServeRequest<'a>),
 }
 
 /// What the words ask for that may wait for other threads.
@@ -49,6 +57,8 @@ enum Request<'a> {
 pub(crate) enum Waiting<'a> {
     Search(SearchRequest<'a>),
     Tap(TapRequest<'a>),
+    Run(RunRequest<'a>),
+    Serve(ServeRequest<'a>),
 }
 
 /// A command that takes the paths of a history and a certificate.
@@ -92,6 +102,8 @@ fn command<'a>(alloc: Global) -> Result<Command<'a>, AllocError> {
         .subcommand(report)?
         .subcommand(show_command(alloc)?)?
         .subcommand(search_command(alloc)?)?
+        .subcommand(run_command(alloc)?)?
+        .subcommand(serve_command(alloc)?)?
         .subcommand(tap_command(alloc)?)
 }
 
@@ -108,6 +120,8 @@ fn read_words<'a, S: AsStr>(alloc: Global, words: &'a [S]) -> Result<Request<'a>
         },
         Some(("show", show)) => Ok(Request::Show(show_request(show))),
         Some(("search", search)) => Ok(Request::Search(search_request(search))),
+        Some(("run", run)) => Ok(Request::Run(run_request(run))),
+        Some(("serve", serve)) => Ok(Request::Serve(serve_request(serve))),
         // The parser asks for both words of these two.
         Some(("report", report)) => Ok(Request::Report {
             history: report.get_str("HISTORY").unwrap_or(""),
@@ -169,8 +183,8 @@ fn search_path<R: Recorder, O: Output>(rt: &R, request: &SearchRequest<'_>, outp
     }
 }
 
-/// Judges what the words of a command line ask for, as [`run_words`]; where they ask for a search or a recording, that is handed
-/// back, and nothing is read or written.
+/// Judges what the words of a command line ask for, as [`run_words`]; where they ask for what may wait, that is handed back, and
+/// nothing is read or written.
 pub(crate) fn judge_words<'a, R: Files + AllocGlobal, S: AsStr, I: Input, O: Output>(
     rt: &R,
     words: &'a [S],
@@ -197,7 +211,7 @@ pub(crate) fn judge_words<'a, R: Files + AllocGlobal, S: AsStr, I: Input, O: Out
         → Appends (O.contents output.old) (O.contents output.new) memory_line }
     ensures known { IfOk result (λ given. given < 4) }
 
-    // With words that ask for a search or a recording.
+    // With words that ask for what may wait.
     ensures waiting { OnErr result ((output.new ≡ output.old) × (input.new ≡ input.old)) }
 {
     let alloc = rt.alloc();
@@ -221,21 +235,23 @@ pub(crate) fn judge_words<'a, R: Files + AllocGlobal, S: AsStr, I: Input, O: Out
         Ok(Request::Show(request)) => Ok(show_path(rt, &request, output)),
         Ok(Request::Search(request)) => Err(Waiting::Search(request)),
         Ok(Request::Tap(request)) => Err(Waiting::Tap(request)),
+        Ok(Request::Run(request)) => Err(Waiting::Run(request)),
+        Ok(Request::Serve(request)) => Err(Waiting::Serve(request)),
         Err(error) => Ok(tell_parser(alloc, output, &error)),
     }
 }
 
-/// Does what the words of a command line ask for, of which the first is the program's name, and gives the exit
-/// status: 0 for a yes, for a text that was asked for, for a certificate that was found, and for a recording; 1 for a no, and where none
-/// was found; 2 for a refusal, a fault of the
-/// command line or a failed write; 3 for want of memory. All that is written goes to the one output, but for what is
-/// said while a recording runs.
+/// Does what the words of a command line ask for, of which the first is the program's name, and gives the exit status: 0 for a yes,
+/// for a text that was asked for, for a certificate that was found, and for a recording; 1 for a no, where no certificate was found,
+/// and where the bundled server failed; 2 for a refusal, a fault of the command line or a failed write; 3 for want of memory. What is
+/// said goes to the one output, but for what is told while a search, a recording or connections go on.
 ///
 /// Without further words it is `run_bundle`. With `check` and two paths both files are read, in this order, before
 /// anything is judged, and what is said is what `judge_read` gives; with `report` and two paths it is what `report_read`
 /// gives; with `show` and a path a line for each event, and the first fault of the history; which words ask for that, which files are opened
-/// and what the parser's texts are no clause says. With `search` and a path it is what `search_history` gives, and with `tap` it records:
-/// these two may wait, the second for as long as it is let.
+/// and what the parser's texts are no clause says. With `search` and a path it is what `search_history` gives; with `run`, a path and two
+/// paths to write it runs a text, with `serve` it serves connections, and with `tap` it records: these four may wait, the last two for as
+/// long as they are let.
 pub fn run_words<R: Recorder, S: AsStr, I: Input, O: Output>(
     rt: &R,
     words: &[S],
@@ -265,5 +281,7 @@ pub fn run_words<R: Recorder, S: AsStr, I: Input, O: Output>(
         Ok(status) => status,
         Err(Waiting::Search(request)) => search_path(rt, &request, output),
         Err(Waiting::Tap(request)) => run_tap(rt, &request, input, output),
+        Err(Waiting::Run(request)) => run_path(rt, &request, output),
+        Err(Waiting::Serve(request)) => serve_words(rt, &request, output),
     }
 }

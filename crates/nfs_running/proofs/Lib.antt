@@ -1,0 +1,2 @@
+mod Plans
+mod Texts

@@ -1,0 +1,16 @@
+//! The commands that run the bundled server: what a plan says, or whoever connects, to a history with its certificate in two files.
+#![tactic(auto)]
+
+mod fault;
+mod lanes;
+mod outputs;
+mod recorded;
+mod running;
+mod serving;
+mod words;
+
+pub use fault::{RunFault, fault_report};
+pub use recorded::{Counts, Recorded};
+pub use running::{run, run_text};
+pub use serving::serve;
+pub use words::{RunRequest, ServeRequest, run_command, run_request, serve_command, serve_request};

@@ -1,0 +1,89 @@
+//! What a server that closed has recorded, as the texts of two files.
+
+ghost use Rattle.std.specs.Prelude.{◌≡◌, IfOk};
+ghost use Rattle.order_check.specs.Shape.{HasShape};
+ghost use Rattle.witness_check.specs.Witness.{IsWitness};
+ghost use Rattle.nfs_running.specs.Recording.{AreCountsOf, IsRecordingOf};
+
+use crate::fault::RunFault;
+use certificate::{Certificate, write_certificate};
+use history_file::write_history;
+use history_report::{lost_of, report_of};
+use journal_server::Closed;
+use nfs_history::History;
+use std::alloc::Global;
+
+/// What a run comes to in numbers.
+#[derive(Clone, Copy, Debug, PartialEq, Eq)]
+pub struct Counts {
+    /// One more than the server went down.
+    pub eras: u64,
+    /// The calls that were recorded.
+    pub calls: u64,
+    /// Those of them that were answered.
+    pub answered: u64,
+    /// The changes that crashes took away.
+    pub lost: u64,
+}
+
+/// The texts of a run's history and certificate, and what they come to in numbers.
+pub struct Recorded {
+    /// The history's file.
+    pub history: Vec<u8>,
+    /// The certificate's text.
+    pub certificate: Vec<u8>,
+    pub counts: Counts,
+}
+
+impl Drop for Recorded {
+    fn drop(self) {
+        let Recorded {
+            history,
+            certificate,
+            counts: _,
+        } = self;
+        drop(history);
+        drop(certificate);
+    }
+}
+
+/// What a history and its certificate come to in numbers.
+fn counts_of(history: &History, certificate: &Certificate) -> Counts
+    requires { HasShape history.now.known.eras history.now.known.calls certificate.now.eras }
+    ensures { AreCountsOf history.now.known certificate.now result }
+{
+    let report = report_of(history);
+    Counts {
+        eras: report.eras,
+        calls: report.calls,
+        answered: report.answered,
+        lost: lost_of(history, certificate),
+    }
+}
+
+/// The texts of a history and of its certificate.
+#[tactic(auto, using(crate::proofs::Texts::calls_file))]
+fn recorded_of(
+    alloc: Global,
+    history: &History,
+    certificate: &Certificate,
+) -> Result<Recorded, RunFault>
+    requires { IsWitness history.now.known certificate.now }
+    ensures { IfOk result (IsRecordingOf history.now.known certificate.now) }
+{
+    let text = write_history(alloc, history.root().as_slice(), history.events())?;
+    Ok(Recorded {
+        history: text,
+        certificate: write_certificate(alloc, certificate)?,
+        counts: counts_of(history, certificate),
+    })
+}
+
+/// The texts of what a server recorded.
+pub(crate) fn record_closed(alloc: Global, closed: Closed) -> Result<Recorded, RunFault>
+    requires { IsWitness closed.history.known closed.certificate }
+    ensures { IfOk result (IsRecordingOf closed.history.known closed.certificate) }
+{
+    let (history, certificate) = closed.into_parts();
+    recorded_of(alloc, &history, &certificate)
+}

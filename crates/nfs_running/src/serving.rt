@@ -1,0 +1,57 @@
+//! Connections that are served, from the words to the files.
+
+ghost use Rattle.std.specs.Prelude.{IfOk};
+ghost use Rattle.nfs_running.specs.Recording.{IsRecording};
+
+use crate::fault::RunFault;
+use crate::lanes::{Counter, Served, SimServer, serve_lanes};
+use crate::recorded::{Recorded, record_closed};
+use crate::words::ServeRequest;
+use journal_server::{OpenGate, Server, SimDevice};
+use nfs_recording::Recorder;
+use std::alloc::Global;
+use std::net::{IpAddr, Ipv4Addr, SocketAddr, TcpListener};
+use std::sync::Mutex;
+
+/// Ends a server, and writes what it recorded.
+fn save(alloc: Global, server: SimServer, served: Served) -> Result<Recorded, RunFault>
+    ensures { IfOk result IsRecording }
+{
+    let Served {
+        mut outputs,
+        passes,
+    } = served;
+    let closed = server.close(passes)?;
+    let recorded = record_closed(alloc, closed)?;
+    outputs.write(&recorded)?;
+    Ok(recorded)
+}
+
+/// Serves the connections that the words ask for by a new server, and writes what it recorded: first each connection is taken on a
+/// thread of its own, and when all have ended the server closes. It waits as long as clients let it.
+pub fn serve<R: Recorder>(rt: &R, request: &ServeRequest<'_>) -> Result<Recorded, RunFault>
+    // The certificate is a witness of the history.
+    ensures explained { IfOk result IsRecording }
+{
+    let localhost = IpAddr::V4(Ipv4Addr::new(127, 0, 0, 1));
+    let address = SocketAddr::new(localhost, request.port);
+    let Ok(listener) = TcpListener::bind(rt, address) else {
+        return Err(RunFault::CannotListen);
+    };
+    let device = SimDevice::new(rt.alloc(), None, None, None);
+    let server = Server::new(rt.alloc(), OpenGate, device)?;
+    let counter = Counter {
+        server: &server,
+        listener: &listener,
+        is_open: &Mutex::new(false),
+        records: request.calls,
+        export: request.export,
+    };
+    match serve_lanes(rt, counter, request) {
+        Ok(served) => save(rt.alloc(), server, served),
+        Err(fault) => {
+            drop(server.close(Vec::new(rt.alloc())));
+            Err(fault)
+        }
+    }
+}

@@ -1,0 +1,136 @@
+//! The words that ask for a run of the bundled server.
+
+use clap::builder::ValueParser;
+use clap::{Arg, ArgAction, ArgMatches, Command};
+use nfs_serving::Export;
+use std::alloc::{AllocError, Global};
+
+/// What is to be run, and where to its history and certificate are written.
+#[derive(Clone, Copy)]
+pub struct RunRequest<'a> {
+    /// The path of the plan.
+    pub plan: &'a str,
+    /// The path of the history that is written.
+    pub history: &'a str,
+    /// The path of the certificate that is written.
+    pub certificate: &'a str,
+}
+
+/// Which connections are served, and where to what they say is written.
+#[derive(Clone, Copy)]
+pub struct ServeRequest<'a> {
+    /// The port on 127.0.0.1 to which clients connect.
+    pub port: u16,
+    /// How many connections are served, from 1 to 64.
+    pub lanes: u32,
+    /// How many records of each connection are answered at most, from 1 to 1,000,000.
+    pub calls: u64,
+    /// Whether stock clients may mount the server.
+    pub export: Export,
+    /// The path of the history that is written.
+    pub history: &'a str,
+    /// The path of the certificate that is written.
+    pub certificate: &'a str,
+}
+
+/// The bounds of the numbers.
+const MOST_PORT: u64 = 65_535;
+
+const MOST_LANES: u64 = 64;
+
+const MOST_CALLS: u64 = 1_000_000;
+
+/// A number that has to be said.
+fn number<'a>(alloc: Global, name: &'a str, most: u64, help: &'a str) -> Arg<'a> {
+    Arg::new(alloc, name)
+        .long(name)
+        .value_parser(ValueParser::unsigned(1, most))
+        .required(true)
+        .help(help)
+}
+
+/// A path that has to be said.
+fn path<'a>(alloc: Global, name: &'a str, help: &'a str) -> Arg<'a> {
+    Arg::new(alloc, name).required(true).help(help)
+}
+
+/// A command that writes a history and a certificate behind the paths that it has.
+fn with_outputs<'a>(alloc: Global, command: Command<'a>) -> Result<Command<'a>, AllocError> {
+    let history = path(alloc, "HISTORY", "The file for what the clients saw");
+    let certificate = path(alloc, "CERTIFICATE", "The file for the order of the calls");
+    command.arg(history)?.arg(certificate)
+}
+
+/// The grammar of the words behind `run`.
+pub fn run_command<'a>(alloc: Global) -> Result<Command<'a>, AllocError> {
+    let command = Command::new(alloc, "run")
+        .about("Runs a plan of clients and crashes over the bundled server, and judges its history")
+        .arg(path(
+            alloc,
+            "PLAN",
+            "What the clients ask for, and when the server crashes",
+        ))?;
+    with_outputs(alloc, command)
+}
+
+/// What the words behind `run` ask for.
+pub fn run_request<'a>(run: &ArgMatches<'a>) -> RunRequest<'a> {
+    // The parser asks for all three.
+    RunRequest {
+        plan: run.get_str("PLAN").unwrap_or(""),
+        history: run.get_str("HISTORY").unwrap_or(""),
+        certificate: run.get_str("CERTIFICATE").unwrap_or(""),
+    }
+}
+
+/// The grammar of the words behind `serve`.
+pub fn serve_command<'a>(alloc: Global) -> Result<Command<'a>, AllocError> {
+    let port = number(
+        alloc,
+        "port",
+        MOST_PORT,
+        "Where clients connect, on 127.0.0.1",
+    );
+    let lanes = number(
+        alloc,
+        "lanes",
+        MOST_LANES,
+        "How many connections are served",
+    );
+    let calls = number(
+        alloc,
+        "calls",
+        MOST_CALLS,
+        "How many calls of each are answered at most",
+    );
+    let mountable = Arg::new(alloc, "mountable")
+        .long("mountable")
+        .action(ArgAction::SetTrue)
+        .help(
+            "Lets stock clients mount the server: answers MOUNT, ACCESS, FSSTAT, FSINFO and PATHCONF too",
+        );
+    let command = Command::new(alloc, "serve")
+        .about("Serves connections by the bundled server, and judges its history")
+        .arg(port)?
+        .arg(lanes)?
+        .arg(calls)?
+        .arg(mountable)?;
+    with_outputs(alloc, command)
+}
+
+/// What the words behind `serve` ask for.
+pub fn serve_request<'a>(serve: &ArgMatches<'a>) -> ServeRequest<'a> {
+    // The parser asks for all but the export.
+    ServeRequest {
+        port: serve.get_one("port").unwrap_or(1),
+        lanes: serve.get_one("lanes").unwrap_or(1),
+        calls: serve.get_one("calls").unwrap_or(1),
+        export: if serve.get_flag("mountable") {
+            Export::Mountable
+        } else {
+            Export::Plain
+        },
+        history: serve.get_str("HISTORY").unwrap_or(""),
+        certificate: serve.get_str("CERTIFICATE").unwrap_or(""),
+    }
+}

@@ -1,0 +1,131 @@
+//! What is said of runs of the bundled server.
+
+ghost use Rattle.std.specs.Prelude.{◌≡◌, ◌⊎◌, ◌<◌, IfOk, OnErr, string_bytes};
+ghost use Rattle.std.specs.Io.KnownBytes.{Appends};
+ghost use Rattle.bench_streams.specs.Told.{Tells, memory_line};
+ghost use Rattle.nfs_running.specs.Recording.{IsRecording};
+ghost use Rattle.nfsbench_engine.specs.Ran.{IsSaidOfRan, IsSaidOfRun, IsSaidOfServed, MayTellOf, run_lines};
+
+use crate::files::read_plan_file;
+use crate::report::judge_files;
+use crate::reporting::put_number;
+use bench_streams::{Output, Report, tell, tell_answer, tell_want_of_memory};
+use nfs_recording::Recorder;
+use nfs_running::{Counts, Recorded, RunFault, RunRequest, ServeRequest, fault_report, run, serve};
+use std::alloc::{AllocError, Global};
+
+/// The lines of what a run comes to in numbers.
+fn run_lines(alloc: Global, counts: &Counts) -> Result<String, AllocError>
+    ensures { IfOk result (λ lines. string_bytes lines ≡ run_lines counts.now) }
+{
+    let mut lines = String::new(alloc);
+    put_number(alloc, &mut lines, "eras", counts.eras)?;
+    put_number(alloc, &mut lines, "calls", counts.calls)?;
+    put_number(alloc, &mut lines, "answered", counts.answered)?;
+    put_number(alloc, &mut lines, "lost", counts.lost)?;
+    Ok(lines)
+}
+
+/// What is said of a run: what it comes to in numbers, and the verdict on the two texts that it wrote.
+pub fn judge_run(alloc: Global, recorded: &Recorded) -> Result<Report, AllocError>
+    ensures { IfOk result (λ report. IsSaidOfRun recorded.now report.status report.line) }
+{
+    let lines = run_lines(alloc, &recorded.counts)?;
+    let history = recorded.history.as_slice();
+    judge_files(alloc, history, recorded.certificate.as_slice())?.behind(lines)
+}
+
+/// What is said of a run that ended so.
+fn run_answer(alloc: Global, ran: Result<Recorded, RunFault>) -> Result<Report, AllocError>
+    ensures said { IfOk result (λ report. IsSaidOfRan ran report.status report.line) }
+    ensures known { IfOk result (λ report. report.status < 3) }
+{
+    match ran {
+        Ok(recorded) => judge_run(alloc, &recorded),
+        Err(fault) => fault_report(alloc, fault),
+    }
+}
+
+/// What is said of connections that were served: the verdict alone.
+fn serve_answer(alloc: Global, served: Result<Recorded, RunFault>) -> Result<Report, AllocError>
+    ensures said { IfOk result (λ report. IsSaidOfServed served report.status report.line) }
+    ensures known { IfOk result (λ report. report.status < 3) }
+{
+    match served {
+        Ok(recorded) => {
+            let history = recorded.history.as_slice();
+            judge_files(alloc, history, recorded.certificate.as_slice())
+        }
+        Err(fault) => fault_report(alloc, fault),
+    }
+}
+
+/// Says what is said, or that memory ran out.
+fn tell_known<O: Output>(output: &mut O, answer: Result<Report, AllocError>) -> u8
+    requires { IfOk answer (λ report. report.status < 3) }
+    ensures report { IfOk answer (λ report. (result ≡ 2)
+        ⊎ Tells result (O.contents output.old) (O.contents output.new) report.status report.line) }
+    ensures memory { OnErr answer ((result ≡ 2)
+        ⊎ Tells result (O.contents output.old) (O.contents output.new) 3 memory_line) }
+    ensures memory_line { result ≡ 3
+        → Appends (O.contents output.old) (O.contents output.new) memory_line }
+    ensures known { result < 4 }
+{
+    tell_answer(output, answer)
+}
+
+/// Says how a run ended.
+fn tell_run<O: Output>(alloc: Global, output: &mut O, ran: Result<Recorded, RunFault>) -> u8
+    requires { IfOk ran IsRecording }
+    ensures told { MayTellOf IsSaidOfRan result (O.contents output.old) (O.contents output.new) }
+    ensures memory_line { result ≡ 3
+        → Appends (O.contents output.old) (O.contents output.new) memory_line }
+    ensures known { result < 4 }
+{
+    let answer = run_answer(alloc, ran);
+    tell_known(output, answer)
+}
+
+/// Says how the serving of connections ended.
+fn tell_served<O: Output>(alloc: Global, output: &mut O, served: Result<Recorded, RunFault>) -> u8
+    requires { IfOk served IsRecording }
+    ensures told { MayTellOf IsSaidOfServed result (O.contents output.old) (O.contents output.new) }
+    ensures memory_line { result ≡ 3
+        → Appends (O.contents output.old) (O.contents output.new) memory_line }
+    ensures known { result < 4 }
+{
+    let answer = serve_answer(alloc, served);
+    tell_known(output, answer)
+}
+
+/// Runs the plan at a path, writes its history and certificate, and says what they come to.
+pub(crate) fn run_path<R: Recorder, O: Output>(
+    rt: &R,
+    request: &RunRequest<'_>,
+    output: &mut O,
+) -> u8
+    ensures told { MayTellOf IsSaidOfRan result (O.contents output.old) (O.contents output.new) }
+    ensures memory_line { result ≡ 3
+        → Appends (O.contents output.old) (O.contents output.new) memory_line }
+    ensures known { result < 4 }
+{
+    match read_plan_file(rt, request.plan) {
+        Ok(Some(text)) => tell_run(rt.alloc(), output, run(rt, request, text.as_slice())),
+        Ok(None) => tell(output, b"refused: unreadable plan\n", 2),
+        Err(AllocError) => tell_want_of_memory(output),
+    }
+}
+
+/// Serves connections, writes their history and certificate, and says the verdict on both.
+pub(crate) fn serve_words<R: Recorder, O: Output>(
+    rt: &R,
+    request: &ServeRequest<'_>,
+    output: &mut O,
+) -> u8
+    ensures told { MayTellOf IsSaidOfServed result (O.contents output.old) (O.contents output.new) }
+    ensures memory_line { result ≡ 3
+        → Appends (O.contents output.old) (O.contents output.new) memory_line }
+    ensures known { result < 4 }
+{
+    tell_served(rt.alloc(), output, serve(rt, request))
+}
