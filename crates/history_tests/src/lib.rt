@@ -1,5 +1,4 @@
-//! Tests of what a history shows of its calls and eras, of what is counted of histories and plans, and of a recorder's log and its pumps,
-//! through the public calls of their crates.
+//! Tests of what a history shows of its calls and eras, and of a recorder's log and its pumps, through the public calls of their crates.
 #![tactic(auto)]
 
 #[cfg(test)]
@@ -11,12 +10,8 @@ mod log;
 #[cfg(test)]
 mod messages;
 #[cfg(test)]
-mod numbers;
-#[cfg(test)]
 mod pumps;
 #[cfg(test)]
 mod reading;
-#[cfg(test)]
-mod reported;
 #[cfg(test)]
 mod streams;
