@@ -193,7 +193,32 @@ BOOKS = {
 }
 
 
+# A CREATE and an UNSTABLE WRITE from begin to answer. Behind each command stand the records on stable storage, and all records, by then.
+SCRIPT = """
+    begin 1 1 CREATE                | ok 1 | 0 0
+    place 1 MADE                    | ok | 0 1
+    flush                           | ok | 1 1
+    answer 1                        | ok 1.1.0.0.0.0.0.1.8.0.1.0.0.0 | 1 1
+    begin 1 2 WRITE                 | ok 2 | 1 1
+    place 2 WROTE                   | ok | 1 2
+    answer 2                        | ok 2.1.0.0.0.0.0.0.0.3.0.0.1 | 1 2
+"""
+
+
+def crashed_books() -> list[list[str]]:
+    """A crash behind each command of the script, with each number of records that it may keep: it is explained, and the records give the tree."""
+    books, begun = [], ["new 0 0 0 | ok"]
+    for line in SCRIPT.strip().split("\n"):
+        command, answer, records = line.split("|")
+        begun = [*begun, f"{command} | {answer}"]
+        mark, length = map(int, records.split())
+        for keep in range(mark, length + 1):
+            books.append([*begun, f"crash {keep} | ok", "check | check yes", "rebuild | rebuild yes"])
+    return books
+
+
 def named_lines() -> list[tuple[str, str]]:
     """The commands of all these books with their answers."""
-    lines = [line.split("|") for text in BOOKS.values() for line in text.strip().split("\n")]
+    texts = [line for text in BOOKS.values() for line in text.strip().split("\n")]
+    lines = [line.split("|") for line in texts + [line for book in crashed_books() for line in book]]
     return [(" ".join(WORDS.get(word, word) for word in command.split()), answer.strip()) for command, answer in lines]
