@@ -12,6 +12,7 @@ use std::alloc::{AllocError, Global};
 pub enum DigitsFault {
     /// A byte is no digit, or there is an odd number of them.
     Malformed,
+    /// Memory ran out.
     NoMemory,
 }
 

@@ -44,6 +44,7 @@ pub struct Stream<R> {
 }
 
 impl<R: Read> Stream<R> {
+    /// A reader of the library, read as an input.
     pub fn new(inner: R) -> Stream<R>
         ensures { result ≡ record { inner = inner } }
     {

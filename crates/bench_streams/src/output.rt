@@ -41,6 +41,7 @@ pub struct Sink<W> {
 }
 
 impl<W: Write> Sink<W> {
+    /// A writer of the library, written to as an output.
     pub fn new(inner: W) -> Sink<W>
         ensures { result ≡ record { inner = inner } }
     {

@@ -31,12 +31,14 @@ impl Report {
         Report { status, line }
     }
 
+    /// The exit status.
     pub fn status(&self) -> u8
         ensures { result ≡ self.now.status }
     {
         self.status
     }
 
+    /// The line, with its line feed; or the lines, each with its own.
     pub fn line(&self) -> &str
         ensures { result.now ≡ self.now.line }
     {

@@ -18,10 +18,15 @@ use std::alloc::{AllocError, Global};
 /// What a line says.
 #[derive(Drop)]
 pub enum Line {
+    /// `witness 1`, the first line.
     Witness,
+    /// `bind HANDLE OBJECT`.
     Bind(Bind),
+    /// `place N`, `take N` or `take N COUNT`.
     Place(Place),
+    /// `cut K`: the era ends, and its first K places survived.
     Cut(u64),
+    /// `end`: the last era ends.
     End,
 }
 

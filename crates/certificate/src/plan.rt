@@ -8,7 +8,9 @@ use std::marker::Model;
 /// A handle, and the number of the object that it names: 0 is the root, n what call n made.
 #[derive(Drop)]
 pub struct Bind {
+    /// The handle, of 1 to 64 bytes where it is read from a text.
     pub handle: FileHandle,
+    /// The object that it names: 0 is the root, n what call n made.
     pub object: u64,
 }
 
@@ -86,6 +88,7 @@ impl PlaceList {
 /// What is said of one era, the part of a history between two crashes.
 #[derive(Drop)]
 pub struct EraPlan {
+    /// The era's places, in the serial order.
     pub places: PlaceList,
     /// How many of the places survived the crash that ended the era; the last era has none.
     pub cut: Option<u64>,
@@ -124,7 +127,9 @@ impl EraPlanList {
 
 /// A certificate, which is a claim: nothing in it is trusted.
 pub struct Certificate {
+    /// Which object each handle names.
     pub binds: BindList,
+    /// The places and the cut of each era, in order.
     pub eras: EraPlanList,
 }
 

@@ -21,6 +21,7 @@ pub enum TextFault {
     /// The first line, from 1, with which the text so far begins no certificate: or it is missing, or has no
     /// line feed.
     BadLine(u64),
+    /// Memory ran out.
     NoMemory,
 }
 

@@ -9,16 +9,22 @@ use xdr_records::{put_opaque, put_u32, put_u64};
 /// How far a WRITE has to have come when it is answered.
 #[derive(Clone, Copy)]
 pub enum Level {
+    /// UNSTABLE: nothing has to be on stable storage.
     Unstable,
+    /// DATA_SYNC: the data have to be on stable storage.
     DataSync,
+    /// FILE_SYNC: the data and the file's attributes have to be on stable storage.
     FileSync,
 }
 
 /// How a CREATE treats a name that is present; with a size, or a verifier.
 #[derive(Clone, Copy)]
 pub enum Creation {
+    /// UNCHECKED: the name may be present; with a size in bytes, where one is asked for.
     Unchecked(Option<u64>),
+    /// GUARDED: fails where the name is present; with a size in bytes, where one is asked for.
     Guarded(Option<u64>),
+    /// EXCLUSIVE: with a verifier, by which a server knows the call when it is sent again.
     Exclusive(u64),
 }
 

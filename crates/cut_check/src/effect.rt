@@ -15,14 +15,20 @@ pub enum Effect {
     Lasting,
     /// It writes bytes that need not be there yet.
     Unstable {
+        /// The object's number: 0 is the root, n what call n made.
         object: u64,
+        /// Where the bytes begin, in bytes from the file's start.
         offset: u64,
+        /// How many bytes its reply says that it wrote.
         count: u32,
     },
     /// It puts bytes there: those from the offset on, and all of them where the count is 0.
     Committed {
+        /// The object's number: 0 is the root, n what call n made.
         object: u64,
+        /// Where the bytes begin, in bytes from the file's start.
         offset: u64,
+        /// How many bytes, as the COMMIT asked; 0 means all from the offset on.
         count: u32,
     },
 }

@@ -9,6 +9,7 @@ use thiserror::Error;
 pub enum CutFault {
     /// The cut of the era is less than the position of its last stable place: the first such era.
     ShortCut(u64, u64),
+    /// Memory ran out.
     NoMemory,
 }
 
@@ -42,6 +43,7 @@ impl From<AllocError> for CutFault {
 pub enum VerifierFault {
     /// The era shows two write verifiers, or it lost a WRITE and a later era shows its verifier: the first such era.
     Verifier(u64),
+    /// Memory ran out.
     NoMemory,
 }
 

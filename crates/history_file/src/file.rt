@@ -24,23 +24,31 @@ const EVENT_SIZE: usize = 32;
 /// The kind word of an event.
 #[derive(Clone, Copy, PartialEq, Eq)]
 pub enum EventKind {
+    /// 0: a call was sent.
     Call,
+    /// 1: a reply came.
     Reply,
+    /// 2: a lane was closed.
     Close,
+    /// 3: the server crashed.
     Crash,
 }
 
 /// What stands in a history file: its messages and its root handle are those of the file.
 #[derive(Drop)]
 pub struct SeenRecording<'a> {
+    /// The root handle, of at most 64 bytes.
     pub root: &'a [u8],
+    /// The events, in order; event n is the n-th, counted from 1.
     pub events: Vec<SeenEvent<'a>>,
 }
 
 /// Why an item can't be read, and where it stands.
 #[derive(Clone, Copy, PartialEq, Eq)]
 pub enum ItemFault {
+    /// The fault, and how many bytes stand between the magic and its item.
     Fault { at: usize, fault: FileFault },
+    /// Memory ran out.
     NoMemory,
 }
 

@@ -20,6 +20,7 @@ use xdr_records::{RECORD_LIMIT, put_opaque, put_u32};
 pub enum WriteFault {
     /// A limit is passed, by the file, its number of events, a message or the root handle.
     TooLarge,
+    /// Memory ran out.
     NoMemory,
 }
 

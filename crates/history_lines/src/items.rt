@@ -13,9 +13,13 @@ use xdr_records::{RECORD_LIMIT, Reader, XdrFault};
 /// The kind word of an event.
 #[derive(Clone, Copy)]
 pub enum EventKind {
+    /// 0: a call was sent.
     Call,
+    /// 1: a reply came.
     Reply,
+    /// 2: a lane was closed.
     Close,
+    /// 3: the server crashed.
     Crash,
 }
 

@@ -16,7 +16,9 @@ use xdr_records::RECORD_LIMIT;
 pub struct Change {
     /// The messages, as they are written.
     pub written: JournalRecord,
+    /// The call, read from its message.
     pub call: NfsCall,
+    /// The reply, read from its message.
     pub reply: NfsReply,
 }
 

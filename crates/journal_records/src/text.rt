@@ -17,8 +17,11 @@ use xdr_records::{Reader, put_opaque, put_u64};
 /// A call's number, its message and the reply's, without record marking.
 #[derive(Drop)]
 pub struct JournalRecord {
+    /// The call's number, 8 bytes.
     pub number: u64,
+    /// The call's message.
     pub call: Data,
+    /// The reply's message.
     pub reply: Data,
 }
 

@@ -41,14 +41,17 @@ pub enum Meaning {
 
 /// A call of a history.
 pub struct RecordedCall {
+    /// The lane that it was sent on.
     pub lane: u32,
     /// The transaction number.
     pub xid: u32,
+    /// What it asked for, where it is judged.
     pub meaning: Meaning,
     /// The number of its event.
     pub begin: u64,
     /// The number of the event of its reply, where one came.
     pub end: Option<u64>,
+    /// The era in which it began, counted from 1.
     pub era: u64,
     /// Of an answered judged call.
     pub outcome: Option<Outcome>,

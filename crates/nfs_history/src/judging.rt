@@ -35,7 +35,9 @@ const LINK: u32 = 15;
 /// Why it isn't found what a call was.
 #[derive(Clone, Copy, PartialEq, Eq)]
 pub enum Stop {
+    /// The call is at fault.
     Fault(CallFault),
+    /// Memory ran out.
     NoMemory,
 }
 

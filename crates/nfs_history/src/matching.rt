@@ -15,17 +15,24 @@ use std::alloc::{AllocError, Global};
 /// A reply, with the number of its event.
 #[derive(Clone, Copy)]
 pub struct SeenReply<'a> {
+    /// The number of its event, counted from 1.
     pub number: u64,
+    /// The RPC reply, without record marking.
     pub message: &'a [u8],
 }
 
 /// A call, with the number of its event, its era and the reply that answers it.
 #[derive(Clone, Copy)]
 pub struct SeenCall<'a> {
+    /// The lane that it was sent on.
     pub lane: u32,
+    /// The RPC call, without record marking.
     pub message: &'a [u8],
+    /// The number of its event, counted from 1.
     pub begin: u64,
+    /// The era in which it began, counted from 1.
     pub era: u64,
+    /// The reply that answers it, where one came.
     pub answer: Option<SeenReply<'a>>,
 }
 

@@ -15,6 +15,7 @@ use std::alloc::{AllocError, AllocFailed, Global};
 pub enum RunFault {
     /// The first line of a plan with which it is none.
     BadPlan(u64),
+    /// The port can't be listened on.
     CannotListen,
     /// No thread could be made for a connection. None was served.
     NoThread,
@@ -24,6 +25,7 @@ pub enum RunFault {
     Crash(CrashFault),
     /// The server didn't close.
     Close(CloseFault),
+    /// Memory ran out.
     NoMemory,
 }
 

@@ -9,6 +9,7 @@ pub struct Teller<'r, R> {
 }
 
 impl<'r, R> Teller<'r, R> {
+    /// One that tells by this runtime.
     pub fn new(rt: &'r R) -> Teller<'r, R> {
         Teller { rt }
     }

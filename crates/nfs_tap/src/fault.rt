@@ -16,6 +16,7 @@ pub enum NoteFault {
     XidInUse,
     /// A reply to no unanswered call of its lane.
     NoSuchCall,
+    /// Memory ran out.
     NoMemory,
 }
 

@@ -5,7 +5,9 @@ use names::Names;
 /// A file: its bytes, and the verifier of the EXCLUSIVE CREATE that made it (RFC 1813, section 3.3.8).
 #[derive(Drop)]
 pub struct File {
+    /// All bytes of the file.
     pub bytes: Vec<u8>,
+    /// The verifier (`createverf3`), the number that its eight bytes spell; absent where no exclusive CREATE made it.
     pub verifier: Option<u64>,
 }
 
@@ -13,6 +15,7 @@ pub struct File {
 pub enum Content {
     /// Its names, with the numbers of their objects.
     Directory(Names),
+    /// A regular file.
     File(File),
     /// Its text.
     Link(Vec<u8>),
@@ -30,7 +33,9 @@ impl Drop for Content {
 
 /// An object with its number.
 pub struct Node {
+    /// The object's number.
     pub number: u64,
+    /// What it holds.
     pub content: Content,
 }
 

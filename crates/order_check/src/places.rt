@@ -14,7 +14,9 @@ use std::alloc::{AllocError, Global};
 /// A place, and the era in which it stands.
 #[derive(Clone, Copy, PartialEq, Eq)]
 pub struct OrderedPlace {
+    /// The era, counted from 1.
     pub era: u64,
+    /// The place: a call with its reply, or one that is taken as done.
     pub place: Place,
 }
 

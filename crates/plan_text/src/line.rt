@@ -15,10 +15,15 @@ const LANE_LIMIT: u32 = 64;
 /// What a line says.
 #[derive(Drop)]
 pub enum Line {
+    /// `plan 1`, the first line.
     First,
+    /// `fault append K`: the device fails at its append K, counted from 1.
     AppendFault(u64),
+    /// `fault barrier K`: the device fails at its barrier K, counted from 1.
     BarrierFault(u64),
+    /// `lane L OPERATION`, `go` or `crash K`.
     Step(Step),
+    /// `end`, the last line.
     End,
 }
 

@@ -24,6 +24,7 @@ const LINE_LIMIT: u64 = 10_000;
 pub enum PlanFault {
     /// The first line, from 1, with which the text so far begins no plan: or it is missing, or has no line feed.
     BadPlan(u64),
+    /// Memory ran out.
     NoMemory,
 }
 

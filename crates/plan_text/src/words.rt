@@ -16,6 +16,7 @@ use std::alloc::{AllocError, Global};
 pub enum WordFault {
     /// They say nothing that may stand there.
     NotOne,
+    /// Memory ran out.
     NoMemory,
 }
 

@@ -3,6 +3,7 @@
 
 mod eras;
 mod first;
+/// A register of one number, which can be replayed.
 pub mod register;
 mod replay;
 mod run;

@@ -8,20 +8,25 @@ use std::alloc::{AllocError, Global};
 /// What is asked of the register.
 #[derive(Clone, Copy, PartialEq, Eq, Drop)]
 pub enum Call {
+    /// Asks for the number.
     Read,
+    /// Sets the number to this one.
     Write(u64),
 }
 
 /// What it answered.
 #[derive(Clone, Copy, PartialEq, Eq, Drop)]
 pub enum Outcome {
+    /// The number, in answer to a read.
     Value(u64),
+    /// The number is set, in answer to a write.
     Done,
 }
 
 /// One number, at first 0.
 #[derive(Clone, Copy, PartialEq, Eq)]
 pub struct Register {
+    /// The number.
     pub value: u64,
 }
 

@@ -55,8 +55,10 @@ pub trait Replayable: Drop {
     /// What stays the same over a whole run.
     type Setting;
 
+    /// What is asked in a step.
     type Call;
 
+    /// How what was asked came out.
     type Outcome;
     /// What takes one step back.
     type Undo: Drop;

@@ -10,8 +10,11 @@ use thiserror::Error;
 /// A numbered call with its outcome.
 #[derive(Clone, Copy, Drop)]
 pub struct Step<C, O> {
+    /// The call's number, which a fault names.
     pub number: u64,
+    /// What was asked.
     pub call: C,
+    /// How it came out.
     pub outcome: O,
 }
 

@@ -15,6 +15,7 @@ pub struct Reply {
     pub number: u64,
     /// The number of the event.
     pub end: u64,
+    /// The era of the call, counted from 1.
     pub era: u64,
 }
 

@@ -16,12 +16,17 @@ use xdr_records::Reader;
 /// A call of a procedure. Its arguments are the bytes of the message behind the head.
 #[derive(Clone, Copy, PartialEq, Eq)]
 pub struct CallHead<'a> {
+    /// `xid`: the transaction identifier, which the reply repeats.
     pub xid: u32,
+    /// `prog`: the number of the program.
     pub program: u32,
+    /// `vers`: the version of the program.
     pub version: u32,
+    /// `proc`: the number of the procedure.
     pub procedure: u32,
     /// The flavor of the credential.
     pub flavor: u32,
+    /// The arguments: the bytes behind the verifier.
     pub args: &'a [u8],
 }
 

@@ -19,11 +19,15 @@ use xdr_records::Reader;
 pub enum ReplyBody<'a> {
     /// The results of the procedure: the bytes of the message behind the head.
     Success(&'a [u8]),
+    /// `PROG_UNAVAIL`, 1: the server hasn't the program.
     ProgUnavail,
     /// The lowest and the highest version of the program that there is.
     ProgMismatch(u32, u32),
+    /// `PROC_UNAVAIL`, 3: the program hasn't the procedure.
     ProcUnavail,
+    /// `GARBAGE_ARGS`, 4: the server can't read the arguments.
     GarbageArgs,
+    /// `SYSTEM_ERR`, 5: an error of the server, such as want of memory.
     SystemErr,
     /// The lowest and the highest version of the protocol that there is.
     RpcMismatch(u32, u32),
@@ -34,7 +38,9 @@ pub enum ReplyBody<'a> {
 /// A reply to the call with this transaction identifier.
 #[derive(Clone, Copy, PartialEq, Eq)]
 pub struct ReplyHead<'a> {
+    /// `xid`: the transaction identifier of the call.
     pub xid: u32,
+    /// What the reply says of the call.
     pub body: ReplyBody<'a>,
 }
 

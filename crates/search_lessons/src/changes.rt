@@ -9,8 +9,11 @@ use std::alloc::AllocError;
 pub enum Change {
     /// These bytes stand at an offset, the first so many of them.
     Wrote {
+        /// Where the bytes begin, in bytes from the file's start.
         offset: u64,
+        /// How many of the bytes were written.
         count: u64,
+        /// The data of the WRITE.
         bytes: Data,
     },
     /// The file is cut, or filled with zeros, to a size.

@@ -12,6 +12,7 @@ pub const NO_PLACE: u64 = u64::MAX;
 /// A call that changed a file, or would have.
 #[derive(Drop)]
 pub struct Writer {
+    /// The call's number, counted from 1.
     pub number: u64,
     /// From 0 on.
     pub era: usize,
@@ -21,6 +22,7 @@ pub struct Writer {
     pub is_stable: bool,
     /// Whether a crash took it, or no place was given to it.
     pub is_gone: bool,
+    /// What it does to the file's bytes.
     pub change: Change,
 }
 
@@ -187,6 +189,7 @@ pub struct Files {
 }
 
 impl Files {
+    /// No file has been changed.
     pub fn new(alloc: Global) -> Files {
         Files {
             alloc,

@@ -20,8 +20,11 @@ pub enum Lesson {
 /// A lesson, with the era, counted from 0, and the place of the call that it speaks of.
 #[derive(Clone, Copy)]
 pub struct Step {
+    /// What was learned.
     pub lesson: Lesson,
+    /// The era of the call, counted from 0.
     pub era: usize,
+    /// The call's place in its era, counted from 0, or `NO_PLACE`.
     pub place: u64,
 }
 

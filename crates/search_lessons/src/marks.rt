@@ -7,6 +7,7 @@ use std::collections::BTreeMap;
 /// A call that no crash takes.
 #[derive(Clone, Copy)]
 pub struct Kept {
+    /// The call's number, counted from 1.
     pub number: u64,
     /// The event at which it began.
     pub begin: u64,

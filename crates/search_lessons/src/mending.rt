@@ -18,14 +18,21 @@ const SIZE_SAYS: u64 = 2;
 /// What is known where a call's reply shows a file as it isn't.
 #[derive(Clone, Copy)]
 pub struct Mending<'m, 's, 'a> {
+    /// Where memory is taken from.
     pub alloc: Global,
+    /// The history, and what its calls can do.
     pub problem: &'m Problem<'s, 'a>,
+    /// What the passes have learned so far.
     pub lessons: &'m Lessons,
+    /// The files of the pass, with the calls that changed them.
     pub files: &'m Files,
+    /// What the pass noted of its eras.
     pub marks: &'m Marks,
+    /// What the reply shows of the file.
     pub seen: &'m Seen<'m>,
     /// The call, and its era, counted from 0.
     pub number: u64,
+    /// The era of that call, counted from 0.
     pub era: usize,
 }
 

@@ -14,8 +14,11 @@ enum SizeSeen {
 /// What a reply shows of a file.
 #[derive(Clone, Copy)]
 pub struct Seen<'f> {
+    /// The file's handle.
     pub file: &'f FileHandle,
+    /// Where the bytes that it shows begin, in bytes from the file's start.
     pub offset: u64,
+    /// The bytes that it shows; none where only the size is shown.
     pub bytes: &'f [u8],
     size: SizeSeen,
 }

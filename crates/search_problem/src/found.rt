@@ -7,7 +7,9 @@ use std::alloc::{AllocError, Global};
 
 /// A call that is placed, and how it came out.
 pub struct Found {
+    /// The call.
     pub call: NfsCall,
+    /// The reply that it got, or that it is taken as done.
     pub outcome: Outcome,
 }
 

@@ -23,9 +23,11 @@ pub enum Nature {
 pub struct EraSpan {
     /// The number of its first call, and one more than that of its last.
     pub first_call: u64,
+    /// One more than the number of its last call; `first_call` where it has none.
     pub end_call: u64,
     /// Where its replies begin and end in the list of all.
     pub first_reply: usize,
+    /// One more than the index of its last reply; `first_reply` where it has none.
     pub end_reply: usize,
     /// Whether a later era shows the write verifier that it shows.
     pub is_shown_again: bool,

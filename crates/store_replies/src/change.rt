@@ -10,6 +10,7 @@ use std::sync::Wait;
 pub enum NewObject<'a> {
     /// A file of so many zeros, with the verifier of an EXCLUSIVE CREATE.
     File { size: u64, verifier: Option<u64> },
+    /// An empty directory.
     Directory,
     /// Of this text.
     Link(&'a [u8]),
@@ -36,11 +37,17 @@ impl NewObject<'_> {
 /// A name that moves, with its object.
 #[derive(Clone, Copy)]
 pub struct Renaming<'a> {
+    /// The object number of the directory that loses the name.
     pub from: u64,
+    /// The name that it loses.
     pub from_name: &'a [u8],
+    /// The object number of the directory that gets the name.
     pub to: u64,
+    /// The name that it gets.
     pub to_name: &'a [u8],
+    /// The number of the object that moves.
     pub object: u64,
+    /// Whether the object that moves is a directory.
     pub is_directory: bool,
     /// The object that had the name.
     pub replaced: Option<u64>,
@@ -49,26 +56,43 @@ pub struct Renaming<'a> {
 /// What a call changes. The numbers are those of the objects.
 #[derive(Clone, Copy)]
 pub enum Change<'a> {
+    /// No object changes.
     Nothing,
+    /// A file is cut, or filled with zeros, to a size.
     Resize {
+        /// The number of the file.
         object: u64,
+        /// Its new size, in bytes.
         size: u64,
     },
+    /// Bytes go into a file, and a gap before them becomes zeros.
     Write {
+        /// The number of the file.
         object: u64,
+        /// Where the first byte goes, counted from 0.
         offset: u64,
+        /// The bytes.
         bytes: &'a [u8],
     },
+    /// A directory gets a name with a new object.
     Make {
+        /// The number of the directory.
         directory: u64,
+        /// The name that it gets.
         name: &'a [u8],
+        /// What is made.
         object: NewObject<'a>,
     },
+    /// A directory loses a name, and the object of that name goes.
     Remove {
+        /// The number of the directory.
         directory: u64,
+        /// The name that it loses.
         name: &'a [u8],
+        /// The number of the object that goes.
         object: u64,
     },
+    /// A name moves with its object.
     Rename(Renaming<'a>),
 }
 
@@ -103,7 +127,9 @@ impl Prepared {
 /// Where a change takes place: the table of the objects, and the number that an object which is made gets.
 #[derive(Clone, Copy)]
 pub struct Site<'a> {
+    /// The table that a made object is put into, and a removed one taken out of.
     pub table: &'a ObjectTable,
+    /// The number that a made object gets: the call's.
     pub number: u64,
 }
 

@@ -8,7 +8,9 @@ use std::alloc::{AllocError, Global};
 /// What a call sees: the objects that it has taken out, and the numbers that its reply is made of.
 #[derive(Clone, Copy)]
 pub struct Scene<'a> {
+    /// The allocator of the reply's memory.
     pub alloc: Global,
+    /// The objects that the call has taken out.
     pub held: &'a Held,
     /// The call's number, which an object that it makes gets.
     pub number: u64,

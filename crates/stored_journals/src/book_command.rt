@@ -14,6 +14,7 @@ pub enum Command<'a> {
     Raw(u32, &'a str),
     /// A reply to the call with this number.
     Place(u64, Replied<'a>),
+    /// That all records are put on stable storage.
     Flush,
     /// That the reply to the call with this number goes out.
     Answer(u64),
@@ -36,15 +37,20 @@ pub enum Command<'a> {
 /// A call of NFS version 3.
 #[derive(Clone, Copy)]
 pub struct Asked<'a> {
+    /// The transaction number.
     pub xid: u32,
+    /// The procedure's number (RFC 1813, section 3.3).
     pub procedure: u32,
+    /// The arguments, spelled as `read_letters` reads them.
     pub arguments: &'a str,
 }
 
 /// A reply to one.
 #[derive(Clone, Copy)]
 pub struct Replied<'a> {
+    /// The procedure's number (RFC 1813, section 3.3).
     pub procedure: u32,
+    /// The result, spelled as `read_letters` reads it.
     pub text: &'a str,
 }
 

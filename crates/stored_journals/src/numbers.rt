@@ -5,8 +5,11 @@ use anyhow::{Context, Result};
 /// Which call of each kind a device fails at, counted from 1; none at 0.
 #[derive(Clone, Copy)]
 pub struct Faults {
+    /// The append that fails.
     pub append: u64,
+    /// The barrier that fails.
     pub barrier: u64,
+    /// The recovery that fails.
     pub recover: u64,
 }
 

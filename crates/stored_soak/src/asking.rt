@@ -65,8 +65,11 @@ fn creation_of(pick: u64) -> Creation {
 
 /// One client's way to ask.
 pub struct Asker<'k> {
+    /// Where memory is taken from.
     pub alloc: Global,
+    /// The objects that clients know of.
     pub known: &'k Known,
+    /// What it picks by.
     pub random: Random,
     /// The transaction number of its next call.
     pub xid: u32,

@@ -38,7 +38,9 @@ pub enum Kind {
 /// What is measured.
 #[derive(Clone, Copy)]
 pub struct Plan {
+    /// How many threads call.
     pub threads: u64,
+    /// What they ask for.
     pub kind: Kind,
     /// Of all threads together.
     pub calls: u64,

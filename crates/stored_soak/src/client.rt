@@ -13,6 +13,7 @@ const PATIENCE: u32 = 30;
 
 /// What a client knows at its end.
 pub struct Told {
+    /// Its lanes, each with the answered calls that it made on it.
     pub passes: Vec<Pass>,
     /// How many calls it made.
     pub calls: u64,

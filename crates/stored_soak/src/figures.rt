@@ -8,6 +8,7 @@ use std::io::Eprint;
 /// How much was done.
 #[derive(Clone, Copy)]
 pub struct Figures {
+    /// Servers that were made.
     pub servers: u64,
     /// Calls that clients made, refused ones too.
     pub calls: u64,
@@ -15,6 +16,7 @@ pub struct Figures {
     pub recorded: u64,
     /// Those of them that were answered.
     pub answered: u64,
+    /// Crashes that stand in histories.
     pub crashes: u64,
     /// Answered calls beside which another one began.
     pub overlapped: u64,

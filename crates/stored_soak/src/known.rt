@@ -10,8 +10,11 @@ const ROOM: u64 = 5;
 /// A kind of objects.
 #[derive(Clone, Copy)]
 pub enum ObjectKind {
+    /// A directory.
     Directory,
+    /// A regular file.
     File,
+    /// A symbolic link.
     Link,
 }
 

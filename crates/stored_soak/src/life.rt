@@ -34,6 +34,7 @@ type SoakServer<'r, R> = Server<Jitter<'r, R>, SimDevice>;
 pub enum Life {
     /// It explained what it did.
     Fine(Figures),
+    /// It didn't: what was wrong.
     Wrong(&'static str),
 }
 

@@ -8,6 +8,7 @@ use anyhow::{Context, Result, bail};
 pub enum Span {
     /// So many servers.
     Servers(u64),
+    /// Until so many seconds are over.
     Seconds(u64),
 }
 
@@ -15,6 +16,7 @@ pub enum Span {
 pub enum Wanted {
     /// Servers for so long, and whether figures are told.
     Soak(Span, bool),
+    /// A measurement of how fast a server answers.
     Bench(Plan),
 }
 

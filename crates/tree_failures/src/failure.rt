@@ -27,6 +27,7 @@ pub enum Cause {
     HandleIsntLive,
     /// A live handle isn't that of the directory that it has to be.
     HandleOfNoDirectory,
+    /// READLINK of a file or a directory.
     ReadLinkOfNoLink,
     /// What has to be a file is a directory.
     FileIsDirectory,
@@ -36,9 +37,13 @@ pub enum Cause {
     NameIsAbsent,
     /// A name that would be made is an entry.
     NameIsPresent,
+    /// An unchecked CREATE of a name that a directory has.
     CreateOverDirectory,
+    /// REMOVE of a name that a directory has.
     RemoveOfDirectory,
+    /// RMDIR of a name that a file or a link has.
     RmDirOfNoDirectory,
+    /// RMDIR of a directory that isn't empty.
     RmDirOfFilledDirectory,
     /// Of a directory.
     RenameOntoNoDirectory,
@@ -52,6 +57,7 @@ pub enum Cause {
     NameIsntPlain,
     /// A name holds byte 0, a slash or a byte above 127.
     NameHasOddByte,
+    /// SETATTR with a guard.
     SetAttrWithGuard,
     /// READDIR or READDIRPLUS with a cookie other than 0.
     ListingWithCookie,

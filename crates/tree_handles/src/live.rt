@@ -17,14 +17,18 @@ use tree_nodes::{Content, File, Node, Nodes};
 /// What a call sees: the tree, and what its handles name.
 #[derive(Clone, Copy)]
 pub struct View<'a> {
+    /// Which object each handle names.
     pub binds: &'a Binds,
+    /// The nodes of the tree.
     pub nodes: &'a Nodes,
 }
 
 /// A file with its object.
 #[derive(Clone, Copy)]
 pub struct FileEntry<'a> {
+    /// The object's number.
     pub object: u64,
+    /// Its bytes, and the verifier of the exclusive CREATE that made it.
     pub file: &'a File,
 }
 

@@ -60,7 +60,9 @@ impl fmt::Display for Fault {
 /// Why a plan isn't known to be a witness.
 #[derive(Clone, Copy, Debug, PartialEq, Eq)]
 pub enum CheckFault {
+    /// It isn't one: the first fault.
     No(Fault),
+    /// Memory ran out.
     NoMemory,
 }
 

@@ -23,8 +23,11 @@ use tree_handles::Binds;
 
 /// A call that is placed, and how it came out.
 pub struct Found {
+    /// The call's number, counted from 1.
     pub number: u64,
+    /// The call.
     pub call: NfsCall,
+    /// The reply that it got, or that it is taken as done.
     pub outcome: Outcome,
 }
 
