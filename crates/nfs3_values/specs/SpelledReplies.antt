@@ -1,4 +1,4 @@
--- What is written of a result is a spelling of it.
+-- What is written of a result is a spelling of it. For the prover: a law of the trait of values asks for it.
 use Rattle.std.specs.Prelude.{◌≡◌, ℕ, ◌<◌, ◌≤◌, ◌^◌, List, [], ◌++◌, length, Option, Some, None, IfSome, Ok, refl}
 use Rattle.std.proofs.Common.{sym, lit<, lit≤, lt_of_le_ones}
 use Rattle.std.proofs.Math.Nat.{le_trans, le-pred_of_lt}

@@ -4,11 +4,11 @@ ghost use Rattle.std.specs.Prelude.{◌≡◌};
 ghost use Rattle.nfs3_values.specs.declared.fault.MessageFault.TheVariants.{NoMemory};
 
 use std::alloc::{AllocError, AllocFailed};
-use std::error::Error;
 use std::fmt;
+use thiserror::Error;
 
 /// What is wrong with an item of a message.
-#[derive(Clone, Copy, Debug, PartialEq, Eq)]
+#[derive(Clone, Copy, Debug, PartialEq, Eq, Error)]
 pub enum Kind {
     /// Bytes of the item are missing.
     Short,
@@ -42,10 +42,8 @@ impl fmt::Display for Kind {
     }
 }
 
-impl Error for Kind {}
-
 /// Why a message gave no value.
-#[derive(Clone, Copy, Debug, PartialEq, Eq)]
+#[derive(Clone, Copy, Debug, PartialEq, Eq, Error)]
 pub enum MessageFault {
     /// The first item at fault, and the offset at which it stands.
     BadMessage {
@@ -71,8 +69,6 @@ impl fmt::Display for MessageFault {
         }
     }
 }
-
-impl Error for MessageFault {}
 
 impl From<AllocError> for MessageFault {
     ghost from_gives = { λ _ fault. fault ≡ NoMemory };

@@ -1,11 +1,11 @@
 //! Why a message is no call or no reply.
 
-use std::error::Error;
 use std::fmt;
+use thiserror::Error;
 use xdr_records::XdrFault;
 
 /// What is wrong with the first item of a head that is at fault.
-#[derive(Clone, Copy, PartialEq, Eq, Debug)]
+#[derive(Clone, Copy, PartialEq, Eq, Debug, Error)]
 pub enum RpcFault {
     /// Bytes of the item are missing.
     Short,
@@ -41,5 +41,3 @@ impl fmt::Display for RpcFault {
         }
     }
 }
-
-impl Error for RpcFault {}

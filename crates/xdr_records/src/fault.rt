@@ -4,11 +4,11 @@ ghost use Rattle.std.specs.Prelude.{◌≡◌};
 ghost use Rattle.xdr_records.specs.declared.fault.FeedFault.TheVariants.{NoMemory};
 
 use std::alloc::AllocError;
-use std::error::Error;
 use std::fmt;
+use thiserror::Error;
 
 /// What is wrong with an item of external data representation.
-#[derive(Clone, Copy, PartialEq, Eq, Debug)]
+#[derive(Clone, Copy, PartialEq, Eq, Debug, Error)]
 pub enum XdrFault {
     /// Bytes of the item are missing.
     Short,
@@ -36,10 +36,8 @@ impl fmt::Display for XdrFault {
     }
 }
 
-impl Error for XdrFault {}
-
 /// Why bytes of a stream were not taken.
-#[derive(Clone, Copy, PartialEq, Eq, Debug)]
+#[derive(Clone, Copy, PartialEq, Eq, Debug, Error)]
 pub enum FeedFault {
     /// A header takes its record past [`RECORD_LIMIT`](crate::RECORD_LIMIT).
     RecordTooLong,
@@ -60,8 +58,6 @@ impl fmt::Display for FeedFault {
         }
     }
 }
-
-impl Error for FeedFault {}
 
 impl From<AllocError> for FeedFault {
     ghost from_gives = { λ _ fault. fault ≡ NoMemory };
