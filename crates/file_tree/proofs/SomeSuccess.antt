@@ -42,8 +42,8 @@ use Rattle.tree_handles.specs.Entry.{is_plain}
 use Rattle.tree_handles.specs.Kind.{is_link}
 use Rattle.tree_handles.specs.Live.{FileEntry, live_entry, directory_of, file_of}
 use Rattle.tree_handles.proofs.HandleOf.{handle_of, is_among_names}
-use Rattle.tree_reads.specs.Look.{shows, got_attributes, object_named, is_object_named, looked_up, has_text, got_text, same_flag, read_is_right, got_bytes, committed}
-use Rattle.tree_reads.specs.Listing.{is_listing, listed, listed_plus, are_all_listed}
+use Rattle.tree_reads.specs.Look.{shows, getattr_is_legal, object_named, is_object_named, lookup_is_legal, has_text, readlink_is_legal, same_flag, read_is_right, read_is_legal, commit_is_legal}
+use Rattle.tree_reads.specs.Listing.{is_listing, readdir_is_legal, readdirplus_is_legal, are_all_listed}
 use Rattle.file_tree.specs.Change.{Change}
 use Rattle.file_tree.specs.Change.Change.{Keep, Put}
 use Rattle.file_tree.specs.Made.{only_if, create_present, create_over, create_at, create_change, make_entry, make_directory, make_link}
@@ -258,11 +258,11 @@ without true given c d e = refl
 without false given c d e = absurd (cc)
 
 module _ (binds : Bindings) (tree : Tree) (number : ℕ) where
-  got_live : (object : List ℕ) (reply : NfsReply) → got_attributes binds tree object reply ≡ true → is_some (live_entry binds tree object) ≡ true
+  got_live : (object : List ℕ) (reply : NfsReply) → getattr_is_legal binds tree object reply ≡ true → is_some (live_entry binds tree object) ≡ true
   got_live object (replies.GetAttr (Done attributes)) e = let at = passing _ (live_entry binds tree object) e in is_there _ at.0 at.1
   got_live object _ e = absurd (cc)
 
-  found_named : (place : DirectoryName) (reply : NfsReply) → looked_up binds tree place reply ≡ true → may_be_found binds tree place ≡ true
+  found_named : (place : DirectoryName) (reply : NfsReply) → lookup_is_legal binds tree place reply ≡ true → may_be_found binds tree place ≡ true
   found_named place (replies.Lookup (Done success)) e =
       let in_directory = passing (is_object_named binds tree place success.object) (directory_of binds tree place.directory) e in
       let at = passing (is_bound binds success.object) (object_named tree in_directory.0 place.name) in_directory.2 in
@@ -275,25 +275,25 @@ module _ (binds : Bindings) (tree : Tree) (number : ℕ) where
   texts_link (contents.File file) text e = absurd (cc)
   texts_link (contents.Link target) text e = refl
 
-  text_link : (link : List ℕ) (reply : NfsReply) → got_text binds tree link reply ≡ true → option_map_or (λ e. is_link e.1.content) (live_entry binds tree link) false ≡ true
+  text_link : (link : List ℕ) (reply : NfsReply) → readlink_is_legal binds tree link reply ≡ true → option_map_or (λ e. is_link e.1.content) (live_entry binds tree link) false ≡ true
   text_link link (replies.ReadLink (Done success)) e =
       let at = passing (λ (e : Names × Node). has_text e.1.content success.target) (live_entry binds tree link) e in
       ap (λ (o : Option (Names × Node)). option_map_or (λ e. is_link e.1.content) o false) at.1 ∙ texts_link at.0.1.content success.target at.2
   text_link link _ e = absurd (cc)
 
-  read_file : (call : ReadArguments) (reply : NfsReply) → got_bytes binds tree call reply ≡ true → is_some (file_of binds tree call.file) ≡ true
+  read_file : (call : ReadArguments) (reply : NfsReply) → read_is_legal binds tree call reply ≡ true → is_some (file_of binds tree call.file) ≡ true
   read_file call (replies.Read (Done success)) e = let at = passing _ (file_of binds tree call.file) e in is_there _ at.0 at.1
   read_file call _ e = absurd (cc)
 
-  committed_file : (file : List ℕ) (reply : NfsReply) → committed binds tree file reply ≡ true → is_some (file_of binds tree file) ≡ true
+  committed_file : (file : List ℕ) (reply : NfsReply) → commit_is_legal binds tree file reply ≡ true → is_some (file_of binds tree file) ≡ true
   committed_file file (replies.Commit (Done success)) e = e
   committed_file file _ e = absurd (cc)
 
-  list_directory : (call : ReadDirArguments) (reply : NfsReply) → listed binds tree call reply ≡ true → is_some (directory_of binds tree call.directory) ≡ true
+  list_directory : (call : ReadDirArguments) (reply : NfsReply) → readdir_is_legal binds tree call reply ≡ true → is_some (directory_of binds tree call.directory) ≡ true
   list_directory call (replies.ReadDir (Done success)) e = let at = passing _ (directory_of binds tree call.directory) e in is_there _ at.0 at.1
   list_directory call _ e = absurd (cc)
 
-  list_plus_directory : (call : ReadDirPlusArguments) (reply : NfsReply) → listed_plus binds tree call reply ≡ true → is_some (directory_of binds tree call.directory) ≡ true
+  list_plus_directory : (call : ReadDirPlusArguments) (reply : NfsReply) → readdirplus_is_legal binds tree call reply ≡ true → is_some (directory_of binds tree call.directory) ≡ true
   list_plus_directory call (replies.ReadDirPlus (Done success)) e = let at = passing _ (directory_of binds tree call.directory) e in is_there _ at.0 at.1
   list_plus_directory call _ e = absurd (cc)
 

@@ -20,11 +20,11 @@ use Rattle.file_tree.specs.Change.Change.{Keep, Put, Remove, Move}
 use Rattle.tree_nodes.specs.Tree.{Tree}
 use Rattle.tree_nodes.specs.Moved.{moved}
 use Rattle.tree_handles.specs.Binding.{Bindings}
-use Rattle.tree_reads.specs.Look.{got_attributes, looked_up, got_text, got_bytes, committed}
+use Rattle.tree_reads.specs.Look.{getattr_is_legal, lookup_is_legal, readlink_is_legal, read_is_legal, commit_is_legal}
 use Rattle.nfs3_types.specs.Procedures.{is_answered, failure_in}
 use Rattle.tree_failures.specs.Failure.{is_permitted}
 use Rattle.nfs3_types.specs.declared.status.Failure.{Failure}
-use Rattle.tree_reads.specs.Listing.{listed, listed_plus}
+use Rattle.tree_reads.specs.Listing.{readdir_is_legal, readdirplus_is_legal}
 use Rattle.file_tree.specs.Made.{only_if, create_change, make_directory, make_link}
 use Rattle.file_tree.specs.Written.{set_attributes, write_change}
 use Rattle.file_tree.specs.Removed.{remove_entry, remove_directory, rename}
@@ -64,13 +64,13 @@ change_renamed binds tree call _ = None
 
 -- what a success makes of the tree
 abbrev pub change_done : Bindings → Tree → ℕ → NfsCall → NfsReply → Option Change
-change_done binds tree number (calls.GetAttr object) reply = only_if (got_attributes binds tree object reply) Keep
-change_done binds tree number (calls.Lookup place) reply = only_if (looked_up binds tree place reply) Keep
-change_done binds tree number (calls.ReadLink link) reply = only_if (got_text binds tree link reply) Keep
-change_done binds tree number (calls.Read call) reply = only_if (got_bytes binds tree call reply) Keep
-change_done binds tree number (calls.ReadDir call) reply = only_if (listed binds tree call reply) Keep
-change_done binds tree number (calls.ReadDirPlus call) reply = only_if (listed_plus binds tree call reply) Keep
-change_done binds tree number (calls.Commit call) reply = only_if (committed binds tree call.file reply) Keep
+change_done binds tree number (calls.GetAttr object) reply = only_if (getattr_is_legal binds tree object reply) Keep
+change_done binds tree number (calls.Lookup place) reply = only_if (lookup_is_legal binds tree place reply) Keep
+change_done binds tree number (calls.ReadLink link) reply = only_if (readlink_is_legal binds tree link reply) Keep
+change_done binds tree number (calls.Read call) reply = only_if (read_is_legal binds tree call reply) Keep
+change_done binds tree number (calls.ReadDir call) reply = only_if (readdir_is_legal binds tree call reply) Keep
+change_done binds tree number (calls.ReadDirPlus call) reply = only_if (readdirplus_is_legal binds tree call reply) Keep
+change_done binds tree number (calls.Commit call) reply = only_if (commit_is_legal binds tree call.file reply) Keep
 change_done binds tree number (calls.Write call) reply = change_written binds tree call reply
 change_done binds tree number (calls.Create call) reply = change_created binds tree number call reply
 change_done binds tree number (calls.SetAttr call) reply = change_set binds tree call reply

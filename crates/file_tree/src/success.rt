@@ -19,7 +19,10 @@ use replay_law::StepFault;
 use std::alloc::Global;
 use tree_failures::is_permitted;
 use tree_handles::View;
-use tree_reads::{committed, got_attributes, got_bytes, got_text, listed, listed_plus, looked_up};
+use tree_reads::{
+    commit_is_legal, getattr_is_legal, lookup_is_legal, read_is_legal, readdir_is_legal,
+    readdirplus_is_legal, readlink_is_legal,
+};
 
 /// The tree stays, where this is right.
 fn keep_if<'a>(right: bool) -> Result<Plan<'a>, StepFault>
@@ -175,13 +178,13 @@ fn change_done<'a>(
     ensures { Plans view.now.nodes.now result (change_done view.now.binds.now view.now.nodes.now number call.now reply.now) }
 {
     match call {
-        NfsCall::GetAttr(object) => keep_if(got_attributes(view, object, reply)),
-        NfsCall::Lookup(place) => keep_if(looked_up(view, place, reply)),
-        NfsCall::ReadLink(link) => keep_if(got_text(view, link, reply)),
-        NfsCall::Read(call) => keep_if(got_bytes(view, call, reply)),
-        NfsCall::ReadDir(call) => keep_if(listed(alloc, view, call, reply)?),
-        NfsCall::ReadDirPlus(call) => keep_if(listed_plus(alloc, view, call, reply)?),
-        NfsCall::Commit(call) => keep_if(committed(view, &call.file, reply)),
+        NfsCall::GetAttr(object) => keep_if(getattr_is_legal(view, object, reply)),
+        NfsCall::Lookup(place) => keep_if(lookup_is_legal(view, place, reply)),
+        NfsCall::ReadLink(link) => keep_if(readlink_is_legal(view, link, reply)),
+        NfsCall::Read(call) => keep_if(read_is_legal(view, call, reply)),
+        NfsCall::ReadDir(call) => keep_if(readdir_is_legal(alloc, view, call, reply)?),
+        NfsCall::ReadDirPlus(call) => keep_if(readdirplus_is_legal(alloc, view, call, reply)?),
+        NfsCall::Commit(call) => keep_if(commit_is_legal(view, &call.file, reply)),
         NfsCall::Write(call) => change_written(view, call, reply),
         NfsCall::Create(call) => change_created(alloc, view, number, call, reply),
         NfsCall::SetAttr(call) => change_set(view, call, reply),

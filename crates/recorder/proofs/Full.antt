@@ -16,7 +16,7 @@ use Rattle.tree_nodes.proofs.Chains.{mapped, both_pass}
 use Rattle.tree_handles.specs.Binding.{Bindings, same_bytes}
 use Rattle.tree_handles.specs.Live.{FileEntry, file_of}
 use Rattle.tree_handles.proofs.Lookups.{same_is}
-use Rattle.tree_reads.specs.Look.{got_bytes, read_is_right, same_flag}
+use Rattle.tree_reads.specs.Look.{read_is_legal, read_is_right, same_flag}
 use Rattle.file_tree.specs.Change.{Change}
 use Rattle.file_tree.specs.Change.Change.{Keep}
 use Rattle.file_tree.specs.Made.{only_if}
@@ -47,7 +47,7 @@ module _ (binds : Bindings) (tree : Tree) (call : ReadArguments) where
       → success.bytes ≡ take (length success.bytes) (drop call.offset entry.file.bytes)
   right_there success allowed entry is =
       let change = mapped (changed tree) (change_answered binds tree allowed.0 (calls.Read call) (replies.Read (Done success)) None) allowed.1 allowed.2 in
-      let got : got_bytes binds tree call (replies.Read (Done success)) ≡ true = kept_if (got_bytes binds tree call (replies.Read (Done success))) change.0 change.1 in
+      let got : read_is_legal binds tree call (replies.Read (Done success)) ≡ true = kept_if (read_is_legal binds tree call (replies.Read (Done success))) change.0 change.1 in
       right_bytes entry.file.bytes call success (sym (ap (λ (o : Option FileEntry). option_map_or (λ (e : FileEntry). read_is_right e.file.bytes call success) o false) is) ∙ got)
 
   full_there : (success : ReadSuccess) → IsAllowed binds tree (calls.Read call) (replies.Read (Done success)) → HasAll binds tree call success → IsFull binds tree (calls.Read call) (replies.Read (Done success))

@@ -151,46 +151,46 @@ module _ (binds other : Bindings) (tree : Tree) (number : ℕ) (agree : AgreeOn 
   gives (Some handle) object known = agree handle object known
 
   -- ---- calls that only look
-  got_attributes : (object : List ℕ) (reply : NfsReply) → look.got_attributes binds tree object reply ≡ look.got_attributes other tree object reply
-  got_attributes object (replies.GetAttr (Done attributes)) = ap (λ o. option_map_or (λ (e : Names × Node). look.shows e.1.content attributes) o false) (live object)
-  got_attributes object _ = refl
+  getattr_is_legal : (object : List ℕ) (reply : NfsReply) → look.getattr_is_legal binds tree object reply ≡ look.getattr_is_legal other tree object reply
+  getattr_is_legal object (replies.GetAttr (Done attributes)) = ap (λ o. option_map_or (λ (e : Names × Node). look.shows e.1.content attributes) o false) (live object)
+  getattr_is_legal object _ = refl
 
-  looked_up : (place : DirectoryName) (reply : NfsReply) → look.looked_up binds tree place reply ≡ look.looked_up other tree place reply
-  looked_up place (replies.Lookup (Done success)) =
+  lookup_is_legal : (place : DirectoryName) (reply : NfsReply) → look.lookup_is_legal binds tree place reply ≡ look.lookup_is_legal other tree place reply
+  lookup_is_legal place (replies.Lookup (Done success)) =
       ap (λ o. option_map_or (look.is_object_named binds tree place success.object) o false) (directory place.directory)
       ∙ same_on (look.is_object_named binds tree place success.object) (look.is_object_named other tree place success.object) (directory_of other tree place.directory) false (λ path is.
       same_on (is_bound binds success.object) (is_bound other success.object) (look.object_named tree path place.name) false (λ object named. agree success.object object (inl (named_held path place.name object named))))
-  looked_up place _ = refl
+  lookup_is_legal place _ = refl
 
-  got_text : (link : List ℕ) (reply : NfsReply) → look.got_text binds tree link reply ≡ look.got_text other tree link reply
-  got_text link (replies.ReadLink (Done success)) = ap (λ o. option_map_or (λ (e : Names × Node). look.has_text e.1.content success.target) o false) (live link)
-  got_text link _ = refl
+  readlink_is_legal : (link : List ℕ) (reply : NfsReply) → look.readlink_is_legal binds tree link reply ≡ look.readlink_is_legal other tree link reply
+  readlink_is_legal link (replies.ReadLink (Done success)) = ap (λ o. option_map_or (λ (e : Names × Node). look.has_text e.1.content success.target) o false) (live link)
+  readlink_is_legal link _ = refl
 
-  got_bytes : (call : ReadArguments) (reply : NfsReply) → look.got_bytes binds tree call reply ≡ look.got_bytes other tree call reply
-  got_bytes call (replies.Read (Done success)) = ap (λ o. option_map_or (λ (entry : FileEntry). look.read_is_right entry.file.bytes call success) o false) (file call.file)
-  got_bytes call _ = refl
+  read_is_legal : (call : ReadArguments) (reply : NfsReply) → look.read_is_legal binds tree call reply ≡ look.read_is_legal other tree call reply
+  read_is_legal call (replies.Read (Done success)) = ap (λ o. option_map_or (λ (entry : FileEntry). look.read_is_right entry.file.bytes call success) o false) (file call.file)
+  read_is_legal call _ = refl
 
-  committed : (handle : List ℕ) (reply : NfsReply) → look.committed binds tree handle reply ≡ look.committed other tree handle reply
-  committed handle (replies.Commit (Done success)) = ap is_some (file handle)
-  committed handle _ = refl
+  commit_is_legal : (handle : List ℕ) (reply : NfsReply) → look.commit_is_legal binds tree handle reply ≡ look.commit_is_legal other tree handle reply
+  commit_is_legal handle (replies.Commit (Done success)) = ap is_some (file handle)
+  commit_is_legal handle _ = refl
 
-  listed : (call : ReadDirArguments) (reply : NfsReply) → listing.listed binds tree call reply ≡ listing.listed other tree call reply
-  listed call (replies.ReadDir (Done success)) = ap (λ o. option_map_or (λ path. listing.is_listing tree path call.cookie success.eof (listing.listed_names success)) o false) (directory call.directory)
-  listed call _ = refl
+  readdir_is_legal : (call : ReadDirArguments) (reply : NfsReply) → listing.readdir_is_legal binds tree call reply ≡ listing.readdir_is_legal other tree call reply
+  readdir_is_legal call (replies.ReadDir (Done success)) = ap (λ o. option_map_or (λ path. listing.is_listing tree path call.cookie success.eof (listing.listed_names success)) o false) (directory call.directory)
+  readdir_is_legal call _ = refl
 
   has_its_handle : (path : Names) (entry : DirectoryEntryPlus) → listing.has_its_handle binds tree path entry ≡ listing.has_its_handle other tree path entry
   has_its_handle path entry =
       same_on (λ (node : Node). gives_object binds entry.object node.object) (λ (node : Node). gives_object other entry.object node.object) (entry_at tree path entry.name) true
       (λ node is. gives entry.object node.object (inl (entry_held path entry.name node is)))
 
-  listed_plus : (call : ReadDirPlusArguments) (reply : NfsReply) → listing.listed_plus binds tree call reply ≡ listing.listed_plus other tree call reply
-  listed_plus call (replies.ReadDirPlus (Done success)) =
+  readdirplus_is_legal : (call : ReadDirPlusArguments) (reply : NfsReply) → listing.readdirplus_is_legal binds tree call reply ≡ listing.readdirplus_is_legal other tree call reply
+  readdirplus_is_legal call (replies.ReadDirPlus (Done success)) =
       let lists : Names → Bool = λ path. listing.is_listing tree path call.cookie success.eof (listing.listed_names_plus success) in
       ap (λ o. option_map_or (λ path. lists path && list_all (listing.has_its_handle binds tree path) success.entries) o false) (directory call.directory)
       ∙ same_on (λ path. lists path && list_all (listing.has_its_handle binds tree path) success.entries) (λ path. lists path && list_all (listing.has_its_handle other tree path) success.entries)
       (directory_of other tree call.directory) false
       (λ path is. ap (λ b. lists path && b) (all_on (listing.has_its_handle binds tree path) (listing.has_its_handle other tree path) success.entries (has_its_handle path)))
-  listed_plus call _ = refl
+  readdirplus_is_legal call _ = refl
 
   -- ---- calls that change the tree
   absent : (mode : CreateMode) (handle : Option (List ℕ)) (path : Names) → made.create_absent binds tree number mode handle path ≡ made.create_absent other tree number mode handle path
@@ -338,13 +338,13 @@ module _ (binds other : Bindings) (tree : Tree) (number : ℕ) (agree : AgreeOn 
 
   -- ---- all calls
   done : (call : NfsCall) (reply : NfsReply) → change_done binds tree number call reply ≡ change_done other tree number call reply
-  done (calls.GetAttr object) reply = ap (λ b. made.only_if b Keep) (got_attributes object reply)
-  done (calls.Lookup place) reply = ap (λ b. made.only_if b Keep) (looked_up place reply)
-  done (calls.ReadLink link) reply = ap (λ b. made.only_if b Keep) (got_text link reply)
-  done (calls.Read call) reply = ap (λ b. made.only_if b Keep) (got_bytes call reply)
-  done (calls.ReadDir call) reply = ap (λ b. made.only_if b Keep) (listed call reply)
-  done (calls.ReadDirPlus call) reply = ap (λ b. made.only_if b Keep) (listed_plus call reply)
-  done (calls.Commit call) reply = ap (λ b. made.only_if b Keep) (committed call.file reply)
+  done (calls.GetAttr object) reply = ap (λ b. made.only_if b Keep) (getattr_is_legal object reply)
+  done (calls.Lookup place) reply = ap (λ b. made.only_if b Keep) (lookup_is_legal place reply)
+  done (calls.ReadLink link) reply = ap (λ b. made.only_if b Keep) (readlink_is_legal link reply)
+  done (calls.Read call) reply = ap (λ b. made.only_if b Keep) (read_is_legal call reply)
+  done (calls.ReadDir call) reply = ap (λ b. made.only_if b Keep) (readdir_is_legal call reply)
+  done (calls.ReadDirPlus call) reply = ap (λ b. made.only_if b Keep) (readdirplus_is_legal call reply)
+  done (calls.Commit call) reply = ap (λ b. made.only_if b Keep) (commit_is_legal call.file reply)
   done (calls.Write call) (replies.Write (Done success)) = wrote call success.count (Some success.level)
   done (calls.Write call) _ = refl
   done (calls.Create call) (replies.Create (Done success)) = created call success.object

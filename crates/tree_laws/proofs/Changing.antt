@@ -34,8 +34,8 @@ use Rattle.tree_handles.specs.Binding.{Bindings, gives_object, object_of}
 use Rattle.tree_handles.specs.Live.{live_entry, directory_of, file_of}
 use Rattle.tree_handles.specs.Entry.{is_plain, entry_at, named}
 use Rattle.tree_handles.specs.Kind.{is_directory}
-use Rattle.tree_reads.specs.Look.{got_attributes, looked_up, got_text, got_bytes, committed}
-use Rattle.tree_reads.specs.Listing.{listed, listed_plus}
+use Rattle.tree_reads.specs.Look.{getattr_is_legal, lookup_is_legal, readlink_is_legal, read_is_legal, commit_is_legal}
+use Rattle.tree_reads.specs.Listing.{readdir_is_legal, readdirplus_is_legal}
 use Rattle.nfs3_types.specs.Procedures.{is_answered, failure_in}
 use Rattle.tree_failures.specs.Failure.{is_permitted}
 use Rattle.file_tree.specs.Success.{change_written, change_done, change_answered, change_taken, change_of}
@@ -341,13 +341,13 @@ module _ (binds : Bindings) (tree : Tree) (number : ℕ) (c : Change) where
   write_reply_fits call reply e = none_fits (calls.Write call) (Received reply) e
 
   done_fits : (call : NfsCall) (reply : NfsReply) → change_done binds tree number call reply ≡ Some c → CallFits binds tree number call (Received reply) c
-  done_fits (calls.GetAttr object) reply e = looks_fits (calls.GetAttr object) (Received reply) (got_attributes binds tree object reply) e
-  done_fits (calls.Lookup place) reply e = looks_fits (calls.Lookup place) (Received reply) (looked_up binds tree place reply) e
-  done_fits (calls.ReadLink link) reply e = looks_fits (calls.ReadLink link) (Received reply) (got_text binds tree link reply) e
-  done_fits (calls.Read call) reply e = looks_fits (calls.Read call) (Received reply) (got_bytes binds tree call reply) e
-  done_fits (calls.ReadDir call) reply e = looks_fits (calls.ReadDir call) (Received reply) (listed binds tree call reply) e
-  done_fits (calls.ReadDirPlus call) reply e = looks_fits (calls.ReadDirPlus call) (Received reply) (listed_plus binds tree call reply) e
-  done_fits (calls.Commit call) reply e = looks_fits (calls.Commit call) (Received reply) (committed binds tree call.file reply) e
+  done_fits (calls.GetAttr object) reply e = looks_fits (calls.GetAttr object) (Received reply) (getattr_is_legal binds tree object reply) e
+  done_fits (calls.Lookup place) reply e = looks_fits (calls.Lookup place) (Received reply) (lookup_is_legal binds tree place reply) e
+  done_fits (calls.ReadLink link) reply e = looks_fits (calls.ReadLink link) (Received reply) (readlink_is_legal binds tree link reply) e
+  done_fits (calls.Read call) reply e = looks_fits (calls.Read call) (Received reply) (read_is_legal binds tree call reply) e
+  done_fits (calls.ReadDir call) reply e = looks_fits (calls.ReadDir call) (Received reply) (readdir_is_legal binds tree call reply) e
+  done_fits (calls.ReadDirPlus call) reply e = looks_fits (calls.ReadDirPlus call) (Received reply) (readdirplus_is_legal binds tree call reply) e
+  done_fits (calls.Commit call) reply e = looks_fits (calls.Commit call) (Received reply) (commit_is_legal binds tree call.file reply) e
   done_fits (calls.Write call) reply e = write_reply_fits call reply e
   done_fits (calls.Create call) (replies.Create (Done success)) e = create_call_fits call (Received (replies.Create (Done success))) success.object refl e
   done_fits (calls.SetAttr call) (replies.SetAttr (Done wcc)) e = set_call_fits call (Received (replies.SetAttr (Done wcc))) refl e

@@ -11,8 +11,8 @@ use Rattle.tree_nodes.specs.Tree.{Tree}
 use Rattle.tree_handles.specs.Binding.{Bindings}
 use Rattle.nfs3_types.specs.Procedures.{is_answered, failure_in}
 use Rattle.tree_failures.specs.Failure.{is_permitted}
-use Rattle.tree_reads.specs.Look.{got_attributes, looked_up, got_text, got_bytes, committed}
-use Rattle.tree_reads.specs.Listing.{listed, listed_plus}
+use Rattle.tree_reads.specs.Look.{getattr_is_legal, lookup_is_legal, readlink_is_legal, read_is_legal, commit_is_legal}
+use Rattle.tree_reads.specs.Listing.{readdir_is_legal, readdirplus_is_legal}
 use Rattle.file_tree.specs.Success.{changed, change_done, change_answered, change_taken}
 use Rattle.tree_laws.specs.Leaving.{FailureLeaves, LookingLeaves, only_looks}
 
@@ -33,13 +33,13 @@ failure_leaves binds before after number call reply failure is e = failed binds 
 
 looks : (binds : Bindings) (before after : Tree) (number : ℕ) (call : NfsCall) (reply : NfsReply) → only_looks call ≡ true
     → option_map (changed before) (change_done binds before number call reply) ≡ Some after → after ≡ before
-looks binds before after number (calls.GetAttr object) reply is e = kept before after (got_attributes binds before object reply) e
-looks binds before after number (calls.Lookup place) reply is e = kept before after (looked_up binds before place reply) e
-looks binds before after number (calls.ReadLink link) reply is e = kept before after (got_text binds before link reply) e
-looks binds before after number (calls.Read call) reply is e = kept before after (got_bytes binds before call reply) e
-looks binds before after number (calls.ReadDir call) reply is e = kept before after (listed binds before call reply) e
-looks binds before after number (calls.ReadDirPlus call) reply is e = kept before after (listed_plus binds before call reply) e
-looks binds before after number (calls.Commit call) reply is e = kept before after (committed binds before call.file reply) e
+looks binds before after number (calls.GetAttr object) reply is e = kept before after (getattr_is_legal binds before object reply) e
+looks binds before after number (calls.Lookup place) reply is e = kept before after (lookup_is_legal binds before place reply) e
+looks binds before after number (calls.ReadLink link) reply is e = kept before after (readlink_is_legal binds before link reply) e
+looks binds before after number (calls.Read call) reply is e = kept before after (read_is_legal binds before call reply) e
+looks binds before after number (calls.ReadDir call) reply is e = kept before after (readdir_is_legal binds before call reply) e
+looks binds before after number (calls.ReadDirPlus call) reply is e = kept before after (readdirplus_is_legal binds before call reply) e
+looks binds before after number (calls.Commit call) reply is e = kept before after (commit_is_legal binds before call.file reply) e
 looks binds before after number _ reply is e = absurd (cc)
 
 answered : (binds : Bindings) (before after : Tree) (number : ℕ) (call : NfsCall) (reply : NfsReply) (o : Option Failure) → only_looks call ≡ true

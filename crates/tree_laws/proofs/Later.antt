@@ -23,7 +23,7 @@ use Rattle.tree_nodes.specs.declared.node.Content.TheVariants as contents
 use Rattle.tree_nodes.specs.Tree.{Names, Tree, opening}
 use Rattle.tree_handles.specs.Binding.{Bindings, object_of}
 use Rattle.tree_handles.specs.Live.{FileEntry, file_of}
-use Rattle.tree_reads.specs.Look.{same_flag, read_is_right, got_bytes}
+use Rattle.tree_reads.specs.Look.{same_flag, read_is_right, read_is_legal}
 use Rattle.file_tree.specs.Success.{changed, next_tree}
 use Rattle.tree_laws.specs.Outcomes.{count_written, step}
 use Rattle.tree_laws.specs.FileBytes.{AreWritten}
@@ -200,7 +200,7 @@ module _ (binds : Bindings) (write : WriteArguments) (read : ReadArguments) (ans
 
   gives : (number count : ℕ) (outcome : Outcome) → next_tree binds before number (calls.Write write) outcome ≡ Some after → count_written outcome ≡ Some count
       → write.offset ≤ byte → byte < write.offset + count → read.offset ≤ byte → AllByRecursion (λ later. Unnumbered ahead later.number) between
-      → state_after (next_tree binds) after between ≡ Some last → NoneWritesOver binds object byte after between → got_bytes binds last read (replies.Read (Done answer)) ≡ true
+      → state_after (next_tree binds) after between ≡ Some last → NoneWritesOver binds object byte after between → read_is_legal binds last read (replies.Read (Done answer)) ≡ true
       → GivesByte write read answer byte
   gives number count outcome wrote counted from within asked others runs none right =
       let formed = runs_keep binds ahead before reached in
@@ -225,4 +225,4 @@ runs_read_back binds steps write read answer byte runs numbers x =
     gives binds write read answer x.object byte x.written_to x.read_from parts.0 written.0 then_on.0 x.ahead x.between parts.1 x.m x.count x.outcome written.1 x.counted
     x.was_written.0 x.was_written.1 x.was_asked (all_ahead (λ later. Unnumbered x.ahead later.number) x.between (got ∷ x.behind) others.1) then_on.1
     (x.stays written.0 (join_run binds opening parts.0 written.0 x.ahead wrote parts.1 written.1))
-    (read_right then_on.0 was_read.0 (got_bytes binds then_on.0 read (replies.Read (Done answer))) was_read.1)
+    (read_right then_on.0 was_read.0 (read_is_legal binds then_on.0 read (replies.Read (Done answer))) was_read.1)

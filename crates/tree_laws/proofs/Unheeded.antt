@@ -46,8 +46,8 @@ use Rattle.tree_failures.specs.Asked.{first_handle, second_handle, second_place,
 use Rattle.tree_failures.specs.Causes.{content_of, readlink_of_no_link, stops, name_is_present, is_unchecked, create_over_directory, remove_of_directory, rmdir_of_no_directory, is_filled_directory, rmdir_of_filled_directory}
 use Rattle.tree_failures.specs.RenameCauses.{source_of, target_of}
 use Rattle.tree_failures.specs.Failure.{row, causes, same_status, is_judged, is_caused_by, is_permitted}
-use Rattle.tree_reads.specs.Look.{shows, got_attributes, object_at, object_named, is_object_named, looked_up, has_text, got_text, read_is_right, got_bytes, committed}
-use Rattle.tree_reads.specs.Listing.{is_listing, listed_names, listed, listed_names_plus, has_its_handle, listed_plus}
+use Rattle.tree_reads.specs.Look.{shows, getattr_is_legal, object_at, object_named, is_object_named, lookup_is_legal, has_text, readlink_is_legal, read_is_right, read_is_legal, commit_is_legal}
+use Rattle.tree_reads.specs.Listing.{is_listing, listed_names, readdir_is_legal, listed_names_plus, has_its_handle, readdirplus_is_legal}
 use Rattle.file_tree.specs.Change.{Change}
 use Rattle.file_tree.specs.Change.Change.{Keep, Put, Remove}
 use Rattle.file_tree.specs.Made.{only_if, set_size, first_size, first_verifier, create_over, create_present, create_at, create_change, make_entry}
@@ -162,30 +162,30 @@ module _ (binds : Bindings) (handle : List ℕ) (object : ℕ) (tree : Tree) (ne
     go false true = at_node given (parent path)
     go false false = at_entry given path name
 
-  looked_same : (place : DirectoryName) (reply : NfsReply) → looked_up more tree place reply ≡ looked_up binds tree place reply
+  looked_same : (place : DirectoryName) (reply : NfsReply) → lookup_is_legal more tree place reply ≡ lookup_is_legal binds tree place reply
   looked_same place (replies.Lookup (Done success)) =
       (λ i. option_map_or (is_object_named more tree place success.object) (directory i place.directory) false)
       ∙ where_there (is_object_named more tree place success.object) (is_object_named binds tree place success.object) (directory_of binds tree place.directory) false
       (λ path _. at_name success.object path place.name)
   looked_same place _ = refl
 
-  attributes_same : (other : List ℕ) (reply : NfsReply) → got_attributes more tree other reply ≡ got_attributes binds tree other reply
+  attributes_same : (other : List ℕ) (reply : NfsReply) → getattr_is_legal more tree other reply ≡ getattr_is_legal binds tree other reply
   attributes_same other (replies.GetAttr (Done attributes)) = λ i. option_map_or (λ e. shows e.1.content attributes) (live_at other i) false
   attributes_same other _ = refl
 
-  text_same : (link : List ℕ) (reply : NfsReply) → got_text more tree link reply ≡ got_text binds tree link reply
+  text_same : (link : List ℕ) (reply : NfsReply) → readlink_is_legal more tree link reply ≡ readlink_is_legal binds tree link reply
   text_same link (replies.ReadLink (Done success)) = λ i. option_map_or (λ e. has_text e.1.content success.target) (live_at link i) false
   text_same link _ = refl
 
-  bytes_same : (call : ReadArguments) (reply : NfsReply) → got_bytes more tree call reply ≡ got_bytes binds tree call reply
+  bytes_same : (call : ReadArguments) (reply : NfsReply) → read_is_legal more tree call reply ≡ read_is_legal binds tree call reply
   bytes_same call (replies.Read (Done success)) = λ i. option_map_or (λ entry. read_is_right entry.file.bytes call success) (file i call.file) false
   bytes_same call _ = refl
 
-  committed_same : (other : List ℕ) (reply : NfsReply) → committed more tree other reply ≡ committed binds tree other reply
+  committed_same : (other : List ℕ) (reply : NfsReply) → commit_is_legal more tree other reply ≡ commit_is_legal binds tree other reply
   committed_same other (replies.Commit (Done success)) = λ i. is_some (file i other)
   committed_same other _ = refl
 
-  listed_same : (call : ReadDirArguments) (reply : NfsReply) → listed more tree call reply ≡ listed binds tree call reply
+  listed_same : (call : ReadDirArguments) (reply : NfsReply) → readdir_is_legal more tree call reply ≡ readdir_is_legal binds tree call reply
   listed_same call (replies.ReadDir (Done success)) =
       λ i. option_map_or (λ path. is_listing tree path call.cookie success.eof (listed_names success)) (directory i call.directory) false
   listed_same call _ = refl
@@ -202,7 +202,7 @@ module _ (binds : Bindings) (handle : List ℕ) (object : ℕ) (tree : Tree) (ne
     go true = node_same (map.get tree (path ++ e.name ∷ [])) (is_other (path ++ e.name ∷ []))
     go false = refl
 
-  listed_plus_same : (call : ReadDirPlusArguments) (reply : NfsReply) → listed_plus more tree call reply ≡ listed_plus binds tree call reply
+  listed_plus_same : (call : ReadDirPlusArguments) (reply : NfsReply) → readdirplus_is_legal more tree call reply ≡ readdirplus_is_legal binds tree call reply
   listed_plus_same call (replies.ReadDirPlus (Done success)) =
       (λ i. option_map_or (λ path. is_listing tree path call.cookie success.eof (listed_names_plus success) && all_same (has_its_handle more tree path) (has_its_handle binds tree path) success.entries (handle_same path) i)
       (directory i call.directory) false)

@@ -23,7 +23,7 @@ use Rattle.file_bytes.specs.Files.{resized, written}
 use Rattle.tree_nodes.specs.Tree.{Names, Tree, entry_of}
 use Rattle.tree_handles.specs.Binding.{Bindings, object_of, same_bytes}
 use Rattle.tree_handles.specs.Live.{FileEntry, as_file, file_of}
-use Rattle.tree_reads.specs.Look.{same_flag, read_is_right, got_bytes}
+use Rattle.tree_reads.specs.Look.{same_flag, read_is_right, read_is_legal}
 use Rattle.file_tree.specs.Success.{changed, next_tree}
 use Rattle.file_tree.specs.Written.{write_at, write_change}
 use Rattle.tree_laws.specs.Outcomes.{count_written}
@@ -141,7 +141,7 @@ right_is bytes read answer h =
     (eqb-true answer.count (length answer.bytes) two.0, leb-true (length answer.bytes) read.count two.1, same_text _ _ three.1)
 
 got : (binds : Bindings) (tree : Tree) (read : ReadArguments) (answer : ReadSuccess) (f : FileEntry) → file_of binds tree read.file ≡ Some f
-    → got_bytes binds tree read (replies.Read (Done answer)) ≡ read_is_right f.file.bytes read answer
+    → read_is_legal binds tree read (replies.Read (Done answer)) ≡ read_is_right f.file.bytes read answer
 got binds tree read answer f is = ap (λ (o : Option FileEntry). option_map_or (λ entry. read_is_right entry.file.bytes read answer) o false) is
 
 pub only_what_was_written : OnlyWhatWasWritten

@@ -14,7 +14,7 @@ use Rattle.nfs3_types.specs.declared.replies.Outcome.TheVariants.{Received}
 use Rattle.replay_law.specs.Run as run
 use Rattle.tree_nodes.specs.Tree.{Tree, opening}
 use Rattle.tree_handles.specs.Binding.{Bindings, object_of}
-use Rattle.tree_reads.specs.Look.{got_bytes}
+use Rattle.tree_reads.specs.Look.{read_is_legal}
 use Rattle.file_tree.specs.Success.{next_tree}
 use Rattle.tree_laws.specs.Outcomes.{count_written, step}
 use Rattle.tree_laws.specs.WellFormed.{IsWellFormed}
@@ -36,14 +36,14 @@ pub record ReadsBack (binds : Bindings) (before after : Tree) (write : WriteArgu
 abbrev pub OnlyWhatWasWritten : Type 0
 OnlyWhatWasWritten =
     (binds : Bindings) (before after : Tree) (write : WriteArguments) (read : ReadArguments) (answer : ReadSuccess) → ReadsBack binds before after write read
-    → got_bytes binds after read (replies.Read (Done answer)) ≡ true → (answer.count ≤ read.count) × (answer.bytes ≡ take answer.count write.bytes)
+    → read_is_legal binds after read (replies.Read (Done answer)) ≡ true → (answer.count ≤ read.count) × (answer.bytes ≡ take answer.count write.bytes)
 
 -- and as many of them as it asks for, or fewer, are an answer that is right, with one `eof`
 abbrev pub WhatWasWritten : Type 0
 WhatWasWritten =
     (binds : Bindings) (before after : Tree) (write : WriteArguments) (read : ReadArguments) (attributes : Option FileAttributes) (count : ℕ)
     → ReadsBack binds before after write read → count ≤ read.count
-    → (eof : Bool) × (got_bytes binds after read (replies.Read (Done (record { attributes = attributes; count = count; eof = eof; bytes = take count write.bytes }))) ≡ true)
+    → (eof : Bool) × (read_is_legal binds after read (replies.Read (Done (record { attributes = attributes; count = count; eof = eof; bytes = take count write.bytes }))) ≡ true)
 
 -- no two of these calls have one number
 abbrev pub NumbersDiffer : List (run.Taken NfsCall Outcome) → Type 0

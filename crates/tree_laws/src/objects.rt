@@ -10,7 +10,7 @@ pub fn other_handles_make_no_difference()
 {}
 
 /// An object that comes into the tree with a call has the call's number. Of the run in
-/// [`the_premises_are_met`](crate::the_premises_are_met) the MKDIR is such a call.
+/// [`the_premises_are_met`](crate::the_premises_are_met) the first MKDIR is such a call.
 pub fn only_its_own_object_is_new()
     ensures { OnlyItsOwnIsNew }
 {}

@@ -47,10 +47,10 @@ is_listing tree directory cookie eof names =
 abbrev pub listed_names : ReadDirSuccess → List (List ℕ)
 listed_names success = map (λ e. e.name) success.entries
 
-abbrev pub listed : Bindings → Tree → ReadDirArguments → NfsReply → Bool
-listed binds tree call (replies.ReadDir (Done success)) =
+abbrev pub readdir_is_legal : Bindings → Tree → ReadDirArguments → NfsReply → Bool
+readdir_is_legal binds tree call (replies.ReadDir (Done success)) =
     option_map_or (λ directory. is_listing tree directory call.cookie success.eof (listed_names success)) (directory_of binds tree call.directory) false
-listed binds tree call _ = false
+readdir_is_legal binds tree call _ = false
 
 -- READDIRPLUS, RFC 1813, section 3.3.17: a handle beside an entry is bound to its object; those beside `.` and `..` aren't
 -- judged
@@ -60,8 +60,8 @@ listed_names_plus success = map (λ e. e.name) success.entries
 abbrev pub has_its_handle : Bindings → Tree → Names → DirectoryEntryPlus → Bool
 has_its_handle binds tree directory entry = option_map_or (λ node. gives_object binds entry.object node.object) (entry_at tree directory entry.name) true
 
-abbrev pub listed_plus : Bindings → Tree → ReadDirPlusArguments → NfsReply → Bool
-listed_plus binds tree call (replies.ReadDirPlus (Done success)) =
+abbrev pub readdirplus_is_legal : Bindings → Tree → ReadDirPlusArguments → NfsReply → Bool
+readdirplus_is_legal binds tree call (replies.ReadDirPlus (Done success)) =
     option_map_or (λ directory. is_listing tree directory call.cookie success.eof (listed_names_plus success)
     && list_all (has_its_handle binds tree directory) success.entries) (directory_of binds tree call.directory) false
-listed_plus binds tree call _ = false
+readdirplus_is_legal binds tree call _ = false

@@ -34,9 +34,9 @@ shows contents.Directory attributes = type_number attributes.file_type == 2
 shows (contents.File file) attributes = (type_number attributes.file_type == 1) && (attributes.size == length file.bytes)
 shows (contents.Link _) attributes = type_number attributes.file_type == 5
 
-abbrev pub got_attributes : Bindings → Tree → List ℕ → NfsReply → Bool
-got_attributes binds tree object (replies.GetAttr (Done attributes)) = option_map_or (λ e. shows e.1.content attributes) (live_entry binds tree object) false
-got_attributes binds tree object _ = false
+abbrev pub getattr_is_legal : Bindings → Tree → List ℕ → NfsReply → Bool
+getattr_is_legal binds tree object (replies.GetAttr (Done attributes)) = option_map_or (λ e. shows e.1.content attributes) (live_entry binds tree object) false
+getattr_is_legal binds tree object _ = false
 
 -- LOOKUP, RFC 1813, section 3.3.3: the handle is bound to the object of the name; `.` is the directory itself, `..` the one
 -- that it lies in
@@ -52,10 +52,10 @@ object_named tree directory name =
 abbrev pub is_object_named : Bindings → Tree → DirectoryName → List ℕ → Names → Bool
 is_object_named binds tree place handle directory = option_map_or (is_bound binds handle) (object_named tree directory place.name) false
 
-abbrev pub looked_up : Bindings → Tree → DirectoryName → NfsReply → Bool
-looked_up binds tree place (replies.Lookup (Done success)) =
+abbrev pub lookup_is_legal : Bindings → Tree → DirectoryName → NfsReply → Bool
+lookup_is_legal binds tree place (replies.Lookup (Done success)) =
     option_map_or (is_object_named binds tree place success.object) (directory_of binds tree place.directory) false
-looked_up binds tree place _ = false
+lookup_is_legal binds tree place _ = false
 
 -- READLINK, RFC 1813, section 3.3.5: a link, with its text
 abbrev pub has_text : Content → List ℕ → Bool
@@ -63,9 +63,9 @@ has_text contents.Directory text = false
 has_text (contents.File _) text = false
 has_text (contents.Link target) text = same_bytes target text
 
-abbrev pub got_text : Bindings → Tree → List ℕ → NfsReply → Bool
-got_text binds tree link (replies.ReadLink (Done success)) = option_map_or (λ e. has_text e.1.content success.target) (live_entry binds tree link) false
-got_text binds tree link _ = false
+abbrev pub readlink_is_legal : Bindings → Tree → List ℕ → NfsReply → Bool
+readlink_is_legal binds tree link (replies.ReadLink (Done success)) = option_map_or (λ e. has_text e.1.content success.target) (live_entry binds tree link) false
+readlink_is_legal binds tree link _ = false
 
 -- READ, RFC 1813, section 3.3.6: at most the bytes asked for, those of the file at the offset, with `eof` exactly where
 -- they reach its end
@@ -79,11 +79,11 @@ read_is_right bytes call success =
     (success.count == count) && nat_le count call.count && same_bytes success.bytes (take count (drop call.offset bytes))
     && same_flag success.eof (nat_le (length bytes) (call.offset + count))
 
-abbrev pub got_bytes : Bindings → Tree → ReadArguments → NfsReply → Bool
-got_bytes binds tree call (replies.Read (Done success)) = option_map_or (λ entry. read_is_right entry.file.bytes call success) (file_of binds tree call.file) false
-got_bytes binds tree call _ = false
+abbrev pub read_is_legal : Bindings → Tree → ReadArguments → NfsReply → Bool
+read_is_legal binds tree call (replies.Read (Done success)) = option_map_or (λ entry. read_is_right entry.file.bytes call success) (file_of binds tree call.file) false
+read_is_legal binds tree call _ = false
 
 -- COMMIT, RFC 1813, section 3.3.21: a file
-abbrev pub committed : Bindings → Tree → List ℕ → NfsReply → Bool
-committed binds tree file (replies.Commit (Done success)) = is_some (file_of binds tree file)
-committed binds tree file _ = false
+abbrev pub commit_is_legal : Bindings → Tree → List ℕ → NfsReply → Bool
+commit_is_legal binds tree file (replies.Commit (Done success)) = is_some (file_of binds tree file)
+commit_is_legal binds tree file _ = false

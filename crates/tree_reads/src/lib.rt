@@ -6,6 +6,8 @@ mod look;
 mod name_set;
 mod read;
 
-pub use listing::{listed, listed_plus};
-pub use look::{committed, got_attributes, got_text, looked_up, object_named};
-pub use read::got_bytes;
+pub use listing::{readdir_is_legal, readdirplus_is_legal};
+pub use look::{
+    commit_is_legal, getattr_is_legal, lookup_is_legal, object_named, readlink_is_legal,
+};
+pub use read::read_is_legal;

@@ -4,7 +4,7 @@ ghost use Rattle.std.specs.Prelude.{◌≡◌, IfOk, IsSome, map};
 ghost use Rattle.std.specs.List.{list_all};
 ghost use Rattle.tree_nodes.specs.Place.{path_of};
 ghost use Rattle.tree_handles.specs.Standing.{place_of};
-ghost use Rattle.tree_reads.specs.Listing.{may_be_listed, is_listing, listed, has_its_handle, listed_plus};
+ghost use Rattle.tree_reads.specs.Listing.{may_be_listed, is_listing, readdir_is_legal, has_its_handle, readdirplus_is_legal};
 
 use crate::name_set::Names;
 use nfs3_types::{
@@ -60,13 +60,13 @@ fn listed_names(alloc: Global, entries: &[DirectoryEntry]) -> Result<Names, Allo
 }
 
 /// A READDIR succeeds with these entries.
-pub fn listed(
+pub fn readdir_is_legal(
     alloc: Global,
     view: &View<'_>,
     call: &ReadDirArguments,
     reply: &NfsReply,
 ) -> Result<bool, AllocError>
-    ensures { IfOk result (λ right. right ≡ listed view.now.binds.now view.now.nodes.now call.now reply.now) }
+    ensures { IfOk result (λ right. right ≡ readdir_is_legal view.now.binds.now view.now.nodes.now call.now reply.now) }
 {
     match reply {
         NfsReply::ReadDir(Answer::Done(success)) => {
@@ -116,13 +116,13 @@ fn have_their_handles(view: &View<'_>, directory: u64, entries: &[DirectoryEntry
 }
 
 /// A READDIRPLUS succeeds with these entries.
-pub fn listed_plus(
+pub fn readdirplus_is_legal(
     alloc: Global,
     view: &View<'_>,
     call: &ReadDirPlusArguments,
     reply: &NfsReply,
 ) -> Result<bool, AllocError>
-    ensures { IfOk result (λ right. right ≡ listed_plus view.now.binds.now view.now.nodes.now call.now reply.now) }
+    ensures { IfOk result (λ right. right ≡ readdirplus_is_legal view.now.binds.now view.now.nodes.now call.now reply.now) }
 {
     match reply {
         NfsReply::ReadDirPlus(Answer::Done(success)) => {

@@ -3,7 +3,7 @@
 ghost use Rattle.std.specs.Prelude.{◌≡◌, option_and_then};
 ghost use Rattle.std.specs.Option.{option_copied};
 ghost use Rattle.tree_nodes.specs.Place.{path_of};
-ghost use Rattle.tree_reads.specs.Look.{type_number, shows, got_attributes, object_at, object_named, looked_up, has_text, got_text, committed};
+ghost use Rattle.tree_reads.specs.Look.{type_number, shows, getattr_is_legal, object_at, object_named, lookup_is_legal, has_text, readlink_is_legal, commit_is_legal};
 
 use nfs3_types::{Answer, DirectoryName, FileAttributes, FileHandle, FileType, NfsReply};
 use tree_handles::{
@@ -31,8 +31,8 @@ fn shows(content: &Content, attributes: &FileAttributes) -> bool
 }
 
 /// A GETATTR succeeds with the object's attributes.
-pub fn got_attributes(view: &View<'_>, object: &FileHandle, reply: &NfsReply) -> bool
-    ensures { result ≡ got_attributes view.now.binds.now view.now.nodes.now object.now reply.now }
+pub fn getattr_is_legal(view: &View<'_>, object: &FileHandle, reply: &NfsReply) -> bool
+    ensures { result ≡ getattr_is_legal view.now.binds.now view.now.nodes.now object.now reply.now }
 {
     match reply {
         NfsReply::GetAttr(Answer::Done(attributes)) => {
@@ -69,8 +69,8 @@ pub fn object_named(nodes: &Nodes, directory: u64, name: &[u8]) -> Option<u64>
 }
 
 /// A LOOKUP succeeds with a handle of the object.
-pub fn looked_up(view: &View<'_>, place: &DirectoryName, reply: &NfsReply) -> bool
-    ensures { result ≡ looked_up view.now.binds.now view.now.nodes.now place.now reply.now }
+pub fn lookup_is_legal(view: &View<'_>, place: &DirectoryName, reply: &NfsReply) -> bool
+    ensures { result ≡ lookup_is_legal view.now.binds.now view.now.nodes.now place.now reply.now }
 {
     match reply {
         NfsReply::Lookup(Answer::Done(success)) => {
@@ -97,8 +97,8 @@ fn has_text(content: &Content, text: &[u8]) -> bool
 }
 
 /// A READLINK succeeds with the link's text.
-pub fn got_text(view: &View<'_>, link: &FileHandle, reply: &NfsReply) -> bool
-    ensures { result ≡ got_text view.now.binds.now view.now.nodes.now link.now reply.now }
+pub fn readlink_is_legal(view: &View<'_>, link: &FileHandle, reply: &NfsReply) -> bool
+    ensures { result ≡ readlink_is_legal view.now.binds.now view.now.nodes.now link.now reply.now }
 {
     match reply {
         NfsReply::ReadLink(Answer::Done(success)) => {
@@ -112,8 +112,8 @@ pub fn got_text(view: &View<'_>, link: &FileHandle, reply: &NfsReply) -> bool
 }
 
 /// A COMMIT succeeds at a file.
-pub fn committed(view: &View<'_>, file: &FileHandle, reply: &NfsReply) -> bool
-    ensures { result ≡ committed view.now.binds.now view.now.nodes.now file.now reply.now }
+pub fn commit_is_legal(view: &View<'_>, file: &FileHandle, reply: &NfsReply) -> bool
+    ensures { result ≡ commit_is_legal view.now.binds.now view.now.nodes.now file.now reply.now }
 {
     match reply {
         NfsReply::Commit(Answer::Done(_)) => file_of(view, file).is_some(),

@@ -1,7 +1,7 @@
 //! Where a READ may succeed with these bytes (RFC 1813, section 3.3.6).
 
 ghost use Rattle.std.specs.Prelude.{◌≡◌};
-ghost use Rattle.tree_reads.specs.Look.{read_is_right, got_bytes};
+ghost use Rattle.tree_reads.specs.Look.{read_is_right, read_is_legal};
 
 use file_bytes::FileBytes;
 use nfs3_types::{Answer, NfsReply, ReadArguments, ReadSuccess};
@@ -21,8 +21,8 @@ fn is_right(bytes: &FileBytes, call: &ReadArguments, success: &ReadSuccess) -> b
 }
 
 /// A READ succeeds with the file's bytes.
-pub fn got_bytes(view: &View<'_>, call: &ReadArguments, reply: &NfsReply) -> bool
-    ensures { result ≡ got_bytes view.now.binds.now view.now.nodes.now call.now reply.now }
+pub fn read_is_legal(view: &View<'_>, call: &ReadArguments, reply: &NfsReply) -> bool
+    ensures { result ≡ read_is_legal view.now.binds.now view.now.nodes.now call.now reply.now }
 {
     match reply {
         NfsReply::Read(Answer::Done(success)) => {
