@@ -8,7 +8,8 @@ use Rattle.xdr_records.specs.Feed.{Feed, fresh, Grows, Breaks, TakesFirst}
 use Rattle.xdr_records.proofs.Cutting.{unfinished_none, cut_join}
 use Rattle.nfs_tap.specs.declared.pump.PumpEnd.{PumpEnd}
 use Rattle.nfs_tap.specs.declared.pump.PumpEnd.TheVariants as ends
-use Rattle.nfs_tap.specs.Pumping.{frames, Behind, IsAnywhere, IsWritten, IsForwarded, Pumps, AreWithinLimit, IsIdle, Stops, AppendsFront}
+use Rattle.nfs_tap.specs.Pumping.{frames, Behind, IsAnywhere, IsWritten, IsForwarded, Pumps, AreWithinLimit, IsIdle, Stops}
+use Rattle.bench_streams.specs.Streams.{AppendsFront}
 use Rattle.nfs_tap.proofs.Fronts.{none_appended, both_appended, none_consumed, both_consumed}
 
 frames-append : (xs ys : List (List ℕ)) → frames (xs ++ ys) ≡ frames xs ++ frames ys

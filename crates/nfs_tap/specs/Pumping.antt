@@ -1,5 +1,5 @@
 -- What a pump forwards of a stream: its whole records from the front, each as one fragment (RFC 5531, section 11).
-use Rattle.std.specs.Prelude.{◌≡◌, ◌≢◌, ℕ, ◌≤◌, false, List, [], ◌∷◌, ◌++◌, length, take, Option}
+use Rattle.std.specs.Prelude.{◌≡◌, ◌≢◌, ℕ, ◌≤◌, false, List, [], ◌∷◌, ◌++◌, length, Option}
 use Rattle.std.specs.Io.KnownBytes.{Consumes, Appends}
 use Rattle.xdr_records.specs.Record.{IsUnfinished, IsTooLong, IsCut, record_text, record_limit}
 use Rattle.xdr_records.specs.Feed.{Feed}
@@ -55,10 +55,6 @@ pub record Pumps (end : PumpEnd) (left left' held held' : Option (List ℕ)) : T
 -- a pump may end so behind any record: the stream's end isn't such an end
 abbrev pub IsAnywhere : PumpEnd → Type 0
 IsAnywhere end = (end ≢ ends.End) × IsNamed end × ((rest : List ℕ) → Behind end rest)
-
--- a writer's bytes grow by a front of these, the whole of them perhaps
-abbrev pub AppendsFront : Option (List ℕ) → Option (List ℕ) → List ℕ → Type 0
-AppendsFront held held' bytes = (count : ℕ) × (count ≤ length bytes) × Appends held held' (take count bytes)
 
 -- the event that a record is noted as
 abbrev pub event_of : Way → ℕ → List ℕ → Event

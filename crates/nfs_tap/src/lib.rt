@@ -5,7 +5,6 @@ mod fault;
 mod log;
 mod pump;
 mod room;
-mod writing;
 
 pub use fault::NoteFault;
 pub use log::TapLog;

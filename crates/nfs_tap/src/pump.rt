@@ -8,7 +8,7 @@ ghost use Rattle.nfs_tap.specs.Pumping.{frames, event_of, IsAnywhere, IsNamed, A
 
 use crate::fault::NoteFault;
 use crate::log::TapLog;
-use crate::writing::write_whole;
+use bench_streams::write_pieces;
 use std::alloc::{AllocError, Global};
 use std::fmt;
 use std::io::{ErrorKind, Read, Write};
@@ -38,6 +38,7 @@ pub enum PumpEnd {
     LogFull,
     /// The stream didn't end within 1,000,000 reads.
     Bound,
+    /// Memory ran out.
     NoMemory,
 }
 
@@ -140,7 +141,7 @@ fn forward<R: Wait, W: Write>(
 {
     let text = frame(alloc, content)?;
     note_shared(rt, tap, content)?;
-    match write_whole(writer, text.as_slice()) {
+    match write_pieces(writer, text.as_slice()) {
         Ok(()) => Ok(()),
         Err(_) => Err(PumpEnd::WriteFault),
     }

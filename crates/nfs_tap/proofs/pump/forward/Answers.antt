@@ -19,5 +19,5 @@ returns-in_err-note_shared-clause-err g c =
 pub returns-clause-err : goal.returns-clause-err
 returns-clause-err g c =
     let held = g.W.Write.contents c.args.writer.now in
-    let held' = g.W.Write.contents c.write_whole.new.writer in
-    stops_within held held' c.args.content.now c.as_slice.result.now (c.as_slice.ensures.value ∙ c.in_ok-text.ensures.text) c.write_whole.ensures.front
+    let held' = g.W.Write.contents c.write_pieces.new.writer in
+    stops_within held held' c.args.content.now c.as_slice.result.now (c.as_slice.ensures.value ∙ c.in_ok-text.ensures.text) c.write_pieces.ensures.front
