@@ -9,4 +9,4 @@ mod tap_words;
 
 pub use recorder::Recorder;
 pub use tap::run_tap;
-pub use tap_words::{TapRequest, tap_command, tap_request};
+pub use tap_words::{TapRequest, number_option, tap_command, tap_request};

@@ -12,16 +12,18 @@ pub struct TapRequest<'a> {
     pub root: &'a str,
     /// The port on 127.0.0.1 to which clients connect.
     pub port: u16,
+    /// The address of the server, to which connections are relayed.
     pub server: SocketAddr,
     /// How many connections are relayed, where that is limited.
     pub lanes: Option<u32>,
+    /// Whether it isn't told once a second how far the recording is.
     pub is_quiet: bool,
     /// The path of the history.
     pub history: &'a str,
 }
 
-/// An option with a value within bounds.
-fn number<'a>(alloc: Global, name: &'a str, most: u64) -> Arg<'a> {
+/// An option with a number, from 1 on.
+pub fn number_option<'a>(alloc: Global, name: &'a str, most: u64) -> Arg<'a> {
     Arg::new(alloc, name)
         .long(name)
         .value_parser(ValueParser::unsigned(1, most))
@@ -34,17 +36,17 @@ pub fn tap_command<'a>(alloc: Global) -> Result<Command<'a>, AllocError> {
         .required(true)
         .value_name("HEX")
         .help("The handle of the export's root");
-    let port = number(alloc, "port", 65_535)
+    let port = number_option(alloc, "port", 65_535)
         .required(true)
         .help("Where clients connect, on 127.0.0.1");
-    let server = number(alloc, "server", 65_535)
+    let server = number_option(alloc, "server", 65_535)
         .required(true)
         .help("The server's port");
     let host = Arg::new(alloc, "host")
         .long("host")
         .value_name("ADDRESS")
         .help("The server's IP address, where it isn't 127.0.0.1");
-    let lanes = number(alloc, "lanes", 64).help(
+    let lanes = number_option(alloc, "lanes", 64).help(
         "Ends with so many connections; else with standard input",
     );
     let quiet = Arg::new(alloc, "quiet")

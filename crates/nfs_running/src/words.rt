@@ -1,7 +1,7 @@
 //! The words that ask for a run of the bundled server.
 
-use clap::builder::ValueParser;
 use clap::{Arg, ArgAction, ArgMatches, Command};
+use nfs_recording::number_option;
 use nfs_serving::Export;
 use std::alloc::{AllocError, Global};
 
@@ -40,15 +40,6 @@ const MOST_LANES: u64 = 64;
 
 const MOST_CALLS: u64 = 1_000_000;
 
-/// A number that has to be said.
-fn number<'a>(alloc: Global, name: &'a str, most: u64, help: &'a str) -> Arg<'a> {
-    Arg::new(alloc, name)
-        .long(name)
-        .value_parser(ValueParser::unsigned(1, most))
-        .required(true)
-        .help(help)
-}
-
 /// A path that has to be said.
 fn path<'a>(alloc: Global, name: &'a str, help: &'a str) -> Arg<'a> {
     Arg::new(alloc, name).required(true).help(help)
@@ -85,24 +76,15 @@ pub fn run_request<'a>(run: &ArgMatches<'a>) -> RunRequest<'a> {
 
 /// The grammar of the words behind `serve`.
 pub fn serve_command<'a>(alloc: Global) -> Result<Command<'a>, AllocError> {
-    let port = number(
-        alloc,
-        "port",
-        MOST_PORT,
-        "Where clients connect, on 127.0.0.1",
-    );
-    let lanes = number(
-        alloc,
-        "lanes",
-        MOST_LANES,
-        "How many connections are served",
-    );
-    let calls = number(
-        alloc,
-        "calls",
-        MOST_CALLS,
-        "How many calls of each are answered at most",
-    );
+    let port = number_option(alloc, "port", MOST_PORT)
+        .required(true)
+        .help("Where clients connect, on 127.0.0.1");
+    let lanes = number_option(alloc, "lanes", MOST_LANES)
+        .required(true)
+        .help("How many connections are served");
+    let calls = number_option(alloc, "calls", MOST_CALLS)
+        .required(true)
+        .help("How many calls of each are answered at most");
     let mountable = Arg::new(alloc, "mountable")
         .long("mountable")
         .action(ArgAction::SetTrue)

@@ -1,8 +1,8 @@
 //! The words that ask for the events of a history.
 
-use clap::builder::ValueParser;
 use clap::{Arg, ArgMatches, Command};
 use history_lines::Selection;
+use nfs_recording::number_option;
 use std::alloc::{AllocError, Global};
 
 /// Which file's events are shown, and which of them.
@@ -13,21 +13,14 @@ pub(crate) struct ShowRequest<'a> {
     pub(crate) selection: Selection,
 }
 
-/// An option with a number, from 1 on.
-fn number<'a>(alloc: Global, name: &'a str) -> Arg<'a> {
-    Arg::new(alloc, name)
-        .long(name)
-        .value_parser(ValueParser::unsigned(1, u64::MAX))
-}
-
 /// The grammar of the words behind `show`.
 pub(crate) fn show_command<'a>(alloc: Global) -> Result<Command<'a>, AllocError> {
     let history = Arg::new(alloc, "HISTORY")
         .required(true)
         .help("What the clients of a server saw");
-    let from = number(alloc, "from").help("The first event that is shown");
-    let to = number(alloc, "to").help("The last event that is shown");
-    let call = number(alloc, "call").help("Only this call and the reply to it");
+    let from = number_option(alloc, "from", u64::MAX).help("The first event that is shown");
+    let to = number_option(alloc, "to", u64::MAX).help("The last event that is shown");
+    let call = number_option(alloc, "call", u64::MAX).help("Only this call and the reply to it");
     Command::new(alloc, "show")
         .about("Prints a line for each event of a history")
         .arg(from)?
