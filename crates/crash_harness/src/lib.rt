@@ -6,4 +6,5 @@ mod end;
 mod run;
 
 pub use end::RunEnd;
+pub use plan_text::{Plan, PlanFault, read_plan};
 pub use run::run_plan;

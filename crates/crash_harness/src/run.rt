@@ -1,10 +1,9 @@
 //! A run of a plan.
 
-ghost use Rattle.std.specs.Prelude.{◌≡◌, List, IfOk};
+ghost use Rattle.std.specs.Prelude.{IfOk};
+ghost use Rattle.certificate.specs.CertificateText.{IsCertificate};
 ghost use Rattle.witness_check.specs.Witness.{IsWitness};
 ghost use Rattle.served_laws.specs.ServedPlan.{EachServed};
-ghost use Rattle.server_passes.specs.Matching.{IsTold, AreCovered};
-ghost use Rattle.server_passes.specs.PassValue.{PassValue};
 
 use crate::client::{Client, SimServer};
 use crate::end::RunEnd;
@@ -101,16 +100,17 @@ fn run_steps<R: Threads + Wait + Sync>(
 }
 
 /// Runs a plan over a server of its own, and gives what the server recorded. Each lane between two `go` lines is a client on a
-/// thread; all begin their transaction numbers at 1. A run takes at most 9,998 passes.
+/// thread; all begin their transaction numbers at 1. A run takes at most 9,844 passes, since each 64 need a `go`.
 pub fn run_plan<R: Threads + Wait + Sync>(
     rt: &R,
     alloc: Global,
     plan: &Plan,
 ) -> Result<Closed, RunEnd>
-    // The certificate is a witness of the history, each reply is as full as can be, and some passes tell of just what was answered.
+    // The certificate is a witness of the history, and each reply is as full as can be.
     ensures explains { IfOk result (λ closed. IsWitness closed.history.known closed.certificate) }
     ensures serves { IfOk result (λ closed. EachServed closed.history.known closed.certificate) }
-    ensures told { IfOk result (λ closed. (passes : List PassValue) × IsTold closed.history passes × AreCovered closed.history passes) }
+    // It can be written as a text, and is read back.
+    ensures written { IfOk result (λ closed. IsCertificate closed.certificate) }
 {
     let mut passes = Vec::new(alloc);
     let device = SimDevice::new(alloc, plan.append_fault, plan.barrier_fault, None);

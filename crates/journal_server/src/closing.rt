@@ -1,6 +1,7 @@
 //! The end of a server.
 
 ghost use Rattle.std.specs.Prelude.{◌≡◌, IfOk};
+ghost use Rattle.certificate.specs.CertificateText.{IsCertificate};
 ghost use Rattle.witness_check.specs.Witness.{IsWitness};
 ghost use Rattle.served_laws.specs.ServedPlan.{EachServed};
 ghost use Rattle.server_passes.specs.Matching.{IsTold, AreCovered};
@@ -14,7 +15,9 @@ use server_passes::{CloseFault, Pass, match_passes};
 
 /// What a server recorded, and the commit order that explains it.
 pub struct Closed {
+    /// What was recorded: the calls, the replies, the closes and the crashes.
     pub history: History,
+    /// The commit order, which is a witness of the history.
     pub certificate: Certificate,
 }
 
@@ -64,6 +67,8 @@ impl<G: Gate, D: JournalDevice> Server<G, D> {
         ensures explains { IfOk result (λ closed. IsWitness closed.history.known closed.certificate) }
         // Each reply that was given is as full as can be, in the tree ahead of its place.
         ensures serves { IfOk result (λ closed. EachServed closed.history.known closed.certificate) }
+        // The certificate can be written as a text, and is read back.
+        ensures written { IfOk result (λ closed. IsCertificate closed.certificate) }
         // Each pass tells of the answered calls of its lane, with their replies, and the passes tell of all that was answered.
         ensures told { IfOk result (λ closed. IsTold closed.history passes.items) }
         ensures covered { IfOk result (λ closed. AreCovered closed.history passes.items) }

@@ -1,10 +1,10 @@
--- What a run of the bundled server gives: the text of a history, the spelling of a certificate that is a witness of it, and what they come to
--- in numbers (this project's own).
+-- What a run of the bundled server gives: the texts of a history and of a certificate that is a witness of it, and what they come to in
+-- numbers (this project's own).
 use Rattle.std.specs.Prelude.{◌≡◌}
 use Rattle.nfs_history.specs.declared.knowing.KnownCalls.{KnownCalls}
 use Rattle.nfs_history.specs.History.{IsCallsFile}
 use Rattle.certificate.specs.declared.plan.Certificate.{Certificate}
-use Rattle.certificate.specs.CertificateText.{spelling}
+use Rattle.certificate.specs.CertificateText.{CertificateText}
 use Rattle.witness_check.specs.Witness.{IsWitness}
 use Rattle.history_report.specs.Counted.{report_of}
 use Rattle.history_report.specs.Lost.{lost}
@@ -21,7 +21,7 @@ pub record AreCountsOf (known : KnownCalls) (plan : Certificate) (counts : Count
 -- the texts of a history and of a certificate that is a witness of it
 pub record IsRecordingOf (known : KnownCalls) (plan : Certificate) (recorded : Recorded) : Type 0 where
   pub file : IsCallsFile recorded.history.items known
-  pub text : recorded.certificate.items ≡ spelling plan
+  pub text : CertificateText recorded.certificate.items plan
   pub witness : IsWitness known plan
   pub counts : AreCountsOf known plan recorded.counts
 

@@ -1,6 +1,7 @@
 //! What a server that closed has recorded, as the texts of two files.
 
 ghost use Rattle.std.specs.Prelude.{◌≡◌, IfOk};
+ghost use Rattle.certificate.specs.CertificateText.{IsCertificate};
 ghost use Rattle.order_check.specs.Shape.{HasShape};
 ghost use Rattle.witness_check.specs.Witness.{IsWitness};
 ghost use Rattle.nfs_running.specs.Recording.{AreCountsOf, IsRecordingOf};
@@ -32,6 +33,7 @@ pub struct Recorded {
     pub history: Vec<u8>,
     /// The certificate's text.
     pub certificate: Vec<u8>,
+    /// How many eras, calls, answered calls and lost changes there are.
     pub counts: Counts,
 }
 
@@ -68,7 +70,7 @@ fn recorded_of(
     history: &History,
     certificate: &Certificate,
 ) -> Result<Recorded, RunFault>
-    requires { IsWitness history.now.known certificate.now }
+    requires { IsWitness history.now.known certificate.now × IsCertificate certificate.now }
     ensures { IfOk result (IsRecordingOf history.now.known certificate.now) }
 {
     let text = write_history(alloc, history.root().as_slice(), history.events())?;
@@ -81,7 +83,7 @@ fn recorded_of(
 
 /// The texts of what a server recorded.
 pub(crate) fn record_closed(alloc: Global, closed: Closed) -> Result<Recorded, RunFault>
-    requires { IsWitness closed.history.known closed.certificate }
+    requires { IsWitness closed.history.known closed.certificate × IsCertificate closed.certificate }
     ensures { IfOk result (IsRecordingOf closed.history.known closed.certificate) }
 {
     let (history, certificate) = closed.into_parts();

@@ -1,7 +1,8 @@
--- What is said of runs of the bundled server, and of connections that it served: of a run what it comes to in numbers, and of both the verdict on
--- the two texts that came of it, or why none did (words of this project's own).
-use Rattle.std.specs.Prelude.{◌≡◌, ◌⊎◌, ℕ, List, ◌++◌, codes, Option, Result, Ok, Err, IfOk}
+-- What is said of runs of the bundled server, and of connections that it served: of a run what it comes to in numbers, and of both a yes to the
+-- two texts that came of it, or why none did (words of this project's own).
+use Rattle.std.specs.Prelude.{◌≡◌, ◌⊎◌, ℕ, List, [], ◌++◌, codes, Option, Result, Ok, Err, IfOk}
 use Rattle.witness_check.specs.declared.verdict.FileVerdict.{FileVerdict}
+use Rattle.witness_check.specs.declared.verdict.FileVerdict.TheVariants.{Yes}
 use Rattle.witness_check.specs.Verdict.{IsFileVerdict}
 use Rattle.bench_streams.specs.Told.{Tells, memory_line}
 use Rattle.nfs_running.specs.declared.fault.RunFault.{RunFault}
@@ -9,7 +10,7 @@ use Rattle.nfs_running.specs.declared.recorded.Counts.{Counts}
 use Rattle.nfs_running.specs.declared.recorded.Recorded.{Recorded}
 use Rattle.nfs_running.specs.Recording.{IsRecording}
 use Rattle.nfs_running.specs.Told.{fault_status, fault_line}
-use Rattle.nfsbench_engine.specs.Report.{IsSaidOfFiles, line_of, status_of}
+use Rattle.nfsbench_engine.specs.Report.{line_of, status_of}
 use Rattle.nfsbench_engine.specs.Reported.{number_line}
 
 abbrev pub run_lines : Counts → List ℕ
@@ -17,22 +18,27 @@ run_lines counts =
     number_line (codes "eras") counts.eras ++ number_line (codes "calls") counts.calls ++ number_line (codes "answered") counts.answered
     ++ number_line (codes "lost") counts.lost
 
+-- what is said of two texts that came with numbers: these, and the verdict
 abbrev pub IsSaidOfRun : Recorded → ℕ → List ℕ → Type 0
 IsSaidOfRun recorded status line =
     (verdict : FileVerdict) × IsFileVerdict recorded.history.items recorded.certificate.items verdict × (status ≡ status_of verdict)
     × (line ≡ run_lines recorded.counts ++ line_of verdict)
 
+-- a yes, behind other lines
+abbrev pub IsYesBehind : List ℕ → ℕ → List ℕ → Type 0
+IsYesBehind lines status line = (status ≡ 0) × (line ≡ lines ++ line_of Yes)
+
 -- what is said where a run ended so
 abbrev pub IsSaidOfRan : Result Recorded RunFault → ℕ → List ℕ → Type 0
-IsSaidOfRan (Ok recorded) status line = IsSaidOfRun recorded status line
+IsSaidOfRan (Ok recorded) status line = IsYesBehind (run_lines recorded.counts) status line
 IsSaidOfRan (Err fault) status line = (status ≡ fault_status fault) × (line ≡ fault_line fault)
 
 -- what is said where connections were served, and that ended so
 abbrev pub IsSaidOfServed : Result Recorded RunFault → ℕ → List ℕ → Type 0
-IsSaidOfServed (Ok recorded) status line = IsSaidOfFiles recorded.history.items recorded.certificate.items status line
+IsSaidOfServed (Ok recorded) status line = IsYesBehind [] status line
 IsSaidOfServed (Err fault) status line = (status ≡ fault_status fault) × (line ≡ fault_line fault)
 
--- what is said of an end was told, with its status: of texts those of a history and of a witness of it
+-- what is said of an end was told, with its status; where texts came of it, they are those of a history and of a witness of it
 pub record IsToldOf (Says : Result Recorded RunFault → ℕ → List ℕ → Type 0) (given : ℕ) (old new : Option (List ℕ)) : Type 0 where
   pub ran : Result Recorded RunFault
   pub recording : IfOk ran IsRecording

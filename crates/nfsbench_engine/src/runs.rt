@@ -4,7 +4,7 @@ ghost use Rattle.std.specs.Prelude.{◌≡◌, ◌⊎◌, ◌<◌, IfOk, OnErr, 
 ghost use Rattle.std.specs.Io.KnownBytes.{Appends};
 ghost use Rattle.bench_streams.specs.Told.{Tells, memory_line};
 ghost use Rattle.nfs_running.specs.Recording.{IsRecording};
-ghost use Rattle.nfsbench_engine.specs.Ran.{IsSaidOfRan, IsSaidOfRun, IsSaidOfServed, MayTellOf, run_lines};
+ghost use Rattle.nfsbench_engine.specs.Ran.{IsSaidOfRan, IsSaidOfRun, IsSaidOfServed, IsYesBehind, MayTellOf, run_lines};
 
 use crate::files::read_plan_file;
 use crate::report::judge_files;
@@ -28,7 +28,10 @@ fn run_lines(alloc: Global, counts: &Counts) -> Result<String, AllocError>
 
 /// What is said of a run: what it comes to in numbers, and the verdict on the two texts that it wrote.
 pub fn judge_run(alloc: Global, recorded: &Recorded) -> Result<Report, AllocError>
-    ensures { IfOk result (λ report. IsSaidOfRun recorded.now report.status report.line) }
+    ensures exact { IfOk result (λ report. IsSaidOfRun recorded.now report.status report.line) }
+    // Of the texts of a history and of a witness of it that is a yes.
+    ensures yes { IsRecording recorded.now → IfOk result (λ report.
+        IsYesBehind (run_lines recorded.now.counts) report.status report.line) }
 {
     let lines = run_lines(alloc, &recorded.counts)?;
     let history = recorded.history.as_slice();
@@ -37,6 +40,7 @@ pub fn judge_run(alloc: Global, recorded: &Recorded) -> Result<Report, AllocErro
 
 /// What is said of a run that ended so.
 fn run_answer(alloc: Global, ran: Result<Recorded, RunFault>) -> Result<Report, AllocError>
+    requires { IfOk ran IsRecording }
     ensures said { IfOk result (λ report. IsSaidOfRan ran report.status report.line) }
     ensures known { IfOk result (λ report. report.status < 3) }
 {
@@ -46,8 +50,9 @@ fn run_answer(alloc: Global, ran: Result<Recorded, RunFault>) -> Result<Report, 
     }
 }
 
-/// What is said of connections that were served: the verdict alone.
+/// What is said of connections that were served: the verdict alone, which is a yes.
 fn serve_answer(alloc: Global, served: Result<Recorded, RunFault>) -> Result<Report, AllocError>
+    requires { IfOk served IsRecording }
     ensures said { IfOk result (λ report. IsSaidOfServed served report.status report.line) }
     ensures known { IfOk result (λ report. report.status < 3) }
 {

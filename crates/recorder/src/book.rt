@@ -11,6 +11,7 @@ ghost use Rattle.book_machine.specs.Plan.{plan_of};
 ghost use Rattle.book_machine.specs.Book.Condition.{running};
 ghost use Rattle.book_machine.specs.Steps.{opening_book, IsUnplaced, Begins, Places, Flushes, Answers, Closes, Crashes};
 ghost use Rattle.recorder.specs.PlaceSteps.{entry_put, IsReceived, IsLeft};
+ghost use Rattle.certificate.specs.CertificateText.{IsCertificate};
 ghost use Rattle.witness_check.specs.Witness.{IsWitness};
 ghost use Rattle.served_laws.specs.ServedPlan.{EachServed};
 ghost use Rattle.recorder.specs.Sending.{IsSent};
@@ -219,6 +220,8 @@ impl<D: JournalDevice> Book<D> {
         ensures explains { IfOk result (λ certificate. IsWitness self.now.history.known certificate) }
         // Each reply that it recorded is as full as can be, in the tree ahead of its place.
         ensures serves { IfOk result (λ certificate. EachServed self.now.history.known certificate) }
+        // It can be written as a text, and is read back.
+        ensures written { IfOk result IsCertificate }
     {
         self.ledger.certificate()
     }
