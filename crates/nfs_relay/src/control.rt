@@ -13,6 +13,7 @@ pub enum Halt {
     Told,
     /// The log has no room for a record within the limits of a history's file.
     LogFull,
+    /// Memory ran out.
     NoMemory,
     /// The server couldn't be reached.
     CannotConnect,
@@ -83,7 +84,7 @@ impl Control {
 
     /// Takes a connection that came, if it may.
     pub(crate) fn admit(&mut self) -> Admission
-        ensures admitted { result ≡ Admission.Admitted → (self.old.halt ≡ None) × (self.old.left ≢ Some 0)
+        ensures admitted { result ≡ Admission.Admitted → (self.old.halt ≡ None) × (self.old.left ≢ Some 0) × (self.old.present < 1024)
             × (self.new.present ≡ self.old.present + 1) × (self.new.left ≡ option_map (λ n. n - 1) self.old.left) }
         ensures refused { result ≢ Admission.Admitted
             → (self.new.present ≡ self.old.present) × (self.new.left ≡ self.old.left) }

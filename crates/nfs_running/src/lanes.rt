@@ -23,7 +23,7 @@ pub(crate) struct Served {
 
 /// What the threads of connections share.
 #[derive(Clone, Copy)]
-pub(crate) struct Counter<'a> {
+pub(crate) struct Serving<'a> {
     pub(crate) server: &'a SimServer,
     pub(crate) listener: &'a TcpListener,
     /// Whether connections may be taken. It is locked until that is known.
@@ -36,7 +36,7 @@ pub(crate) struct Counter<'a> {
 /// The thread of a connection.
 type Lane = JoinHandle<Result<Pass, RunFault>>;
 
-impl Counter<'_> {
+impl Serving<'_> {
     /// The next connection that comes.
     fn take<R: Host>(self, rt: &R) -> TcpStream {
         for _ in rt.forever() {
@@ -81,7 +81,7 @@ impl Counter<'_> {
     }
 }
 
-/// Says how a connection ended, unless its client ended it.
+/// Says how a connection ended, unless all that came was read.
 fn tell_end<R: Host>(rt: &R, lane: u32, end: StreamEnd) {
     if end != StreamEnd::End {
         let _ = eprintln!(rt; "lane {lane} ended: {end}");
@@ -92,21 +92,21 @@ fn tell_end<R: Host>(rt: &R, lane: u32, end: StreamEnd) {
 fn begin_lane<'s, E, R: Host>(
     scope: &Scope<'s, E>,
     rt: &'s R,
-    counter: Counter<'s>,
+    serving: Serving<'s>,
 ) -> Option<Lane> {
-    scope.spawn(move || counter.serve_next(rt)).ok()
+    scope.spawn(move || serving.serve_next(rt)).ok()
 }
 
 /// Begins the threads of so many connections.
 fn begin_lanes<'s, E, R: Host>(
     scope: &Scope<'s, E>,
     rt: &'s R,
-    counter: Counter<'s>,
+    serving: Serving<'s>,
     count: u32,
 ) -> Result<Vec<Lane>, RunFault> {
     let mut lanes = Vec::new(rt.alloc());
     for _ in 0..count {
-        match begin_lane(scope, rt, counter) {
+        match begin_lane(scope, rt, serving) {
             Some(lane) => lanes.push(lane)?,
             None => return Err(RunFault::NoThread),
         }
@@ -126,12 +126,12 @@ fn join_lanes<R: Host>(rt: &R, lanes: Vec<Lane>) -> Result<Vec<Pass>, RunFault> 
 /// Serves as many connections as are asked for, each on a thread of its own, once there is a thread for each and the files are made.
 pub(crate) fn serve_lanes<R: Recorder>(
     rt: &R,
-    counter: Counter<'_>,
+    serving: Serving<'_>,
     request: &ServeRequest<'_>,
 ) -> Result<Served, RunFault> {
     thread::scope(thread::scope_env(), rt, |scope| {
-        let mut is_open = counter.is_open.lock(rt);
-        let lanes = begin_lanes(scope, rt, counter, request.lanes)?;
+        let mut is_open = serving.is_open.lock(rt);
+        let lanes = begin_lanes(scope, rt, serving, request.lanes)?;
         let outputs = Outputs::create(rt, request.history, request.certificate)?;
         *is_open = true;
         drop(is_open);

@@ -14,12 +14,15 @@ pub(crate) struct Outputs {
 }
 
 impl Outputs {
-    /// The files at these paths, made empty.
+    /// The files at these paths, made empty. One path can't be both.
     pub(crate) fn create<R: Files<File = File>>(
         rt: &R,
         history: &str,
         certificate: &str,
     ) -> Result<Outputs, RunFault> {
+        if history == certificate {
+            return Err(RunFault::CannotWrite);
+        }
         let Ok(history) = fs::create(rt, history) else {
             return Err(RunFault::CannotWrite);
         };

@@ -4,7 +4,7 @@ ghost use Rattle.std.specs.Prelude.{IfOk};
 ghost use Rattle.nfs_running.specs.Recording.{IsRecording};
 
 use crate::fault::RunFault;
-use crate::lanes::{Counter, Served, SimServer, serve_lanes};
+use crate::lanes::{Served, Serving, SimServer, serve_lanes};
 use crate::recorded::{Recorded, record_closed};
 use crate::words::ServeRequest;
 use journal_server::{OpenGate, Server, SimDevice};
@@ -40,14 +40,14 @@ pub fn serve<R: Recorder>(rt: &R, request: &ServeRequest<'_>) -> Result<Recorded
     };
     let device = SimDevice::new(rt.alloc(), None, None, None);
     let server = Server::new(rt.alloc(), OpenGate, device)?;
-    let counter = Counter {
+    let serving = Serving {
         server: &server,
         listener: &listener,
         is_open: &Mutex::new(false),
         records: request.calls,
         export: request.export,
     };
-    match serve_lanes(rt, counter, request) {
+    match serve_lanes(rt, serving, request) {
         Ok(served) => save(rt.alloc(), server, served),
         Err(fault) => {
             drop(server.close(Vec::new(rt.alloc())));

@@ -14,6 +14,8 @@ mod showing;
 mod words;
 
 pub use engine::run_bundle;
+pub use history_report::{lost_of, report_of};
+pub use nfs_serving::{StreamEnd, serve_stream};
 pub use process::run_process;
 pub use report::{judge, judge_files, judge_read};
 pub use reporting::report_read;
