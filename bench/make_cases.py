@@ -23,9 +23,28 @@ def collected(*parts):
     return cases
 
 
+def add_built(cases):
+    """Of each fault of a history the first case, once more: its events are read, built and appended as a history."""
+    seen = set()
+    for asked, line in list(zip(cases.asked, cases.answered)):
+        if ": refused: " not in line or "\n" not in asked.rstrip("\n"):
+            continue
+        name, answer = line.rstrip("\n").split(": refused: ")
+        fault = " ".join(word for word in answer.split() if not word.isdigit())
+        if fault in seen or fault in ("BadLine", "bad bundle"):
+            continue
+        seen.add(fault)
+        # What is no file has no events.
+        times = 1 if fault in ("BadMagic", "TooLarge", "Truncated", "BadEvent", "Trailing") else 3
+        cases.add(name + "-built", "%s-built built %s\n" % (name, asked.split("\n")[1]), ", ".join([answer] * times))
+    cases.add("the-example-built", "the-example-built built %s\n" % faults.EXAMPLE.hex(), "ok, ok, ok")
+
+
 def main():
     folder = sys.argv[1]
-    collected(looks, changes, failures, faults, orders, cuts, bundles, recorded, messages, lines, searches).write(folder)
+    cases = collected(looks, changes, failures, faults, orders, cuts, bundles, recorded, messages, lines, searches)
+    add_built(cases)
+    cases.write(folder)
 
 
 main()

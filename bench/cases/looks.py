@@ -1,5 +1,5 @@
 """What calls that leave the tree may tell of the sample tree: GETATTR, LOOKUP, READLINK, READ, READDIR, READDIRPLUS and COMMIT."""
-from cases.calls import commit, get_attributes, list_entries, list_names, look_up, read, read_link
+from cases.calls import commit, create, get_attributes, list_entries, list_names, look_up, read, read_link
 from cases.sample import BINDS, D, E, F, G, L, NEVER_MADE, ROOT, SAMPLE, UNBOUND, V, allowed, illegal, run
 from cases.xdr import DIR, FIFO, LNK, REG
 
@@ -8,6 +8,7 @@ def add_all(cases):
     attributes(cases)
     names(cases)
     handles(cases)
+    handle_lengths(cases)
     texts(cases)
     bytes_read(cases)
     ends(cases)
@@ -47,6 +48,17 @@ def handles(cases):
         look_up(0xBC, "f").gives(F), look_up(D, "..").gives(0xBC), get_attributes(ROOT).gives(DIR, 0), binds=binds)
     run(cases, "a-second-handle-names-no-second-object", "no: Illegal 8", *SAMPLE, look_up(ROOT, "d").gives(0xBB), binds=binds)
     run(cases, "the-root-handle-is-not-bound-to-another", "no: Illegal 8", *SAMPLE, look_up(ROOT, "d").gives(ROOT), binds=binds)
+
+
+def handle_lengths(cases):
+    """A handle has 1 to 64 bytes (RFC 1813, section 2.3.3), and each byte of it counts."""
+    for length in (1, 23, 24, 31, 32, 33, 63, 64):
+        handle = bytes(range(1, length + 1))
+        other = handle[:-1] + b"\xff"
+        calls = create(ROOT, "h").gives(handle), get_attributes(handle).gives(REG, 0)
+        run(cases, "a-made-file-with-a-handle-of-%d-bytes" % length, "yes", *calls, binds=[(handle, 1)])
+        run(cases, "a-made-file-with-a-handle-of-%d-bytes-bound-to-another-object" % length, "no: Illegal 1", *calls, binds=[(handle, 2)])
+        run(cases, "a-made-file-with-a-handle-of-%d-bytes-of-which-the-last-is-another" % length, "no: Illegal 1", *calls, binds=[(other, 1)])
 
 
 def texts(cases):

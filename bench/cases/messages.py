@@ -57,6 +57,7 @@ def add_all(cases):
     rpc_replies(cases)
     histories(cases)
     certificates(cases)
+    streams(cases)
 
 
 def message(cases, case, kind, procedure, data, answer):
@@ -206,6 +207,25 @@ def rpc_replies(cases):
     head("a-denied-reply-in-no-state", denied(2), "a word is none of its list")
     head("a-reply-neither-accepted-nor-denied", word(9) + word(1) + word(2), "a word is none of its list")
     head("a-verifier-over-400-bytes", word(9) + word(1) + word(0) + word(0) + word(401), "a credential or a verifier is too long")
+
+
+def streams(cases):
+    """The records of a stream (RFC 5531, section 11): a last fragment's header has its first bit set. What is written of a record is one
+    fragment, and of what is no whole record nothing."""
+    last = 1 << 31
+
+    def stream(case, data, answer):
+        cases.add(case, "%s records %s\n" % (case, data.hex()), answer)
+
+    two = word(last + 3) + b"abc" + word(last) + word(last + 9) + b"abcdefghi"
+    stream("a-stream-of-no-bytes", b"", "ok")
+    stream("three-records-one-of-them-empty", two, "ok")
+    stream("a-record-of-two-fragments", word(2) + b"ab" + word(last + 1) + b"c", "respelled")
+    stream("a-record-with-empty-fragments", word(0) + word(0) + word(last + 1) + b"c", "respelled")
+    stream("a-stream-that-breaks-off", two[:-1], "respelled")
+    stream("a-header-of-the-longest-record", word(last + 2097152), "respelled")
+    stream("a-header-of-a-longer-record", word(last + 2097153), "a record is over its limit")
+    stream("a-second-fragment-that-takes-a-record-over-its-limit", word(1) + b"a" + word(last + 2097152), "a record is over its limit")
 
 
 def histories(cases):

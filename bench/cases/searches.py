@@ -11,6 +11,10 @@ crashes-120-4, lanes-200-3  made with a certificate each, by clients of a model 
 """
 import os
 
+from cases.calls import create, get_attributes
+from cases.history import CRASH_EVENT, call_event, call_message, history_file, reply_event, reply_message
+from cases.xdr import REG
+
 FOUND = ("read-back", "overlapping-read", "unstable-write-lost", "unanswered-remove-lost")
 SEARCHES = [
     # name, history, workers, turns, wanted
@@ -30,7 +34,22 @@ def histories():
         return dict(entry.split("\n") for entry in file.read().split("\n\n") if entry)
 
 
+def exchange(lane, xid, call):
+    return [call_event(lane, call_message(xid, call.procedure, call.arguments)), reply_event(lane, reply_message(xid, call.result))]
+
+
+def made_here(cases):
+    """A crash right behind another, which loses an era without a call; and one handle in two replies, of CREATEs that find one file."""
+    file = b"\xaa"
+    made, seen = create(0, "a").gives(file), get_attributes(file).gives(REG, 0)
+    two_crashes = history_file([*exchange(1, 1, made), CRASH_EVENT, CRASH_EVENT, *exchange(2, 1, seen)])
+    one_handle = history_file([*exchange(1, 1, made), *exchange(1, 2, made), *exchange(1, 3, seen)])
+    for case, history in (("two-crashes", two_crashes), ("one-handle-twice", one_handle)):
+        cases.add("search-%s-1" % case, "search-%s-1 search 1 1000 %s\n" % (case, history.hex()), "found")
+
+
 def add_all(cases):
+    made_here(cases)
     digits = histories()
     for case, history, workers, turns, answer in SEARCHES:
         cases.add("search-" + case, "search-%s search %d %d %s\n" % (case, workers, turns, digits[history]), answer)

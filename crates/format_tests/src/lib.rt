@@ -1,5 +1,5 @@
-//! Tests of growth that is refused, of records in pieces, of messages that are copied, of plans, and of what is
-//! answered ahead of a server.
+//! Tests of growth that is refused, of records in pieces, of messages that are copied, of what can't be written, of plans, and of
+//! what is answered ahead of a server.
 #![tactic(auto)]
 
 #[cfg(test)]
@@ -10,5 +10,7 @@ mod mounting;
 mod plans;
 #[cfg(test)]
 mod records;
+#[cfg(test)]
+mod refusals;
 #[cfg(test)]
 mod values;

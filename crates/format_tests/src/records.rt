@@ -69,6 +69,19 @@ fn the_limit_counts_all_fragments(rt: HostRuntime) -> Result<(), Fail> {
     Ok(())
 }
 
+// A feed that looked again at what it holds would take some seven billion steps here.
+#[test]
+fn empty_fragments_cost_their_bytes(rt: HostRuntime) -> Result<(), Fail> {
+    let mut feed = RecordFeed::new(rt.alloc());
+    for _ in 0..60_000 {
+        feed.feed(b"\0\0\0\0")?;
+    }
+    feed.feed(b"\x80\0\0\x01a")?;
+    let text = feed.take().ok_or("a record")?;
+    assert_eq!(rt; text.as_slice(), b"a".as_slice());
+    Ok(())
+}
+
 #[test]
 fn a_frame_is_one_fragment(rt: HostRuntime) -> Result<(), Fail> {
     let text = frame(rt.alloc(), b"abc")?;

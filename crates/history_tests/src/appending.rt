@@ -1,9 +1,7 @@
-//! What becomes of a history where events are put behind the others, one by one.
+//! What becomes of a history where events are put behind the others, one by one. Each fault is a case of `stored_cases`.
 
 use crate::reading::EXAMPLE;
-use nfs_history::{
-    Event, History, HistoryFault, Meaning, Message, RecordedCall, Which, read_history,
-};
+use nfs_history::{Event, History, HistoryFault, Meaning, Message, RecordedCall, read_history};
 use nfs3_types::FileHandle;
 use std::alloc::{AllocError, Global};
 use std::test::Fail;
@@ -106,93 +104,6 @@ fn events_one_by_one_give_what_is_read(rt: HostRuntime) -> Result<(), Fail> {
     history.reserve()?;
     history.append(Event::Crash)?;
     assert_eq!(rt; history.eras(), 2);
-    Ok(())
-}
-
-#[test]
-fn an_event_at_fault_is_named(rt: HostRuntime) -> Result<(), Fail> {
-    let alloc = rt.alloc();
-    let mut history = empty(alloc)?;
-    history.append(call(alloc, 1, create())?)?;
-    history.append(Event::Close { lane: 2 })?;
-    let again = call(alloc, 1, create())?;
-    assert_eq!(rt;
-        refusal(&mut history, again),
-        Some(HistoryFault::XidInUse(3))
-    );
-    let late = call(alloc, 2, create())?;
-    assert_eq!(rt;
-        refusal(&mut history, late),
-        Some(HistoryFault::LaneClosed(3))
-    );
-    assert_eq!(rt;
-        refusal(&mut history, Event::Close { lane: 2 }),
-        Some(HistoryFault::LaneClosed(3))
-    );
-    let none = call(alloc, 1, &[])?;
-    assert_eq!(rt; refusal(&mut history, none), Some(HistoryFault::BadRpc(3)));
-    let unasked = reply(alloc, 3, created())?;
-    assert_eq!(rt;
-        refusal(&mut history, unasked),
-        Some(HistoryFault::NoSuchCall(3))
-    );
-    Ok(())
-}
-
-/// Why a call isn't put behind the example's create(), with one byte changed.
-fn refused_call(
-    alloc: Global,
-    bytes: &[u8],
-    place: usize,
-    byte: u8,
-) -> Result<Option<HistoryFault>, HistoryFault> {
-    let mut history = empty(alloc)?;
-    history.append(call(alloc, 1, create())?)?;
-    let bytes = changed(alloc, bytes, place, byte)?;
-    let event = call(alloc, 1, bytes.as_slice())?;
-    Ok(refusal(&mut history, event))
-}
-
-#[test]
-fn a_call_at_fault_is_named(rt: HostRuntime) -> Result<(), Fail> {
-    let alloc = rt.alloc();
-    // Its flavor is that of RPCSEC_GSS.
-    let sealed = refused_call(alloc, write(), 27, 6)?;
-    assert_eq!(rt; sealed, Some(HistoryFault::Sealed(2)));
-    // Its data are cut off.
-    let cut = refused_call(alloc, &EXAMPLE[192..256], 0, 0)?;
-    assert_eq!(rt; cut, Some(HistoryFault::BadArgs(2)));
-    // Its count isn't the length of its data.
-    let differs = refused_call(alloc, write(), 59, 2)?;
-    assert_eq!(rt;
-        differs,
-        Some(HistoryFault::Outside(2, Which::CountDiffers))
-    );
-    Ok(())
-}
-
-/// Whether a call has an outcome.
-fn came_out(history: &History, number: u64) -> bool {
-    match history.find_call(number) {
-        Some(call) => call.outcome.is_some(),
-        None => false,
-    }
-}
-
-#[test]
-fn a_call_with_a_bad_result_is_named(rt: HostRuntime) -> Result<(), Fail> {
-    let alloc = rt.alloc();
-    let mut history = empty(alloc)?;
-    history.append(call(alloc, 1, create())?)?;
-    history.append(call(alloc, 1, write())?)?;
-    let short = reply(alloc, 1, &EXAMPLE[128..156])?;
-    assert_eq!(rt;
-        refusal(&mut history, short),
-        Some(HistoryFault::BadResult(1))
-    );
-    history.append(reply(alloc, 1, created())?)?;
-    assert!(rt; came_out(&history, 1));
-    assert!(rt; !came_out(&history, 2));
     Ok(())
 }
 

@@ -1,6 +1,6 @@
 //! What a history shows of a file and of events. Each fault of a file is a case of `stored_cases`.
 
-use nfs_history::{Event, History, HistoryFault, Meaning, Message, read_history};
+use nfs_history::{Event, History, HistoryFault, Message, read_history};
 use nfs3_types::FileHandle;
 use std::alloc::{AllocError, Global};
 use std::test::Fail;
@@ -31,13 +31,6 @@ pub(crate) const EXAMPLE: &[u8] = b"\
     \x00\x00\x00\x00\x00\x00\x00\x00\x00\x00\x00\x00\x00\x00\x00\x00\x00\x00\x00\x00\
     \x00\x00\x00\x00\x00\x00\x00\x03\x00\x00\x00\x01\x00\x00\x00\x03\x61\x62\x63\x00\
 ";
-
-fn fault_of(answer: Result<History, HistoryFault>) -> Option<HistoryFault> {
-    match answer {
-        Ok(_) => None,
-        Err(fault) => Some(fault),
-    }
-}
 
 /// The example's call and reply with numbers from `at` on, as an event of lane 1.
 fn call_event(alloc: Global, bytes: &[u8]) -> Result<Event, AllocError> {
@@ -103,20 +96,5 @@ fn a_history_is_built_of_events(rt: HostRuntime) -> Result<(), Fail> {
     let again = call_event(rt.alloc(), &EXAMPLE[192..264])?;
     let history = built_with(rt.alloc(), again)?;
     assert_eq!(rt; ends(&history), (3, None));
-    Ok(())
-}
-
-#[test]
-fn the_first_fault_of_events_is_named(rt: HostRuntime) -> Result<(), Fail> {
-    let empty = call_event(rt.alloc(), &[])?;
-    assert_eq!(rt;
-        fault_of(built_with(rt.alloc(), empty)),
-        Some(HistoryFault::BadRpc(3))
-    );
-    let other = reply_event(rt.alloc(), &EXAMPLE[128..180])?;
-    assert_eq!(rt;
-        fault_of(built_with(rt.alloc(), other)),
-        Some(HistoryFault::NoSuchCall(3))
-    );
     Ok(())
 }

@@ -10,10 +10,16 @@ pub enum Kind {
     Call(u32),
     /// The result of one.
     Result(u32),
+    /// An RPC call (RFC 5531, section 9).
     RpcCall,
+    /// An RPC reply (RFC 5531, section 9).
     RpcReply,
+    /// A history file.
     History,
+    /// A certificate's text.
     Certificate,
+    /// The records of a stream.
+    Records,
 }
 
 /// What is to be done with a text.
@@ -21,6 +27,8 @@ pub enum Kind {
 pub enum Asked {
     /// It is read, and what was read is written again.
     Again(Kind),
+    /// The events of a history file are made a history, in each way that there is.
+    Built,
     /// These events of a history file are shown.
     Lines(Selection),
     /// A certificate of a history file is searched.
@@ -30,6 +38,7 @@ pub enum Asked {
 /// What a search may take.
 #[derive(Clone, Copy)]
 pub struct Effort {
+    /// How many workers search, from 1 to 64.
     pub workers: u32,
     /// How many branches each worker may take.
     pub turns: u64,
@@ -38,7 +47,9 @@ pub struct Effort {
 /// A text, and what is to be done with it.
 #[derive(Clone, Copy)]
 pub struct Case<'a> {
+    /// Its name, the first word of the line.
     pub name: &'a str,
+    /// What is to be done with the text.
     pub asked: Asked,
     /// The text in hex.
     pub digits: &'a str,
@@ -98,6 +109,8 @@ fn split_asked(line: &str) -> Result<(Asked, &str)> {
         "rpc-reply" => Ok((Asked::Again(Kind::RpcReply), rest)),
         "history" => Ok((Asked::Again(Kind::History), rest)),
         "certificate" => Ok((Asked::Again(Kind::Certificate), rest)),
+        "records" => Ok((Asked::Again(Kind::Records), rest)),
+        "built" => Ok((Asked::Built, rest)),
         "lines" => split_selection(rest),
         "search" => split_effort(rest),
         _ => bail!("no kind"),

@@ -2,35 +2,49 @@
 //!
 //! A case of a verdict is a line with its name, a line with a history file in lower case hex, the lines of a certificate, and
 //! an empty line. Another case is one line: a name, a kind, and a text in lower case hex. Of a format, with the procedure's number for
-//! arguments and results, the text is read, and what was read is written again. Of kind `lines`, with the first and the last event that
-//! are shown and the call or 0, the lines of a history file are told; of kind `search`, with how many workers there are and how many
-//! branches each may take, how the search of its certificate ends.
+//! arguments and results, the text is read, and what was read is written again; so are the records of a stream. Of kind `built`, the events of a
+//! history file are read, built and appended as a history; of kind `lines`, with the first and the last event that are shown and the call
+//! or 0, the lines of a history file are told; of kind `search`, with how many workers there are and how many branches each may take, how
+//! the search of its certificate ends. Where memory runs out it is tried once more.
 #![tactic(auto)]
 
 mod again;
+mod built;
 mod case;
 mod lines;
 mod search;
+mod twice;
 
 use again::written_again;
 use anyhow::Result;
+use built::words_of_built;
 use case::{Asked, Case, Kind};
 use cert_search::Host;
 use lines::tell_lines;
 use nfsbench_engine::judge;
 use search::search;
-use std::alloc::Global;
+use std::alloc::{AllocError, Global};
 use std::io::{self, BufWriter, Write};
+use twice::is_want_of_memory;
+
+// What is written of a text, once more where memory ran out.
+fn written_in_the_end(alloc: Global, kind: Kind, text: &[u8]) -> Result<Result<Vec<u8>>> {
+    let written = written_again(alloc, kind, text);
+    if is_want_of_memory(alloc, &written)? {
+        return Ok(written_again(alloc, kind, text));
+    }
+    Ok(written)
+}
 
 // How a text is spelled when it is written again.
-fn spelling(alloc: Global, kind: Kind, text: &[u8], again: &[u8]) -> &'static str {
+fn spelling(alloc: Global, kind: Kind, text: &[u8], again: &[u8]) -> Result<&'static str> {
     if again == text {
-        return "ok";
+        return Ok("ok");
     }
     // Where the text has bytes in its padding, what is written is another text, which has to be read as the same.
-    match written_again(alloc, kind, again) {
-        Ok(third) if third.as_slice() == again => "respelled",
-        _ => "unlike",
+    match written_in_the_end(alloc, kind, again)? {
+        Ok(third) if third.as_slice() == again => Ok("respelled"),
+        _ => Ok("unlike"),
     }
 }
 
@@ -42,9 +56,9 @@ fn tell_again<W: Write>(
     kind: Kind,
     text: &[u8],
 ) -> Result<()> {
-    match written_again(alloc, kind, text) {
+    match written_in_the_end(alloc, kind, text)? {
         Ok(again) => {
-            let words = spelling(alloc, kind, text, &again);
+            let words = spelling(alloc, kind, text, &again)?;
             writeln!(output, "{name}: {words}")?;
         }
         Err(fault) => writeln!(output, "{name}: {fault}")?,
@@ -59,12 +73,21 @@ fn tell_text<R: Host, W: Write>(rt: &R, output: &mut W, case: &Case<'_>) -> Resu
     let text = hex::decode(alloc, case.digits)?;
     match case.asked {
         Asked::Again(kind) => tell_again(output, alloc, name, kind, &text),
+        Asked::Built => {
+            let words = words_of_built(alloc, &text)?;
+            writeln!(output, "{name}: {words}")?;
+            Ok(())
+        }
         Asked::Lines(selection) => {
             writeln!(output, "{name}:")?;
             tell_lines(output, alloc, &text, selection)
         }
         Asked::Search(effort) => {
-            let said = search(rt, &text, effort)?;
+            let mut end = search(rt, &text, effort);
+            if is_want_of_memory(alloc, &end)? {
+                end = search(rt, &text, effort);
+            }
+            let said = end?;
             writeln!(output, "{name}: {said}")?;
             Ok(())
         }
@@ -73,7 +96,10 @@ fn tell_text<R: Host, W: Write>(rt: &R, output: &mut W, case: &Case<'_>) -> Resu
 
 // Tells what is said of a bundle, in a line.
 fn tell_bundle<W: Write>(output: &mut W, alloc: Global, name: &str, bundle: &[u8]) -> Result<()> {
-    let report = judge(alloc, bundle)?;
+    let report = match judge(alloc, bundle) {
+        Ok(report) => report,
+        Err(AllocError) => judge(alloc, bundle)?,
+    };
     let answer = report.line();
     write!(output, "{name}: {answer}")?;
     Ok(())

@@ -1,7 +1,7 @@
 //! How the search of a certificate ends.
 
 use crate::case::Effort;
-use anyhow::Result;
+use anyhow::{Result, bail};
 use cert_search::{Host, OpenSearch, SearchEnd, search_calls};
 use nfs_history::{KnownCalls, read_calls};
 use std::alloc::Global;
@@ -16,7 +16,7 @@ fn words_of(alloc: Global, known: &KnownCalls<'_>, end: SearchEnd) -> Result<&'s
         },
         SearchEnd::NotFound => Ok("not found"),
         SearchEnd::OutOfTurns => Ok("out of turns"),
-        SearchEnd::NoMemory => Ok("out of memory"),
+        SearchEnd::NoMemory => bail!("out of memory"),
     }
 }
 
