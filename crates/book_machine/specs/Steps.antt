@@ -146,7 +146,8 @@ ShowsEra book call reply = IfSome (verifier_of call (outcomes.Received reply)) (
 abbrev pub step_of : ℕ → NfsCall → NfsReply → Placed
 step_of number call reply = record { number = number; call = call; outcome = outcomes.Received reply }
 
--- Place: the call comes next in the serial order, with this reply; the journal gets its record, if it changed the tree
+-- Place: the call comes next in the serial order, with this reply; the journal gets its record, if it is a success of a procedure that
+-- changes the tree
 pub record Places (old : Book) (number : ℕ) (reply : NfsReply) (new : Book) : Type 0 where
   pub running : old.condition ≡ running
   -- its handle, if it makes an object, has eight bytes

@@ -9,7 +9,7 @@ pub enum SearchEnd {
     Found(Certificate),
     /// Nothing more was left to try. That doesn't say that there is no witness.
     NotFound,
-    /// A worker took as many branches as it may, and some are left.
+    /// A worker took as many branches as it may, and some were left then.
     OutOfTurns,
     /// A growth was refused.
     NoMemory,

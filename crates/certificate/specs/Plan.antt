@@ -12,6 +12,6 @@ abbrev pub call_of : Place → ℕ
 call_of (Answered n) = n
 call_of (Taken n count) = n
 
--- how many places of an era are kept, where what stands behind the last era is lost with nobody to ask
+-- how many places of an era survive the crash behind it: of the last era, which no crash ended, all
 abbrev pub cut_of : EraPlan → ℕ
 cut_of era = unwrap_or era.cut (length era.places)

@@ -38,13 +38,13 @@ Shows calls places verifier = (place : Place) × Contains places place × (verif
 abbrev pub ShowsTwo : List RecordedCall → List Place → Type 0
 ShowsTwo calls places = (one other : ℕ) × Shows calls places one × Shows calls places other × (one ≢ other)
 
--- one of the places past the cut is a WRITE of at least one byte
+-- one of the places past the cut is a WRITE that was answered with at least one byte
 abbrev pub loses_write : List RecordedCall → EraPlan → Bool
 loses_write calls era = list_any (writes_bytes_at calls) (drop (cut_of era) era.places)
 
 pub record VerifiersAgree (calls : List RecordedCall) (eras : List EraPlan) : Type 0 where
-  -- an era shows one verifier
+  -- an era shows at most one verifier
   pub within : (e one other : ℕ) (era : EraPlan) → era_at eras e ≡ Some era → Shows calls era.places one → Shows calls era.places other → one ≡ other
-  -- behind an era that lost a WRITE no era shows its verifier
+  -- behind an era that lost an answered WRITE no era shows its verifier
   pub across : (e f verifier : ℕ) (era later : EraPlan) → e < f → era_at eras e ≡ Some era → era_at eras f ≡ Some later
       → IsTrue (loses_write calls era) → Shows calls era.places verifier → ¬ Shows calls later.places verifier

@@ -9,7 +9,7 @@ use thiserror::Error;
 pub enum FileFault {
     /// The file doesn't begin as one.
     BadMagic,
-    /// A limit is passed, by the file, its number of events, a record or the root handle.
+    /// A limit is passed, by the file, its number of events, a message or the root handle.
     TooLarge,
     /// Bytes of an item are missing.
     Truncated,
@@ -17,6 +17,7 @@ pub enum FileFault {
     BadEvent(u64),
     /// Bytes stand behind the last event.
     Trailing,
+    /// Memory ran out.
     NoMemory,
 }
 

@@ -1,4 +1,4 @@
--- What is written of a record is a spelling of it.
+-- What is written of a record is a spelling of it. For the prover alone.
 use Rattle.std.specs.Prelude.{◌++◌}
 use Rattle.xdr_records.specs.Spelling.{Spells}
 use Rattle.xdr_records.specs.Texts.{long_text, opaque_text}

@@ -107,7 +107,7 @@ impl<G: Gate, D: JournalDevice> Server<G, D> {
     }
 
     /// Answers a message of a client, without record marking. A call that isn't recorded gets the reply that the server gives by itself
-    /// (docs/PROFILE.md); any other goes through the book.
+    /// (docs/SERVER.md); any other goes through the book.
     pub fn call<R: Wait>(
         &self,
         rt: &R,

@@ -10,7 +10,7 @@ use thiserror::Error;
 pub enum CallFault {
     /// The message isn't a call, or is over the limit of a record.
     BadRecord,
-    /// The server is down, after a fault, until a crash.
+    /// The server is down after a fault: until a crash, or for good where a crash failed or the objects were given up.
     Down,
     /// The lane is of an earlier era than this one, which is now.
     EraOver(u64),

@@ -9,8 +9,8 @@ use recorder::JournalDevice;
 use std::alloc::{AllocError, Global};
 use std::sync::{Mutex, RwLock};
 
-/// A server that any number of threads call at the same time. Its objects stand each under a lock of its own, its book under one lock,
-/// which is taken last and held for one step of the book.
+/// A server that any number of threads call at the same time. A call takes its objects out of their table and gives them back. The
+/// book stands under one lock, which is taken last and held for one step of the book.
 pub struct Server<G: Gate, D: JournalDevice> {
     pub(crate) alloc: Global,
     pub(crate) gate: G,

@@ -1,4 +1,4 @@
--- What is written of a call or a reply is a spelling of it.
+-- What is written of a call or a reply is a spelling of it. For the prover alone.
 use Rattle.std.specs.Prelude.{IfSome}
 use Rattle.xdr_records.specs.Texts.{opaque_text, optional_text}
 use Rattle.xdr_records.proofs.Written.{nothing_behind}

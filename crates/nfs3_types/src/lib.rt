@@ -1,5 +1,5 @@
 //! The values of NFS version 3 messages (RFC 1813): handles, names, attributes, statuses, and the calls and
-//! replies that are made of them. How they stand in bytes is the crate `nfs3_msgs`'s matter.
+//! replies that are made of them. How they stand in bytes is the matter of `nfs3_values` and `nfs3_msgs`.
 #![tactic(auto)]
 
 mod attributes;

@@ -97,7 +97,7 @@ impl fmt::Display for CallFault {
 pub enum HistoryFault {
     /// The file doesn't begin as one.
     BadMagic,
-    /// A limit is passed, by the file, its number of events, a record or the root handle.
+    /// A limit is passed, by the file, its number of events, a message or the root handle.
     TooLarge,
     /// Bytes of an item are missing.
     Truncated,
@@ -121,6 +121,7 @@ pub enum HistoryFault {
     BadResult(u64),
     /// A call that lies outside the model.
     Outside(u64, Which),
+    /// Memory ran out.
     NoMemory,
 }
 

@@ -1,5 +1,5 @@
-//! The objects of a journal server, each under a lock of its own: what a call needs of them is taken out, in rising order of their
-//! numbers, and given back. Nothing is proved of what they hold: the server's book judges each reply.
+//! The objects of a journal server, in parts with a lock each: what a call needs of them is taken out, in rising order of their
+//! numbers, and given back; who wants one that is taken waits. Nothing is proved of what they hold: the server's book judges each reply.
 #![tactic(auto)]
 
 mod held;

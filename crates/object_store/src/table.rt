@@ -1,4 +1,4 @@
-//! The objects, each under a lock of its own.
+//! The objects, in parts with a lock each.
 
 ghost use Rattle.std.specs.Prelude.{◌≡◌, IfOk, vec_len};
 
@@ -123,7 +123,8 @@ impl Shard {
     }
 }
 
-/// The objects, each under a lock of its own, and which directory each directory lies in, under another lock.
+/// The objects, in parts with a lock each, and which directory each directory lies in, under another lock. The place of an object
+/// that is taken says so.
 pub struct ObjectTable {
     shards: Vec<Shard>,
     /// Absent while a call has it.

@@ -1,5 +1,5 @@
 //! The text of a plan: what clients ask of a journal server, on which lanes, when it crashes, and how many records
-//! outlive each crash. `specs/PlanText.antt` says how it is written.
+//! outlive each crash at most, beside those on stable storage. `specs/PlanText.antt` says how it is written.
 #![tactic(auto)]
 
 mod line;

@@ -81,6 +81,7 @@ pub enum Operation {
 pub struct LaneStep {
     /// From 1 to 64.
     pub lane: u32,
+    /// What the client of the lane asks for.
     pub operation: Operation,
 }
 
@@ -91,7 +92,7 @@ pub enum Step {
     Lane(LaneStep),
     /// The lanes run what they were given, and end.
     Go,
-    /// The server crashes, and so many records of its journal outlive it.
+    /// The server crashes, and at most so many records of its journal outlive it beside those on stable storage.
     Crash(u64),
 }
 
@@ -132,6 +133,7 @@ pub struct Plan {
     pub append_fault: Option<u64>,
     /// The barrier that fails, counted from 1 over the whole run.
     pub barrier_fault: Option<u64>,
+    /// What clients ask for, and when the server crashes, in order.
     pub steps: StepList,
 }
 

@@ -29,7 +29,7 @@ impl<'s, 'a> Drop for Problem<'s, 'a> {
 }
 
 impl<'s, 'a> Problem<'s, 'a> {
-    /// What is to be known of a history. Each answered call that may change the tree is read once.
+    /// What is to be known of a history. Each answered call that may change the tree, and each COMMIT, is read once.
     pub fn new(alloc: Global, known: &'s KnownCalls<'a>) -> Result<Problem<'s, 'a>, AllocError> {
         let replies = replies_in_order(alloc, known)?;
         let mut survey = Survey::new(alloc, known.eras() as usize)?;

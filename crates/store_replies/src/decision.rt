@@ -13,7 +13,9 @@ use std::alloc::AllocError;
 /// The reply to a call, and what it changes.
 #[derive(Drop)]
 pub struct Decision<'a> {
+    /// The reply.
     pub reply: NfsReply,
+    /// What the call changes: nothing where the reply is a failure.
     pub change: Change<'a>,
 }
 
@@ -73,7 +75,7 @@ fn succeed<'a>(scene: &Scene<'_>, call: &'a NfsCall) -> Result<Decision<'a>, Sto
 }
 
 /// The reply to a call: its success where the objects allow one, else the first status of the first cause that holds
-/// (docs/PROFILE.md), and what the call changes.
+/// (docs/SERVER.md), and what the call changes.
 pub fn decide<'a>(scene: &Scene<'_>, call: &'a NfsCall) -> Result<Decision<'a>, AllocError> {
     match succeed(scene, call) {
         Ok(decision) => Ok(decision),

@@ -40,7 +40,7 @@ second_place _ = None
 abbrev pub second_handle : NfsCall → Option (List ℕ)
 second_handle call = option_map (λ place. place.directory) (second_place call)
 
--- the handle of a directory that it lists
+-- whether it lists a directory
 abbrev pub is_listing_call : NfsCall → Bool
 is_listing_call (calls.ReadDir _) = true
 is_listing_call (calls.ReadDirPlus _) = true
