@@ -30,7 +30,7 @@ class World:
     def __init__(self, dice: Dice, root: bytes, tree: dict):
         self.root, self.tree, self.handles = root, tree, {0: [root]}
         self.names = dice.choice(NAME_POOLS)
-        self.right_share, self.hit_share = 86, 0
+        self.right_share, self.hit_share, self.odd_share = 86, 0, 0.06
 
     def known(self) -> set:
         return {handle for handles in self.handles.values() for handle in handles}
@@ -55,7 +55,7 @@ def any_handle(dice: Dice, world: World, kinds) -> bytes:
 
 
 def any_name(dice: Dice, world: World) -> bytes:
-    return dice.choice(draws.ODD_NAMES) if dice.chance(0.06) else dice.choice(world.names)
+    return dice.choice(draws.ODD_NAMES) if dice.chance(world.odd_share) else dice.choice(world.names)
 
 
 def dir_and_name(dice: Dice, world: World, hit=0.3, field="dir", name_field="name") -> dict:

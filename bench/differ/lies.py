@@ -12,7 +12,8 @@ from .success import Try, after_success
 
 DRAWS = 15
 PROCEDURES = {**ALL, nfs.RENAME: 5, nfs.CREATE: 3, nfs.READ: 2, nfs.SETATTR: 2, nfs.LOOKUP: 2, nfs.RMDIR: 2, nfs.REMOVE: 2}
-FAR_CAUSES = {nfs.STATUSES["STALE"], nfs.STATUSES["NOENT"]}
+PLAUSIBLE = {nfs.STATUSES[name] for name in ("NOENT", "EXIST", "NOTDIR", "ISDIR", "NOTEMPTY")}
+SHOWING = {nfs.GETATTR, nfs.LOOKUP, nfs.READLINK, nfs.READ, nfs.READDIR, nfs.READDIRPLUS}
 DETAILS = [reply_changes.change_read, reply_changes.change_listing, reply_changes.change_shown, reply_changes.change_shown_handle,
            reply_changes.change_written, reply_changes.change_verifier]
 
@@ -29,16 +30,17 @@ def attempt(dice: Dice, world: World, number: int, procedure: int, arguments: di
 def draw_lying_call(dice: Dice, world: World):
     """A call that mostly can't succeed, though its handles are live and its names are there; of each kind of obstacle as often."""
     procedure = dice.weighted(PROCEDURES)
-    usual = world.right_share, world.hit_share
-    world.right_share, world.hit_share = 45, 0.6
+    usual = world.right_share, world.hit_share, world.odd_share
+    world.right_share, world.hit_share, world.odd_share = 45, 0.6, 0.2
     calls = [draw_call(dice, world, {procedure: 1}) for _ in range(DRAWS)]
-    world.right_share, world.hit_share = usual
+    world.right_share, world.hit_share, world.odd_share = usual
     near = {}
     for call in calls:
         causes = permitted(replies.binds_of(world), world.tree, *call)
-        if not causes & FAR_CAUSES and not attempt(dice, world, 0, *call)[1]:
+        is_far = nfs.STATUSES["STALE"] in causes or causes == {nfs.STATUSES["NOENT"]}
+        if not is_far and not attempt(dice, world, 0, *call)[1]:
             near.setdefault(tuple(sorted(causes)), call)
-    return dice.choice(list(near.values())) if near and dice.chance(0.65) else dice.choice(calls)
+    return dice.choice(list(near.values())) if near and dice.chance(0.3 if procedure in SHOWING else 0.65) else dice.choice(calls)
 
 
 def change_detail(dice: Dice, world: World, event: CallEvent, value: dict):
@@ -57,4 +59,4 @@ def lie(dice: Dice, world: World, number: int, event: CallEvent):
     if value is not None and dice.chance(0.55):
         return 0, change_detail(dice, world, event, value) if is_right else value
     wrong = JUDGED_STATUSES - permitted(replies.binds_of(world), world.tree, event.procedure, event.arguments)
-    return dice.choice(sorted(wrong)), replies.failure_value(dice, event.procedure)
+    return dice.choice(sorted(wrong & PLAUSIBLE if wrong & PLAUSIBLE and dice.chance(0.6) else wrong)), replies.failure_value(dice, event.procedure)

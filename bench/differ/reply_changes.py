@@ -241,6 +241,6 @@ def spoil_reply(dice, run):
 
 
 CHANGES = {
-    change_status: 6, make_success: 5, change_verifier: 4, share_verifier: 3, change_written: 4, change_read: 5, change_listing: 5, change_shown: 3,
+    change_status: 6, make_success: 5, change_verifier: 4, share_verifier: 3, change_written: 4, change_read: 8, change_listing: 6, change_shown: 4,
     change_shown_handle: 4, change_attributes: 1, spoil_result: 3, refuse_call: 1, spoil_reply: 1,
 }
