@@ -97,9 +97,17 @@ def write_arguments(dice, world):
 
 
 def create_arguments(dice, world):
-    mode = dice.choice([nfs.UNCHECKED, nfs.UNCHECKED, nfs.GUARDED, nfs.EXCLUSIVE])
-    how = dice.choice(CREATE_VERIFIERS) if mode == nfs.EXCLUSIVE else draws.wanted(dice, draws.size(dice) if dice.chance(0.3) else None)
-    return {**dir_and_name(dice, world), "how": (mode, how)}
+    """Now and then once more what an EXCLUSIVE one made, or UNCHECKED over it."""
+    mode, verifier = dice.choice([nfs.UNCHECKED, nfs.UNCHECKED, nfs.GUARDED, nfs.EXCLUSIVE]), dice.choice(CREATE_VERIFIERS)
+    target = dir_and_name(dice, world)
+    before = [path for path, node in world.tree.items() if node.verifier and world.handles.get(world.tree[path[:-1]].object)]
+    if before and dice.chance(0.3):
+        path = dice.choice(before)
+        mode, verifier = dice.choice([nfs.UNCHECKED, nfs.EXCLUSIVE, nfs.EXCLUSIVE]), world.tree[path].verifier
+        target = {"dir": world.handles[world.tree[path[:-1]].object][0], "name": path[-1]}
+    if mode == nfs.EXCLUSIVE:
+        return {**target, "how": (mode, verifier)}
+    return {**target, "how": (mode, draws.wanted(dice, draws.size(dice) if dice.chance(0.3) else None))}
 
 
 def listing_arguments(dice, world):
