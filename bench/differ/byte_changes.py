@@ -88,6 +88,8 @@ def change_text(dice: Dice, text: bytes) -> bytes:
     if dice.chance(0.15):
         return dice.choice([text[:-1], b"", text + b"x", text[:dice.randrange(len(text) + 1)], flip(dice, text), text.replace(b"\n", b"\r\n")])
     lines = lines_of(text)
+    if not lines:
+        return text + b"witness 1\n"
     one = dice.weighted({change_number: 4, change_spaces: 2, change_letters: 2, change_lines: 3, change_end: 1})
     one(dice, lines, some_line(dice, lines))
     return b"".join(line + b"\n" for line in lines)
