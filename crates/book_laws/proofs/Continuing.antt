@@ -9,7 +9,6 @@ use Rattle.history_file.specs.declared.event.Event.{Event}
 use Rattle.history_file.specs.declared.event.Event.TheVariants as events
 use Rattle.nfs_history.specs.declared.history.Meaning.TheVariants as meanings
 use Rattle.nfs_history.specs.declared.history.RecordedCall.{RecordedCall}
-use Rattle.nfs_history.specs.Calls.{xid_of}
 use Rattle.nfs_history.specs.Precedence.{call_at}
 use Rattle.tree_nodes.proofs.Chains.{decide, differ}
 use Rattle.book_machine.specs.Book.{Book}
@@ -55,7 +54,6 @@ pub record IsSent (book : Book) (call : RecordedCall) : Type 0 where
   pub sent : HasMessage book call message
   pub judged : call.meaning ≡ meanings.Judged asked
   pub recordable : IsRecordable message asked
-  pub xid : call.xid ≡ xid_of message
 
 abbrev pub AreSent : Book → Type 0
 AreSent book = (n : ℕ) (call : RecordedCall) → call_at book.history.known.calls n ≡ Some call → IsSent book call
@@ -67,7 +65,6 @@ sent_stays old new call other c same s = record {
   sent = message_stays old new call other s.message c same s.sent;
   judged = same.meaning ∙ s.judged;
   recordable = s.recordable;
-  xid = same.xid ∙ s.xid;
 }
 
 same_itself : (call : RecordedCall) → IsSame call call
@@ -120,7 +117,6 @@ module _ (book : Book) (lane : ℕ) (message : List ℕ) (asked : NfsCall) (reco
       sent = ap (slice_get (book.history.events ++ events.Call lane message ∷ [])) last ∙ get_last book.history.events (events.Call lane message);
       judged = refl;
       recordable = recordable;
-      xid = refl;
     }
 
     go : (call_at book.history.known.calls n ≡ Some call) ⊎ (call ≡ begun book.history lane message asked) → IsSent begins_so call

@@ -72,9 +72,9 @@ remembers_on : (book new : Book) → IsInvariant book → Remembers book → Ste
 remembers_on book new i r step = record { records = records_on book new i r.records step; stands = stands_on book new i r.stands step }
 
 gives_the_tree : (book : Book) → IsInvariant book → Remembers book → GivesTheTree book
-gives_the_tree book i r says tree is =
+gives_the_tree book i r tree is =
     let steps = kept_steps book.over ++ book.placed in
-    let said = are_said book book.device.records (changes_of book) r.records.kept says (recorded_all steps) in
+    let said = are_said book book.device.records (changes_of book) r.records.kept (recorded_all steps) in
     let came = received book.history.known.calls 1 book.over book.placed i.known in
     let journal = map number_of (changes_of book) in
     let run = replayed book.made journal (all_each _ (λ object. object < 2 ^ 64) book.made (λ object has. has.1) i.made)

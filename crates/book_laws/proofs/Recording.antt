@@ -10,12 +10,11 @@ use Rattle.xdr_records.specs.Record.{record_limit}
 use Rattle.history_file.specs.declared.event.Event.TheVariants as events
 use Rattle.nfs_history.specs.declared.history.Meaning.TheVariants as meanings
 use Rattle.nfs_history.specs.declared.history.RecordedCall.{RecordedCall}
-use Rattle.nfs_history.specs.Calls.{xid_of}
 use Rattle.nfs_history.specs.Precedence.{call_at}
 use Rattle.replay_law.specs.Run.{kept_steps}
 use Rattle.book_machine.specs.Placing.{Placed, is_recorded, records_in, front_with}
 use Rattle.book_machine.specs.Book.{Book}
-use Rattle.book_machine.specs.Steps.{HasMessage, IsRecordable, journal_record, reply_message, step_of, with_record, Places, Steps, opening_book}
+use Rattle.book_machine.specs.Steps.{HasMessage, IsRecordable, IsAnswerTo, journal_record, reply_message, step_of, with_record, Places, Steps, opening_book}
 use Rattle.book_machine.specs.Steps.Steps.{begins, places, flushes, answers, closes, crashes, refuses}
 use Rattle.book_machine.proofs.Invariant.{Over, IsInvariant}
 use Rattle.book_laws.specs.Recorded.{changes_of, AreRecordsOf, HasItsChanges, ItsRecordsAreItsChanges}
@@ -31,11 +30,11 @@ pub record IsKept (book : Book) (bytes : List ℕ) (step : Placed) : Type 0 wher
   pub message : List ℕ
   pub sent : HasMessage book call message
   pub recordable : IsRecordable message step.call
-  pub xid : call.xid ≡ xid_of message
   pub reply : NfsReply
   pub received : step.outcome ≡ Received reply
   pub written : bytes ≡ journal_record step.number message (reply_message call.xid reply)
   pub numbered : step.number < 2 ^ 64
+  pub answers : IsAnswerTo message (reply_message call.xid reply) reply
   pub within : length (reply_message call.xid reply) ≤ record_limit
 
 abbrev pub AreKept : Book → List (List ℕ) → List Placed → Type 0
@@ -52,11 +51,11 @@ is_kept_on old new bytes step c k =
       message = k.message;
       sent = message_stays old new k.call stays.0 k.message c stays.2 k.sent;
       recordable = k.recordable;
-      xid = stays.2.xid ∙ k.xid;
       reply = k.reply;
       received = k.received;
       written = k.written ∙ ap (λ x. journal_record step.number k.message (reply_message x k.reply)) (sym stays.2.xid);
       numbered = k.numbered;
+      answers = subst (λ (x : ℕ). IsAnswerTo k.message (reply_message x k.reply) k.reply) (sym stays.2.xid) k.answers;
       within = subst (λ (x : ℕ). length (reply_message x k.reply) ≤ record_limit) (sym stays.2.xid) k.within;
     }
 
@@ -195,11 +194,11 @@ module _ (book : Book) (number : ℕ) (reply : NfsReply) (new : Book) (p : Place
         message = p.message;
         sent = p.sent;
         recordable = subst (λ (m : List ℕ). IsRecordable m p.call) same_message (subst (IsRecordable s.message) same_call s.recordable);
-        xid = s.xid ∙ ap xid_of same_message;
         reply = reply;
         received = refl;
         written = refl;
         numbered = p.numbered;
+        answers = p.answers;
         within = p.within;
       } where
         call_message : {l : ℕ} {m m' : List ℕ} → Some (events.Call l m) ≡ Some (events.Call l m') → m ≡ m'

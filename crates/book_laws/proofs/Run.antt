@@ -1,15 +1,20 @@
 -- the laws' premises are met by the example
 use Rattle.std.proofs.Common.{◌≡◌, inl, inr, ℕ, zero, suc, ◌+◌, ◌<◌, ◌≤◌, ◌^◌, List, [], ◌∷◌, ◌++◌, length, Some, refl, sym, ap, ◌∙◌, subst, arith, lit<, lit≤, eq-eqb}
-use Rattle.std.specs.Prelude.{IsSome, is_some, slice_index_or, ◌==◌, if◌then◌else◌, option_and_then}
+use Rattle.std.specs.Prelude.{IsSome, Bool, true, false, is_some, nat_lt, slice_index_or, ◌==◌, if◌then◌else◌, option_and_then}
 use Rattle.std.specs.FinMap as map
+use Rattle.std.proofs.lemmas.Bool.{ltb-true}
 use Rattle.std.proofs.lemmas.List.{length-append, append_assoc}
+use Rattle.byteorder.specs.Numbers.{big_from-append}
+use Rattle.xdr_records.specs.Items.{word_of}
+use Rattle.xdr_records.specs.Spelling.{IsWord}
 use Rattle.xdr_records.specs.Record.{record_limit}
 use Rattle.xdr_records.specs.Texts.{word_text, long_text, flag_text, fixed_text, opaque_text, optional_text}
 use Rattle.xdr_records.proofs.Written.{word_spelled}
 use Rattle.rpc_reader.specs.Values.{CallValue}
 use Rattle.rpc_reader.specs.Values.Body.{success}
+use Rattle.rpc_reader.specs.Heads.{CallStart, call_head}
 use Rattle.rpc_reader.specs.Messages.{IsCall, IsReply}
-use Rattle.rpc_reader.specs.Texts.{no_auth_text, call_body_text, call_head_text, call_text, accepted_text, reply_body_text, reply_head_text, results_of, reply_text}
+use Rattle.rpc_reader.specs.Texts.{BodyFits, no_auth_text, call_body_text, call_head_text, call_text, accepted_text, reply_body_text, reply_head_text, results_of, reply_text}
 use Rattle.rpc_reader.proofs.Spelled as rpc
 use Rattle.nfs3_types.specs.declared.replies.NfsReply.{NfsReply}
 use Rattle.nfs3_types.specs.declared.replies.Outcome.TheVariants.{Received}
@@ -34,11 +39,29 @@ use Rattle.file_tree.specs.Success.{next_tree}
 use Rattle.tree_laws.proofs.Keeping.{put_there}
 use Rattle.tree_laws.proofs.Replayed.{entries_opening}
 use Rattle.book_machine.specs.Book.{bindings_made}
-use Rattle.book_machine.specs.Steps.{begun, with_made, step_of, reply_message, IsRecordable, Begins, Places, Flushes, Answers, opening_book}
+use Rattle.book_machine.specs.Steps.{begun, with_made, step_of, reply_message, IsRecordable, IsAnswerTo, Begins, Places, Flushes, Answers, opening_book}
 use Rattle.book_machine.specs.Steps.Steps.{begins, places, flushes, answers}
-use Rattle.book_laws.specs.Alone.{IsSayable}
 use Rattle.book_laws.specs.Example.{create, created, asked, answer, after_begin, after_place, after_flush, after_answer, PremisesAreMet}
-use Rattle.book_laws.proofs.Saying.{xid_is, first_word, said_reply}
+
+-- ---- transaction numbers
+
+-- the first word of a message
+first_word : (word more : List ℕ) (n : ℕ) → IsWord word n → xid_of (word ++ more) ≡ n
+unfolding xid_of word_of
+first_word word more n is = go (nat_lt (length (word ++ more)) 4) refl where
+  enough : nat_lt (length (word ++ more)) 4 ≡ true → ⊥
+  enough e = let less = ltb-true (length (word ++ more)) 4 e in let all = length-append word more in omega (arith, is.four, less, all)
+
+  go : (b : Bool) → nat_lt (length (word ++ more)) 4 ≡ b → (if b then 0 else word_of (word ++ more)) ≡ n
+  go true e = absurd (enough e)
+  go false e = big_from-append 4 word more (omega (arith, is.four)) ∙ is.value
+
+xid_is : (message : List ℕ) (head : CallValue) → IsCall message head → xid_of message ≡ head.xid
+unfolding call_head
+xid_is message head is =
+    let s = is.first in
+    ap xid_of (is.parts ∙ ap (λ front. front ++ is.back) s.1.parts ∙ append_assoc s.1.front s.1.back is.back) ∙ first_word s.1.front (s.1.back ++ is.back) s.0 s.1.first
+    ∙ ap (λ (start : CallStart). start.xid) s.1.others.1.others.1.others.1.others.1.others.1.others.1.others.1.others.1
 
 -- ---- the call
 
@@ -115,6 +138,10 @@ next_one = simp (map.get-entries opening, map.len-entries opening, entries_openi
 
 -- ---- the reply
 
+said_reply : (xid : ℕ) (reply : NfsReply) → xid < 2 ^ 32 → IsReply (reply_message xid reply) (record { xid = xid; body = success (result_text reply) })
+unfolding BodyFits
+said_reply xid reply word = rpc.reply_spelled xid (success (result_text reply)) word tt
+
 reply_fits : ReplyFits created
 unfolding ReplyFits AnswerFits CreateSuccessFits WccDataFits long_text
 reply_fits = (lit≤ tt, tt, (tt, tt))
@@ -129,6 +156,16 @@ answer_xid xid reply lt = ap xid_of (append_assoc (word_text xid) _ _) ∙ first
 
 word : xid_of asked < 2 ^ 32
 word = subst (λ (n : ℕ). n < 2 ^ 32) (sym xid_one) (lit< tt)
+
+answers_asked : IsAnswerTo asked answer created
+answers_asked = record {
+  head = head;
+  is_call = is_call;
+  results = result_text created;
+  is_reply = subst (λ (n : ℕ). IsReply answer (record { xid = n; body = success (result_text created) })) xid_one (said_reply (xid_of asked) created word);
+  is_result = reply_spelled created reply_fits;
+  xid = answer_xid (xid_of asked) created word;
+}
 
 -- ---- the steps
 
@@ -155,6 +192,7 @@ place_step = record {
   next = subst (λ made. next_tree (bindings_made made) opening 1 create (Received created) ≡ Some tree) (sym made_one) next_one;
   served = tt;
   verifier = tt;
+  answers = answers_asked;
   within = subst (λ (n : ℕ). length (reply_message n created) ≤ record_limit) (sym xid_one) short_reply;
   done = ap (λ made. record after_place { made = made }) (sym made_one);
 }
@@ -180,14 +218,7 @@ answer_step = record {
   named = refl;
   reply = created;
   received = refl;
-  answers = record {
-    head = head;
-    is_call = is_call;
-    results = result_text created;
-    is_reply = subst (λ (n : ℕ). IsReply answer (record { xid = n; body = success (result_text created) })) xid_one (said_reply (xid_of asked) created word);
-    is_result = reply_spelled created reply_fits;
-    xid = answer_xid (xid_of asked) created word;
-  };
+  answers = answers_asked;
   spelled = refl;
   durable = ((λ promise. lit≤ tt), (λ commit. lit≤ tt));
   done = refl;
@@ -196,14 +227,5 @@ answer_step = record {
 pub premises_are_met : PremisesAreMet
 premises_are_met = record {
   run = (begins 1 asked begin_step, (places 1 created place_step, (flushes flush_step, (answers 1 answer_step, tt))));
-  said = (tt, ((of_first, tt), ((of_second, tt), ((of_third, tt), tt))));
   tree = ap (λ o. is_some (option_and_then (λ (t : Tree). Some t) o)) next_one;
-} where
-  of_first : IsSayable after_place (step_of 1 create created)
-  of_first = record { call = recorded; recorded = refl; word = word; reply = created; received = refl; fits = reply_fits }
-
-  of_second : IsSayable after_flush (step_of 1 create created)
-  of_second = record { call = recorded; recorded = refl; word = word; reply = created; received = refl; fits = reply_fits }
-
-  of_third : IsSayable after_answer (step_of 1 create created)
-  of_third = record { call = _; recorded = refl; word = word; reply = created; received = refl; fits = reply_fits }
+}

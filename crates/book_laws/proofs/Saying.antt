@@ -1,44 +1,31 @@
 -- the record that a book keeps of a change reads as that change
-use Rattle.std.proofs.Common.{◌≡◌, ℕ, ◌<◌, ◌≤◌, ◌^◌, Bool, true, false, List, [], ◌∷◌, ◌++◌, length, map, None, refl, sym, ap, ◌∙◌, subst, arith}
-use Rattle.std.specs.Prelude.{◌==◌, ◌&&◌, not, is_none, nat_lt, if◌then◌else◌}
+use Rattle.std.proofs.Common.{◌≡◌, ℕ, ◌<◌, ◌≤◌, ◌^◌, Bool, true, false, List, [], ◌∷◌, length, map, None, refl, sym, ap, ◌∙◌, subst, arith}
+use Rattle.std.specs.Prelude.{◌==◌, ◌&&◌, not, is_none}
 use Rattle.std.specs.List.{AllByRecursion}
-use Rattle.std.proofs.lemmas.Bool.{eqb-true, ltb-true}
-use Rattle.std.proofs.lemmas.List.{length-append, append_assoc}
-use Rattle.byteorder.specs.Numbers.{big_from-append}
+use Rattle.std.proofs.lemmas.Bool.{eqb-true}
 use Rattle.xdr_records.specs.Grammar.{Grammar, either}
 use Rattle.xdr_records.specs.Grammar.Grammar.{nothing, refused, both}
-use Rattle.xdr_records.specs.Items.{word_of}
-use Rattle.xdr_records.specs.Spelling.{IsWord, Spells}
+use Rattle.xdr_records.specs.Spelling.{Spells}
 use Rattle.xdr_records.specs.Record.{record_limit}
 use Rattle.rpc_reader.specs.Values.{CallValue}
-use Rattle.rpc_reader.specs.Values.Body.{success}
-use Rattle.rpc_reader.specs.Heads.{CallStart, call_head}
-use Rattle.rpc_reader.specs.Messages.{IsCall, IsReply}
-use Rattle.rpc_reader.specs.Texts.{BodyFits}
-use Rattle.rpc_reader.proofs.Spelled as rpc
+use Rattle.rpc_reader.proofs.OneMessage.{one_head}
 use Rattle.nfs3_types.specs.declared.calls.NfsCall.{NfsCall}
 use Rattle.nfs3_types.specs.declared.calls.NfsCall.TheVariants as calls
-use Rattle.nfs3_types.specs.declared.replies.NfsReply.{NfsReply}
-use Rattle.nfs3_types.specs.declared.replies.Outcome.TheVariants.{Received}
-use Rattle.nfs3_types.specs.Procedures.{procedure_called, procedure_answered, is_answered, failure_in}
+use Rattle.nfs3_types.specs.Procedures.{procedure_called, is_answered, failure_in}
 use Rattle.nfs3_values.specs.declared.fault.Kind.{Kind}
 use Rattle.nfs3_values.specs.declared.fault.Kind.TheVariants as kinds
-use Rattle.nfs3_msgs.specs.Messages.{arguments, IsArguments, IsResult, result_text}
-use Rattle.nfs3_msgs.specs.Fits.{ReplyFits}
-use Rattle.nfs3_msgs.specs.SpelledMessages.{reply_spelled}
-use Rattle.nfs_history.specs.declared.history.RecordedCall.{RecordedCall}
-use Rattle.nfs_history.specs.Calls.{xid_of}
+use Rattle.nfs3_msgs.specs.Messages.{arguments, IsArguments}
+use Rattle.nfs_history.specs.History.{IsCallOfNfs}
 use Rattle.journal_records.specs.declared.change.Change.{Change}
 use Rattle.journal_records.specs.Journal.{journal_record, is_changing, IsChange, IsRecord}
 use Rattle.journal_records.proofs.Meanings.{spelled_so}
 use Rattle.tree_laws.specs.Leaving.{only_looks}
-use Rattle.tree_nodes.proofs.Chains.{both_pass, negated, none_is, same_some}
+use Rattle.tree_nodes.proofs.Chains.{both_pass, negated, none_is}
 use Rattle.cut_check.specs.Effect.{succeeded}
 use Rattle.book_machine.specs.Placing.{Placed, is_recorded}
 use Rattle.book_machine.specs.Book.{Book}
 use Rattle.book_machine.specs.Steps.{reply_message}
 use Rattle.journal_rebuild.specs.Rebuilding.{AreRecords, step_in, numbers_in}
-use Rattle.book_laws.specs.Alone.{IsSayable}
 use Rattle.book_laws.proofs.Recording.{IsKept, AreKept}
 
 -- ---- the procedure of a call's arguments
@@ -87,55 +74,19 @@ changing_called (calls.Remove a) e = refl
 changing_called (calls.RmDir a) e = refl
 changing_called (calls.Rename a) e = refl
 
--- ---- the transaction number of a call
-
--- the first word of a message
-pub first_word : (word more : List ℕ) (n : ℕ) → IsWord word n → xid_of (word ++ more) ≡ n
-unfolding xid_of word_of
-first_word word more n is = go (nat_lt (length (word ++ more)) 4) refl where
-  enough : nat_lt (length (word ++ more)) 4 ≡ true → ⊥
-  enough e = let less = ltb-true (length (word ++ more)) 4 e in let all = length-append word more in omega (arith, is.four, less, all)
-
-  go : (b : Bool) → nat_lt (length (word ++ more)) 4 ≡ b → (if b then 0 else word_of (word ++ more)) ≡ n
-  go true e = absurd (enough e)
-  go false e = big_from-append 4 word more (omega (arith, is.four)) ∙ is.value
-
-pub xid_is : (message : List ℕ) (head : CallValue) → IsCall message head → xid_of message ≡ head.xid
-unfolding call_head
-xid_is message head is =
-    let s = is.first in
-    ap xid_of (is.parts ∙ ap (λ front. front ++ is.back) s.1.parts ∙ append_assoc s.1.front s.1.back is.back) ∙ first_word s.1.front (s.1.back ++ is.back) s.0 s.1.first
-    ∙ ap (λ (start : CallStart). start.xid) s.1.others.1.others.1.others.1.others.1.others.1.others.1.others.1.others.1
-
--- ---- a reply's message
-
-pub said_reply : (xid : ℕ) (reply : NfsReply) → xid < 2 ^ 32 → IsReply (reply_message xid reply) (record { xid = xid; body = success (result_text reply) })
-unfolding BodyFits
-said_reply xid reply word = rpc.reply_spelled xid (success (result_text reply)) word tt
-
 -- ---- a record
 
-module _ (book : Book) (bytes : List ℕ) (step : Placed) (k : IsKept book bytes step) (s : IsSayable book step) (recorded : is_recorded step ≡ true) where
-  received_same : s.reply ≡ k.reply
-  received_same = same (sym s.received ∙ k.received) where
-    same : Received s.reply ≡ Received k.reply → s.reply ≡ k.reply
-    same e = cc
-
-  parts : (only_looks step.call ≡ false) × (procedure_called step.call ≡ procedure_answered k.reply) × (failure_in k.reply ≡ None)
+module _ (book : Book) (bytes : List ℕ) (step : Placed) (k : IsKept book bytes step) (recorded : is_recorded step ≡ true) where
+  parts : (only_looks step.call ≡ false) × (failure_in k.reply ≡ None)
   parts =
       let told : (not (only_looks step.call) && (is_answered step.call k.reply && is_none (failure_in k.reply))) ≡ true = ap (λ o. not (only_looks step.call) && succeeded step.call o) (sym k.received) ∙ recorded in
       let first = both_pass (not (only_looks step.call)) (is_answered step.call k.reply && is_none (failure_in k.reply)) told in
       let second = both_pass (is_answered step.call k.reply) (is_none (failure_in k.reply)) first.1 in
-      (negated (only_looks step.call) first.0, eqb-true (procedure_called step.call) (procedure_answered k.reply) second.0, none_is (failure_in k.reply) second.1)
+      (negated (only_looks step.call) first.0, none_is (failure_in k.reply) second.1)
 
-  same_xid : k.call.xid ≡ k.recordable.head.xid
-  same_xid = k.xid ∙ xid_is k.message k.recordable.head k.recordable.is_call
-
-  word : k.call.xid < 2 ^ 32
-  word = subst (λ (c : RecordedCall). c.xid < 2 ^ 32) (same_some s.call k.call (sym s.recorded ∙ k.recorded)) s.word
-
-  procedure : k.recordable.head.procedure ≡ procedure_called step.call
-  procedure = procedure_is k.recordable.head.procedure k.recordable.head.args step.call k.recordable.of_nfs.arguments
+  -- the call that the reply answers
+  of_nfs : IsCallOfNfs k.answers.head step.call
+  of_nfs = subst (λ (head : CallValue). IsCallOfNfs head step.call) (one_head k.message k.recordable.head k.answers.head k.recordable.is_call k.answers.is_call) k.recordable.of_nfs
 
   limit : (n : ℕ) → n ≤ record_limit → n < 2 ^ 32
   limit n le = omega (arith, le)
@@ -143,15 +94,15 @@ module _ (book : Book) (bytes : List ℕ) (step : Placed) (k : IsKept book bytes
   is_change : IsChange k.message (reply_message k.call.xid k.reply) step.call k.reply
   is_change = record {
     within = k.recordable.within;
-    head = k.recordable.head;
-    asked = k.recordable.is_call;
-    of_nfs = k.recordable.of_nfs;
-    changing = ap is_changing procedure ∙ changing_called step.call parts.0;
+    head = k.answers.head;
+    asked = k.answers.is_call;
+    of_nfs = of_nfs;
+    changing = ap is_changing (procedure_is k.answers.head.procedure k.answers.head.args step.call of_nfs.arguments) ∙ changing_called step.call parts.0;
     inside = k.recordable.inside;
-    results = result_text k.reply;
-    answered = subst (λ (x : ℕ). IsReply (reply_message k.call.xid k.reply) (record { xid = x; body = success (result_text k.reply) })) same_xid (said_reply k.call.xid k.reply word);
-    result = subst (λ (n : ℕ). IsResult n (result_text k.reply) k.reply) (sym (procedure ∙ parts.1)) (reply_spelled k.reply (subst ReplyFits received_same s.fits));
-    succeeded = parts.2;
+    results = k.answers.results;
+    answered = k.answers.is_reply;
+    result = k.answers.is_result;
+    succeeded = parts.1;
   }
 
   is_record : IsRecord bytes (record { written = record { number = step.number; call = k.message; reply = reply_message k.call.xid k.reply }; call = step.call; reply = k.reply })
@@ -169,16 +120,15 @@ pub record AreSaid (records : List (List ℕ)) (steps : List Placed) : Type 0 wh
   pub steps_are : map step_in changes ≡ steps
   pub numbers_are : numbers_in changes ≡ map (λ (step : Placed). step.number) steps
 
-pub are_said : (book : Book) (records : List (List ℕ)) (steps : List Placed) → AreKept book records steps → AllByRecursion (IsSayable book) steps → AllByRecursion (λ step. is_recorded step ≡ true) steps
-    → AreSaid records steps
-are_said book [] [] k s r = record { changes = []; are = tt; steps_are = refl; numbers_are = refl }
-are_said book [] (step ∷ steps) k s r = absurd k
-are_said book (bytes ∷ records) [] k s r = absurd k
-are_said book (bytes ∷ records) (step ∷ steps) k s r =
-    let rest = are_said book records steps k.1 s.1 r.1 in
+pub are_said : (book : Book) (records : List (List ℕ)) (steps : List Placed) → AreKept book records steps → AllByRecursion (λ step. is_recorded step ≡ true) steps → AreSaid records steps
+are_said book [] [] k r = record { changes = []; are = tt; steps_are = refl; numbers_are = refl }
+are_said book [] (step ∷ steps) k r = absurd k
+are_said book (bytes ∷ records) [] k r = absurd k
+are_said book (bytes ∷ records) (step ∷ steps) k r =
+    let rest = are_said book records steps k.1 r.1 in
     record {
       changes = record { written = record { number = step.number; call = k.0.message; reply = reply_message k.0.call.xid k.0.reply }; call = step.call; reply = k.0.reply } ∷ rest.changes;
-      are = (is_record book bytes step k.0 s.0 r.0, rest.are);
+      are = (is_record book bytes step k.0 r.0, rest.are);
       steps_are = λ i. record { number = step.number; call = step.call; outcome = sym k.0.received i } ∷ rest.steps_are i;
       numbers_are = ap (λ ns. step.number ∷ ns) rest.numbers_are;
     }

@@ -1,6 +1,5 @@
 -- A book to which the laws apply: a CREATE begins, is placed, is put on stable storage and is answered.
 use Rattle.std.specs.Prelude.{ℕ, List, [], ◌∷◌, Some, None, IsSome}
-use Rattle.std.specs.List.{AllByRecursion}
 use Rattle.nfs3_types.specs.declared.calls.CreateMode.TheVariants.{Exclusive}
 use Rattle.nfs3_types.specs.declared.calls.NfsCall.{NfsCall}
 use Rattle.nfs3_types.specs.declared.calls.NfsCall.TheVariants as calls
@@ -13,7 +12,6 @@ use Rattle.nfs3_msgs.specs.Messages.{arguments_text}
 use Rattle.nfs_history.specs.Calls.{xid_of}
 use Rattle.book_machine.specs.Book.{Book, handle_of, tree_of}
 use Rattle.book_machine.specs.Steps.{with_call, with_reply, step_of, reply_message, journal_record, opening_book, IsRun}
-use Rattle.book_laws.specs.Alone.{CanBeSaid}
 
 -- CREATE of the name `f` in the root, with a verifier, and its reply with the handle of object 1
 abbrev pub create : NfsCall
@@ -53,8 +51,7 @@ after_answer = record after_flush { history = with_reply after_flush.history 1 1
 abbrev pub books : List Book
 books = after_begin ∷ after_place ∷ after_flush ∷ after_answer ∷ []
 
--- these are a run, in which each reply can be said, and its end has a tree
+-- these are a run, and its end has a tree
 pub record PremisesAreMet : Type 0 where
   pub run : IsRun (opening_book 0) books
-  pub said : AllByRecursion CanBeSaid books
   pub tree : IsSome (tree_of after_answer)

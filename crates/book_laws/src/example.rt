@@ -3,7 +3,7 @@
 ghost use Rattle.book_laws.specs.Example.{PremisesAreMet};
 
 /// The laws' premises are met, those of `every_book_is_explained` of `book_machine` too: a call begins, is placed, is put on stable
-/// storage and is answered, and each of its replies can be said.
+/// storage and is answered.
 pub fn the_premises_are_met()
     ensures { PremisesAreMet }
 {}

@@ -127,6 +127,15 @@ with_made number after made = if is_some (entry_of after number) then with_objec
 abbrev pub reply_message : ℕ → NfsReply → List ℕ
 reply_message xid reply = reply_text xid (success (result_text reply))
 
+-- a message with this reply, to the call of another message
+pub record IsAnswerTo (asked answer : List ℕ) (reply : NfsReply) : Type 0 where
+  pub head : CallValue
+  pub is_call : IsCall asked head
+  pub results : List ℕ
+  pub is_reply : IsReply answer (record { xid = head.xid; body = success results })
+  pub is_result : IsResult head.procedure results reply
+  pub xid : xid_of answer ≡ xid_of asked
+
 -- the record of a call in the journal
 abbrev pub journal_record : ℕ → List ℕ → List ℕ → List ℕ
 journal_record number message reply = record_text (record { number = number; call = message; reply = reply })
@@ -165,6 +174,8 @@ pub record Places (old : Book) (number : ℕ) (reply : NfsReply) (new : Book) : 
   pub next : next_tree (bindings_made (with_made number after old.made)) before number call (outcomes.Received reply) ≡ Some after
   pub served : IsServed (bindings old) before number call reply
   pub verifier : ShowsEra old call reply
+  -- a message can hold it, as an answer to the call's
+  pub answers : IsAnswerTo message (reply_message recorded.xid reply) reply
   pub within : length (reply_message recorded.xid reply) ≤ record_limit
   pub done : new
       ≡ record old {
@@ -194,15 +205,6 @@ commits step = is_commit step.call && is_some (commit_success step.outcome)
 -- the reply may go out: what it promises is on stable storage, and so is, for a COMMIT, what was placed ahead of it
 abbrev pub IsDurable : ℕ → ℕ → List Placed → Placed → Type 0
 IsDurable kept mark ahead step = (IsPromise step → kept + records_in (ahead ++ step ∷ []) ≤ mark) × (commits step ≡ true → kept + records_in ahead ≤ mark)
-
--- a message with this reply, to the call of another message
-pub record IsAnswerTo (asked answer : List ℕ) (reply : NfsReply) : Type 0 where
-  pub head : CallValue
-  pub is_call : IsCall asked head
-  pub results : List ℕ
-  pub is_reply : IsReply answer (record { xid = head.xid; body = success results })
-  pub is_result : IsResult head.procedure results reply
-  pub xid : xid_of answer ≡ xid_of asked
 
 -- Answer: the history gets the reply that the call was placed with
 pub record Answers (old : Book) (number : ℕ) (new : Book) : Type 0 where

@@ -2,8 +2,6 @@
 use Rattle.std.proofs.Common.{◌≡◌, ◌⊎◌, inl, inr, ◌↔◌, ℕ, zero, suc, ◌+◌, ◌-◌, ◌<◌, ◌≤◌, Bool, true, false, List, [], ◌∷◌, ◌++◌, length, map, Option, Some, None, refl, sym, ap, ◌∙◌, subst, arith}
 use Rattle.std.specs.Prelude.{IsTrue, slice_get, option_and_then, if◌then◌else◌}
 use Rattle.std.specs.List.{AllByRecursion}
-use Rattle.std.proofs.lemmas.Bool.{eqb-true}
-use Rattle.rpc_reader.specs.Values.{CallValue}
 use Rattle.rpc_reader.specs.Values.Body.{success}
 use Rattle.rpc_reader.specs.Messages.{IsReply}
 use Rattle.nfs3_types.specs.declared.calls.NfsCall.{NfsCall}
@@ -11,19 +9,16 @@ use Rattle.nfs3_types.specs.declared.calls.NfsCall.TheVariants as calls
 use Rattle.nfs3_types.specs.declared.replies.NfsReply.{NfsReply}
 use Rattle.nfs3_types.specs.declared.replies.Outcome.{Outcome}
 use Rattle.nfs3_types.specs.declared.replies.Outcome.TheVariants as outcomes
-use Rattle.nfs3_types.specs.Procedures.{is_answered, procedure_called, procedure_answered}
+use Rattle.nfs3_types.specs.Procedures.{is_answered, procedure_answered}
 use Rattle.nfs3_msgs.specs.Messages.{IsResult, result_text}
 use Rattle.history_file.specs.declared.event.Event.TheVariants as owns
-use Rattle.nfs_history.specs.declared.history.Meaning.{Meaning}
 use Rattle.nfs_history.specs.declared.history.Meaning.TheVariants as meanings
 use Rattle.nfs_history.specs.declared.history.RecordedCall.{RecordedCall}
 use Rattle.nfs_history.specs.HistoryValue.{HistoryValue}
 use Rattle.nfs_history.specs.Appending.{Follows}
-use Rattle.nfs_history.specs.Calls.{xid_of}
-use Rattle.nfs_history.specs.History.{IsJudged, IsKnownAs}
 use Rattle.nfs_history.specs.Precedence.{call_at, end_of}
 use Rattle.journal_device.specs.Device.{Device}
-use Rattle.std.proofs.Common.{get_or, not, Result, Ok, Err, ◌^◌}
+use Rattle.std.proofs.Common.{get_or, not, Result, Ok, Err}
 use Rattle.std.specs.Prelude.{IfOk, OnOk, OnErr, IfErr}
 use Rattle.std.proofs.lemmas.Option.{get_or_from_slice_get, slice_get_within}
 use Rattle.book_machine.specs.Book.Condition.{running}
@@ -36,7 +31,6 @@ use Rattle.recorder.specs.Refusals.{AnswerStops}
 use Rattle.recorder.specs.Turns.{PlacedStops}
 use Rattle.recorder.specs.Inside.{IsAsked}
 use Rattle.recorder.proofs.Conditions.{running_book}
-use Rattle.recorder.proofs.Replies.{xid_said}
 use Rattle.book_machine.specs.Placing.{Placed, is_recorded, records_in}
 use Rattle.cut_check.specs.Effect.{effect_of}
 use Rattle.cut_check.specs.declared.effect.Effect.TheVariants.{Lasting}
@@ -62,7 +56,7 @@ use Rattle.recorder.proofs.Runs.{IsReplyTo, IsSound, sound}
 use Rattle.recorder.proofs.Tied.{over_in, placed_now, tied_with, book_with}
 use Rattle.recorder.proofs.Events.{history_is}
 use Rattle.recorder.proofs.Standing.{HasSent, has_sent, judged_asked}
-use Rattle.recorder.proofs.Replies.{xid_asked, its_procedure}
+use Rattle.recorder.proofs.AnswersTo.{answers_it}
 
 -- ---- parts of a list
 
@@ -191,22 +185,10 @@ module _ (old : Ledger) (device : Device) (t : AreTied old device) (number place
   sent : HasSent book.history this
   sent = has_sent book.history number this s.invariant.genuine.is_history now.1.recorded
 
-  -- the call's head
   answers_to : IsAnswerTo sent.asked.event.message answer given.reply
   answers_to =
-      let means = sent.asked.recorded.means in
-      let head : CallValue = means.0 in
-      let known_as : IsJudged head means.1 step.call this.outcome = subst (λ (m : Meaning). IsKnownAs head means.1 m this.outcome) judged means.4 in
-      let procedure : procedure_answered given.reply ≡ head.procedure = sym (eqb-true (procedure_called step.call) (procedure_answered given.reply) right) ∙ its_procedure head.procedure head.args step.call known_as.of_nfs.arguments in
-      let xid : given.call.xid ≡ head.xid = ap (λ (c : RecordedCall). c.xid) call_is ∙ sent.asked.recorded.xid ∙ xid_asked sent.asked.event.message head means.2 in
-      record {
-        head = head;
-        is_call = means.2;
-        results = result_text given.reply;
-        is_reply = subst (λ (n : ℕ). IsReply answer (record { xid = n; body = success (result_text given.reply) })) xid given.is_reply;
-        is_result = subst (λ (n : ℕ). IsResult n (result_text given.reply) given.reply) procedure given.is_result;
-        xid = given.said ∙ xid ∙ sym (xid_asked sent.asked.event.message head means.2);
-      }
+      answers_it book.history this step.call given.reply answer sent judged right (subst (λ (c : RecordedCall). IsReply answer (record { xid = c.xid; body = success (result_text given.reply) })) call_is given.is_reply)
+      given.is_result
 
   unended : this.«end» ≡ None
   unended = sym (ap (option_and_then (λ (c : RecordedCall). c.«end»)) now.1.recorded) ∙ unanswered
@@ -450,9 +432,9 @@ durable_turn ledger device t number place mark stands b call outcome call_is out
   go false h = ((λ e. free_durable ledger device t number place mark stands.0 stands.1 stands.2 (λ q. wrong (h.1 (back q)))), (λ d. refl))
 
 pub answer_so : {V E : Type 0} (r : Result V E) (items : V → List ℕ) (ledger : Ledger) (number place : ℕ) (p : PlacedCall) (call : RecordedCall) (reply : NfsReply) → slice_get ledger.placed.items place ≡ Some p
-    → call_at ledger.history.known.calls number ≡ Some call → p.outcome ≡ outcomes.Received reply → call.xid < 2 ^ 32 → IfOk r (λ m. items m ≡ reply_message call.xid reply)
+    → call_at ledger.history.known.calls number ≡ Some call → p.outcome ≡ outcomes.Received reply → IfOk r (λ m. items m ≡ reply_message call.xid reply)
     → IfOk r (λ m. IsReply (items m) (record { xid = call.xid; body = success (result_text reply) }) × IsResult (procedure_answered reply) (result_text reply) reply) → IfOk r (λ m. IsAnswerAt ledger number place (items m))
-answer_so (Ok m) items ledger number place p call reply stands at received fits text spelled = record {
+answer_so (Ok m) items ledger number place p call reply stands at received text spelled = record {
   placed = p;
   stands = stands;
   call = call;
@@ -460,11 +442,10 @@ answer_so (Ok m) items ledger number place p call reply stands at received fits 
   reply = reply;
   received = received;
   spelled = text;
-  said = ap xid_of text ∙ xid_said call.xid (result_text reply) fits;
   is_reply = spelled.0;
   is_result = spelled.1;
 }
-answer_so (Err e) items ledger number place p call reply stands at received fits text spelled = tt
+answer_so (Err e) items ledger number place p call reply stands at received text spelled = tt
 
 pub put_so : (old new : HistoryValue) (given call : RecordedCall) (o : Option RecordedCall) (message answer : List ℕ) → o ≡ Some given → o ≡ Some call → message ≡ answer → Follows old (owns.Reply given.lane message) new
     → Follows old (owns.Reply call.lane answer) new

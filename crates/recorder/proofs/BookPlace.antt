@@ -16,7 +16,7 @@ use Rattle.recorder.specs.declared.placing.TreeStep.{TreeStep}
 use Rattle.recorder.specs.declared.ledger.Ledger.{Ledger}
 use Rattle.recorder.specs.declared.fault.PlaceFault.TheVariants as place
 use Rattle.recorder.specs.Inside.{book_of, AreTied}
-use Rattle.recorder.specs.PlaceSteps.{HasStepped, ShowsNow, GivesAllowed, IsShortAnswer, IsEntry, HasPlaced, HasLost, IsSame, IsLeft, entry_put}
+use Rattle.recorder.specs.PlaceSteps.{HasStepped, ShowsNow, GivesAllowed, IsShortAnswer, IsSayable, IsEntry, HasPlaced, HasLost, IsSame, IsLeft, entry_put}
 use Rattle.recorder.proofs.Parts.{parts_of}
 use Rattle.recorder.proofs.NewPlace.{within_calls}
 use Rattle.recorder.proofs.BookSteps.{IsTurn, ready_then, place_done, place_lost, place_unkept, place_failed}
@@ -28,7 +28,7 @@ module _ (old prepared : Ledger) (device : Device) (number : ℕ) (turn : IsTurn
 
   -- what is known of the reply once the step is taken
   abbrev pub Fits : Outcome → Type 0
-  Fits outcome = ShowsNow prepared number outcome × GivesAllowed prepared number outcome × IsShortAnswer prepared number outcome
+  Fits outcome = ShowsNow prepared number outcome × GivesAllowed prepared number outcome × IsShortAnswer prepared number outcome × IsSayable prepared number outcome
 
   pub placed_then : (outcome : Outcome) (reply : NfsReply) → outcome ≡ outcomes.Received reply → HasStepped prepared number outcome step stepped → Fits outcome → (new : Ledger) (entry : Option (Vec ℕ Global)) (flag : Bool) (records : ℕ) (after : Device)
       → flag ≡ is_some entry → IsEntry prepared number outcome entry → HasPlaced stepped number outcome step flag records new → after ≡ entry_put entry device → records ≡ length after.records

@@ -29,7 +29,7 @@ use Rattle.recorder.specs.declared.fault.CrashFault.TheVariants as crash
 use Rattle.recorder.specs.JoinedFaults.{of_step}
 use Rattle.recorder.specs.Inside.{IsAsked, asked_by, book_of, tree_behind, AreTied, Goes}
 use Rattle.recorder.specs.Undoing.{GoesDown, IsReady, Restarts}
-use Rattle.recorder.specs.PlaceSteps.{HoldsBytes, TakesStep, HasStepped, HasNoStep, HasStayed, ShowsNow, MayGive, GivesAllowed, IsShortAnswer, IsEntry, HasPlaced, HasLost, IsSame, IsLeft, StopsWhere, entry_put}
+use Rattle.recorder.specs.PlaceSteps.{HoldsBytes, TakesStep, HasStepped, HasNoStep, HasStayed, ShowsNow, MayGive, GivesAllowed, IsShortAnswer, IsSayable, IsEntry, HasPlaced, HasLost, IsSame, IsLeft, StopsWhere, entry_put}
 use Rattle.recorder.proofs.Parts.{parts_of, to_parts, from_parts, failed_tied}
 use Rattle.recorder.proofs.Reaching.{reached_asked}
 use Rattle.recorder.proofs.NewPlace.{IsReadyFor, IsGiven, is_free, placed_so}
@@ -127,12 +127,12 @@ module _ (old prepared : Ledger) (device : Device) (number : ℕ) (reply : NfsRe
     clash e = cc
 
   module _ (stepped : Ledger) (step : TreeStep) (s : HasStepped prepared number (outcomes.Received reply) step stepped)
-      (fits : ShowsNow prepared number (outcomes.Received reply) × GivesAllowed prepared number (outcomes.Received reply) × IsShortAnswer prepared number (outcomes.Received reply)) where
+      (fits : ShowsNow prepared number (outcomes.Received reply) × GivesAllowed prepared number (outcomes.Received reply) × IsShortAnswer prepared number (outcomes.Received reply) × IsSayable prepared number (outcomes.Received reply)) where
     abbrev r : IsReadyFor (parts_of prepared) device number s.before
     r = ready_then s.before s.stood
 
     given_so : IsGiven (parts_of prepared) device number s.before reply r.call
-    given_so = record { verifier = fits.0; gives = fits.1 s.before reply s.stood refl; within = fits.2 r.call reply r.of_now.recorded refl }
+    given_so = record { verifier = fits.0; gives = fits.1 s.before reply s.stood refl; within = fits.2 r.call reply r.of_now.recorded refl; said = fits.3 r.call reply r.of_now.recorded refl }
 
     -- it can be placed
     pub may_be_placed : (new : Book) × Places (book_of old device) number reply new

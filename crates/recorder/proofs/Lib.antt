@@ -7,6 +7,7 @@ pub mod Asked
 pub mod Full
 pub mod Standing
 pub mod Replies
+pub mod AnswersTo
 pub mod Answered
 pub mod Plans
 pub mod Opening

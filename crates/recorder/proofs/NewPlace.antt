@@ -5,9 +5,14 @@ use Rattle.std.specs.List.{AllByRecursion}
 use Rattle.std.proofs.lemmas.List.{map-append, length-append, append_assoc}
 use Rattle.std.proofs.lemmas.Option.{slice_get_within}
 use Rattle.xdr_records.specs.Record.{record_limit}
+use Rattle.rpc_reader.specs.Values.Body.{success}
+use Rattle.rpc_reader.specs.Messages.{IsReply}
 use Rattle.nfs3_types.specs.declared.calls.NfsCall.{NfsCall}
 use Rattle.nfs3_types.specs.declared.replies.NfsReply.{NfsReply}
 use Rattle.nfs3_types.specs.declared.replies.Outcome.TheVariants as outcomes
+use Rattle.nfs3_types.specs.Procedures.{procedure_answered}
+use Rattle.nfs3_msgs.specs.Messages.{IsResult, result_text}
+use Rattle.history_file.specs.declared.event.Event.TheVariants as owns
 use Rattle.nfs_history.specs.declared.history.Meaning.TheVariants as meanings
 use Rattle.nfs_history.specs.declared.history.RecordedCall.{RecordedCall}
 use Rattle.nfs_history.specs.Precedence.{call_at}
@@ -24,7 +29,7 @@ use Rattle.journal_device.specs.Device.{Device}
 use Rattle.book_machine.specs.Placing.{Placed, is_recorded, records_in, front_with}
 use Rattle.book_machine.specs.Book.{Book, handle_of, bindings, bindings_made, tree_of, records_kept}
 use Rattle.book_machine.specs.Served.{IsServed}
-use Rattle.book_machine.specs.Steps.{IsOfNow, IsUnplaced, HasMessage, ShowsEra, Places, step_of, with_object, with_made, with_record, reply_message, journal_record}
+use Rattle.book_machine.specs.Steps.{IsOfNow, IsUnplaced, HasMessage, ShowsEra, IsAnswerTo, Places, step_of, with_object, with_made, with_record, reply_message, journal_record}
 use Rattle.book_machine.specs.Steps.Steps.{places}
 use Rattle.book_machine.proofs.Invariant.{IsInvariant}
 use Rattle.book_machine.proofs.Lists.{all_append, all_each}
@@ -41,6 +46,9 @@ use Rattle.recorder.specs.declared.placing.TreeStep.{TreeStep}
 use Rattle.recorder.specs.Inside.{asked_by, placed_in, made_from, condition_of, IsReached, tree_behind}
 use Rattle.recorder.specs.PlaceSteps.{bound_if, TakesStep}
 use Rattle.recorder.proofs.Reaching.{reached_holds, reach_more}
+use Rattle.recorder.proofs.Replied.{right_reply}
+use Rattle.recorder.proofs.Standing.{HasSent, has_sent}
+use Rattle.recorder.proofs.AnswersTo.{answers_it}
 use Rattle.recorder.proofs.Parts.{Parts, book_with, HavePlaces, Tied}
 use Rattle.recorder.proofs.CrashSteps.{now_asked}
 use Rattle.recorder.proofs.Naming.{own_free, own_alike}
@@ -68,6 +76,7 @@ pub record IsGiven (p : Parts) (device : Device) (number : ℕ) (before : Tree) 
   pub verifier : ShowsEra (book_with p device) (asked_by p.known.calls number) reply
   pub gives : IsAllowed p.binds before (asked_by p.known.calls number) reply → IsServed p.binds before number (asked_by p.known.calls number) reply
   pub within : length (reply_message call.xid reply) ≤ record_limit
+  pub said : IsReply (reply_message call.xid reply) (record { xid = call.xid; body = success (result_text reply) }) × IsResult (procedure_answered reply) (result_text reply) reply
 
 -- a list with one more in two parts
 last_part : {X : Type 0} (xs : List X) (x : X) (earlier later : List X) → xs ++ x ∷ [] ≡ earlier ++ later
@@ -205,6 +214,17 @@ module _ (p : Parts) (device : Device) (number : ℕ) (before : Tree) (r : IsRea
     next_is : next_tree (bindings_made (with_made number after book.made)) before number asked (outcomes.Received reply) ≡ Some after
     next_is = step_made p.binds book.made r.tied.bound number r.lt no_others before is_absent asked reply (may_make asked) after refl takes.next (is_some (entry_of after number)) refl
 
+    one_message : {l : ℕ} {m n : List ℕ} → Some (owns.Call l m) ≡ Some (owns.Call l n) → m ≡ n
+    one_message e = cc
+
+    -- its message answers the call's
+    answers_so : IsAnswerTo r.message (reply_message r.call.xid reply) reply
+    answers_so =
+        let sent : HasSent book.history r.call = has_sent book.history number r.call holds.genuine.is_history r.of_now.recorded in
+        let right = right_reply (bindings_made (with_made number after book.made)) before after number asked reply next_is in
+        subst (λ (m : List ℕ). IsAnswerTo m (reply_message r.call.xid reply) reply) (one_message (sym sent.sent ∙ r.sent))
+        (answers_it book.history r.call asked reply (reply_message r.call.xid reply) sent r.judged right g.said.0 g.said.1)
+
     pub placed_so : Places book number reply new_book
     placed_so = record {
       running = ap condition_of r.running;
@@ -222,6 +242,7 @@ module _ (p : Parts) (device : Device) (number : ℕ) (before : Tree) (r : IsRea
       next = next_is;
       served = given p.binds book.made r.tied.bound number r.lt no_others before is_absent asked reply (may_make asked) after refl takes.next g.gives;
       verifier = g.verifier;
+      answers = answers_so;
       within = g.within;
       done = λ i. record new_book { placed = placed_is i; made = made_is i };
     }

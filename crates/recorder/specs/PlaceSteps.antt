@@ -3,10 +3,14 @@ use Rattle.std.specs.Prelude.{◌≡◌, ◌≢◌, ◌&&◌, ℕ, ◌-◌, ◌<
 use Rattle.std.specs.declared.vec.Vec.{Vec}
 use Rattle.std.specs.declared.alloc.Global.{Global}
 use Rattle.xdr_records.specs.Record.{record_limit}
+use Rattle.rpc_reader.specs.Values.Body.{success}
+use Rattle.rpc_reader.specs.Messages.{IsReply}
 use Rattle.nfs3_types.specs.declared.calls.NfsCall.{NfsCall}
 use Rattle.nfs3_types.specs.declared.replies.NfsReply.{NfsReply}
 use Rattle.nfs3_types.specs.declared.replies.Outcome.{Outcome}
 use Rattle.nfs3_types.specs.declared.replies.Outcome.TheVariants as outcomes
+use Rattle.nfs3_types.specs.Procedures.{procedure_answered}
+use Rattle.nfs3_msgs.specs.Messages.{IsResult, result_text}
 use Rattle.history_file.specs.declared.event.Event.TheVariants as events
 use Rattle.nfs_history.specs.declared.history.RecordedCall.{RecordedCall}
 use Rattle.nfs_history.specs.Precedence.{call_at}
@@ -105,6 +109,12 @@ abbrev pub IsShortAnswer : Ledger → ℕ → Outcome → Type 0
 IsShortAnswer ledger number outcome =
     (call : RecordedCall) (reply : NfsReply) → call_at ledger.history.known.calls number ≡ Some call → outcome ≡ outcomes.Received reply
     → length (reply_message call.xid reply) ≤ record_limit
+
+-- the reply's message reads as that reply
+abbrev pub IsSayable : Ledger → ℕ → Outcome → Type 0
+IsSayable ledger number outcome =
+    (call : RecordedCall) (reply : NfsReply) → call_at ledger.history.known.calls number ≡ Some call → outcome ≡ outcomes.Received reply
+    → IsReply (reply_message call.xid reply) (record { xid = call.xid; body = success (result_text reply) }) × IsResult (procedure_answered reply) (result_text reply) reply
 
 -- the bytes of the record, where there is one
 abbrev pub HoldsBytes : Bool → List ℕ → Option (Vec ℕ Global) → Type 0

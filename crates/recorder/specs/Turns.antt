@@ -7,7 +7,6 @@ use Rattle.nfs3_types.specs.declared.replies.Outcome.TheVariants as outcomes
 use Rattle.nfs3_types.specs.Procedures.{procedure_answered}
 use Rattle.nfs3_msgs.specs.Messages.{IsResult, result_text}
 use Rattle.nfs_history.specs.declared.history.RecordedCall.{RecordedCall}
-use Rattle.nfs_history.specs.Calls.{xid_of}
 use Rattle.nfs_history.specs.Precedence.{call_at}
 use Rattle.book_machine.specs.Placing.{Placed}
 use Rattle.book_machine.specs.Book.{Book}
@@ -56,6 +55,5 @@ pub record IsAnswerAt (ledger : Ledger) (number place : ℕ) (answer : List ℕ)
   pub reply : NfsReply
   pub received : placed.outcome ≡ outcomes.Received reply
   pub spelled : answer ≡ reply_message call.xid reply
-  pub said : xid_of answer ≡ call.xid
   pub is_reply : IsReply answer (record { xid = call.xid; body = success (result_text reply) })
   pub is_result : IsResult (procedure_answered reply) (result_text reply) reply

@@ -14,7 +14,7 @@ ghost use Rattle.book_machine.specs.Book.{handle_of};
 ghost use Rattle.book_machine.specs.Steps.{reply_message, journal_record};
 ghost use Rattle.recorder.specs.Inside.{IsAsked, IsTied, Goes, asked_by};
 ghost use Rattle.recorder.specs.Recordable.{may_make};
-ghost use Rattle.recorder.specs.PlaceSteps.{with_own, without_own, bound_if, HasRoom, IsSame, HasLost, NameAlike, TakesStep, HasStepped, HasNoStep, HasStayed, IsReceived, ShowsNow, MayGive, GivesAllowed, StopsWhere, IsShortAnswer, IsEntry, HasPlaced};
+ghost use Rattle.recorder.specs.PlaceSteps.{with_own, without_own, bound_if, HasRoom, IsSame, HasLost, NameAlike, TakesStep, HasStepped, HasNoStep, HasStayed, IsReceived, ShowsNow, MayGive, GivesAllowed, StopsWhere, IsShortAnswer, IsSayable, IsEntry, HasPlaced};
 
 use crate::calls::{is_recorded, may_make, verifier_of};
 use crate::fault::PlaceFault;
@@ -198,6 +198,7 @@ impl Ledger {
         requires received { IsReceived outcome.now }
         ensures entry { IfOk result (IsEntry self.now number outcome.now) }
         ensures fits { OnOk result (IsShortAnswer self.now number outcome.now) }
+        ensures said { OnOk result (IsSayable self.now number outcome.now) }
         ensures refused { IfErr result (StopsWhere (¬ IsShortAnswer self.now number outcome.now)) }
     {
         let Outcome::Received(reply) = outcome else {
@@ -230,7 +231,7 @@ impl Ledger {
         ensures same { IsSame self.old self.new }
         ensures room { OnOk result (HasRoom self.new) }
         ensures entry { IfOk result (IsEntry self.new number outcome.now) }
-        ensures fits { OnOk result (ShowsNow self.new number outcome.now × GivesAllowed self.new number outcome.now × IsShortAnswer self.new number outcome.now) }
+        ensures fits { OnOk result (ShowsNow self.new number outcome.now × GivesAllowed self.new number outcome.now × IsShortAnswer self.new number outcome.now × IsSayable self.new number outcome.now) }
         ensures refused { IfErr result (StopsWhere (¬ (ShowsNow self.new number outcome.now × MayGive self.new number outcome.now × IsShortAnswer self.new number outcome.now))) }
     {
         self.check_reply(number, outcome)?;

@@ -1,4 +1,4 @@
-use Rattle.std.proofs.Common.{◌<◌, ◌^◌, sym, ap, arith, rules, ◌∙◌}
+use Rattle.std.proofs.Common.{sym, ap, arith, ◌∙◌}
 use Rattle.recorder.specs.declared.placed.PlacedCall.{PlacedCall}
 use Rattle.recorder.proofs.Standing.{from_one, at_most}
 use Rattle.recorder.proofs.Answered.{item_is, its_call, its_place, its_reply, answer_so}
@@ -28,6 +28,5 @@ pub returns : goal.returns
 returns c =
     let stands = c.requires.stands in
     let is = item_is c.args.self.now.placed.items c.args.place stands.0 c.index-placed.result.now stands.1 c.index-placed.ensures in
-    let fits : c.call.result.now.xid < 2 ^ 32 = search rules in
     answer_so c.reply_message.result (λ m. m.items) c.args.self.now c.args.number c.args.place stands.0 c.call.result.now c.in-Received.reply stands.1 c.call.ensures
-    (sym (ap (λ (p : PlacedCall). p.outcome) is) ∙ c.in-Received.is) fits c.reply_message.ensures.message c.reply_message.ensures.spelled
+    (sym (ap (λ (p : PlacedCall). p.outcome) is) ∙ c.in-Received.is) c.reply_message.ensures.message c.reply_message.ensures.spelled
