@@ -30,6 +30,8 @@ pub struct Writer {
 #[derive(Drop)]
 pub(crate) struct FileLog {
     pub writers: Vec<Writer>,
+    /// The last era of which a crash took places.
+    crashed: Option<usize>,
 }
 
 /// One of a file's calls, by where it stands in the log.
@@ -93,8 +95,12 @@ impl Folded {
 }
 
 impl FileLog {
-    /// Notes that a crash took the places of an era but so many.
+    /// Notes that a crash took the places of an era but so many. Of one era it goes over the calls once, however often it is told.
     fn lose(&mut self, era: usize, kept: u64) {
+        if self.crashed == Some(era) {
+            return;
+        }
+        self.crashed = Some(era);
         for writer in self.writers.iter_mut().rev() {
             if writer.era != era || writer.place < kept {
                 break;
@@ -212,7 +218,11 @@ impl Files {
         let mut writers = Vec::new(self.alloc);
         writers.push(writer)?;
         let key = Vec::from_slice(self.alloc, handle)?;
-        self.logs.insert(key, FileLog { writers })?;
+        let log = FileLog {
+            writers,
+            crashed: None,
+        };
+        self.logs.insert(key, log)?;
         Ok(())
     }
 
