@@ -20,8 +20,8 @@ impl Model for Record {
 }
 
 impl Record {
-    /// The record of these bytes.
-    pub(crate) fn from_slice(alloc: Global, bytes: &[u8]) -> Result<Record, AllocError>
+    /// The record of these bytes, as of a journal that was kept in a file. It takes the room of the bytes.
+    pub fn from_slice(alloc: Global, bytes: &[u8]) -> Result<Record, AllocError>
         ensures { IfOk result (λ r. r ≡ bytes.now) }
     {
         Ok(Record {

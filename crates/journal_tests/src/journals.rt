@@ -1,6 +1,6 @@
 //! Journals of a few records.
 
-use journal_device::{JournalDevice, SimDevice};
+use journal_device::{JournalDevice, Record, SimDevice};
 use journal_rebuild::{RebuildFault, rebuild};
 use journal_records::put_record;
 use replay_law::Replayable;
@@ -48,9 +48,19 @@ fn record(alloc: Global, number: u64, call: &str, reply: &str) -> Result<Vec<u8>
     Ok(out)
 }
 
+/// The records of the journal, made of their bytes again, as of one that was kept in a file.
+fn read_again(alloc: Global, device: &SimDevice) -> Result<Vec<Record>, Fail> {
+    let mut records = Vec::new(alloc);
+    for record in device.records() {
+        records.push(Record::from_slice(alloc, record.as_slice())?)?;
+    }
+    Ok(records)
+}
+
 /// Whether the tree of the journal is printed so.
 fn is_printed(alloc: Global, device: &SimDevice, want: &[u8]) -> Result<bool, Fail> {
-    let tree = rebuild(alloc, device.records())?;
+    let records = read_again(alloc, device)?;
+    let tree = rebuild(alloc, records.as_slice())?;
     let mut out = Vec::new(alloc);
     tree.print_state(&mut out)?;
     Ok(out.as_slice() == want)

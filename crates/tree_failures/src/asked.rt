@@ -41,7 +41,14 @@ pub(crate) fn first_place(call: &NfsCall) -> Option<&DirectoryName>
         NfsCall::Remove(place) => Some(place),
         NfsCall::RmDir(place) => Some(place),
         NfsCall::Rename(call) => Some(&call.from),
-        _ => None,
+        NfsCall::GetAttr(_)
+        | NfsCall::SetAttr(_)
+        | NfsCall::ReadLink(_)
+        | NfsCall::Read(_)
+        | NfsCall::Write(_)
+        | NfsCall::ReadDir(_)
+        | NfsCall::ReadDirPlus(_)
+        | NfsCall::Commit(_) => None,
     }
 }
 
@@ -72,7 +79,19 @@ pub(crate) fn is_listing_call(call: &NfsCall) -> bool
     match call {
         NfsCall::ReadDir(_) => true,
         NfsCall::ReadDirPlus(_) => true,
-        _ => false,
+        NfsCall::GetAttr(_)
+        | NfsCall::SetAttr(_)
+        | NfsCall::Lookup(_)
+        | NfsCall::ReadLink(_)
+        | NfsCall::Read(_)
+        | NfsCall::Write(_)
+        | NfsCall::Create(_)
+        | NfsCall::MkDir(_)
+        | NfsCall::SymLink(_)
+        | NfsCall::Remove(_)
+        | NfsCall::RmDir(_)
+        | NfsCall::Rename(_)
+        | NfsCall::Commit(_) => false,
     }
 }
 
@@ -98,7 +117,17 @@ pub(crate) fn file_wanted(call: &NfsCall) -> Option<&FileHandle>
                 None
             }
         }
-        _ => None,
+        NfsCall::GetAttr(_)
+        | NfsCall::Lookup(_)
+        | NfsCall::ReadLink(_)
+        | NfsCall::Create(_)
+        | NfsCall::MkDir(_)
+        | NfsCall::SymLink(_)
+        | NfsCall::Remove(_)
+        | NfsCall::RmDir(_)
+        | NfsCall::Rename(_)
+        | NfsCall::ReadDir(_)
+        | NfsCall::ReadDirPlus(_) => None,
     }
 }
 
@@ -111,6 +140,16 @@ pub(crate) fn entry_wanted(call: &NfsCall) -> Option<&DirectoryName>
         NfsCall::Remove(place) => Some(place),
         NfsCall::RmDir(place) => Some(place),
         NfsCall::Rename(call) => Some(&call.from),
-        _ => None,
+        NfsCall::GetAttr(_)
+        | NfsCall::SetAttr(_)
+        | NfsCall::ReadLink(_)
+        | NfsCall::Read(_)
+        | NfsCall::Write(_)
+        | NfsCall::Create(_)
+        | NfsCall::MkDir(_)
+        | NfsCall::SymLink(_)
+        | NfsCall::ReadDir(_)
+        | NfsCall::ReadDirPlus(_)
+        | NfsCall::Commit(_) => None,
     }
 }
