@@ -6,7 +6,8 @@ use Rattle.certificate.specs.declared.plan.Certificate.{Certificate}
 use Rattle.certificate.specs.declared.line.Line.{Line}
 use Rattle.certificate.specs.declared.line.Line.TheVariants as lines
 use Rattle.certificate.specs.CertificateText.{CertificateText, line}
-use Rattle.certificate.specs.BadLine.{Lacks, Begins, IsBadLine}
+use Rattle.text_words.specs.Words.{Lacks}
+use Rattle.certificate.specs.BadLine.{Begins, IsBadLine}
 use Rattle.certificate.specs.Line.{IsLine, Follows, last_of, words_of}
 use Rattle.certificate.proofs.Said.{no_feed}
 use Rattle.certificate.proofs.Listed.{text_of, AreLines, lines_of, text-lines_of, AreLines-lines_of, cut_line, nonempty, goes_on}

@@ -10,9 +10,10 @@ use Rattle.certificate.specs.declared.line.Line.TheVariants as lines
 use Rattle.certificate.specs.CertificateText.{CertificateText, IsCertificate, line, bind_lines, era_lines}
 use Rattle.certificate.specs.Draft.{AreBinds, ArePlaces, spelled_by}
 use Rattle.std.specs.List.{flat_map}
-use Rattle.certificate.specs.BadLine.{Lacks, Begins, IsBadLine}
+use Rattle.text_words.specs.Words.{Lacks}
+use Rattle.certificate.specs.BadLine.{Begins, IsBadLine}
 use Rattle.certificate.specs.Line.{IsLine, Follows, last_of, words_of, behind_first}
-use Rattle.certificate.proofs.Words.{split_same, no_split}
+use Rattle.text_words.proofs.Cuts.{split_same, no_split}
 use Rattle.certificate.proofs.Said.{no_feed}
 use Rattle.certificate.proofs.Listed.{text_of, AreLines, lines_of, text-append, text-behind_first, AreLines-behind_first, cut_line, all_append}
 use Rattle.certificate.proofs.Order.{NotEnd, in_order, follows_last, last-lines_of, goes_on_behind, last-append}

@@ -3,7 +3,7 @@ use Rattle.std.proofs.Common.{◌≡◌, ℕ, suc, ◌≤◌, false, List, [], �
 use Rattle.std.specs.List.{AllPass}
 use Rattle.hex.specs.Hex.{IsBytes, encode_lower, lower_digits, decode_of, is_hex_digit}
 use Rattle.hex.proofs.HexLemmas.{length-encode_with, decode_of-encode_lower, decode_of-ok, decode_of-same}
-use Rattle.certificate.specs.BadLine.{Lacks}
+use Rattle.text_words.specs.Words.{Lacks}
 use Rattle.certificate.specs.Line.{WritesHandle}
 
 Lacks-passed : (byte : ℕ) (xs : List ℕ) → is_hex_digit byte ≡ false → AllPass is_hex_digit xs → Lacks byte xs

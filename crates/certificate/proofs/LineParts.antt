@@ -6,9 +6,9 @@ use Rattle.certificate.specs.declared.plan.Bind.{Bind}
 use Rattle.certificate.specs.declared.plan.Place.{Place}
 use Rattle.certificate.specs.declared.plan.Place.TheVariants.{Answered, Taken}
 use Rattle.certificate.specs.declared.line.Line.TheVariants as lines
-use Rattle.certificate.specs.BadLine.{Lacks}
+use Rattle.text_words.specs.Words.{Lacks}
 use Rattle.certificate.specs.Line.{IsLine, WritesHandle}
-use Rattle.certificate.proofs.Words.{split_same, no_split, Lacks-decimal}
+use Rattle.text_words.proofs.Cuts.{split_same, no_split, Lacks-decimal}
 use Rattle.certificate.proofs.Hex.{Lacks-hex}
 
 pub other_first : (a b : ℕ) (xs ys : List ℕ) → eqb a b ≡ false → a ∷ xs ≡ b ∷ ys → ⊥

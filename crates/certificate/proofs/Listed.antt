@@ -11,9 +11,9 @@ use Rattle.certificate.specs.declared.line.Line.{Line}
 use Rattle.certificate.specs.declared.line.Line.TheVariants as lines
 use Rattle.certificate.specs.CertificateText.{line, spelling, bind_lines, place_lines, cut_lines, era_lines, HasHandle, HasNumbers, HasNumbersInEra, IsCertificate}
 use Rattle.certificate.specs.Draft.{AreBinds, ArePlaces, spelled_by}
-use Rattle.certificate.specs.BadLine.{Lacks}
+use Rattle.text_words.specs.Words.{Lacks}
 use Rattle.certificate.specs.Line.{IsLine, words_of, bind_list, place_list, cut_list, era_list, behind_first}
-use Rattle.certificate.proofs.Words.{split_same}
+use Rattle.text_words.proofs.Cuts.{split_same}
 use Rattle.certificate.proofs.Said.{words_same, no_feed}
 
 abbrev pub text_of : List Line → List ℕ

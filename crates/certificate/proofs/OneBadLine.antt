@@ -3,7 +3,8 @@ use Rattle.std.proofs.Common.{◌≡◌, ℕ, ◌<◌, inl, inr, List, [], ◌�
 use Rattle.std.specs.List.{AllByRecursion, flat_map}
 use Rattle.std.proofs.lemmas.Bool.{cases_lt}
 use Rattle.certificate.specs.CertificateText.{CertificateText, line}
-use Rattle.certificate.specs.BadLine.{Lacks, Begins, IsBadLine}
+use Rattle.text_words.specs.Words.{Lacks}
+use Rattle.certificate.specs.BadLine.{Begins, IsBadLine}
 use Rattle.certificate.proofs.Listed.{cut_line}
 
 one_more : (x y xs ys word rest : List ℕ) → x ≡ y → ys ≡ (xs ++ word) ++ rest → line y ++ ys ≡ ((line x ++ xs) ++ word) ++ rest

@@ -9,9 +9,9 @@ use Rattle.certificate.specs.declared.plan.Bind.{Bind}
 use Rattle.certificate.specs.declared.plan.Place.TheVariants.{Answered, Taken}
 use Rattle.certificate.specs.declared.line.Line.{Line}
 use Rattle.certificate.specs.declared.line.Line.TheVariants as lines
-use Rattle.certificate.specs.BadLine.{Lacks}
+use Rattle.text_words.specs.Words.{Lacks}
 use Rattle.certificate.specs.Line.{IsLine}
-use Rattle.certificate.proofs.Words.{split_same, no_split, Lacks-decimal, Lacks-append}
+use Rattle.text_words.proofs.Cuts.{split_same, no_split, Lacks-decimal, Lacks-append}
 use Rattle.certificate.proofs.Hex.{Lacks-hex, decoded_is}
 use Rattle.certificate.proofs.LineParts.{parts_of_bind, other_first}
 

@@ -1,14 +1,11 @@
 -- The line at which a text is no longer a certificate's (of this project's own format).
-use Rattle.std.specs.Prelude.{◌≡◌, ◌≢◌, ℕ, ◌+◌, List, ◌++◌, length}
+use Rattle.std.specs.Prelude.{◌≡◌, ℕ, ◌+◌, List, ◌++◌, length}
 use Rattle.std.specs.List.{flat_map, AllByRecursion}
+use Rattle.text_words.specs.Words.{Lacks}
 use Rattle.certificate.specs.declared.plan.Certificate.{Certificate}
 use Rattle.certificate.specs.declared.reading.TextFault.{TextFault}
 use Rattle.certificate.specs.declared.reading.TextFault.TheVariants.{BadLine, NoMemory}
 use Rattle.certificate.specs.CertificateText.{CertificateText, line}
-
--- the byte stands nowhere
-abbrev pub Lacks : ℕ → List ℕ → Type 0
-Lacks byte bytes = AllByRecursion (λ b. b ≢ byte) bytes
 
 -- the text begins some certificate's text
 pub record Begins (text : List ℕ) : Type 0 where

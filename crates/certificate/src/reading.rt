@@ -9,10 +9,11 @@ ghost use Rattle.certificate.specs.declared.reading.TextFault.TheVariants.{BadLi
 ghost use Rattle.certificate.specs.BadLine.{IsBadLine, FaultHolds};
 ghost use Rattle.certificate.specs.Draft.{TakesLine, AreBinds, ArePlaces, spelled_by};
 
-use crate::line::{Line, behind, read_line, split_at_byte};
+use crate::line::{Line, read_line};
 use crate::plan::{Bind, BindList, Certificate, EraPlan, EraPlanList, Place, PlaceList};
 use std::alloc::{AllocError, Global};
 use std::{fmt, mem};
+use text_words::{behind, split_at_byte};
 use thiserror::Error;
 
 /// Why a text is no certificate.

@@ -6,7 +6,8 @@ use Rattle.plan_text.specs.declared.plan.Plan.{Plan}
 use Rattle.plan_text.specs.declared.line.Line.{Line}
 use Rattle.plan_text.specs.declared.line.Line.TheVariants as lines
 use Rattle.plan_text.specs.PlanText.{PlanText, line}
-use Rattle.plan_text.specs.BadLine.{Lacks, Begins, IsBadLine}
+use Rattle.text_words.specs.Words.{Lacks}
+use Rattle.plan_text.specs.BadLine.{Begins, IsBadLine}
 use Rattle.plan_text.specs.Line.{IsFit, IsLine, AreInOrder, last_of, words_of, text_of}
 use Rattle.plan_text.specs.Draft.{behind_first, MayFollow}
 use Rattle.plan_text.proofs.Said.{no_feed}

@@ -7,10 +7,11 @@ use Rattle.plan_text.specs.declared.plan.Plan.{Plan}
 use Rattle.plan_text.specs.declared.line.Line.{Line}
 use Rattle.plan_text.specs.declared.line.Line.TheVariants as lines
 use Rattle.plan_text.specs.PlanText.{PlanText, line, spelling}
-use Rattle.plan_text.specs.BadLine.{Lacks, Begins, IsBadLine}
+use Rattle.text_words.specs.Words.{Lacks}
+use Rattle.plan_text.specs.BadLine.{Begins, IsBadLine}
 use Rattle.plan_text.specs.Line.{IsFit, IsLine, Follows, NotEnd, last_of, words_of, text_of}
 use Rattle.plan_text.specs.Draft.{behind_first, IsBegun, MayFollow}
-use Rattle.plan_text.proofs.Cuts.{split_same, no_split}
+use Rattle.text_words.proofs.Cuts.{split_same, no_split}
 use Rattle.plan_text.proofs.Said.{no_feed}
 use Rattle.plan_text.proofs.Listed.{AreFit, plan_of, lines_of, text-lines_of, text-append, cut_line, all_append}
 use Rattle.plan_text.proofs.Order.{last-append, last-lines_of, follows_last}

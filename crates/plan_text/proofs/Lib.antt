@@ -1,4 +1,3 @@
-pub mod Cuts
 pub mod Said
 pub mod Parts
 pub mod Listed

@@ -8,10 +8,10 @@ use Rattle.plan_text.specs.declared.plan.Plan.{Plan}
 use Rattle.plan_text.specs.declared.line.Line.{Line}
 use Rattle.plan_text.specs.declared.line.Line.TheVariants as lines
 use Rattle.plan_text.specs.PlanText.{line, spelling, step_words, fault_lines, fault_count, HasNumbers, IsFault}
-use Rattle.plan_text.specs.BadLine.{Lacks}
+use Rattle.text_words.specs.Words.{Lacks}
 use Rattle.plan_text.specs.Line.{IsFit, words_of, text_of}
 use Rattle.plan_text.specs.Draft.{append_list, barrier_list, step_list, behind_first}
-use Rattle.plan_text.proofs.Cuts.{split_same}
+use Rattle.text_words.proofs.Cuts.{split_same}
 use Rattle.plan_text.proofs.Said.{line_same, no_feed}
 
 abbrev pub AreFit : List Line → Type 0

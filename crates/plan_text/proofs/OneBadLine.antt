@@ -3,7 +3,8 @@ use Rattle.std.proofs.Common.{◌≡◌, ℕ, ◌<◌, inl, inr, List, [], ◌�
 use Rattle.std.specs.List.{AllByRecursion, flat_map}
 use Rattle.std.proofs.lemmas.Bool.{cases_lt}
 use Rattle.plan_text.specs.PlanText.{PlanText, line}
-use Rattle.plan_text.specs.BadLine.{Lacks, Begins, IsBadLine}
+use Rattle.text_words.specs.Words.{Lacks}
+use Rattle.plan_text.specs.BadLine.{Begins, IsBadLine}
 use Rattle.plan_text.proofs.Listed.{cut_line}
 
 one_more : (x y xs ys word rest : List ℕ) → x ≡ y → ys ≡ (xs ++ word) ++ rest → line y ++ ys ≡ ((line x ++ xs) ++ word) ++ rest

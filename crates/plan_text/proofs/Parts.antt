@@ -10,9 +10,9 @@ use Rattle.plan_text.specs.declared.plan.Step.TheVariants.{Lane, Go, Crash}
 use Rattle.plan_text.specs.declared.line.Line.{Line}
 use Rattle.plan_text.specs.declared.line.Line.TheVariants as lines
 use Rattle.plan_text.specs.PlanText.{◌␣◌, level_word, operation_words, IsName, HasNames}
-use Rattle.plan_text.specs.BadLine.{Lacks}
+use Rattle.text_words.specs.Words.{Lacks}
 use Rattle.plan_text.specs.Line.{Tells, IsOperation, IsStep, IsLine}
-use Rattle.plan_text.proofs.Cuts.{no_split, Lacks-decimal}
+use Rattle.text_words.proofs.Cuts.{no_split, Lacks-decimal}
 use Rattle.plan_text.proofs.Said.{differ, Lacks-name, cut_space, other_letter}
 
 -- where what is meant has a part, and that part isn't read, it isn't read either

@@ -13,9 +13,9 @@ use Rattle.plan_text.specs.declared.plan.Step.TheVariants.{Lane, Go, Crash}
 use Rattle.plan_text.specs.declared.line.Line.{Line}
 use Rattle.plan_text.specs.declared.line.Line.TheVariants as lines
 use Rattle.plan_text.specs.PlanText.{◌␣◌, level_word, operation_words, step_words, IsNameByte, IsName, HasNames, HasNumbers}
-use Rattle.plan_text.specs.BadLine.{Lacks}
+use Rattle.text_words.specs.Words.{Lacks}
 use Rattle.plan_text.specs.Line.{words_of, IsFit}
-use Rattle.plan_text.proofs.Cuts.{split_same, Lacks-decimal, Lacks-append}
+use Rattle.text_words.proofs.Cuts.{split_same, Lacks-decimal, Lacks-append}
 
 pub differ : (a b : ℕ) → eqb a b ≡ false → a ≡ b → ⊥
 differ a b not same = cc (sym not ∙ eq-eqb a b same)

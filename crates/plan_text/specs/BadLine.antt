@@ -1,14 +1,11 @@
 -- The line at which a text is no longer a plan's (of this project's own format).
-use Rattle.std.specs.Prelude.{◌≡◌, ◌≢◌, ℕ, ◌+◌, List, ◌++◌, length}
+use Rattle.std.specs.Prelude.{◌≡◌, ℕ, ◌+◌, List, ◌++◌, length}
 use Rattle.std.specs.List.{flat_map, AllByRecursion}
+use Rattle.text_words.specs.Words.{Lacks}
 use Rattle.plan_text.specs.declared.plan.Plan.{Plan}
 use Rattle.plan_text.specs.declared.reading.PlanFault.{PlanFault}
 use Rattle.plan_text.specs.declared.reading.PlanFault.TheVariants.{BadPlan, NoMemory}
 use Rattle.plan_text.specs.PlanText.{PlanText, line}
-
--- the byte stands nowhere
-abbrev pub Lacks : ℕ → List ℕ → Type 0
-Lacks byte bytes = AllByRecursion (λ b. b ≢ byte) bytes
 
 -- the text begins some plan's text
 pub record Begins (text : List ℕ) : Type 0 where

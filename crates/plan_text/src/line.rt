@@ -6,8 +6,9 @@ ghost use Rattle.plan_text.specs.PlanText.{IsFault};
 
 use crate::operation::read_operation;
 use crate::plan::{LaneStep, Step};
-use crate::words::{WordFault, behind, count_of, number_of, split_at_byte};
+use crate::words::WordFault;
 use std::alloc::Global;
+use text_words::{behind, count_of, number_of, split_at_byte};
 
 /// The greatest lane.
 const LANE_LIMIT: u32 = 64;

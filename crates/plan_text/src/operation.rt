@@ -5,8 +5,9 @@ ghost use Rattle.plan_text.specs.Line.{Tells, IsOperation};
 ghost use Rattle.plan_text.specs.PlanText.{HasNames};
 
 use crate::plan::Operation;
-use crate::words::{WordFault, behind, count_of, level_of, name_of, number_of, split_at_byte};
+use crate::words::{WordFault, level_of, name_of};
 use std::alloc::Global;
+use text_words::{behind, count_of, number_of, split_at_byte};
 
 fn rename_of(alloc: Global, words: &[u8]) -> Result<Operation, WordFault>
     ensures { Tells (IsOperation (codes "rename " ++ words.now)) result }

@@ -11,9 +11,10 @@ ghost use Rattle.plan_text.specs.Draft.{IsDraft, Takes, TakesLine, lines_in};
 
 use crate::line::{Line, is_crash, is_lane, read_line};
 use crate::plan::{Plan, Step, StepList};
-use crate::words::{WordFault, behind, split_at_byte};
+use crate::words::WordFault;
 use std::alloc::{AllocError, Global};
 use std::fmt;
+use text_words::{behind, split_at_byte};
 use thiserror::Error;
 
 /// The most lines of a plan, all counted.

@@ -3,7 +3,7 @@ use Rattle.std.proofs.lemmas.Fmt.{parse-decimal, IsAscii-decimal}
 use Rattle.std.proofs.lemmas.Str.{IsUtf8-from_ascii}
 use Rattle.std.specs.Cmp.Lexicographic.{other_text}
 use Rattle.std.specs.Str.{IsUtf8}
-use Rattle.certificate.proofs.line.number_of.Goals as goal
+use Rattle.text_words.proofs.number_of.Goals as goal
 
 pub returns-in_default : goal.returns-in_default
 returns-in_default c = λ n small e.

@@ -1,7 +1,7 @@
 use Rattle.std.proofs.Common.{◌≡◌, ℕ, ◌<◌, ◌^◌, List, decimal, Result, Ok, Err, sym, ◌∙◌, arith, MatchOption}
 use Rattle.std.specs.Result.{OkIff, result_ok}
 use Rattle.std.proofs.lemmas.Fmt.{decimal_injective}
-use Rattle.certificate.proofs.line.count_of.Goals as goal
+use Rattle.text_words.proofs.count_of.Goals as goal
 
 fits : {E : Type 0} (digits : List ℕ) (number : ℕ) (r : Result ℕ E) → digits ≡ decimal number → number < 2 ^ 64 → OkIff r (number < 2 ^ 32) number → MatchOption (result_ok r) ((n : ℕ) → n < 2 ^ 32 → digits ≡ decimal n → ⊥) (λ n. (digits ≡ decimal n) × (n < 2 ^ 32))
 fits digits number (Ok n) is small h =

@@ -1,7 +1,7 @@
 use Rattle.std.proofs.Common.{◌≡◌, ◌+◌, ◌∷◌, ◌++◌, suc, length, take, drop, sym, ap, ◌∙◌, arith}
 use Rattle.std.proofs.lemmas.Slice.{between_to_end}
-use Rattle.plan_text.proofs.Cuts.{lacks_where_none, cut_where_some}
-use Rattle.plan_text.proofs.words.split_at_byte.Goals as goal
+use Rattle.text_words.proofs.Cuts.{lacks_where_none, cut_where_some}
+use Rattle.text_words.proofs.split_at_byte.Goals as goal
 
 pub returns-in_err-at : goal.returns-in_err-at
 returns-in_err-at c =
