@@ -96,6 +96,6 @@ def change_text(dice: Dice, text: bytes) -> bytes:
 
 
 def change_files(dice: Dice, history: bytes, text: bytes):
-    if dice.chance(0.6):
+    if dice.chance(0.4):
         return dice.weighted(HISTORY_CHANGES)(dice, history), text
     return history, change_text(dice, text)

@@ -2,7 +2,7 @@
 from . import draws
 from . import layouts as nfs
 from . import rpc
-from .clients import CREATE_VERIFIERS
+from .clients import CREATE_VERIFIERS, range_beside
 from .draws import FAR, ODD_NAMES, Dice
 from .histories import MESSAGE_LIMIT
 from .runs import Run
@@ -36,11 +36,7 @@ def aim_commit(dice, run):
     first, last = write.arguments["offset"], write.arguments["offset"] + len(write.arguments["data"])
     if dice.chance(0.3):
         commit.arguments["object"] = write.arguments["object"]
-    if dice.chance(0.5):
-        commit.arguments.update(offset=max(0, last + dice.choice([-1, 0, 0, 1])), count=dice.choice([0, 1, 5]))
-    else:
-        commit.arguments["offset"] = offset = dice.randrange(first + 1)
-        commit.arguments["count"] = max(0, first - offset + dice.choice([-1, 0, 0, 1, 1]))
+    commit.arguments.update(range_beside(dice, first, last))
     return True
 
 
@@ -79,7 +75,7 @@ def change_write(dice, run):
         return False
     kind = dice.randrange(3)
     if kind == 0:
-        call.arguments["level"] = dice.randrange(3)
+        call.arguments["level"] = dice.choice([0, 1, 2, 3])
     elif kind == 1:
         call.arguments["data"] = dice.some(12)
         call.arguments["count"] = len(call.arguments["data"])
@@ -211,7 +207,6 @@ def spoil_head(dice, run):
     return True
 
 
-CHANGES = {
-    aim_commit: 8, shift_number: 4, change_name: 4, change_handle: 4, change_write: 4, change_create: 3, change_setattr: 2, go_far: 2, seal: 1,
-    make_large: 0.3, make_linking: 2, spoil_arguments: 3, address_elsewhere: 1, spoil_head: 1,
-}
+CHANGES = {aim_commit: 6, shift_number: 4, change_name: 4, change_handle: 4, change_write: 4, change_create: 3, change_setattr: 2, go_far: 2,
+           make_large: 0.3, address_elsewhere: 1}
+GRAMMAR_CHANGES = {seal: 1, make_linking: 2, spoil_arguments: 4, spoil_head: 2}

@@ -14,6 +14,7 @@ TRIES = 20
 WANTED = {"Verifier": 9, "ShortCut": 8, "Outside TooFar": 7, "Outside CountDiffers": 7, "TooLarge": 7, "Illegal": 6, "yes": 5, "Early": 4, "Missing": 3}
 AIMED = {"Verifier": 3, "ShortCut": 2, "yes": 1}
 VARIANTS = [1, 2, 3, 4]
+GRAMMAR_CHANGES = {**call_changes.GRAMMAR_CHANGES, **reply_changes.GRAMMAR_CHANGES}
 
 
 def change_run(dice: Dice, run: Run) -> None:
@@ -49,22 +50,32 @@ def spell(dice: Dice, run: Run):
 
 
 def variant(dice: Dice, run: Run, changes: int):
-    """The two files of a run with some changes, a few of them of the bytes."""
+    """The two files of a run with some changes."""
     run = copy.deepcopy(run)
-    of_bytes = sum(dice.chance(0.1) for _ in range(changes))
-    for _ in range(changes - of_bytes):
+    for _ in range(changes):
         change_run(dice, run)
-    files = spell(dice, run)
-    for _ in range(of_bytes):
-        files = byte_changes.change_files(dice, *files)
-    return files
+    return spell(dice, run)
+
+
+def spoiled(dice: Dice, run: Run, changes: int):
+    """The two files of a run whose last change is of the grammar: of a message, or of bytes of a file."""
+    for _ in range(changes - 1):
+        change_run(dice, run)
+    if dice.chance(0.5):
+        return byte_changes.change_files(dice, *spell(dice, run))
+    for _ in range(TRIES):
+        if dice.weighted(GRAMMAR_CHANGES)(dice, run):
+            break
+    return spell(dice, run)
 
 
 def make_case(seed: str):
     """The two files of a case."""
     dice = Dice(seed)
-    run, changes = make_run(dice), dice.weighted({0: 42, 1: 38, 2: 20})
+    run, changes = make_run(dice), dice.weighted({0: 45, 1: 37, 2: 18})
     if changes == 0:
         return spell(dice, run)
+    if dice.chance(0.25):
+        return spoiled(dice, run, changes)
     variants = [variant(dice, run, changes) for _ in range(dice.choice(VARIANTS))]
     return max(variants, key=lambda files: WANTED.get(judge(*files).name, 0))

@@ -8,7 +8,7 @@ FEW = dict.fromkeys(ALL, 0.2)
 THEMES = {
     "mixed": ALL,
     "data": {**FEW, nfs.WRITE: 12, nfs.READ: 5, nfs.COMMIT: 5, nfs.SETATTR: 1, nfs.CREATE: 1, nfs.GETATTR: 1},
-    "commits": {nfs.WRITE: 10, nfs.COMMIT: 6, nfs.READ: 1},
+    "commits": {nfs.WRITE: 10, nfs.COMMIT: 7, nfs.READ: 1, nfs.LOOKUP: 0.5},
     "dirs": {**ALL, nfs.MKDIR: 6, nfs.RENAME: 9, nfs.RMDIR: 4, nfs.REMOVE: 3, nfs.CREATE: 3, nfs.LOOKUP: 4, nfs.READDIR: 3, nfs.READDIRPLUS: 3},
     "made": {**ALL, nfs.CREATE: 12, nfs.REMOVE: 4, nfs.SYMLINK: 3, nfs.MKDIR: 2, nfs.LOOKUP: 3, nfs.READDIRPLUS: 3, nfs.READLINK: 2, nfs.GETATTR: 3},
 }
@@ -25,12 +25,13 @@ CREATE_VERIFIERS = [b"verify-1", b"verify-1", b"verify-1", b"verify-1", b"verify
 
 
 class World:
-    """What stands at the server, and the handles that it ever gave."""
+    """What stands at the server, the handles that it ever gave, and this era's WRITEs (handle, first byte, end)."""
 
     def __init__(self, dice: Dice, root: bytes, tree: dict):
         self.root, self.tree, self.handles = root, tree, {0: [root]}
         self.names = dice.choice(NAME_POOLS)
-        self.right_share, self.hit_share, self.odd_share = 86, 0, 0.06
+        self.right_share, self.hit_share, self.odd_share, self.alias_share = 86, 0, 0.06, dice.choice([0.05, 0.05, 0.4])
+        self.writes = []
 
     def known(self) -> set:
         return {handle for handles in self.handles.values() for handle in handles}
@@ -41,7 +42,7 @@ class World:
     def handle_for(self, dice: Dice, number: int) -> bytes:
         """A handle of an object; now and then another one than before."""
         handles = self.handles.setdefault(number, [])
-        if not handles or dice.chance(0.05):
+        if not handles or dice.chance(self.alias_share):
             handles.append(draws.fresh_handle(dice, self.known()))
         return dice.choice(handles)
 
@@ -116,9 +117,22 @@ def listing_arguments(dice, world):
 
 
 def commit_arguments(dice, world):
+    """Mostly a range that begins or ends at an edge of what a WRITE wrote, or one byte beside it, by the same handle or another."""
     handle = any_handle(dice, world, {nfs.REGULAR})
-    offset = 0 if dice.chance(0.5) else offset_near(dice, world, handle)
-    return {"object": handle, "offset": offset, "count": dice.choice([0, 0, 1, 2, 3, 6, 2**32 - 1])}
+    if not world.writes or dice.chance(0.3):
+        return {"object": handle, "offset": 0 if dice.chance(0.5) else offset_near(dice, world, handle), "count": dice.choice([0, 0, 1, 3, 6, 2**32 - 1])}
+    written, first, end = dice.choice(world.writes)
+    if dice.chance(0.7):
+        handle = dice.choice([written] + next((handles for handles in world.handles.values() if written in handles), []))
+    return {"object": handle, **range_beside(dice, first, end)}
+
+
+def range_beside(dice: Dice, first: int, end: int) -> dict:
+    """A range that begins where these bytes end, or ends where they begin, or one byte more or less."""
+    if dice.chance(0.5):
+        return {"offset": max(0, end + dice.choice([-1, 0, 0, 1])), "count": dice.choice([0, 0, 1, 5])}
+    offset = dice.randrange(first + 1)
+    return {"offset": offset, "count": max(0, first - offset + dice.choice([-1, 0, 0, 1, 1]))}
 
 
 def arguments_for(dice: Dice, world: World, procedure: int) -> dict:

@@ -36,6 +36,16 @@ def move_in_era(dice, run):
     return era is not None
 
 
+def shuffle_some(dice, run):
+    era = era_with(dice, run, 3)
+    if era:
+        at, size = dice.randrange(len(era.places) - 2), dice.choice([3, 4, 6])
+        some = era.places[at:at + size]
+        dice.shuffle(some)
+        era.places[at:at + size] = some
+    return era is not None
+
+
 def move_over_era(dice, run):
     """A place goes to another era; now and then the cut goes with it."""
     full = [at for at, era in enumerate(run.eras) if era.places]
@@ -215,7 +225,7 @@ def disorder_binds(dice, run):
 
 
 CHANGES = {
-    swap_neighbours: 5, swap_two: 3, move_in_era: 3, move_over_era: 3, drop_place: 2, double_place: 1, exchange_taken: 2, change_count: 2, change_number: 2,
+    swap_neighbours: 5, swap_two: 3, move_in_era: 3, shuffle_some: 3, move_over_era: 3, drop_place: 2, double_place: 1, exchange_taken: 2, change_count: 2, change_number: 2,
     take_unanswered: 5, leave_taken_out: 2, place_unjudged: 1, shift_cut: 7, join_eras: 1, split_era: 1, change_bind: 3, drop_bind: 2, add_bind: 2,
     disorder_binds: 1,
 }

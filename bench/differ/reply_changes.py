@@ -88,7 +88,7 @@ def change_written(dice, run):
     if reply is None:
         return False
     if dice.chance(0.4):
-        reply.value["level"] = dice.randrange(3)
+        reply.value["level"] = dice.choice([0, 0, 1, 1, 2, 2, 3])
     else:
         count = reply.value["count"]
         reply.value["count"] = dice.choice([0, 0, max(0, count - 1), count + 1, call.arguments["count"]])
@@ -101,7 +101,7 @@ def change_read(dice, run):
         return False
     kind, value = dice.randrange(6), reply.value
     if kind == 0:
-        value["eof"] = not value["eof"]
+        value["eof"] = 2 if dice.chance(0.1) else not value["eof"]
     elif kind == 1:
         value["count"] = max(0, value["count"] + dice.choice([-1, 1]))
     elif kind == 2 and value["data"]:
@@ -157,7 +157,7 @@ def change_shown(dice, run):
     if call.procedure == nfs.READLINK:
         reply.value["text"] = dice.choice([reply.value["text"] + b"x", reply.value["text"][:-1], b""])
     elif dice.chance(0.5):
-        reply.value["attributes"]["type"] = dice.randrange(1, 8)
+        reply.value["attributes"]["type"] = dice.randrange(9)
     else:
         reply.value["attributes"]["size"] = max(0, reply.value["attributes"]["size"] + dice.choice([-1, 1, 2**32]))
     return True
@@ -240,7 +240,6 @@ def spoil_reply(dice, run):
     return True
 
 
-CHANGES = {
-    change_status: 6, make_success: 5, change_verifier: 4, share_verifier: 3, change_written: 4, change_read: 8, change_listing: 6, change_shown: 4,
-    change_shown_handle: 4, change_attributes: 1, spoil_result: 3, refuse_call: 1, spoil_reply: 1,
-}
+CHANGES = {change_status: 6, make_success: 5, change_verifier: 4, share_verifier: 3, change_written: 4, change_read: 8, change_listing: 6,
+           change_shown: 4, change_shown_handle: 4, change_attributes: 1, refuse_call: 1}
+GRAMMAR_CHANGES = {spoil_result: 4, spoil_reply: 3}

@@ -35,21 +35,31 @@ class Served:
         return self.result is not None and self.result[0] == 0
 
 
+# A server that keeps to the rules; one that once gives a reply that it may not give; one that loses what is stable, and shows any write verifier.
+KINDS = {
+    "right": {"mixed": 3, "data": 3, "commits": 1, "dirs": 3, "made": 2},
+    "lying": {"mixed": 3, "dirs": 2, "made": 2},
+    "careless": {"data": 3, "commits": 5, "mixed": 1},
+}
+
+
 class Habits:
     """How one run goes."""
 
     def __init__(self, dice: Dice):
-        self.lies_at = dice.randrange(5, 20) if dice.chance(0.4) else None
-        theme = dice.weighted({"mixed": 3, "data": 4, "commits": 2, "dirs": 4, "made": 2} if self.lies_at is None else {"mixed": 3, "dirs": 2, "made": 2})
+        kind = dice.weighted({"right": 40, "lying": 35, "careless": 25})
+        self.lies_at = dice.randrange(5, 20) if kind == "lying" else None
+        self.is_careless = kind == "careless"
+        theme = dice.weighted(KINDS[kind])
         self.weights, (starts, self.start_weights) = THEMES[theme], STARTS[theme]
-        self.start_calls = dice.choice(starts) if self.lies_at is None else dice.randrange(5, 14)
+        self.start_calls = dice.randrange(4, 12) if kind == "lying" else dice.choice(starts)
         self.events = dice.choice([0, 3, 6, 10, 14, 20, 24, 30, 40])
         if dice.chance(0.03):
             self.events = dice.randrange(60, 200) if dice.chance(0.9) else dice.randrange(300, 1500)
         if theme == "commits":
             self.events += 15
         self.lanes, self.most_open = dice.randrange(1, 5), dice.choice([1, 2, 2, 3, 5])
-        self.crash_share = dice.choice([0, 0.05, 0.08, 0.12, 0.2])
+        self.crash_share = dice.choice([0.06, 0.1, 0.15] if self.is_careless else [0, 0.06, 0.1, 0.15, 0.25])
         self.close_share = dice.choice([0, 0, 0.03])
         self.unanswered_share = dice.choice([0, 0.05, 0.1, 0.25])
         self.success_share = dice.choice([0.6, 0.85, 0.97])
@@ -121,6 +131,8 @@ class Server:
         status, value, tree = replies.reply_to(self.dice, self.world, served.number, served.procedure, served.arguments, success_share)
         served.result, served.tree = (status, value), tree
         self.world.tree = tree
+        if served.procedure == nfs.WRITE and status == 0:
+            self.world.writes.append((served.arguments["object"], served.arguments["offset"], served.arguments["offset"] + value["count"]))
         self.placed.append(served)
 
     def lie(self) -> None:
@@ -171,7 +183,7 @@ class Server:
         self.end_era(has_cut=True)
         self.run.events.append(CrashEvent())
         self.closed |= self.used
-        self.used, self.open, self.placed = set(), [], []
+        self.used, self.open, self.placed, self.world.writes = set(), [], [], []
         self.lanes = [lane for lane in self.lanes if lane not in self.closed]
 
     # Eras
@@ -187,6 +199,8 @@ class Server:
         binds = replies.binds_of(self.world)
         needed = max((at + 1 for at in range(len(listed)) if is_stable(binds, answered, at)), default=0)
         era.cut = dice.choice([needed, needed, len(listed), dice.randrange(needed, len(listed) + 1)])
+        if self.habits.is_careless:
+            era.cut = dice.choice([needed, needed, dice.randrange(needed, len(listed) + 1), max(0, needed - 1), dice.randrange(len(listed) + 1)])
         self.world.tree = self.base = listed[era.cut - 1].tree if era.cut else self.base
         self.next_verifier(answered, answered[era.cut:])
 
@@ -196,8 +210,8 @@ class Server:
         self.verifiers.append(self.world.verifier)
         if shown and any(one and one.procedure == nfs.WRITE and one.has_success and one.result[1]["count"] > 0 for one in lost):
             self.spent.add(self.world.verifier)
-        kept = [one for one in self.verifiers if one not in self.spent]
-        self.world.verifier = self.dice.choice(kept) if kept and self.dice.chance(0.3) else self.dice.randbytes(8)
+        kept = [one for one in self.verifiers if one not in self.spent or self.habits.is_careless]
+        self.world.verifier = self.dice.choice(kept) if kept and self.dice.chance(0.4) else self.dice.randbytes(8)
 
     def make(self) -> Run:
         dice = self.dice
@@ -206,6 +220,8 @@ class Server:
             served.fate = ANSWERED if served.fate == PLACED else served.fate
             while served in self.open:
                 self.go_on(served)
+            if dice.chance(self.habits.crash_share / 3):
+                self.crash()
         while len(self.run.events) < self.habits.events:
             if self.habits.lies_at is not None and self.calls >= self.habits.lies_at:
                 self.lie()
