@@ -6,7 +6,7 @@ book, written apart from the crates' code, says what each is answered. FOLDER ge
 with an answer a line. COMMANDS is about how many are drawn, 100,000 if it is left out. How often each refusal was reached by
 those is printed; the status is 1 where one never was.
 
-A few long books have some sixty eras, and many short ones a few each. In all of them calls of all kinds run side by side on
+Six long books have ten eras each, and many short ones a few. In all of them calls of all kinds run side by side on
 several lanes, records are lost in crashes, devices fail, and replies are tried that no server may give.
 """
 import pathlib

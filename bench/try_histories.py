@@ -1,5 +1,5 @@
 #!/usr/bin/env python3
-"""Tries `nfsbench check` on random histories: try_histories.py PROGRAM COUNT SEED [--keep FOLDER], or try_histories.py --rows FOLDER.
+"""Tries `nfsbench check` on random histories: try_histories.py PROGRAM COUNT SEED [--keep FOLDER], or try_histories.py --examples FOLDER.
 
 Each case is a history and a certificate: a run of a few clients at once with crashes, mostly with one or two changes that lead to answers at a
 border. A second checker, in `differ/`, which is written apart from the program's code, says what has to be printed and with which status. Each
@@ -7,19 +7,19 @@ difference is printed; with --keep its files are stored in FOLDER as SEED-NUMBER
 At the end a table says how often each answer was wanted. The status is 0 if there was no difference and each answer that histories can have was
 wanted at least once, else 1. A case depends on the seed and its number alone. Some 5,000 cases reach each answer.
 
-With --rows the second checker itself is tried on the worked examples NAME.hist, NAME.cert and NAME.want in FOLDER. Those of other commands, whose
-NAME.want isn't one line of a verdict, and those of history version 2 are left out.
+With --examples the second checker itself is tried on the worked examples NAME.hist, NAME.cert and NAME.want in FOLDER. Those of other commands, whose
+NAME.want isn't one line of a verdict, and those whose history is of another version are left out.
 """
 import argparse
 import pathlib
 import sys
 
 from differ.batches import try_all
-from differ.rows import try_rows
+from differ.examples import try_examples
 
 
-def rows(folder: str) -> int:
-    agreed, differed, left_out = try_rows(folder)
+def examples(folder: str) -> int:
+    agreed, differed, left_out = try_examples(folder)
     print(f"examples that agree {agreed}, that differ {differed}, left out {len(left_out)}: {' '.join(left_out)}")
     return 0 if agreed and not differed else 1
 
@@ -39,10 +39,10 @@ def main() -> int:
     parser.add_argument("count", nargs="?", type=int)
     parser.add_argument("seed", nargs="?")
     parser.add_argument("--keep", metavar="FOLDER")
-    parser.add_argument("--rows", metavar="FOLDER")
+    parser.add_argument("--examples", metavar="FOLDER")
     words = parser.parse_args()
-    if words.rows:
-        return rows(words.rows)
+    if words.examples:
+        return examples(words.examples)
     if words.seed is None:
         parser.error("PROGRAM, COUNT and SEED are wanted")
     return cases(words.program, words.count, words.seed, words.keep)

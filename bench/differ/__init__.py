@@ -12,5 +12,5 @@ they are said: a tree is a map from paths, each era is run from its start, fault
     runs, spelling              a run with its certificate, and its bytes
     plan_changes, call_changes, reply_changes, event_changes, byte_changes, changes
                                 changes that lead to answers at a border
-    batches, tally, rows        many cases beside a program, what was reached, worked examples
+    batches, tally, examples    many cases beside a program, what was reached, worked examples
 """

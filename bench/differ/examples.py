@@ -1,7 +1,7 @@
 """Worked examples: NAME.hist and NAME.cert with NAME.want, which is the line that `nfsbench check` prints of them.
 
-An example is left out if NAME.want isn't one such line (it is of another command), if a file of it is missing, or if its history is of version 2,
-which begins with `NFSHIST2` and isn't read yet.
+An example is left out if NAME.want isn't one such line (it is of another command), if a file of it is missing, or if its history begins with
+`NFSHIST2`, the magic of another version.
 """
 import pathlib
 import re
@@ -9,17 +9,17 @@ import re
 from .verdicts import judge
 
 VERDICT = re.compile(r"(yes|(no|refused): [A-Z][A-Za-z]*( [A-Za-z0-9]+)*)\n")
-LATER_MAGIC = b"NFSHIST2"
+OTHER_MAGIC = b"NFSHIST2"
 
 
-def try_rows(folder: str, tell=print):
+def try_examples(folder: str, tell=print):
     """How many examples agree, differ and are left out."""
     agreed = differed = 0
     left_out = []
     for want in sorted(pathlib.Path(folder).glob("*.want")):
         files = [want.with_suffix(end) for end in (".hist", ".cert")]
         wanted = want.read_text()
-        if not VERDICT.fullmatch(wanted) or not all(file.exists() for file in files) or files[0].read_bytes().startswith(LATER_MAGIC):
+        if not VERDICT.fullmatch(wanted) or not all(file.exists() for file in files) or files[0].read_bytes().startswith(OTHER_MAGIC):
             left_out.append(want.stem)
             continue
         line = judge(*(file.read_bytes() for file in files)).line
