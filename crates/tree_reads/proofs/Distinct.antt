@@ -6,19 +6,14 @@ use Rattle.std.specs.Cmp.Lexicographic.{slice_cmp, texts_ties}
 use Rattle.std.specs.BTreeSet.{BTreeSet, contains}
 use Rattle.std.specs.BTreeMap.{is_at}
 use Rattle.std.proofs.lemmas.List.Folds.{list_any-append}
-use Rattle.std.proofs.lemmas.List.{append_assoc, append-nil}
-use Rattle.std.proofs.Math.Bool.{and_assoc}
+use Rattle.std.proofs.lemmas.Cmp.{nat_list_eq_equiv}
 use Rattle.tree_handles.specs.Binding.{same_bytes}
-use Rattle.tree_reads.specs.Listing.{is_among, are_new, are_distinct}
+use Rattle.tree_reads.specs.Listing.{is_among, are_distinct}
 use Rattle.tree_reads.specs.Held.{HasNames}
 
 or_false : (b : Bool) → (b || false) ≡ b
 or_false true = refl
 or_false false = refl
-
-and_true : (b : Bool) → (b && true) ≡ b
-and_true true = refl
-and_true false = refl
 
 either : (a b : Bool) → cond a true b ≡ (b || a)
 either true true = refl
@@ -37,13 +32,18 @@ has_more old new names name has updates q =
     updates q ∙ either (is_at (slice_cmp nat_cmp name) q) (contains (slice_cmp nat_cmp) old q) ∙ ap (λ b. b || is_at (slice_cmp nat_cmp name) q) (has q)
     ∙ ap (λ b. is_among names q || b) (sym (texts_ties name q)) ∙ sym (among_more names name q)
 
-new_more : (seen names : List (List ℕ)) (name : List ℕ) → are_new seen (names ++ name ∷ []) ≡ (are_new seen names && not (is_among (seen ++ names) name))
-new_more seen [] name = and_true (not (is_among seen name)) ∙ ap (λ s. not (is_among s name)) (sym (append-nil seen))
-new_more seen (n ∷ names) name =
-    ap (λ b. not (is_among seen n) && b) (new_more (seen ++ n ∷ []) names name)
-    ∙ ap (λ s. not (is_among seen n) && (are_new (seen ++ n ∷ []) names && not (is_among s name))) (append_assoc seen (n ∷ []) names)
-    ∙ sym (and_assoc (not (is_among seen n)) (are_new (seen ++ n ∷ []) names) (not (is_among (seen ++ n ∷ names) name)))
+-- neither of two, and a third, one after the other
+parted : (a b c d : Bool) → (not (a || b) && (c && not d)) ≡ ((not a && c) && not (b || d))
+parted true b c d = refl
+parted false true true d = refl
+parted false true false d = refl
+parted false false c d = refl
 
 -- no name stands twice with one name more, where none does without it and it isn't there
 pub distinct_more : (names : List (List ℕ)) (name : List ℕ) → are_distinct (names ++ name ∷ []) ≡ (are_distinct names && not (is_among names name))
-distinct_more names name = new_more [] names name
+distinct_more [] name = refl
+distinct_more (n ∷ names) name =
+    ap (λ b. not b && are_distinct (names ++ name ∷ [])) (among_more names name n)
+    ∙ ap (λ b. not (is_among names n || same_bytes name n) && b) (distinct_more names name)
+    ∙ ap (λ b. not (is_among names n || b) && (are_distinct names && not (is_among names name))) (nat_list_eq_equiv.symm name n)
+    ∙ parted (is_among names n) (same_bytes n name) (are_distinct names) (is_among names name)

@@ -1,5 +1,5 @@
 -- what READDIR and READDIRPLUS list: RFC 1813, sections 3.3.16 and 3.3.17
-use Rattle.std.specs.Prelude.{ℕ, ◌==◌, Bool, true, false, not, ◌&&◌, ◌||◌, List, [], ◌∷◌, ◌++◌, length, slice_index_or, is_some, map}
+use Rattle.std.specs.Prelude.{ℕ, ◌==◌, Bool, true, false, not, ◌&&◌, ◌||◌, List, [], ◌∷◌, length, slice_index_or, is_some, map}
 use Rattle.std.specs.Option.{option_map_or}
 use Rattle.std.specs.List.{list_any, list_all}
 use Rattle.std.specs.FinMap as finite
@@ -19,13 +19,10 @@ use Rattle.tree_handles.specs.Entry.{is_dot, is_two_dots, entry_at}
 abbrev pub is_among : List (List ℕ) → List ℕ → Bool
 is_among names name = list_any (λ other. same_bytes other name) names
 
--- no name stands behind these, or behind itself, a second time
-abbrev pub are_new : List (List ℕ) → List (List ℕ) → Bool
-are_new seen [] = true
-are_new seen (name ∷ names) = not (is_among seen name) && are_new (seen ++ name ∷ []) names
-
+-- no name stands twice
 abbrev pub are_distinct : List (List ℕ) → Bool
-are_distinct names = are_new [] names
+are_distinct [] = true
+are_distinct (name ∷ names) = not (is_among names name) && are_distinct names
 
 -- each name is `.`, `..` or an entry's
 abbrev pub may_be_listed : Tree → Names → List ℕ → Bool
