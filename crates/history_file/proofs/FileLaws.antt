@@ -11,7 +11,7 @@ use Rattle.history_file.specs.declared.fault.FileFault.{FileFault}
 use Rattle.history_file.specs.declared.fault.FileFault.TheVariants as faults
 use Rattle.history_file.specs.declared.file.SeenRecording.{SeenRecording}
 use Rattle.history_file.specs.Event.{Recording}
-use Rattle.history_file.specs.Limits.{file_limit}
+use Rattle.history_file.specs.Limits.{history_limit}
 use Rattle.history_file.specs.HistoryFile.{kind_of, recording, magic, HistoryFile}
 use Rattle.history_file.specs.FileFaults.{BeginsAsFile, IsFileFault, IsFineOrNoMemory, IsErrorOf, IsThatOrNoMemory}
 use Rattle.history_file.specs.FileReading.{IsAnswer, file_of}
@@ -52,14 +52,14 @@ err_kind {K = K} (Err f) fault e = let same : f.kind ≡ fault = cc in (f.at, ap
 
 -- what is read is the file's
 pub file_found : (bytes : List ℕ) (seen : Recording) → file_of bytes ≡ Ok seen → HistoryFile bytes seen
-file_found bytes seen is = go (starts_with nat_eq bytes magic) (nat_le (length bytes) file_limit) refl refl is where
-  go : (b c : Bool) → starts_with nat_eq bytes magic ≡ b → nat_le (length bytes) file_limit ≡ c → cond b (cond c (kinds (all_of kind_of recording (drop 8 bytes))) (Err faults.TooLarge)) (Err faults.BadMagic) ≡ Ok seen → HistoryFile bytes seen
+file_found bytes seen is = go (starts_with nat_eq bytes magic) (nat_le (length bytes) history_limit) refl refl is where
+  go : (b c : Bool) → starts_with nat_eq bytes magic ≡ b → nat_le (length bytes) history_limit ≡ c → cond b (cond c (kinds (all_of kind_of recording (drop 8 bytes))) (Err faults.TooLarge)) (Err faults.BadMagic) ≡ Ok seen → HistoryFile bytes seen
   go false c begins small is = absurd (cc)
   go true false begins small is = absurd (cc)
   go true true begins small is = record {
     body = drop 8 bytes;
     parts = parts_of bytes begins;
-    small = leb-true (length bytes) file_limit small;
+    small = leb-true (length bytes) history_limit small;
     spelled = all_found kind_of recording (drop 8 bytes) seen (ok_kind (all_of kind_of recording (drop 8 bytes)) seen is);
   }
 
@@ -78,16 +78,16 @@ one_recording bytes a b x y = ok_is (file_of bytes) a b (file_again bytes a x) (
 
 -- the fault that is met is the first
 pub file_fault : (bytes : List ℕ) (fault : FileFault) → file_of bytes ≡ Err fault → IsFileFault bytes fault
-file_fault bytes fault is = go (starts_with nat_eq bytes magic) (nat_le (length bytes) file_limit) refl refl is where
-  go : (b c : Bool) → starts_with nat_eq bytes magic ≡ b → nat_le (length bytes) file_limit ≡ c → cond b (cond c (kinds (all_of kind_of recording (drop 8 bytes))) (Err faults.TooLarge)) (Err faults.BadMagic) ≡ Err fault → IsFileFault bytes fault
+file_fault bytes fault is = go (starts_with nat_eq bytes magic) (nat_le (length bytes) history_limit) refl refl is where
+  go : (b c : Bool) → starts_with nat_eq bytes magic ≡ b → nat_le (length bytes) history_limit ≡ c → cond b (cond c (kinds (all_of kind_of recording (drop 8 bytes))) (Err faults.TooLarge)) (Err faults.BadMagic) ≡ Err fault → IsFileFault bytes fault
   go false c begins small is = inl ((λ h. differ (starts_with nat_eq bytes magic) (begins_with bytes h.0 h.1) begins), cc)
-  go true false begins small is = inr (inl ((drop 8 bytes, parts_of bytes begins), leb-false (length bytes) file_limit small, cc))
+  go true false begins small is = inr (inl ((drop 8 bytes, parts_of bytes begins), leb-false (length bytes) history_limit small, cc))
   go true true begins small is =
       let read = err_kind (all_of kind_of recording (drop 8 bytes)) fault is in
       inr (inr (record {
         body = drop 8 bytes;
         parts = parts_of bytes begins;
-        small = leb-true (length bytes) file_limit small;
+        small = leb-true (length bytes) history_limit small;
         at = read.0;
         fails = all_fault kind_of recording (drop 8 bytes) (record { at = read.0; kind = fault }) read.1;
       }))
@@ -99,7 +99,7 @@ not_begun bytes true is none = absurd (none (drop 8 bytes, parts_of bytes is))
 -- the first fault is met
 pub file_fails : (bytes : List ℕ) (fault : FileFault) → IsFileFault bytes fault → file_of bytes ≡ Err fault
 file_fails bytes fault (inl none) = rw (not_begun bytes (starts_with nat_eq bytes magic) refl none.0, none.1) refl
-file_fails bytes fault (inr (inl large)) = rw (begins_with bytes large.0.0 large.0.1, lt-leb (length bytes) file_limit large.1, large.2) refl
+file_fails bytes fault (inr (inl large)) = rw (begins_with bytes large.0.0 large.0.1, lt-leb (length bytes) history_limit large.1, large.2) refl
 file_fails bytes fault (inr (inr item)) =
     file_of-body bytes (begins_with bytes item.body item.parts) item.small ∙ ap (λ xs. kinds (all_of kind_of recording xs)) (body_is bytes item.body item.parts)
     ∙ ap kinds (all_fails kind_of recording item.body (record { at = item.at; kind = fault }) item.fails)

@@ -4,7 +4,7 @@ use Rattle.std.specs.Prelude.{◌≡◌, ◌⊎◌, ℕ, ◌<◌, ◌≤◌, Lis
 use Rattle.xdr_records.specs.Faults.{AllFails}
 use Rattle.history_file.specs.declared.fault.FileFault.{FileFault}
 use Rattle.history_file.specs.declared.fault.FileFault.TheVariants as faults
-use Rattle.history_file.specs.Limits.{file_limit}
+use Rattle.history_file.specs.Limits.{history_limit}
 use Rattle.history_file.specs.HistoryFile.{kind_of, recording, magic}
 
 -- the bytes begin as a history file does
@@ -15,7 +15,7 @@ BeginsAsFile bytes = (body : List ℕ) × (bytes ≡ magic ++ body)
 pub record IsItemFault (bytes : List ℕ) (fault : FileFault) : Type 0 where
   pub body : List ℕ
   pub parts : bytes ≡ magic ++ body
-  pub small : length bytes ≤ file_limit
+  pub small : length bytes ≤ history_limit
   pub at : ℕ
   pub fails : AllFails kind_of recording body (record { at = at; kind = fault })
 
@@ -23,7 +23,7 @@ pub record IsItemFault (bytes : List ℕ) (fault : FileFault) : Type 0 where
 abbrev pub IsFileFault : List ℕ → FileFault → Type 0
 IsFileFault bytes fault =
     ((¬ BeginsAsFile bytes) × (fault ≡ faults.BadMagic))
-    ⊎ (BeginsAsFile bytes × (file_limit < length bytes) × (fault ≡ faults.TooLarge))
+    ⊎ (BeginsAsFile bytes × (history_limit < length bytes) × (fault ≡ faults.TooLarge))
     ⊎ IsItemFault bytes fault
 
 -- an Ok, or want of memory

@@ -9,7 +9,7 @@ use Rattle.history_file.specs.declared.file.ItemFault.{ItemFault}
 use Rattle.history_file.specs.declared.file.ItemFault.TheVariants as told_by
 use Rattle.history_file.specs.Event.{Event, Recording}
 use Rattle.history_file.specs.declared.fault.FileFault.TheVariants as faults
-use Rattle.history_file.specs.Limits.{file_limit}
+use Rattle.history_file.specs.Limits.{history_limit}
 use Rattle.history_file.specs.HistoryFile.{kind_of, recording, magic}
 
 -- which fault an error names
@@ -28,7 +28,7 @@ with_front front read = bound read (λ x. Ok (front ++ x.0, x.1))
 abbrev pub file_of : List ℕ → Result Recording FileFault
 file_of bytes =
     if starts_with nat_eq bytes magic
-    then (if nat_le (length bytes) file_limit then kinds (all_of kind_of recording (drop 8 bytes)) else Err faults.TooLarge)
+    then (if nat_le (length bytes) history_limit then kinds (all_of kind_of recording (drop 8 bytes)) else Err faults.TooLarge)
     else Err faults.BadMagic
 
 -- a value is this answer's, and an error is its fault, or want of memory

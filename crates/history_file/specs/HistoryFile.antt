@@ -10,7 +10,7 @@ use Rattle.history_file.specs.declared.fault.FileFault.{FileFault}
 use Rattle.history_file.specs.declared.fault.FileFault.TheVariants as faults
 use Rattle.history_file.specs.declared.file.EventKind.{EventKind}
 use Rattle.history_file.specs.declared.file.EventKind.TheVariants as kinds
-use Rattle.history_file.specs.Limits.{file_limit, event_limit, root_limit}
+use Rattle.history_file.specs.Limits.{history_limit, event_limit, root_limit}
 use Rattle.history_file.specs.Event.{Event, Recording}
 use Rattle.history_file.specs.Event.Event.{call, reply, close, crash}
 
@@ -78,5 +78,5 @@ magic = codes "NFSHIST1"
 pub record HistoryFile (bytes : List ℕ) (seen : Recording) : Type 0 where
   pub body : List ℕ
   pub parts : bytes ≡ magic ++ body
-  pub small : length bytes ≤ file_limit
+  pub small : length bytes ≤ history_limit
   pub spelled : Spells recording body seen

@@ -2,8 +2,8 @@
 use Rattle.std.specs.Prelude.{ℕ}
 
 -- the most bytes of the file
-abbrev pub file_limit : ℕ
-file_limit = 268435456
+abbrev pub history_limit : ℕ
+history_limit = 268435456
 
 -- the most events
 abbrev pub event_limit : ℕ

@@ -2,7 +2,7 @@
 use Rattle.std.specs.Prelude.{◌⊎◌, ℕ, ◌<◌, ◌≤◌, ◌^◌, List, [], ◌∷◌, ◌++◌, length, Result, Ok, Err}
 use Rattle.xdr_records.specs.Texts.{word_text, opaque_text}
 use Rattle.xdr_records.specs.Record.{record_limit}
-use Rattle.history_file.specs.Limits.{file_limit, event_limit, root_limit}
+use Rattle.history_file.specs.Limits.{history_limit, event_limit, root_limit}
 use Rattle.history_file.specs.declared.writing.WriteFault.{WriteFault}
 use Rattle.history_file.specs.declared.writing.WriteFault.TheVariants as faults
 use Rattle.history_file.specs.Event.{Event}
@@ -42,7 +42,7 @@ SomeLong (e ∷ events) = IsLong e ⊎ SomeLong events
 
 -- a limit is passed by the root handle, the number of events, a message or the file
 abbrev pub IsOverLimit : List ℕ → List Event → Type 0
-IsOverLimit root events = (root_limit < length root) ⊎ (event_limit < length events) ⊎ SomeLong events ⊎ (file_limit < length (file_text root events))
+IsOverLimit root events = (root_limit < length root) ⊎ (event_limit < length events) ⊎ SomeLong events ⊎ (history_limit < length (file_text root events))
 
 -- TooLarge is answered only where this holds
 abbrev pub IsLargeOnlyIf : {X : Type 0} → Type 0 → Result X WriteFault → Type 0

@@ -14,7 +14,7 @@ ghost use Rattle.history_file.specs.Owning.{seen_event, all_seen, recording_valu
 
 use crate::event::SeenEvent;
 use crate::fault::FileFault;
-use crate::limits::{EVENT_LIMIT, FILE_LIMIT, ROOT_LIMIT};
+use crate::limits::{EVENT_LIMIT, HISTORY_LIMIT, ROOT_LIMIT};
 use std::alloc::{AllocError, AllocFailed, Global};
 use xdr_records::{RECORD_LIMIT, Reader, XdrFault};
 
@@ -219,7 +219,7 @@ fn recording_of<'a>(alloc: Global, bytes: &'a [u8]) -> Result<SeenRecording<'a>,
     if !has_magic(bytes) {
         return Err(FileFault::BadMagic);
     }
-    if bytes.len() > FILE_LIMIT {
+    if bytes.len() > HISTORY_LIMIT {
         return Err(FileFault::TooLarge);
     }
     match body(alloc, &bytes[8..]) {

@@ -10,5 +10,5 @@ mod writing;
 pub use event::{Event, Message, SeenEvent, copy_events, lend_events};
 pub use fault::FileFault;
 pub use file::{SeenRecording, read_file};
-pub use limits::{EVENT_LIMIT, FILE_LIMIT};
+pub use limits::{EVENT_LIMIT, HISTORY_LIMIT};
 pub use writing::{WriteFault, write_history};

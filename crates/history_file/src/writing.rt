@@ -9,7 +9,7 @@ ghost use Rattle.history_file.specs.Writing.{event_text, file_text, EventFits, I
 ghost use Rattle.history_file.specs.declared.writing.WriteFault.{WriteFault};
 
 use crate::event::{Event, Message};
-use crate::limits::{EVENT_LIMIT, FILE_LIMIT, ROOT_LIMIT};
+use crate::limits::{EVENT_LIMIT, HISTORY_LIMIT, ROOT_LIMIT};
 use std::alloc::{AllocError, AllocFailed, Global};
 use std::fmt;
 use thiserror::Error;
@@ -112,7 +112,7 @@ pub fn write_history(alloc: Global, root: &[u8], events: &[Event]) -> Result<Vec
     put_u32(&mut out, events.len() as u32)?;
     for event in events {
         put_event(&mut out, event)?;
-        if out.len() > FILE_LIMIT {
+        if out.len() > HISTORY_LIMIT {
             return Err(WriteFault::TooLarge);
         }
     }

@@ -5,7 +5,7 @@ ghost use Rattle.std.specs.List.{starts_with};
 ghost use Rattle.history_file.specs.HistoryFile.{magic};
 
 use crate::items::{count, event, fault_of, opaque};
-use history_file::{FILE_LIMIT, FileFault, SeenEvent};
+use history_file::{FileFault, HISTORY_LIMIT, SeenEvent};
 use nfs3_types::HANDLE_LIMIT;
 use xdr_records::Reader;
 
@@ -62,7 +62,7 @@ impl<'a> UnreadEvents<'a> {
         if !has_magic(bytes) {
             return Err(FileFault::BadMagic);
         }
-        if bytes.len() > FILE_LIMIT {
+        if bytes.len() > HISTORY_LIMIT {
             return Err(FileFault::TooLarge);
         }
         UnreadEvents::in_body(&bytes[8..])

@@ -4,12 +4,12 @@ ghost use Rattle.std.specs.Prelude.{◌≡◌, ◌+◌, ◌<◌, ◌≤◌, ◌^
 ghost use Rattle.std.specs.Io.KnownBytes.{Appends};
 ghost use Rattle.xdr_records.specs.Texts.{opaque_text, word_text};
 ghost use Rattle.history_file.specs.HistoryFile.{magic};
-ghost use Rattle.history_file.specs.Limits.{file_limit};
+ghost use Rattle.history_file.specs.Limits.{history_limit};
 ghost use Rattle.history_file.specs.Owning.{all_happened};
 ghost use Rattle.history_file.specs.Writing.{events_text, file_text};
 
 use bench_streams::write_pieces;
-use history_file::{EVENT_LIMIT, Event, FILE_LIMIT, WriteFault, write_history};
+use history_file::{EVENT_LIMIT, Event, HISTORY_LIMIT, WriteFault, write_history};
 use nfs_tap::TapLog;
 use std::alloc::{AllocError, AllocFailed, Global};
 use std::io::{self, Write};
@@ -97,16 +97,16 @@ fn write_events<W: Write>(
     ahead: usize,
     writer: &mut W,
 ) -> Result<(), SaveFault>
-    requires { ahead ≤ file_limit }
+    requires { ahead ≤ history_limit }
     ensures written { OnOk result (Appends (W.contents writer.old) (W.contents writer.new) (events_text (all_happened events.now))) }
-    ensures within { OnOk result (ahead + length (events_text (all_happened events.now)) ≤ file_limit) }
+    ensures within { OnOk result (ahead + length (events_text (all_happened events.now)) ≤ history_limit) }
 {
     let mut size = ahead;
     let mut rest = events;
     while !rest.is_empty() {
         let (piece, behind) = rest.split_at(rest.len().min(PIECE));
         let count = write_piece(alloc, piece, writer)?;
-        if count > FILE_LIMIT - size {
+        if count > HISTORY_LIMIT - size {
             return Err(SaveFault::CannotWrite);
         }
         size += count;
@@ -122,7 +122,7 @@ pub(crate) fn write_log<W: Write>(
     writer: &mut W,
 ) -> Result<(), SaveFault>
     ensures written { OnOk result (Appends (W.contents writer.old) (W.contents writer.new) (file_text log.now.root log.now.events)) }
-    ensures within { OnOk result (length (file_text log.now.root log.now.events) ≤ file_limit) }
+    ensures within { OnOk result (length (file_text log.now.root log.now.events) ≤ history_limit) }
 {
     let events = log.events();
     if events.len() > EVENT_LIMIT as usize {

@@ -4,7 +4,7 @@ use Rattle.std.proofs.lemmas.List.{length-map, map_push}
 use Rattle.history_file.specs.declared.event.Event as owned
 use Rattle.history_file.specs.Owning.{happened, all_happened}
 use Rattle.history_file.specs.Event.{Event, Recording}
-use Rattle.history_file.specs.Limits.{file_limit}
+use Rattle.history_file.specs.Limits.{history_limit}
 use Rattle.history_file.specs.Writing.{event_text, file_text}
 use Rattle.nfs_history.specs.declared.checking.OpenCalls.{OpenCalls}
 use Rattle.nfs_history.specs.declared.fault.EventFault.{EventFault}
@@ -40,8 +40,8 @@ kept_more root events events' e seen old new left left' more is kept may knows t
     record {
       follow = subst (EachMayFollow []) (sym all) (follow_push [] (all_happened events) seen kept.follow may);
       knows = subst (Knows new) (sym all) (knows (all_happened events) kept.knows may);
-      bytes = size ∙ ap (λ n. n - length (event_text seen)) kept.bytes ∙ sym (left-more root (all_happened events) seen file_limit)
-          ∙ ap (λ (es : List Event). file_limit - length (file_text root es)) (sym all);
+      bytes = size ∙ ap (λ n. n - length (event_text seen)) kept.bytes ∙ sym (left-more root (all_happened events) seen history_limit)
+          ∙ ap (λ (es : List Event). history_limit - length (file_text root es)) (sym all);
     }
 
 -- there are no more eras than events, but for the first

@@ -2,7 +2,7 @@
 use Rattle.std.specs.Prelude.{ℕ, ◌+◌, ◌*◌, ◌≤◌, length}
 use Rattle.xdr_records.specs.Items.{padded}
 use Rattle.history_file.specs.Event.{Recording}
-use Rattle.history_file.specs.Limits.{file_limit, event_limit}
+use Rattle.history_file.specs.Limits.{history_limit, event_limit}
 use Rattle.history_file.specs.Writing.{file_text}
 
 -- so many closes are to find room behind the last record
@@ -13,4 +13,4 @@ closes = 4096
 -- close two words
 pub record HasRoom (log : Recording) (n : ℕ) : Type 0 where
   pub events : length log.events + 1 + closes ≤ event_limit
-  pub bytes : length (file_text log.root log.events) + (12 + padded n) + 8 * closes ≤ file_limit
+  pub bytes : length (file_text log.root log.events) + (12 + padded n) + 8 * closes ≤ history_limit

@@ -2,12 +2,12 @@
 
 ghost use Rattle.std.specs.Prelude.{◌≡◌, ◌≤◌, ◌+◌, ◌*◌, ◌-◌, [], IsTrue, ◌↔◌, length};
 ghost use Rattle.xdr_records.specs.Items.{padded};
-ghost use Rattle.history_file.specs.Limits.{file_limit, event_limit};
+ghost use Rattle.history_file.specs.Limits.{history_limit, event_limit};
 ghost use Rattle.history_file.specs.Owning.{happened};
 ghost use Rattle.history_file.specs.Writing.{event_text, file_text};
 ghost use Rattle.nfs_tap.specs.Room.{closes};
 
-use history_file::{EVENT_LIMIT, Event, FILE_LIMIT, Message};
+use history_file::{EVENT_LIMIT, Event, HISTORY_LIMIT, Message};
 use nfs3_types::FileHandle;
 
 /// How many closes are to find room behind the last record.
@@ -35,9 +35,9 @@ fn padded(count: usize) -> usize
 
 /// How many bytes of a file are left behind its head, ahead of the first event.
 pub(crate) fn left_behind_head(root: &FileHandle) -> usize
-    ensures { result ≡ file_limit - length (file_text root.now []) }
+    ensures { result ≡ history_limit - length (file_text root.now []) }
 {
-    FILE_LIMIT - (HEAD_SIZE + padded(root.as_slice().len()))
+    HISTORY_LIMIT - (HEAD_SIZE + padded(root.as_slice().len()))
 }
 
 /// How many bytes of so many are left behind a message's event.
@@ -71,6 +71,6 @@ pub(crate) fn has_room(events: usize, left: usize, count: usize) -> bool
     ensures { IsTrue result ↔ ((events + 1 + closes ≤ event_limit) × ((12 + padded count) + 8 * closes ≤ left)) }
 {
     events < EVENT_LIMIT as usize - CLOSES
-        && count <= FILE_LIMIT
+        && count <= HISTORY_LIMIT
         && MESSAGE_HEAD_SIZE + padded(count) + CLOSES * CLOSE_SIZE <= left
 }

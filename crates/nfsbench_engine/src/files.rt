@@ -7,14 +7,14 @@ ghost use Rattle.nfsbench_engine.specs.Reported.{IsReportedOfRead};
 use crate::report::judge_read;
 use crate::reporting::report_read;
 use bench_streams::{InputFault, Report, Stream, read_all};
-use history_file::FILE_LIMIT;
+use history_file::HISTORY_LIMIT;
 use std::alloc::AllocError;
 use std::fs::{File, OpenFile};
 use std::io::Read;
 use std::rt::Files;
 
 /// How many bytes of a history file are read: one more than it may have.
-const HISTORY_READ: u64 = FILE_LIMIT as u64 + 1;
+const HISTORY_READ: u64 = HISTORY_LIMIT as u64 + 1;
 
 /// The bytes of a file, or none where it can't be opened or read, is a folder, or grows while it is read.
 ///

@@ -13,4 +13,4 @@ returns-in-Err-Fault c =
     let body : take (length bytes - 8) (drop 8 bytes) ≡ drop 8 bytes = between_to_end bytes 8 (length bytes) (omega arith) in
     let read = rw c.in-Err-Fault.field-0-is at c.in-Err-Fault.ensures in
     told_as_it_is recording_value c.in-Err-Fault.fault (file_of bytes)
-    (file_of-body bytes (sym c.has_magic.ensures ∙ c.if-not-has_magic.false) c.if-bytes-gt-FILE_LIMIT.false ∙ ap (λ xs. kinds (all_of kind_of recording xs)) (sym body) ∙ ap kinds read)
+    (file_of-body bytes (sym c.has_magic.ensures ∙ c.if-not-has_magic.false) c.if-bytes-gt-HISTORY_LIMIT.false ∙ ap (λ xs. kinds (all_of kind_of recording xs)) (sym body) ∙ ap kinds read)

@@ -12,13 +12,13 @@ returns-in_err-put_event-clause-large c =
     let p = err_from_is_err_and c.from_residual-in_err-put_event.result c.from_residual-in_err-put_event.ensures.1 in
     rw (p.1, p.2) (long_here c.args.root.now c.args.events.now c.loop-event.event-index c.event-item.result c.in_err-put_event.field-0.0 c.loop-event-test.true c.event-item.is c.in_err-put_event.ensures.large)
 
-pub returns-then-len-gt-FILE_LIMIT-clause-large : goal.returns-then-len-gt-FILE_LIMIT-clause-large
-returns-then-len-gt-FILE_LIMIT-clause-large c =
-    file_over c.args.root.now c.args.events.now c.loop-event.event-index c.event-item.result c.loop-event.out.items c.put_event.new.out.items c.loop-event-test.true c.event-item.is c.in_ok-put_event.ensures.ok c.in_ok-put_event.ensures.fits (omega (arith, c.len.ensures, c.if-len-gt-FILE_LIMIT.true)) c.loop-event.invariant
+pub returns-then-len-gt-HISTORY_LIMIT-clause-large : goal.returns-then-len-gt-HISTORY_LIMIT-clause-large
+returns-then-len-gt-HISTORY_LIMIT-clause-large c =
+    file_over c.args.root.now c.args.events.now c.loop-event.event-index c.event-item.result c.loop-event.out.items c.put_event.new.out.items c.loop-event-test.true c.event-item.is c.in_ok-put_event.ensures.ok c.in_ok-put_event.ensures.fits (omega (arith, c.len.ensures, c.if-len-gt-HISTORY_LIMIT.true)) c.loop-event.invariant
 
 pub loop-event-preserved : goal.loop-event-preserved
 loop-event-preserved c =
-    written_more c.args.root.now c.args.events.now c.loop-event.event-index c.event-item.result c.loop-event.out.items c.put_event.new.out.items c.loop-event-test.true c.event-item.is c.in_ok-put_event.ensures.ok c.in_ok-put_event.ensures.fits (omega (arith, c.len.ensures, c.if-len-gt-FILE_LIMIT.false)) c.loop-event.invariant
+    written_more c.args.root.now c.args.events.now c.loop-event.event-index c.event-item.result c.loop-event.out.items c.put_event.new.out.items c.loop-event-test.true c.event-item.is c.in_ok-put_event.ensures.ok c.in_ok-put_event.ensures.fits (omega (arith, c.len.ensures, c.if-len-gt-HISTORY_LIMIT.false)) c.loop-event.invariant
 
 pub returns-clause-spelled : goal.returns-clause-spelled
 returns-clause-spelled c =

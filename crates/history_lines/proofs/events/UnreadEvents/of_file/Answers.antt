@@ -8,10 +8,10 @@ pub returns-clause-found : goal.returns-clause-found
 returns-clause-found c =
     let bytes = c.args.bytes.now in
     let body : take (length bytes - 8) (drop 8 bytes) ≡ drop 8 bytes = between_to_end bytes 8 (length bytes) (omega arith) in
-    found_of bytes (take (length bytes - 8) (drop 8 bytes)) c.in_body.result body (sym c.has_magic.ensures ∙ c.if-not-has_magic.false) c.if-bytes-gt-FILE_LIMIT.false c.in_body.ensures.found
+    found_of bytes (take (length bytes - 8) (drop 8 bytes)) c.in_body.result body (sym c.has_magic.ensures ∙ c.if-not-has_magic.false) c.if-bytes-gt-HISTORY_LIMIT.false c.in_body.ensures.found
 
 pub returns-clause-fault : goal.returns-clause-fault
 returns-clause-fault c =
     let bytes = c.args.bytes.now in
     let body : take (length bytes - 8) (drop 8 bytes) ≡ drop 8 bytes = between_to_end bytes 8 (length bytes) (omega arith) in
-    fault_of bytes (take (length bytes - 8) (drop 8 bytes)) c.in_body.result body (sym c.has_magic.ensures ∙ c.if-not-has_magic.false) c.if-bytes-gt-FILE_LIMIT.false c.in_body.ensures.fault
+    fault_of bytes (take (length bytes - 8) (drop 8 bytes)) c.in_body.result body (sym c.has_magic.ensures ∙ c.if-not-has_magic.false) c.if-bytes-gt-HISTORY_LIMIT.false c.in_body.ensures.fault
