@@ -13,7 +13,7 @@ use Rattle.history_report.specs.declared.counting.Report.{Report}
 
 -- a status that isn't judged: it may answer any call
 abbrev pub is_excused_status : Failure → Bool
-is_excused_status failure = not (failures.is_judged failure)
+is_excused_status failure = not (failures.is_judged_status failure)
 
 -- the status of a reply that is no success
 abbrev pub failure_of : Option Outcome → Option Failure
@@ -22,24 +22,24 @@ failure_of (Some (outcomes.Taken count)) = None
 failure_of None = None
 
 -- a judged call; one that failed in RPC is none
-abbrev pub is_judged : RecordedCall → Bool
-is_judged call = places.is_judged call.meaning
+abbrev pub is_judged_call : RecordedCall → Bool
+is_judged_call call = places.is_judged call.meaning
 
 -- a judged call that was answered
 abbrev pub is_answered : RecordedCall → Bool
-is_answered call = is_judged call && is_some call.outcome
+is_answered call = is_judged_call call && is_some call.outcome
 
 -- a judged call that was answered by an excused status
 abbrev pub is_excused : RecordedCall → Bool
-is_excused call = is_judged call && option_map_or is_excused_status (failure_of call.outcome) false
+is_excused call = is_judged_call call && option_map_or is_excused_status (failure_of call.outcome) false
 
 -- what is counted of the calls of so many eras
 abbrev pub report_of : ℕ → List RecordedCall → Report
 report_of eras calls = record {
   calls = length calls;
-  judged = count_by is_judged calls;
+  judged = count_by is_judged_call calls;
   answered = count_by is_answered calls;
-  unjudged = count_by (λ call. not (is_judged call)) calls;
+  unjudged = count_by (λ call. not (is_judged_call call)) calls;
   excused = count_by is_excused calls;
   eras = eras;
 }

@@ -1,7 +1,7 @@
 //! The calls of a history, counted.
 
 ghost use Rattle.std.specs.Prelude.{◌≡◌};
-ghost use Rattle.history_report.specs.Counted.{is_excused_status, failure_of, is_judged, is_answered, is_excused, report_of};
+ghost use Rattle.history_report.specs.Counted.{is_excused_status, failure_of, is_judged_call, is_answered, is_excused, report_of};
 ghost use Rattle.history_report.specs.Noting.{report_with, CanGrow};
 
 use nfs_history::{History, Meaning, RecordedCall};
@@ -53,8 +53,8 @@ pub fn failure_of(outcome: &Option<Outcome>) -> Option<Failure>
     }
 }
 
-fn is_judged(call: &RecordedCall) -> bool
-    ensures { result ≡ is_judged call.now }
+fn is_judged_call(call: &RecordedCall) -> bool
+    ensures { result ≡ is_judged_call call.now }
 {
     matches!(call.meaning, Meaning::Judged(_))
 }
@@ -62,14 +62,14 @@ fn is_judged(call: &RecordedCall) -> bool
 fn is_answered(call: &RecordedCall) -> bool
     ensures { result ≡ is_answered call.now }
 {
-    is_judged(call) && call.outcome.is_some()
+    is_judged_call(call) && call.outcome.is_some()
 }
 
 fn is_excused(call: &RecordedCall) -> bool
     ensures { result ≡ is_excused call.now }
 {
     match failure_of(&call.outcome) {
-        Some(failure) => is_judged(call) && is_excused_status(failure),
+        Some(failure) => is_judged_call(call) && is_excused_status(failure),
         None => false,
     }
 }
@@ -80,9 +80,9 @@ fn note_call(report: &mut Report, call: &RecordedCall)
     ensures { report.new ≡ report_with report.old call.now }
 {
     report.calls += 1;
-    report.judged += u64::from(is_judged(call));
+    report.judged += u64::from(is_judged_call(call));
     report.answered += u64::from(is_answered(call));
-    report.unjudged += u64::from(!is_judged(call));
+    report.unjudged += u64::from(!is_judged_call(call));
     report.excused += u64::from(is_excused(call));
 }
 

@@ -88,12 +88,12 @@ judged_statuses =
     status.NoEntry ∷ status.Exists ∷ status.NotDirectory ∷ status.IsDirectory ∷ status.NotEmpty ∷ status.Stale ∷ status.BadHandle ∷ status.NotSynchronized
     ∷ status.BadCookie ∷ status.TooSmall ∷ []
 
-abbrev pub is_judged : Failure → Bool
-is_judged failure = list_any (same_status failure) judged_statuses
+abbrev pub is_judged_status : Failure → Bool
+is_judged_status failure = list_any (same_status failure) judged_statuses
 
 abbrev pub is_caused_by : Bindings → Tree → NfsCall → Failure → Cause → Bool
 is_caused_by binds tree call failure why = list_any (same_status failure) (row why).statuses && (row why).holds binds tree call
 
 -- a failure is permitted where its status is excused, or stands beside a cause that holds
 abbrev pub is_permitted : Bindings → Tree → NfsCall → Failure → Bool
-is_permitted binds tree call failure = not (is_judged failure) || list_any (is_caused_by binds tree call failure) causes
+is_permitted binds tree call failure = not (is_judged_status failure) || list_any (is_caused_by binds tree call failure) causes

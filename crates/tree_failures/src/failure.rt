@@ -2,7 +2,7 @@
 
 ghost use Rattle.std.specs.Prelude.{◌≡◌};
 ghost use Rattle.std.specs.List.{list_any};
-ghost use Rattle.tree_failures.specs.Failure.{status_number, same_status, row, causes, is_judged, is_caused_by, is_permitted};
+ghost use Rattle.tree_failures.specs.Failure.{status_number, same_status, row, causes, is_judged_status, is_caused_by, is_permitted};
 
 use crate::asked::is_listing_call;
 use crate::handle_causes::{
@@ -215,8 +215,8 @@ fn is_caused(view: &View<'_>, call: &NfsCall, failure: Failure) -> bool
 }
 
 /// Whether a status may answer only beside a cause.
-fn is_judged(failure: Failure) -> bool
-    ensures { result ≡ is_judged failure }
+fn is_judged_status(failure: Failure) -> bool
+    ensures { result ≡ is_judged_status failure }
 {
     is_one_of(
         failure,
@@ -239,7 +239,7 @@ fn is_judged(failure: Failure) -> bool
 pub fn is_permitted(view: &View<'_>, call: &NfsCall, failure: Failure) -> bool
     ensures { result ≡ is_permitted view.now.binds.now view.now.nodes.now call.now failure }
 {
-    if is_judged(failure) {
+    if is_judged_status(failure) {
         is_caused(view, call, failure)
     } else {
         true

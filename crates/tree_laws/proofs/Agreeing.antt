@@ -44,7 +44,7 @@ use Rattle.tree_reads.specs.Listing as listing
 use Rattle.tree_failures.specs.Asked as asked
 use Rattle.tree_failures.specs.Causes as when
 use Rattle.tree_failures.specs.RenameCauses as when_renamed
-use Rattle.tree_failures.specs.Failure.{row, causes, is_caused_by, is_judged, is_permitted, same_status}
+use Rattle.tree_failures.specs.Failure.{row, causes, is_caused_by, is_judged_status, is_permitted, same_status}
 use Rattle.tree_failures.specs.declared.failure.Cause.{Cause}
 use Rattle.tree_failures.specs.declared.failure.Cause.TheVariants as cause
 use Rattle.file_tree.specs.Change.{Change}
@@ -333,7 +333,7 @@ module _ (binds other : Bindings) (tree : Tree) (number : ℕ) (agree : AgreeOn 
 
   permitted : (call : NfsCall) (failure : Failure) → is_permitted binds tree call failure ≡ is_permitted other tree call failure
   permitted call failure =
-      ap (λ b. not (is_judged failure) || b) (any_on (is_caused_by binds tree call failure) (is_caused_by other tree call failure) causes
+      ap (λ b. not (is_judged_status failure) || b) (any_on (is_caused_by binds tree call failure) (is_caused_by other tree call failure) causes
       (λ why. ap (λ b. list_any (same_status failure) (row why).statuses && b) (holds call why)))
 
   -- ---- all calls

@@ -45,7 +45,7 @@ use Rattle.tree_failures.specs.declared.failure.Cause.TheVariants as cause
 use Rattle.tree_failures.specs.Asked.{first_handle, second_handle, second_place, wants_directory, file_wanted, entry_wanted}
 use Rattle.tree_failures.specs.Causes.{content_of, readlink_of_no_link, stops, name_is_present, is_unchecked, create_over_directory, remove_of_directory, rmdir_of_no_directory, is_filled_directory, rmdir_of_filled_directory}
 use Rattle.tree_failures.specs.RenameCauses.{source_of, target_of}
-use Rattle.tree_failures.specs.Failure.{row, causes, same_status, is_judged, is_caused_by, is_permitted}
+use Rattle.tree_failures.specs.Failure.{row, causes, same_status, is_judged_status, is_caused_by, is_permitted}
 use Rattle.tree_reads.specs.Look.{shows, getattr_is_legal, object_at, object_named, is_object_named, lookup_is_legal, has_text, readlink_is_legal, read_is_right, read_is_legal, commit_is_legal}
 use Rattle.tree_reads.specs.Listing.{is_listing, listed_names, readdir_is_legal, listed_names_plus, has_its_handle, readdirplus_is_legal}
 use Rattle.file_tree.specs.Change.{Change}
@@ -275,7 +275,7 @@ module _ (binds : Bindings) (handle : List ℕ) (object : ℕ) (tree : Tree) (ne
 
   permitted_same : (call : NfsCall) (failure : Failure) → is_permitted more tree call failure ≡ is_permitted binds tree call failure
   permitted_same call failure =
-      λ i. not (is_judged failure) || any_same (is_caused_by more tree call failure) (is_caused_by binds tree call failure) causes
+      λ i. not (is_judged_status failure) || any_same (is_caused_by more tree call failure) (is_caused_by binds tree call failure) causes
       (λ why j. list_any (same_status failure) (row why).statuses && holds_same call why j) i
 
   -- ---- calls that change the tree
