@@ -28,7 +28,7 @@ use Rattle.nfs_history.specs.Calls.{ReplyEvent, CallEvent, calls_of, eras_from, 
 use Rattle.nfs_history.specs.Checking.{is_place, AnswersWait}
 use Rattle.nfs_history.specs.History.{IsJudged, IsKnownAs, Means, IsRecorded, AreRecorded, IsHistory, recording_of}
 use Rattle.nfs_history.specs.Matching.{same_key}
-use Rattle.nfs_history.specs.Outside.{outside, failed, asked_size}
+use Rattle.nfs_history.specs.Outside.{outside, was_failure, asked_size}
 use Rattle.nfs_history.specs.declared.fault.Which.TheVariants as which
 use Rattle.nfs3_types.specs.declared.calls.NfsCall.TheVariants as calls
 use Rattle.nfs3_types.specs.Limits.{file_limit}
@@ -229,13 +229,13 @@ either_none true c w e = absurd (cc)
 either_none false c w e = refl
 
 inside_still : (asked : NfsCall) (outcome : Option Outcome) → outside asked None ≡ None → outside asked outcome ≡ None
-inside_still (calls.SetAttr a) outcome e = either_none (nat_lt file_limit (unwrap_or a.attributes.size 0)) (not (failed outcome)) which.TooFar e
-inside_still (calls.Create a) outcome e = either_none (nat_lt file_limit (asked_size a.mode)) (not (failed outcome)) which.TooFar e
+inside_still (calls.SetAttr a) outcome e = either_none (nat_lt file_limit (unwrap_or a.attributes.size 0)) (not (was_failure outcome)) which.TooFar e
+inside_still (calls.Create a) outcome e = either_none (nat_lt file_limit (asked_size a.mode)) (not (was_failure outcome)) which.TooFar e
 inside_still (calls.Write a) outcome e = go (not (a.count == length a.bytes)) e where
   go : (b : Bool) → (if b then Some which.CountDiffers else (if (nat_lt 0 a.count && nat_lt file_limit (a.offset + a.count)) && true then Some which.TooFar else None)) ≡ None
-      → (if b then Some which.CountDiffers else (if (nat_lt 0 a.count && nat_lt file_limit (a.offset + a.count)) && not (failed outcome) then Some which.TooFar else None)) ≡ None
+      → (if b then Some which.CountDiffers else (if (nat_lt 0 a.count && nat_lt file_limit (a.offset + a.count)) && not (was_failure outcome) then Some which.TooFar else None)) ≡ None
   go true f = absurd (cc)
-  go false f = either_none (nat_lt 0 a.count && nat_lt file_limit (a.offset + a.count)) (not (failed outcome)) which.TooFar f
+  go false f = either_none (nat_lt 0 a.count && nat_lt file_limit (a.offset + a.count)) (not (was_failure outcome)) which.TooFar f
 inside_still (calls.GetAttr a) outcome e = refl
 inside_still (calls.Lookup a) outcome e = refl
 inside_still (calls.ReadLink a) outcome e = refl

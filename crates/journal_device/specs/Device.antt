@@ -23,11 +23,11 @@ abbrev pub recovered : Device → ℕ → Device
 recovered d keep = record d { records = take keep d.records; mark = keep }
 
 -- a failure is counted, and changes nothing else
-abbrev pub failed : Device → Device
-failed d = record d { faults = d.faults + 1 }
+abbrev pub with_fault : Device → Device
+with_fault d = record d { faults = d.faults + 1 }
 
 -- what a call leaves of the device, where it is to make this of it
 abbrev pub Leaves : {A : Type 0} → Device → Device → Result A DevFault → Device → Type 0
 Leaves before done (Ok _) after = after ≡ done
-Leaves before done (Err Failed) after = after ≡ failed before
+Leaves before done (Err Failed) after = after ≡ with_fault before
 Leaves before done (Err NoMemory) after = after ≡ before

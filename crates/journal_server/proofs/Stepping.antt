@@ -2,7 +2,7 @@
 use Rattle.std.proofs.Common.{◌≡◌, ◌≢◌, ◌⊎◌, ℕ, ◌+◌, List, length, Result, Ok, Err, inl, inr, refl, sym, subst}
 use Rattle.std.specs.Prelude.{IfOk, OnOk}
 use Rattle.nfs3_types.specs.declared.replies.NfsReply.{NfsReply}
-use Rattle.journal_device.specs.Device.{failed}
+use Rattle.journal_device.specs.Device.{with_fault}
 use Rattle.book_machine.specs.Book.{Book, Condition}
 use Rattle.book_machine.specs.Book.Condition.{running, down, dead}
 use Rattle.book_machine.specs.Steps.{Steps, MayBecome, Begins, Places, Flushes, Answers, Closes, Crashes}
@@ -38,14 +38,14 @@ module _ (old : Book) where
   goes_down : old.condition ≡ running → Steps old (record old { condition = down })
   goes_down is = refuses (record { condition = down; faults = old.device.faults; spare = old.history.spare; may_become = may_go_down old.condition is; counted = inl refl; done = refl })
 
-  fails_down : old.condition ≡ running → Steps old (record old { condition = down; device = failed old.device })
+  fails_down : old.condition ≡ running → Steps old (record old { condition = down; device = with_fault old.device })
   fails_down is =
       refuses (record { condition = down; faults = old.device.faults + 1; spare = old.history.spare; may_become = may_go_down old.condition is; counted = inr (refl, down_apart); done = refl })
 
   dies : Steps old (record old { condition = dead })
   dies = refuses (record { condition = dead; faults = old.device.faults; spare = old.history.spare; may_become = may_die old.condition; counted = inl refl; done = refl })
 
-  fails_dead : Steps old (record old { condition = dead; device = failed old.device })
+  fails_dead : Steps old (record old { condition = dead; device = with_fault old.device })
   fails_dead =
       refuses (record { condition = dead; faults = old.device.faults + 1; spare = old.history.spare; may_become = may_die old.condition; counted = inr (refl, dead_apart); done = refl })
 

@@ -13,10 +13,10 @@ use Rattle.nfs_history.specs.declared.fault.Which.{Which}
 use Rattle.nfs_history.specs.declared.fault.Which.TheVariants as which
 
 -- a call that was answered by a failure
-abbrev pub failed : Option Outcome → Bool
-failed (Some (outcomes.Received reply)) = is_some (failure_in reply)
-failed (Some (outcomes.Taken count)) = false
-failed None = false
+abbrev pub was_failure : Option Outcome → Bool
+was_failure (Some (outcomes.Received reply)) = is_some (failure_in reply)
+was_failure (Some (outcomes.Taken count)) = false
+was_failure None = false
 
 -- the size that a CREATE asks for
 abbrev pub asked_size : CreateMode → ℕ
@@ -26,7 +26,7 @@ asked_size (modes.Exclusive verifier) = 0
 
 -- a size over the limit, but for a call that was answered by a failure
 abbrev pub too_far : ℕ → Option Outcome → Option Which
-too_far size outcome = if nat_lt file_limit size && not (failed outcome) then Some which.TooFar else None
+too_far size outcome = if nat_lt file_limit size && not (was_failure outcome) then Some which.TooFar else None
 
 -- what of a call lies outside the model: the count of a WRITE that isn't its data's length, and a file over the
 -- limit
@@ -34,6 +34,6 @@ abbrev pub outside : NfsCall → Option Outcome → Option Which
 outside (calls.SetAttr a) outcome = too_far (unwrap_or a.attributes.size 0) outcome
 outside (calls.Write a) outcome =
     if not (a.count == length a.bytes) then Some which.CountDiffers
-    else (if (nat_lt 0 a.count && nat_lt file_limit (a.offset + a.count)) && not (failed outcome) then Some which.TooFar else None)
+    else (if (nat_lt 0 a.count && nat_lt file_limit (a.offset + a.count)) && not (was_failure outcome) then Some which.TooFar else None)
 outside (calls.Create a) outcome = too_far (asked_size a.mode) outcome
 outside call outcome = None

@@ -7,7 +7,7 @@ ghost use Rattle.nfs3_msgs.specs.Messages.{IsArguments};
 ghost use Rattle.nfs_history.specs.Matching.{seen_call, seen_reply, bytes_of};
 ghost use Rattle.nfs_history.specs.Effects.{Says, was_refused, results_of, has_failed_status, is_judged, has_no_effect};
 ghost use Rattle.nfs_history.specs.History.{CameOut, IsKnownAs, IsRecorded};
-ghost use Rattle.nfs_history.specs.Outside.{asked_size, failed, too_far, outside};
+ghost use Rattle.nfs_history.specs.Outside.{asked_size, was_failure, too_far, outside};
 ghost use Rattle.nfs_history.specs.CallFaults.{which_left_out, FirstCallFault};
 ghost use Rattle.nfs_history.specs.Judging.{left_out, outside_fault, result_fault, judged_fault, fault_of, IsFound, IsReadable, AreReadable, IsStopFor};
 ghost use Rattle.nfs_history.specs.Reread.{known_call, IsReadAs, AreReadTo};
@@ -89,7 +89,7 @@ impl From<Stop> for HistoryFault {
 }
 
 fn is_failure(outcome: &Option<Outcome>) -> bool
-    ensures { result ≡ failed outcome.now }
+    ensures { result ≡ was_failure outcome.now }
 {
     match outcome {
         Some(Outcome::Received(reply)) => reply.failure().is_some(),

@@ -10,7 +10,7 @@ use Rattle.nfs_history.specs.HistoryValue.{HistoryValue}
 use Rattle.tree_nodes.specs.Tree.{Tree}
 use Rattle.tree_nodes.proofs.Chains.{value_of}
 use Rattle.tree_handles.specs.Binding.{object_of}
-use Rattle.journal_device.specs.Device.{Device, Leaves, recovered, failed}
+use Rattle.journal_device.specs.Device.{Device, Leaves, recovered, with_fault}
 use Rattle.journal_device.specs.declared.device.DevFault.{DevFault}
 use Rattle.journal_device.specs.declared.device.DevFault.TheVariants as devices
 use Rattle.replay_law.specs.declared.replay.StepFault.{StepFault}
@@ -64,13 +64,13 @@ crash_unready old prepared new device t goes dies =
 
 -- one in which the device fails
 pub crash_failed : (old prepared new : Ledger) (device after : Device) → AreTied old device → Goes GoesDown old prepared → prepared.condition ≡ codes.Down → Goes (λ b a. a ≡ record b { condition = is_dead }) prepared new
-    → after ≡ failed device → AreTied new after × (book_of new after ≡ after_crash (book_of old device) crash.DeviceFault)
+    → after ≡ with_fault device → AreTied new after × (book_of new after ≡ after_crash (book_of old device) crash.DeviceFault)
 crash_failed old prepared new device after t goes stopped dies same =
     let g = goes device t in
-    let f = from_parts prepared (failed device) (failed_tied (parts_of prepared) device (λ up. not_up (sym stopped ∙ up)) (to_parts prepared device g.0)) in
-    let d = dies (failed device) f in (
+    let f = from_parts prepared (with_fault device) (failed_tied (parts_of prepared) device (λ up. not_up (sym stopped ∙ up)) (to_parts prepared device g.0)) in
+    let d = dies (with_fault device) f in (
       subst (AreTied new) (sym same) d.0,
-      ap (book_of new) same ∙ d.1 ∙ ap (λ (b : Book). record b { condition = is_dead; device = failed device }) g.1,
+      ap (book_of new) same ∙ d.1 ∙ ap (λ (b : Book). record b { condition = is_dead; device = with_fault device }) g.1,
     )
 
 -- however the device fails in it
@@ -170,11 +170,11 @@ module _ (old prepared : Ledger) (device : Device) (number : ℕ) (reply : NfsRe
           left_alive e f = cc
 
     pub place_failed : (new : Ledger) → HasLost stepped number step.made new
-        → AreTied new (failed device) × (PlaceStops (book_of old device) number reply place.DeviceFault × IsLeft (book_of old device) place.DeviceFault (book_of new (failed device)))
+        → AreTied new (with_fault device) × (PlaceStops (book_of old device) number reply place.DeviceFault × IsLeft (book_of old device) place.DeviceFault (book_of new (with_fault device)))
     place_failed new l =
         let lost = place_lost new l in (
-          from_parts new (failed device) (failed_tied (parts_of new) device (λ up. not_up (sym l.condition ∙ up)) (to_parts new device lost.0)),
-          ((turn.running, turn.now, turn.unplaced, may_be_placed), record { alive = left_alive (ap (λ (b : Book). b.condition) lost.1); downed = ap (λ (b : Book). record b { condition = is_down; device = failed device }) lost.1 }),
+          from_parts new (with_fault device) (failed_tied (parts_of new) device (λ up. not_up (sym l.condition ∙ up)) (to_parts new device lost.0)),
+          ((turn.running, turn.now, turn.unplaced, may_be_placed), record { alive = left_alive (ap (λ (b : Book). b.condition) lost.1); downed = ap (λ (b : Book). record b { condition = is_down; device = with_fault device }) lost.1 }),
         ) where
           left_alive : {c : Condition} → c ≡ is_down → c ≡ is_dead → ⊥
           left_alive e f = cc

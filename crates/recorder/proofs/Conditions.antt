@@ -12,7 +12,7 @@ use Rattle.tree_nodes.proofs.Chains.{chained, decide}
 use Rattle.replay_law.specs.Undone.{UndoesAll}
 use Rattle.tree_handles.specs.Binding.{Bindings}
 use Rattle.file_tree.specs.Success.{next_tree}
-use Rattle.journal_device.specs.Device.{Device, settled, failed}
+use Rattle.journal_device.specs.Device.{Device, settled, with_fault}
 use Rattle.book_machine.specs.Placing.{Placed, is_recorded, records_in, front_with}
 use Rattle.book_machine.specs.Book.{Book, Condition, bindings, tree_of, records_kept}
 use Rattle.book_machine.specs.Book.Condition.{running, down, dead}
@@ -75,9 +75,9 @@ dead_tied old device t = turned old codes.Dead device t (may_die old.condition) 
 
 -- ---- the device fails
 
-pub fails : (ledger : Ledger) (device : Device) → AreTied ledger device → ledger.condition ≢ codes.Running → AreTied ledger (failed device)
+pub fails : (ledger : Ledger) (device : Device) → AreTied ledger device → ledger.condition ≢ codes.Running → AreTied ledger (with_fault device)
 fails ledger device t isnt = record {
-  reached = reached_step (book_of ledger device) (book_of ledger (failed device)) t.reached
+  reached = reached_step (book_of ledger device) (book_of ledger (with_fault device)) t.reached
       (refuses (record {
         condition = condition_of ledger.condition;
         faults = device.faults + 1;

@@ -3,7 +3,7 @@ use Rattle.std.proofs.Common.{◌≡◌, ◌≢◌, ℕ, [], Result, Ok, Err, re
 use Rattle.std.specs.Prelude.{IfOk}
 use Rattle.journal_device.specs.declared.device.DevFault.{DevFault}
 use Rattle.journal_device.specs.declared.device.DevFault.TheVariants.{Failed, NoMemory}
-use Rattle.journal_device.specs.Device.{Device, settled, failed, Leaves}
+use Rattle.journal_device.specs.Device.{Device, settled, with_fault, Leaves}
 use Rattle.book_machine.specs.Book.{Book}
 use Rattle.book_machine.specs.Book.Condition.{running, down}
 use Rattle.book_machine.specs.Steps.{opening_book, Flushes}
@@ -26,7 +26,7 @@ down_rests condition e f = clash (sym (ap condition_of f) ∙ e) where
 abbrev pub barred : DevFault → Result (Unit {0}) DevFault
 barred fault = Err fault
 
-pub barrier_failed : (fault : DevFault) (before done after : Device) → Leaves before done (barred fault) after → (barred fault ≡ barred NoMemory → ⊥) → after ≡ failed before
+pub barrier_failed : (fault : DevFault) (before done after : Device) → Leaves before done (barred fault) after → (barred fault ≡ barred NoMemory → ⊥) → after ≡ with_fault before
 barrier_failed Failed before done after is never = is
 barrier_failed NoMemory before done after is never = absurd (never refl)
 
@@ -35,13 +35,13 @@ module _ (old new : Ledger) (device after : Device) (t : AreTied old device) (o 
   flushed_so at done =
       subst (λ (b : Book). Flushes b (book_of new after)) is (record { running = ap condition_of runs; done = ap (λ (d : Device). book_of new d) at ∙ done })
 
-  pub downed_tied : after ≡ failed device → AreTied new device → book_of new device ≡ record (book_of old device) { condition = down } → AreTied new after
+  pub downed_tied : after ≡ with_fault device → AreTied new device → book_of new device ≡ record (book_of old device) { condition = down } → AreTied new after
   downed_tied at tied done = subst (λ (d : Device). AreTied new d) (sym at) (fails new device tied (down_rests new.condition (ap (λ (b : Book). b.condition) done)))
 
-  pub downed_so : after ≡ failed device → book_of new device ≡ record (book_of old device) { condition = down } → (o.condition ≡ running) × (book_of new after ≡ record o { device = failed o.device; condition = down })
+  pub downed_so : after ≡ with_fault device → book_of new device ≡ record (book_of old device) { condition = down } → (o.condition ≡ running) × (book_of new after ≡ record o { device = with_fault o.device; condition = down })
   downed_so at done =
-      subst (λ (b : Book). (b.condition ≡ running) × (book_of new after ≡ record b { device = failed b.device; condition = down })) is
-      (ap condition_of runs, ap (λ (d : Device). book_of new d) at ∙ ap (λ (b : Book). record b { device = failed device }) done)
+      subst (λ (b : Book). (b.condition ≡ running) × (book_of new after ≡ record b { device = with_fault b.device; condition = down })) is
+      (ap condition_of runs, ap (λ (d : Device). book_of new d) at ∙ ap (λ (b : Book). record b { device = with_fault device }) done)
 
 pub opened : (ledger : Ledger) (device : Device) → device.records ≡ [] → device.mark ≡ 0
     → ((faults : ℕ) → AreTied ledger (opening_book faults).device × (book_of ledger (opening_book faults).device ≡ opening_book faults)) → AreTied ledger device × (book_of ledger device ≡ opening_book device.faults)

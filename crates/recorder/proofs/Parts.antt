@@ -11,7 +11,7 @@ use Rattle.tree_nodes.specs.declared.undo.Undo.{Undo}
 use Rattle.tree_nodes.specs.Tree.{Tree}
 use Rattle.tree_nodes.specs.Undo.{TakesBack}
 use Rattle.tree_handles.specs.Binding.{Bindings, object_of}
-use Rattle.journal_device.specs.Device.{Device, failed}
+use Rattle.journal_device.specs.Device.{Device, with_fault}
 use Rattle.book_machine.specs.Book.{Book, Condition, bindings, tree_of, records_kept}
 use Rattle.book_machine.specs.Book.Condition.{running as is_running, down as is_down, dead as is_dead}
 use Rattle.book_machine.specs.Steps.{MayBecome}
@@ -196,9 +196,9 @@ treeless p device binds undos same t is = record {
 }
 
 -- its device has failed
-pub failed_tied : (p : Parts) (device : Device) → (p.condition ≡ codes.Running → ⊥) → Tied p device → Tied p (failed device)
+pub failed_tied : (p : Parts) (device : Device) → (p.condition ≡ codes.Running → ⊥) → Tied p device → Tied p (with_fault device)
 failed_tied p device other t = record {
-  reached = reach_more (book_with p device) (book_with p (failed device)) t.reached
+  reached = reach_more (book_with p device) (book_with p (with_fault device)) t.reached
       (refuses (record { condition = condition_of p.condition; faults = device.faults + 1; spare = 0; may_become = itself (condition_of p.condition); counted = inr (refl, not_running p.condition other); done = refl }));
   kept = t.kept;
   counted = t.counted;

@@ -8,7 +8,7 @@ use Rattle.nfs_history.specs.declared.history.RecordedCall.{RecordedCall}
 use Rattle.nfs_history.specs.Calls.{xid_of}
 use Rattle.nfs_history.specs.Precedence.{call_at, end_of}
 use Rattle.nfs_history.specs.Standing.{IsCutOff, has_unanswered}
-use Rattle.journal_device.specs.Device.{failed}
+use Rattle.journal_device.specs.Device.{with_fault}
 use Rattle.book_machine.specs.Placing.{Placed}
 use Rattle.book_machine.specs.Book.{Book, records_kept}
 use Rattle.book_machine.specs.Book.Condition.{running, down, dead}
@@ -79,13 +79,13 @@ PlaceStops book number reply place.NoMemory = (book.condition ≡ running) × Is
 -- what a refused place leaves
 abbrev pub after_place : Book → PlaceFault → Book
 after_place book place.NotLegal = record book { condition = down }
-after_place book place.DeviceFault = record book { condition = down; device = failed book.device }
+after_place book place.DeviceFault = record book { condition = down; device = with_fault book.device }
 after_place book place.NoMemory = record book { condition = down }
 after_place book fault = book
 
 abbrev pub after_flush : Book → FlushFault → Book
 after_flush book flush.Down = book
-after_flush book flush.DeviceFault = record book { condition = down; device = failed book.device }
+after_flush book flush.DeviceFault = record book { condition = down; device = with_fault book.device }
 
 abbrev pub FlushStops : Book → FlushFault → Type 0
 FlushStops book flush.Down = book.condition ≢ running
@@ -130,7 +130,7 @@ CrashStops book keep crash.DeviceFault = (book.condition ≢ dead) × MayKeep bo
 CrashStops book keep crash.NoMemory = (book.condition ≢ dead) × MayKeep book keep
 
 abbrev pub after_crash : Book → CrashFault → Book
-after_crash book crash.DeviceFault = record book { condition = dead; device = failed book.device }
+after_crash book crash.DeviceFault = record book { condition = dead; device = with_fault book.device }
 after_crash book crash.NoMemory = record book { condition = dead }
 after_crash book fault = book
 
