@@ -17,7 +17,7 @@ use Rattle.nfs3_values.specs.declared.fault.Kind.TheVariants as kinds
 use Rattle.nfs3_msgs.specs.Messages.{arguments, IsArguments}
 use Rattle.nfs_history.specs.History.{IsCallOfNfs}
 use Rattle.journal_records.specs.declared.change.Change.{Change}
-use Rattle.journal_records.specs.Journal.{journal_record, is_changing, IsChange, IsRecord}
+use Rattle.journal_records.specs.Journal.{journal_record, is_changing, IsChange, IsJournalRecord}
 use Rattle.journal_records.proofs.Meanings.{spelled_so}
 use Rattle.tree_laws.specs.Leaving.{only_looks}
 use Rattle.tree_nodes.proofs.Chains.{both_pass, negated, none_is}
@@ -25,7 +25,8 @@ use Rattle.cut_check.specs.Effect.{succeeded}
 use Rattle.book_machine.specs.Placing.{Placed, is_recorded}
 use Rattle.book_machine.specs.Book.{Book}
 use Rattle.book_machine.specs.Steps.{reply_message}
-use Rattle.journal_rebuild.specs.Rebuilding.{AreRecords, step_in, numbers_in}
+use Rattle.journal_rebuild.specs.Rebuilding.{AreJournalRecords, step_in, numbers_in}
+use Rattle.book_laws.specs.Alone.{IsSayable}
 use Rattle.book_laws.proofs.Recording.{IsKept, AreKept}
 
 -- ---- the procedure of a call's arguments
@@ -105,7 +106,7 @@ module _ (book : Book) (bytes : List ℕ) (step : Placed) (k : IsKept book bytes
     succeeded = parts.1;
   }
 
-  is_record : IsRecord bytes (record { written = record { number = step.number; call = k.message; reply = reply_message k.call.xid k.reply }; call = step.call; reply = k.reply })
+  is_record : IsJournalRecord bytes (record { written = record { number = step.number; call = k.message; reply = reply_message k.call.xid k.reply }; call = step.call; reply = k.reply })
   is_record = record {
     spelled = subst (λ (xs : List ℕ). Spells journal_record xs (record { number = step.number; call = k.message; reply = reply_message k.call.xid k.reply })) (sym k.written)
         (spelled_so step.number k.message (reply_message k.call.xid k.reply) k.numbered (limit (length k.message) k.recordable.within) (limit (length (reply_message k.call.xid k.reply)) k.within));
@@ -116,7 +117,7 @@ module _ (book : Book) (bytes : List ℕ) (step : Placed) (k : IsKept book bytes
 
 pub record AreSaid (records : List (List ℕ)) (steps : List Placed) : Type 0 where
   pub changes : List Change
-  pub are : AreRecords records changes
+  pub are : AreJournalRecords records changes
   pub steps_are : map step_in changes ≡ steps
   pub numbers_are : numbers_in changes ≡ map (λ (step : Placed). step.number) steps
 

@@ -2,7 +2,7 @@
 use Rattle.std.proofs.Common.{◌≡◌, ◌⊎◌, inl, inr, ℕ, List, [], ◌∷◌, ◌++◌, Some, None, Result, Ok, Err, refl, sym, ap, ◌∙◌, subst}
 use Rattle.std.specs.Prelude.{IfOk, IfErr, option_and_then}
 use Rattle.journal_records.specs.Exactly.{MeansNothing}
-use Rattle.journal_records.specs.Journal.{IsRecord}
+use Rattle.journal_records.specs.Journal.{IsJournalRecord}
 use Rattle.tree_nodes.specs.Tree.{Tree, opening}
 use Rattle.tree_nodes.proofs.Chains.{same_some}
 use Rattle.tree_handles.specs.Binding.{Bindings}
@@ -24,7 +24,7 @@ one_tree records binds tree other s r =
 
 -- records of which one is at fault lead to no tree
 module _ (ahead : List (List ℕ)) (bad : List ℕ) (behind : List (List ℕ)) (after : Tree) (r : Rebuilds (ahead ++ bad ∷ behind) after) where
-  pub unread_stops : MeansNothing (IsRecord bad) → ⊥
+  pub unread_stops : MeansNothing (IsJournalRecord bad) → ⊥
   unread_stops none = let p = change_parts ahead bad behind r.changes r.are in none p.here p.reads
 
   pub stuck_stops : (binds : Bindings) (tree : Tree) → Stands ahead binds tree → IsStuck bad binds tree → ⊥

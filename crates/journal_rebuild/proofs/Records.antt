@@ -4,25 +4,25 @@ use Rattle.std.specs.Prelude.{option_and_then}
 use Rattle.std.proofs.lemmas.List.{map-append, take_more, drop_more, take-append-drop, length-take}
 use Rattle.journal_records.specs.declared.change.Change.{Change}
 use Rattle.journal_records.specs.Exactly.{IsOnly}
-use Rattle.journal_records.specs.Journal.{IsRecord}
+use Rattle.journal_records.specs.Journal.{IsJournalRecord}
 use Rattle.tree_nodes.specs.Tree.{Tree, opening}
 use Rattle.tree_handles.specs.Binding.{Bindings}
 use Rattle.journal_rebuild.specs.declared.fault.RebuildFault.{RebuildFault}
 use Rattle.journal_rebuild.specs.declared.fault.RebuildFault.TheVariants.{NoRecord, NotLegal, NoMemory}
-use Rattle.journal_rebuild.specs.Rebuilding.{handle_of, bindings_made, AreRecords, numbers_in}
+use Rattle.journal_rebuild.specs.Rebuilding.{handle_of, bindings_made, AreJournalRecords, numbers_in}
 use Rattle.journal_rebuild.specs.Taking.{with_handle, tree_behind, IsTaken, StopsAt, AreOnly, grown, Stands, StopsIn}
 use Rattle.journal_rebuild.proofs.Numbers.{pair}
 use Rattle.journal_rebuild.proofs.Growing.{grown-append}
 
 -- ---- lists of records
 
-pub only_are : (records : List (List ℕ)) (changes : List Change) → AreOnly records changes → AreRecords records changes
+pub only_are : (records : List (List ℕ)) (changes : List Change) → AreOnly records changes → AreJournalRecords records changes
 only_are [] [] a = tt
 only_are [] (change ∷ changes) a = absurd a
 only_are (bytes ∷ records) [] a = absurd a
 only_are (bytes ∷ records) (change ∷ changes) a = (a.0.means, only_are records changes a.1)
 
-only_append : (records : List (List ℕ)) (changes : List Change) (bytes : List ℕ) (change : Change) → AreOnly records changes → IsOnly (IsRecord bytes) change
+only_append : (records : List (List ℕ)) (changes : List Change) (bytes : List ℕ) (change : Change) → AreOnly records changes → IsOnly (IsJournalRecord bytes) change
     → AreOnly (records ++ bytes ∷ []) (changes ++ change ∷ [])
 only_append [] [] bytes change a only = (only, tt)
 only_append [] (c ∷ changes) bytes change a only = absurd a
@@ -30,7 +30,7 @@ only_append (r ∷ records) [] bytes change a only = absurd a
 only_append (r ∷ records) (c ∷ changes) bytes change a only = (a.0, only_append records changes bytes change a.1 only)
 
 -- there are no others
-pub same_changes : (records : List (List ℕ)) (changes others : List Change) → AreOnly records changes → AreRecords records others → others ≡ changes
+pub same_changes : (records : List (List ℕ)) (changes others : List Change) → AreOnly records changes → AreJournalRecords records others → others ≡ changes
 same_changes [] [] [] a b = refl
 same_changes [] [] (other ∷ others) a b = absurd b
 same_changes [] (change ∷ changes) others a b = absurd a
@@ -44,10 +44,10 @@ pub record ChangeParts (ahead : List (List ℕ)) (bytes : List ℕ) (behind : Li
   pub here : Change
   pub rest : List Change
   pub parts : changes ≡ first ++ here ∷ rest
-  pub are : AreRecords ahead first
-  pub reads : IsRecord bytes here
+  pub are : AreJournalRecords ahead first
+  pub reads : IsJournalRecord bytes here
 
-pub change_parts : (ahead : List (List ℕ)) (bytes : List ℕ) (behind : List (List ℕ)) (changes : List Change) → AreRecords (ahead ++ bytes ∷ behind) changes → ChangeParts ahead bytes behind changes
+pub change_parts : (ahead : List (List ℕ)) (bytes : List ℕ) (behind : List (List ℕ)) (changes : List Change) → AreJournalRecords (ahead ++ bytes ∷ behind) changes → ChangeParts ahead bytes behind changes
 change_parts [] bytes behind [] a = absurd a
 change_parts [] bytes behind (change ∷ changes) a = record { first = []; here = change; rest = changes; parts = refl; are = tt; reads = a.0 }
 change_parts (r ∷ ahead) bytes behind [] a = absurd a

@@ -6,7 +6,7 @@ use Rattle.nfs3_types.specs.declared.replies.Outcome.{Outcome}
 use Rattle.nfs3_types.specs.declared.replies.Outcome.TheVariants.{Received}
 use Rattle.replay_law.specs.Run.{Taken, state_after}
 use Rattle.journal_records.specs.declared.change.Change.{Change}
-use Rattle.journal_records.specs.Journal.{IsRecord}
+use Rattle.journal_records.specs.Journal.{IsJournalRecord}
 use Rattle.tree_nodes.specs.Tree.{Tree, opening}
 use Rattle.tree_handles.specs.Binding.{Bindings}
 use Rattle.file_tree.specs.Success.{next_tree}
@@ -22,10 +22,10 @@ abbrev pub bindings_made : List ℕ → Bindings
 bindings_made numbers = record { root = handle_of 0; pairs = map (λ object. (handle_of object, object)) numbers }
 
 -- the records are those of these changes
-abbrev pub AreRecords : List (List ℕ) → List Change → Type 0
-AreRecords [] [] = Unit {0}
-AreRecords (bytes ∷ records) (change ∷ changes) = IsRecord bytes change × AreRecords records changes
-AreRecords records changes = ⊥
+abbrev pub AreJournalRecords : List (List ℕ) → List Change → Type 0
+AreJournalRecords [] [] = Unit {0}
+AreJournalRecords (bytes ∷ records) (change ∷ changes) = IsJournalRecord bytes change × AreJournalRecords records changes
+AreJournalRecords records changes = ⊥
 
 -- a change as a step of a run: its call, under the call's own number, with the reply
 abbrev pub step_in : Change → Taken NfsCall Outcome
@@ -38,7 +38,7 @@ numbers_in changes = map (λ change. change.written.number) changes
 -- the object that the call made
 pub record Rebuilds (records : List (List ℕ)) (tree : Tree) : Type 0 where
   pub changes : List Change
-  pub are : AreRecords records changes
+  pub are : AreJournalRecords records changes
   pub leads : state_after (next_tree (bindings_made (numbers_in changes))) opening (map step_in changes) ≡ Some tree
 
 -- this record is the first at fault, by its number from 1: those ahead of it lead to a tree, and with it they lead to none
@@ -53,6 +53,6 @@ pub record IsFirstBad (records : List (List ℕ)) (number : ℕ) (bad : List ℕ
 
 -- what a fault says: the first record at fault isn't that of a change, or it is, and its change isn't legal there
 abbrev pub FaultHolds : List (List ℕ) → RebuildFault → Type 0
-FaultHolds records (NoRecord number) = (bad : List ℕ) × IsFirstBad records number bad × ((change : Change) → ¬ IsRecord bad change)
-FaultHolds records (NotLegal number) = (bad : List ℕ) × IsFirstBad records number bad × ((change : Change) × IsRecord bad change)
+FaultHolds records (NoRecord number) = (bad : List ℕ) × IsFirstBad records number bad × ((change : Change) → ¬ IsJournalRecord bad change)
+FaultHolds records (NotLegal number) = (bad : List ℕ) × IsFirstBad records number bad × ((change : Change) × IsJournalRecord bad change)
 FaultHolds records NoMemory = Unit {0}

@@ -3,7 +3,7 @@ use Rattle.std.specs.Prelude.{◌≡◌, ℕ, ◌+◌, List, [], ◌∷◌, ◌+
 use Rattle.nfs3_types.specs.declared.replies.Outcome.TheVariants.{Received}
 use Rattle.journal_records.specs.declared.change.Change.{Change}
 use Rattle.journal_records.specs.Exactly.{IsOnly, MeansNothing}
-use Rattle.journal_records.specs.Journal.{IsRecord}
+use Rattle.journal_records.specs.Journal.{IsJournalRecord}
 use Rattle.tree_nodes.specs.Tree.{Tree, opening}
 use Rattle.tree_handles.specs.Binding.{Bindings}
 use Rattle.file_tree.specs.Success.{next_tree}
@@ -24,18 +24,18 @@ tree_behind binds tree change = next_tree binds tree change.written.number chang
 -- its change is made
 pub record IsTaken (bytes : List ℕ) (binds : Bindings) (tree : Tree) (binds_after : Bindings) (after : Tree) : Type 0 where
   pub change : Change
-  pub only : IsOnly (IsRecord bytes) change
+  pub only : IsOnly (IsJournalRecord bytes) change
   pub names : binds_after ≡ with_handle binds change.written.number
   pub leads : tree_behind binds_after tree change ≡ Some after
 
 -- its change isn't legal
 pub record IsStuck (bytes : List ℕ) (binds : Bindings) (tree : Tree) : Type 0 where
   pub change : Change
-  pub only : IsOnly (IsRecord bytes) change
+  pub only : IsOnly (IsJournalRecord bytes) change
   pub stops : tree_behind (with_handle binds change.written.number) tree change ≡ None
 
 abbrev pub IsUnread : ℕ → List ℕ → RebuildFault → Type 0
-IsUnread number bytes (NoRecord n) = (n ≡ number) × MeansNothing (IsRecord bytes)
+IsUnread number bytes (NoRecord n) = (n ≡ number) × MeansNothing (IsJournalRecord bytes)
 IsUnread number bytes (NotLegal n) = ⊥
 IsUnread number bytes NoMemory = Unit {0}
 
@@ -45,7 +45,7 @@ StepStops number after (NotLegal n) = (n ≡ number) × (after ≡ None)
 StepStops number after NoMemory = Unit {0}
 
 abbrev pub StopsAt : ℕ → List ℕ → Bindings → Tree → RebuildFault → Type 0
-StopsAt number bytes binds tree (NoRecord n) = (n ≡ number) × MeansNothing (IsRecord bytes)
+StopsAt number bytes binds tree (NoRecord n) = (n ≡ number) × MeansNothing (IsJournalRecord bytes)
 StopsAt number bytes binds tree (NotLegal n) = (n ≡ number) × IsStuck bytes binds tree
 StopsAt number bytes binds tree NoMemory = Unit {0}
 
@@ -54,7 +54,7 @@ StopsAt number bytes binds tree NoMemory = Unit {0}
 -- each reads as this change alone
 abbrev pub AreOnly : List (List ℕ) → List Change → Type 0
 AreOnly [] [] = Unit {0}
-AreOnly (bytes ∷ records) (change ∷ changes) = IsOnly (IsRecord bytes) change × AreOnly records changes
+AreOnly (bytes ∷ records) (change ∷ changes) = IsOnly (IsJournalRecord bytes) change × AreOnly records changes
 AreOnly records changes = ⊥
 
 -- the tree behind changes, of which each knows the handles of the numbers up to its own
@@ -86,6 +86,6 @@ pub record IsStop (records : List (List ℕ)) (number : ℕ) (Why : List ℕ →
   pub why : Why bad binds tree
 
 abbrev pub StopsIn : List (List ℕ) → RebuildFault → Type 0
-StopsIn records (NoRecord number) = IsStop records number (λ bad binds tree. MeansNothing (IsRecord bad))
+StopsIn records (NoRecord number) = IsStop records number (λ bad binds tree. MeansNothing (IsJournalRecord bad))
 StopsIn records (NotLegal number) = IsStop records number IsStuck
 StopsIn records NoMemory = Unit {0}

@@ -3,7 +3,7 @@
 ghost use Rattle.std.specs.Prelude.{◌≡◌, Some, IfOk, IfErr, OnOk};
 ghost use Rattle.nfs3_types.specs.declared.replies.Outcome.TheVariants.{Received};
 ghost use Rattle.journal_records.specs.Exactly.{IsOnly};
-ghost use Rattle.journal_records.specs.Journal.{IsRecord};
+ghost use Rattle.journal_records.specs.Journal.{IsJournalRecord};
 ghost use Rattle.file_tree.specs.Success.{next_tree};
 ghost use Rattle.journal_rebuild.specs.Rebuilding.{handle_of};
 ghost use Rattle.journal_rebuild.specs.Taking.{tree_behind, with_handle, IsTaken, IsUnread, StepStops, StopsAt};
@@ -17,7 +17,7 @@ use std::alloc::{AllocError, Global};
 
 /// The change of the record with this number.
 fn change_in(alloc: Global, number: u64, bytes: &[u8]) -> Result<Change, RebuildFault>
-    ensures read { IfOk result (IsOnly (IsRecord bytes.now)) }
+    ensures read { IfOk result (IsOnly (IsJournalRecord bytes.now)) }
     ensures fault { IfErr result (IsUnread number bytes.now) }
 {
     match read_record(alloc, bytes) {

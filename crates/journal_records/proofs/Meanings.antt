@@ -29,7 +29,7 @@ use Rattle.journal_records.specs.declared.fault.RecordFault.TheVariants.{NoRecor
 use Rattle.journal_records.specs.declared.text.JournalRecord.{JournalRecord}
 use Rattle.journal_records.specs.declared.change.Change.{Change}
 use Rattle.journal_records.specs.Exactly.{IsOnly, MeansNothing, Exactly, ExactlySeen}
-use Rattle.journal_records.specs.Journal.{journal_record, record_text, RecordFits, is_changing, IsChange, IsRecord}
+use Rattle.journal_records.specs.Journal.{journal_record, record_text, RecordFits, is_changing, IsChange, IsJournalRecord}
 use Rattle.journal_records.specs.SpelledRecord.{record_spelled}
 use Rattle.journal_records.specs.Parts.{asks_change, AsksChange, IsAsked, AreResults, IsSuccess, results_to}
 
@@ -298,18 +298,18 @@ module _ (call reply : List ℕ) where
 -- ---- a record
 
 module _ (bytes : List ℕ) where
-  pub no_text : MeansNothing (Spells journal_record bytes) → MeansNothing (IsRecord bytes)
+  pub no_text : MeansNothing (Spells journal_record bytes) → MeansNothing (IsJournalRecord bytes)
   no_text none c is = none c.written is.spelled
 
   module _ (written : JournalRecord) (only : IsOnly (Spells journal_record bytes) written) where
-    its_change : (c : Change) → IsRecord bytes c → Changes written.call written.reply (c.call, c.reply)
+    its_change : (c : Change) → IsJournalRecord bytes c → Changes written.call written.reply (c.call, c.reply)
     its_change c is = subst (λ (w : JournalRecord). IsChange w.call w.reply c.call c.reply) (only.only c.written is.spelled) is.changed
 
-    pub no_change : MeansNothing (Changes written.call written.reply) → MeansNothing (IsRecord bytes)
+    pub no_change : MeansNothing (Changes written.call written.reply) → MeansNothing (IsJournalRecord bytes)
     no_change none c is = none (c.call, c.reply) (its_change c is)
 
     pub whole_change : (call : NfsCall) (reply : NfsReply) → IsOnly (Changes written.call written.reply) (call, reply)
-        → IsOnly (IsRecord bytes) (record { written = written; call = call; reply = reply })
+        → IsOnly (IsJournalRecord bytes) (record { written = written; call = call; reply = reply })
     whole_change call reply change = record {
       means = record { spelled = only.means; changed = change.means };
       only = λ c is.
@@ -319,13 +319,13 @@ module _ (bytes : List ℕ) where
     }
 
     pub faulty_change : (a b : List ℕ) → a ≡ written.call → b ≡ written.reply → (fault : RecordFault) (r : Result (NfsCall × NfsReply) RecordFault) → r ≡ Err fault
-        → Exactly (Changes a b) r → Exactly (IsRecord bytes) (Err fault)
+        → Exactly (Changes a b) r → Exactly (IsJournalRecord bytes) (Err fault)
     faulty_change a b same_call same_reply fault r is exact =
-        fault_on (Changes written.call written.reply) (IsRecord bytes) no_change fault r is
+        fault_on (Changes written.call written.reply) (IsJournalRecord bytes) no_change fault r is
         (subst (λ (x : List ℕ). Exactly (Changes x written.reply) r) same_call (subst (λ (y : List ℕ). Exactly (Changes a y) r) same_reply exact))
 
     pub its_whole_change : (a b : List ℕ) → a ≡ written.call → b ≡ written.reply → (call : NfsCall) (reply : NfsReply) → IsOnly (Changes a b) (call, reply)
-        → IsOnly (IsRecord bytes) (record { written = written; call = call; reply = reply })
+        → IsOnly (IsJournalRecord bytes) (record { written = written; call = call; reply = reply })
     its_whole_change a b same_call same_reply call reply exact =
         whole_change call reply
         (subst (λ (x : List ℕ). IsOnly (Changes x written.reply) (call, reply)) same_call (subst (λ (y : List ℕ). IsOnly (Changes a y) (call, reply)) same_reply exact))

@@ -53,6 +53,6 @@ pub record IsChange (call_message reply_message : List ℕ) (call : NfsCall) (re
   pub succeeded : failure_in reply ≡ None
 
 -- the bytes are the record of this change
-pub record IsRecord (bytes : List ℕ) (change : Change) : Type 0 where
+pub record IsJournalRecord (bytes : List ℕ) (change : Change) : Type 0 where
   pub spelled : Spells journal_record bytes change.written
   pub changed : IsChange change.written.call change.written.reply change.call change.reply

@@ -2,7 +2,7 @@
 
 ghost use Rattle.std.specs.Prelude.{◌≡◌};
 ghost use Rattle.journal_records.specs.Exactly.{Exactly};
-ghost use Rattle.journal_records.specs.Journal.{IsChange, IsRecord};
+ghost use Rattle.journal_records.specs.Journal.{IsChange, IsJournalRecord};
 
 use crate::fault::RecordFault;
 use crate::parts::{call_of, head_of, reply_of, results_of};
@@ -45,7 +45,7 @@ fn change_of(alloc: Global, call: &[u8], reply: &[u8]) -> Result<(NfsCall, NfsRe
 /// The change whose record the bytes are, all of them.
 pub fn read_record(alloc: Global, bytes: &[u8]) -> Result<Change, RecordFault>
     // What the bytes are is read, and nothing else; `NoRecord` where they are no record.
-    ensures { Exactly (IsRecord bytes.now) result }
+    ensures { Exactly (IsJournalRecord bytes.now) result }
 {
     let written = read_text(alloc, bytes)?;
     match change_of(alloc, written.call.as_slice(), written.reply.as_slice()) {

@@ -14,7 +14,7 @@ use Rattle.nfs_history.specs.Outside.{outside}
 use Rattle.journal_records.specs.Exactly.{IsOnly, MeansNothing}
 use Rattle.recorder.specs.declared.fault.BeginFault.{BeginFault}
 use Rattle.recorder.specs.declared.fault.BeginFault.TheVariants as faults
-use Rattle.recorder.specs.Recordable.{IsRecord, asks_judged, AsksJudged, IsKeptInside, AreKeptArguments, IsKeptAsked}
+use Rattle.recorder.specs.Recordable.{CanBeRecorded, asks_judged, AsksJudged, IsKeptInside, AreKeptArguments, IsKeptAsked}
 
 both_pass : (a b : Bool) → (a && b) ≡ true → (a ≡ true) × (b ≡ true)
 both_pass true b e = (refl, e)
@@ -80,7 +80,7 @@ arguments_kept procedure bytes call is (Err _) never = absurd never
 -- ---- the message
 
 module _ (message : List ℕ) where
-  asks : (r : IsRecord message) → AsksJudged message r.recordable.head
+  asks : (r : CanBeRecorded message) → AsksJudged message r.recordable.head
   asks r =
       let nfs = r.recordable.of_nfs in
       let head = r.recordable.head in
@@ -89,14 +89,14 @@ module _ (message : List ℕ) where
         judged = all_pass _ _ _ _ (eq-eqb head.program 100003 nfs.program) (eq-eqb head.version 3 nfs.version) (isnt_eq head.flavor 6 nfs.credential) nfs.procedure;
       }
 
-  pub too_long : record_limit < length message → ¬ IsRecord message
+  pub too_long : record_limit < length message → ¬ CanBeRecorded message
   too_long over r = omega (arith, over, r.within)
 
-  pub none_judged : MeansNothing (AsksJudged message) → ¬ IsRecord message
+  pub none_judged : MeansNothing (AsksJudged message) → ¬ CanBeRecorded message
   none_judged none r = none r.recordable.head (asks r)
 
   module _ (head : CallValue) (is : IsOnly (AsksJudged message) head) where
-    record_so : (call : NfsCall) → IsArguments head.procedure head.args call → outside call None ≡ None → length message ≤ record_limit → IsRecord message
+    record_so : (call : NfsCall) → IsArguments head.procedure head.args call → outside call None ≡ None → length message ≤ record_limit → CanBeRecorded message
     record_so call arguments inside fits =
         let all = both_pass _ _ is.means.judged in
         let three = both_pass _ _ all.0 in
@@ -119,7 +119,7 @@ module _ (message : List ℕ) where
           within = fits;
         }
 
-    no_record : ((call : NfsCall) → IsArguments head.procedure head.args call → ¬ (outside call None ≡ None)) → ¬ IsRecord message
+    no_record : ((call : NfsCall) → IsArguments head.procedure head.args call → ¬ (outside call None ≡ None)) → ¬ CanBeRecorded message
     no_record none r =
         none r.call (subst (λ (h : CallValue). IsArguments h.procedure h.args r.call) (is.only r.recordable.head (asks r)) r.recordable.of_nfs.arguments) r.recordable.inside
 

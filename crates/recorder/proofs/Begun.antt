@@ -24,7 +24,7 @@ use Rattle.recorder.specs.declared.fault.BeginFault.{BeginFault}
 use Rattle.recorder.specs.declared.fault.BeginFault.TheVariants as faults
 use Rattle.recorder.specs.declared.placed.Condition.TheVariants as codes
 use Rattle.recorder.specs.declared.ledger.Ledger.{Ledger}
-use Rattle.recorder.specs.Recordable.{IsRecord, IsKeptAsked, TakeStops, stop_of}
+use Rattle.recorder.specs.Recordable.{CanBeRecorded, IsKeptAsked, TakeStops, stop_of}
 use Rattle.recorder.specs.Refusals.{BeginStops}
 use Rattle.recorder.specs.Inside.{condition_of, book_of, AreTied, Holds}
 use Rattle.recorder.proofs.Runs.{sound}
@@ -70,12 +70,12 @@ module _ (history : HistoryValue) (lane : ℕ) (message : List ℕ) where
   stop_so _ is = tt
 
 module _ (old : Ledger) (lane : ℕ) (message : List ℕ) (runs : old.condition ≡ codes.Running) (is_open : ¬ IsClosed lane (all_happened old.history.events)) where
-  pub taken_stops : (device : Device) → AreTied old device → IsRecord message → (fault : BeginFault) → TakeStops old.history lane message fault → BeginStops (book_of old device) lane message fault
+  pub taken_stops : (device : Device) → AreTied old device → CanBeRecorded message → (fault : BeginFault) → TakeStops old.history lane message fault → BeginStops (book_of old device) lane message fault
   taken_stops device t r faults.XidInUse used = (ap condition_of runs, is_open, r, used (sound (book_of old device) t.reached).invariant.genuine.is_history.known.follow)
   taken_stops device t r faults.NoMemory stop = (ap condition_of runs, is_open)
   taken_stops device t r _ never = absurd never
 
-  pub kept_ok : (r : Result (Unit {0}) BeginFault) → IsKeptAsked message r → OnOk r ((old.condition ≡ codes.Running) × (¬ IsClosed lane (all_happened old.history.events)) × IsRecord message)
+  pub kept_ok : (r : Result (Unit {0}) BeginFault) → IsKeptAsked message r → OnOk r ((old.condition ≡ codes.Running) × (¬ IsClosed lane (all_happened old.history.events)) × CanBeRecorded message)
   kept_ok (Ok x) is = (runs, is_open, is)
   kept_ok (Err fault) is = tt
 

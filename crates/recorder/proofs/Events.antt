@@ -32,7 +32,7 @@ use Rattle.recorder.specs.declared.placed.EraOver.{EraOver}
 use Rattle.recorder.specs.declared.placed.CallState.{CallState}
 use Rattle.recorder.specs.declared.placed.Condition.TheVariants as codes
 use Rattle.recorder.specs.declared.ledger.Ledger.{Ledger}
-use Rattle.recorder.specs.Recordable.{IsRecord}
+use Rattle.recorder.specs.Recordable.{CanBeRecorded}
 use Rattle.recorder.specs.Inside.{call_in, placed_in, era_in, made_from, condition_of, book_of, ArePlaced, IsShort, AreTied, OnlyHistory}
 use Rattle.recorder.proofs.Runs.{happened_push, sound}
 use Rattle.recorder.proofs.Tied.{over_in, placed_now, tied_with, book_with}
@@ -112,7 +112,7 @@ abbrev pub fresh : CallState
 fresh = record { place = None; made = false }
 
 module _ (old new : Ledger) (device : Device) (t : AreTied old device) (lane : ℕ) (message : List ℕ) (running : old.condition ≡ codes.Running) (is_open : ¬ IsClosed lane (all_happened old.history.events))
-    (taken : IsRecord message) (only : OnlyHistory old new) (follows : Follows old.history (owns.Call lane message) new.history) (states : new.calls.items ≡ old.calls.items ++ fresh ∷ []) where
+    (taken : CanBeRecorded message) (only : OnlyHistory old new) (follows : Follows old.history (owns.Call lane message) new.history) (states : new.calls.items ≡ old.calls.items ++ fresh ∷ []) where
   abbrev book : Book
   book = book_of old device
 

@@ -20,7 +20,7 @@ use Rattle.book_machine.specs.Steps.{IsRecordable}
 use Rattle.recorder.specs.declared.fault.BeginFault.{BeginFault}
 use Rattle.recorder.specs.declared.fault.BeginFault.TheVariants as faults
 
-pub record IsRecord (message : List ℕ) : Type 0 where
+pub record CanBeRecorded (message : List ℕ) : Type 0 where
   pub call : NfsCall
   pub recordable : IsRecordable message call
   pub within : length message ≤ record_limit
@@ -50,8 +50,8 @@ AreKeptArguments procedure bytes (Err fault) = ⊥
 
 -- the answer to whether a message is one; the want of memory says nothing
 abbrev pub IsKeptAsked : {A : Type 0} → List ℕ → Result A BeginFault → Type 0
-IsKeptAsked message (Ok _) = IsRecord message
-IsKeptAsked message (Err faults.BadRecord) = ¬ IsRecord message
+IsKeptAsked message (Ok _) = CanBeRecorded message
+IsKeptAsked message (Err faults.BadRecord) = ¬ CanBeRecorded message
 IsKeptAsked message (Err faults.NoMemory) = ⊤
 IsKeptAsked message (Err fault) = ⊥
 

@@ -13,7 +13,7 @@ use Rattle.book_machine.specs.Placing.{Placed}
 use Rattle.book_machine.specs.Book.{Book, records_kept}
 use Rattle.book_machine.specs.Book.Condition.{running, down, dead}
 use Rattle.book_machine.specs.Steps.{IsOpen, IsOfNow, IsUnplaced, IsDurable, Places}
-use Rattle.recorder.specs.Recordable.{IsRecord}
+use Rattle.recorder.specs.Recordable.{CanBeRecorded}
 use Rattle.recorder.specs.declared.fault.BeginFault.{BeginFault}
 use Rattle.recorder.specs.declared.fault.BeginFault.TheVariants as begin
 use Rattle.recorder.specs.declared.fault.PlaceFault.{PlaceFault}
@@ -59,9 +59,9 @@ abbrev pub BeginStops : Book → ℕ → List ℕ → BeginFault → Type 0
 BeginStops book lane message begin.Down = book.condition ≢ running
 BeginStops book lane message (begin.EraOver now) = (book.condition ≡ running) × IsOfEarlierEra book lane × (now ≡ book.history.known.eras)
 BeginStops book lane message begin.LaneClosed = (book.condition ≡ running) × WasClosed book lane
-BeginStops book lane message begin.BadRecord = (book.condition ≡ running) × IsOpen book lane × (¬ IsRecord message)
+BeginStops book lane message begin.BadRecord = (book.condition ≡ running) × IsOpen book lane × (¬ CanBeRecorded message)
 BeginStops book lane message begin.XidInUse =
-    (book.condition ≡ running) × IsOpen book lane × IsRecord message × (has_unanswered lane (xid_of message) (all_happened book.history.events) ≡ true)
+    (book.condition ≡ running) × IsOpen book lane × CanBeRecorded message × (has_unanswered lane (xid_of message) (all_happened book.history.events) ≡ true)
 BeginStops book lane message begin.NoMemory = (book.condition ≡ running) × IsOpen book lane
 
 abbrev pub PlaceStops : Book → ℕ → NfsReply → PlaceFault → Type 0

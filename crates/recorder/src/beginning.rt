@@ -8,7 +8,7 @@ ghost use Rattle.recorder.specs.Inside.{Goes, Holds, OnlyHistory};
 ghost use Rattle.recorder.specs.Refusals.{BeginStops};
 ghost use Rattle.history_file.specs.Owning.{all_happened};
 ghost use Rattle.nfs_history.specs.Standing.{IsClosed};
-ghost use Rattle.recorder.specs.Recordable.{IsRecord, TakeStops, stop_of};
+ghost use Rattle.recorder.specs.Recordable.{CanBeRecorded, TakeStops, stop_of};
 
 use crate::calls::check_recordable;
 use crate::fault::BeginFault;
@@ -54,7 +54,7 @@ impl Ledger {
 
     /// Why a call may not begin, but for its transaction number.
     fn check_begin(&self, lane: u32, message: &[u8]) -> Result<(), BeginFault>
-        ensures ok { OnOk result ((self.now.condition ≡ Condition.Running) × (¬ IsClosed lane (all_happened self.now.history.events)) × IsRecord message.now) }
+        ensures ok { OnOk result ((self.now.condition ≡ Condition.Running) × (¬ IsClosed lane (all_happened self.now.history.events)) × CanBeRecorded message.now) }
         ensures refused { IfErr result (λ fault. Holds (λ book. BeginStops book lane message.now fault) self.now) }
     {
         match self.condition {
@@ -74,7 +74,7 @@ impl Ledger {
     fn begin_checked(&mut self, lane: u32, message: &[u8]) -> Result<Token, BeginFault>
         requires running { self.old.condition ≡ Condition.Running }
         requires lane { ¬ IsClosed lane (all_happened self.old.history.events) }
-        requires message { IsRecord message.now }
+        requires message { CanBeRecorded message.now }
         ensures begun { IfOk result (λ token. Goes (λ old new. Begins old lane message.now new × (token.number ≡ length new.history.known.calls)) self.old self.new) }
         ensures refused { IfErr result (λ fault. Goes (λ old new. BeginStops old lane message.now fault × (new ≡ old)) self.old self.new) }
     {
