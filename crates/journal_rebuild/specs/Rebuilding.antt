@@ -4,7 +4,7 @@ use Rattle.xdr_records.specs.Texts.{long_text}
 use Rattle.nfs3_types.specs.declared.calls.NfsCall.{NfsCall}
 use Rattle.nfs3_types.specs.declared.replies.Outcome.{Outcome}
 use Rattle.nfs3_types.specs.declared.replies.Outcome.TheVariants.{Received}
-use Rattle.replay_law.specs.Run.{Taken, state_after}
+use Rattle.replay_law.specs.Run.{TakenStep, state_after}
 use Rattle.journal_records.specs.declared.change.Change.{Change}
 use Rattle.journal_records.specs.Journal.{IsJournalRecord}
 use Rattle.tree_nodes.specs.Tree.{Tree, opening}
@@ -28,7 +28,7 @@ AreJournalRecords (bytes ∷ records) (change ∷ changes) = IsJournalRecord byt
 AreJournalRecords records changes = ⊥
 
 -- a change as a step of a run: its call, under the call's own number, with the reply
-abbrev pub step_in : Change → Taken NfsCall Outcome
+abbrev pub step_in : Change → TakenStep NfsCall Outcome
 step_in change = record { number = change.written.number; call = change.call; outcome = Received change.reply }
 
 abbrev pub numbers_in : List Change → List ℕ

@@ -7,7 +7,7 @@ use Rattle.std.proofs.lemmas.Grind.{flat_map-append}
 use Rattle.nfs_history.specs.declared.history.RecordedCall.{RecordedCall}
 use Rattle.nfs3_types.specs.declared.calls.NfsCall.{NfsCall}
 use Rattle.nfs3_types.specs.declared.replies.Outcome.{Outcome}
-use Rattle.replay_law.specs.Run.{Taken, Era, state_after, kept_steps}
+use Rattle.replay_law.specs.Run.{TakenStep, Era, state_after, kept_steps}
 use Rattle.replay_law.proofs.Crashes.{kept_one_more}
 use Rattle.replay_law.specs.Undone.{UndoesAll}
 use Rattle.replay_law.proofs.Runs.{state_after-append, one_more, map_more, map_parts}
@@ -75,10 +75,10 @@ none_back m undos after before le back = subst (λ (us : List Undo). UndoesAll T
 -- ---- eras that are run again
 
 module _ {State Call Outcome : Type 0} (next : State → ℕ → Call → Outcome → Option State) where
-  pub front_runs_on : (s : State) (xs ys : List (Taken Call Outcome)) → IsSome (state_after next s (xs ++ ys)) → IsSome (state_after next s xs)
+  pub front_runs_on : (s : State) (xs ys : List (TakenStep Call Outcome)) → IsSome (state_after next s (xs ++ ys)) → IsSome (state_after next s xs)
   front_runs_on s xs ys all = front_some (λ t. state_after next t ys) (state_after next s xs) (subst IsSome (state_after-append next s xs ys) all)
 
-  pub from_there : (s middle : State) (xs ys : List (Taken Call Outcome)) → state_after next s xs ≡ Some middle → state_after next s (xs ++ ys) ≡ state_after next middle ys
+  pub from_there : (s middle : State) (xs ys : List (TakenStep Call Outcome)) → state_after next s xs ≡ Some middle → state_after next s (xs ++ ys) ≡ state_after next middle ys
   from_there s middle xs ys reached = state_after-append next s xs ys ∙ ap (option_and_then (λ t. state_after next t ys)) reached
 
 module _ (ledger : Ledger) (count : ℕ) (can : CanRunAgain ledger count) where

@@ -5,7 +5,7 @@ use Rattle.std.proofs.lemmas.List.{append-nil}
 use Rattle.std.proofs.lemmas.List.Concat.{flat_map-append}
 use Rattle.replay_law.specs.declared.run.RunFault.{RunFault}
 use Rattle.replay_law.specs.declared.run.RunFault.TheVariants.{Illegal, NoMemory}
-use Rattle.replay_law.specs.Run.{Taken, Era, state_after, kept_steps, IsFirstIllegal, EveryEraRuns, IsFirstIllegalInEras}
+use Rattle.replay_law.specs.Run.{TakenStep, Era, state_after, kept_steps, IsFirstIllegal, EveryEraRuns, IsFirstIllegalInEras}
 use Rattle.replay_law.proofs.Runs.{state_after-append, runs_or_not}
 use Rattle.replay_law.proofs.Places.{IsSamePlace, IsAhead, two_places}
 
@@ -20,7 +20,7 @@ kept_one_more eras era =
 
 module _ {State Call Outcome : Type 0} (next : State → ℕ → Call → Outcome → Option State) (start : State) where
   -- steps behind those that lead to a base
-  pub from_base : (base : State) (kept xs : List (Taken Call Outcome)) → state_after next start kept ≡ Some base
+  pub from_base : (base : State) (kept xs : List (TakenStep Call Outcome)) → state_after next start kept ≡ Some base
       → state_after next start (kept ++ xs) ≡ state_after next base xs
   from_base base kept xs reached = state_after-append next start kept xs ∙ ap (option_and_then (λ t. state_after next t xs)) reached
 
@@ -51,16 +51,16 @@ module _ {State Call Outcome : Type 0} (next : State → ℕ → Call → Outcom
   not_both eras n f run = no_state _ (stuck_era eras n f) (run f.ahead f.behind f.era f.parts)
 
   -- in one era there is one first illegal step
-  one_in_era : (base : State) (steps : List (Taken Call Outcome)) (m n : ℕ) → IsFirstIllegal next base steps m → IsFirstIllegal next base steps n → m ≡ n
+  one_in_era : (base : State) (steps : List (TakenStep Call Outcome)) (m n : ℕ) → IsFirstIllegal next base steps m → IsFirstIllegal next base steps n → m ≡ n
   one_in_era base steps m n f h = go (two_places f.ahead h.ahead f.behind h.behind f.stuck h.stuck (sym f.parts ∙ h.parts)) where
-    runs_past : (xs more ahead : List (Taken Call Outcome)) (x : Taken Call Outcome) → ahead ≡ xs ++ x ∷ more → state_after next base (xs ++ x ∷ []) ≡ None
+    runs_past : (xs more ahead : List (TakenStep Call Outcome)) (x : TakenStep Call Outcome) → ahead ≡ xs ++ x ∷ more → state_after next base (xs ++ x ∷ []) ≡ None
         → IsSome (state_after next base ahead) → ⊥
     runs_past xs more ahead x is stops runs =
         let apart : (xs ++ x ∷ []) ++ more ≡ ahead = append_assoc xs (x ∷ []) more ∙ sym is in
         no_state _ (ap (state_after next base) (sym apart) ∙ state_after-append next base (xs ++ x ∷ []) more ∙ ap (option_and_then (λ t. state_after next t more)) stops) runs
 
     go : IsSamePlace f.ahead h.ahead f.stuck h.stuck f.behind h.behind ⊎ (IsAhead f.ahead f.stuck h.ahead ⊎ IsAhead h.ahead h.stuck f.ahead) → m ≡ n
-    go (inl s) = sym f.named ∙ ap (λ (x : Taken Call Outcome). x.number) s.item ∙ h.named
+    go (inl s) = sym f.named ∙ ap (λ (x : TakenStep Call Outcome). x.number) s.item ∙ h.named
     go (inr (inl s)) = absurd (runs_past f.ahead s.0 h.ahead f.stuck s.1 f.stops h.runs)
     go (inr (inr s)) = absurd (runs_past h.ahead s.0 f.ahead h.stuck s.1 h.stops f.runs)
 

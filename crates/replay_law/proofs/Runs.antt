@@ -2,11 +2,11 @@
 use Rattle.std.proofs.Common.{◌≡◌, ℕ, ◌+◌, ◌<◌, get_or, List, [], ◌∷◌, ◌++◌, map, take, drop, length, Option, Some, None, refl, sym, ap, ◌∙◌}
 use Rattle.std.specs.Prelude.{option_and_then}
 use Rattle.std.proofs.lemmas.List.{take_more, drop_more, map-append, take-append-drop}
-use Rattle.replay_law.specs.Run.{Taken, state_after, IsFirstIllegal}
+use Rattle.replay_law.specs.Run.{TakenStep, state_after, IsFirstIllegal}
 
 module _ {State Call Outcome : Type 0} (next : State → ℕ → Call → Outcome → Option State) where
   -- steps after steps
-  pub state_after-append : (s : State) (xs ys : List (Taken Call Outcome))
+  pub state_after-append : (s : State) (xs ys : List (TakenStep Call Outcome))
       → state_after next s (xs ++ ys) ≡ option_and_then (λ t. state_after next t ys) (state_after next s xs)
   state_after-append s [] ys = refl
   state_after-append s (x ∷ xs) ys = go (next s x.number x.call x.outcome) (λ t. state_after-append t xs ys) where
@@ -16,23 +16,23 @@ module _ {State Call Outcome : Type 0} (next : State → ℕ → Call → Outcom
     go (Some t) later = later t
 
   -- one more step, which has a next state
-  pub one_more : (s t u : State) (xs : List (Taken Call Outcome)) (x : Taken Call Outcome) → state_after next s xs ≡ Some t
+  pub one_more : (s t u : State) (xs : List (TakenStep Call Outcome)) (x : TakenStep Call Outcome) → state_after next s xs ≡ Some t
       → next t x.number x.call x.outcome ≡ Some u → state_after next s (xs ++ x ∷ []) ≡ Some u
   one_more s t u xs x before step =
       state_after-append s xs (x ∷ []) ∙ ap (option_and_then (λ v. state_after next v (x ∷ []))) before ∙ ap (option_and_then (λ v. state_after next v [])) step
 
   -- one more step, which has none
-  pub one_stuck : (s t : State) (xs : List (Taken Call Outcome)) (x : Taken Call Outcome) → state_after next s xs ≡ Some t
+  pub one_stuck : (s t : State) (xs : List (TakenStep Call Outcome)) (x : TakenStep Call Outcome) → state_after next s xs ≡ Some t
       → next t x.number x.call x.outcome ≡ None → state_after next s (xs ++ x ∷ []) ≡ None
   one_stuck s t xs x before step =
       state_after-append s xs (x ∷ []) ∙ ap (option_and_then (λ v. state_after next v (x ∷ []))) before ∙ ap (option_and_then (λ v. state_after next v [])) step
 
   -- steps that run to their end have no first illegal one
-  pub runs_or_not : (s : State) (steps : List (Taken Call Outcome)) (n : ℕ) → IsFirstIllegal next s steps n → state_after next s steps ≡ None
+  pub runs_or_not : (s : State) (steps : List (TakenStep Call Outcome)) (n : ℕ) → IsFirstIllegal next s steps n → state_after next s steps ≡ None
   runs_or_not s steps n f =
       ap (state_after next s) (f.parts ∙ sym (again f.ahead f.stuck f.behind))
       ∙ state_after-append s (f.ahead ++ f.stuck ∷ []) f.behind ∙ ap (option_and_then (λ v. state_after next v f.behind)) f.stops where
-        again : (xs : List (Taken Call Outcome)) (x : Taken Call Outcome) (ys : List (Taken Call Outcome)) → (xs ++ x ∷ []) ++ ys ≡ xs ++ x ∷ ys
+        again : (xs : List (TakenStep Call Outcome)) (x : TakenStep Call Outcome) (ys : List (TakenStep Call Outcome)) → (xs ++ x ∷ []) ++ ys ≡ xs ++ x ∷ ys
         again [] x ys = refl
         again (y ∷ xs) x ys = ap (λ zs. y ∷ zs) (again xs x ys)
 

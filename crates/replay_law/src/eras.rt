@@ -1,6 +1,6 @@
 //! Runs of eras over one state, which is taken back at a crash.
 ghost use Rattle.std.specs.Prelude.{◌≡◌, ℕ, List, [], ◌++◌, ◌⊎◌, map, take, Some, IsSome, IfOk, OnOk, IsErrOf, IsOkUnless};
-ghost use Rattle.replay_law.specs.Run.{Taken, state_after, IsFirstIllegal, EveryEraRuns, IsFirstIllegalInEras};
+ghost use Rattle.replay_law.specs.Run.{TakenStep, state_after, IsFirstIllegal, EveryEraRuns, IsFirstIllegalInEras};
 ghost use Rattle.replay_law.specs.Standing.{StandsAfter};
 ghost use Rattle.replay_law.specs.Steps.{taken_of};
 
@@ -15,11 +15,11 @@ fn run_kept<R: Replayable>(
     setting: &R::Setting,
     steps: &[Step<R::Call, R::Outcome>],
 ) -> Result<(), RunFault>
-    ensures ok { OnOk result ((kept : List (Taken R.Call R.Outcome))
+    ensures ok { OnOk result ((kept : List (TakenStep R.Call R.Outcome))
         → StandsAfter R.undoes (R.next setting.now) (R.start setting.now) replay.old kept []
         → StandsAfter R.undoes (R.next setting.now) (R.start setting.now) replay.new (kept ++ map taken_of steps.now) []) }
     ensures illegal { (number : ℕ) → result ≡ Err (RunFault.Illegal number)
-        → (kept : List (Taken R.Call R.Outcome)) (base : R) → state_after (R.next setting.now) (R.start setting.now) kept ≡ Some base
+        → (kept : List (TakenStep R.Call R.Outcome)) (base : R) → state_after (R.next setting.now) (R.start setting.now) kept ≡ Some base
         → StandsAfter R.undoes (R.next setting.now) (R.start setting.now) replay.old kept []
         → IsFirstIllegal (R.next setting.now) base (map taken_of steps.now) number }
 {
@@ -39,11 +39,11 @@ fn run_lost<R: Replayable>(
     setting: &R::Setting,
     steps: &[Step<R::Call, R::Outcome>],
 ) -> Result<(), RunFault>
-    ensures ok { OnOk result ((kept : List (Taken R.Call R.Outcome))
+    ensures ok { OnOk result ((kept : List (TakenStep R.Call R.Outcome))
         → StandsAfter R.undoes (R.next setting.now) (R.start setting.now) replay.old kept []
         → StandsAfter R.undoes (R.next setting.now) (R.start setting.now) replay.new kept (map taken_of steps.now)) }
     ensures illegal { (number : ℕ) → result ≡ Err (RunFault.Illegal number)
-        → (kept : List (Taken R.Call R.Outcome)) (base : R) → state_after (R.next setting.now) (R.start setting.now) kept ≡ Some base
+        → (kept : List (TakenStep R.Call R.Outcome)) (base : R) → state_after (R.next setting.now) (R.start setting.now) kept ≡ Some base
         → StandsAfter R.undoes (R.next setting.now) (R.start setting.now) replay.old kept []
         → IsFirstIllegal (R.next setting.now) base (map taken_of steps.now) number }
 {
@@ -63,16 +63,16 @@ fn run_era<R: Replayable>(
     setting: &R::Setting,
     era: &EraRun<R::Call, R::Outcome>,
 ) -> Result<Replay<R>, RunFault>
-    requires { (kept : List (Taken R.Call R.Outcome))
+    requires { (kept : List (TakenStep R.Call R.Outcome))
         × StandsAfter R.undoes (R.next setting.now) (R.start setting.now) replay kept [] }
-    ensures runs { OnOk result ((kept : List (Taken R.Call R.Outcome))
+    ensures runs { OnOk result ((kept : List (TakenStep R.Call R.Outcome))
         → StandsAfter R.undoes (R.next setting.now) (R.start setting.now) replay kept []
         → IsSome (state_after (R.next setting.now) (R.start setting.now) (kept ++ era.now.steps))) }
-    ensures crashed { IfOk result (λ after. (kept : List (Taken R.Call R.Outcome))
+    ensures crashed { IfOk result (λ after. (kept : List (TakenStep R.Call R.Outcome))
         → StandsAfter R.undoes (R.next setting.now) (R.start setting.now) replay kept []
         → StandsAfter R.undoes (R.next setting.now) (R.start setting.now) after (kept ++ take era.now.kept era.now.steps) []) }
     ensures illegal { (number : ℕ) → result ≡ Err (RunFault.Illegal number)
-        → (kept : List (Taken R.Call R.Outcome)) (base : R) → state_after (R.next setting.now) (R.start setting.now) kept ≡ Some base
+        → (kept : List (TakenStep R.Call R.Outcome)) (base : R) → state_after (R.next setting.now) (R.start setting.now) kept ≡ Some base
         → StandsAfter R.undoes (R.next setting.now) (R.start setting.now) replay kept []
         → IsFirstIllegal (R.next setting.now) base era.now.steps number }
 {

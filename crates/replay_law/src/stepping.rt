@@ -1,6 +1,6 @@
 //! A state that is stepped, and loses at a crash what came after a cut.
 ghost use Rattle.std.specs.Prelude.{◌≡◌, List, [], ◌∷◌, ◌++◌, None, OnOk, OnErr, IfOk};
-ghost use Rattle.replay_law.specs.Run.{Taken, state_after};
+ghost use Rattle.replay_law.specs.Run.{TakenStep, state_after};
 ghost use Rattle.replay_law.specs.Standing.{StandsAfter, HasBase};
 
 use crate::replay::{Replayable, StepFault};
@@ -33,11 +33,11 @@ impl<R: Replayable> Replay<R> {
         call: &R::Call,
         outcome: &R::Outcome,
     ) -> Result<(), StepFault>
-        ensures ok { OnOk result ((kept : List (Taken R.Call R.Outcome))
+        ensures ok { OnOk result ((kept : List (TakenStep R.Call R.Outcome))
             → StandsAfter R.undoes (R.next setting.now) (R.start setting.now) self.old kept []
             → StandsAfter R.undoes (R.next setting.now) (R.start setting.now) self.new
             (kept ++ record { number = number; call = call.now; outcome = outcome.now } ∷ []) []) }
-        ensures not_allowed { result ≡ Err StepFault.NotAllowed → (kept lost : List (Taken R.Call R.Outcome))
+        ensures not_allowed { result ≡ Err StepFault.NotAllowed → (kept lost : List (TakenStep R.Call R.Outcome))
             → StandsAfter R.undoes (R.next setting.now) (R.start setting.now) self.old kept lost
             → state_after (R.next setting.now) (R.start setting.now)
             ((kept ++ lost) ++ record { number = number; call = call.now; outcome = outcome.now } ∷ []) ≡ None }
@@ -55,15 +55,15 @@ impl<R: Replayable> Replay<R> {
         call: &R::Call,
         outcome: &R::Outcome,
     ) -> Result<(), StepFault>
-        ensures ok { OnOk result ((kept lost : List (Taken R.Call R.Outcome))
+        ensures ok { OnOk result ((kept lost : List (TakenStep R.Call R.Outcome))
             → StandsAfter R.undoes (R.next setting.now) (R.start setting.now) self.old kept lost
             → StandsAfter R.undoes (R.next setting.now) (R.start setting.now) self.new kept
             (lost ++ record { number = number; call = call.now; outcome = outcome.now } ∷ [])) }
-        ensures not_allowed { result ≡ Err StepFault.NotAllowed → (kept lost : List (Taken R.Call R.Outcome))
+        ensures not_allowed { result ≡ Err StepFault.NotAllowed → (kept lost : List (TakenStep R.Call R.Outcome))
             → StandsAfter R.undoes (R.next setting.now) (R.start setting.now) self.old kept lost
             → state_after (R.next setting.now) (R.start setting.now)
             ((kept ++ lost) ++ record { number = number; call = call.now; outcome = outcome.now } ∷ []) ≡ None }
-        ensures err { OnErr result ((kept lost : List (Taken R.Call R.Outcome))
+        ensures err { OnErr result ((kept lost : List (TakenStep R.Call R.Outcome))
             → StandsAfter R.undoes (R.next setting.now) (R.start setting.now) self.old kept lost
             → StandsAfter R.undoes (R.next setting.now) (R.start setting.now) self.new kept lost) }
     {
@@ -76,7 +76,7 @@ impl<R: Replayable> Replay<R> {
     /// Takes back the steps past the cut. All is spent where there is no memory.
     pub fn crash(self) -> Result<Self, AllocError>
         requires { HasBase R.undoes self }
-        ensures { IfOk result (λ replay. (setting : R.Setting) → (kept lost : List (Taken R.Call R.Outcome))
+        ensures { IfOk result (λ replay. (setting : R.Setting) → (kept lost : List (TakenStep R.Call R.Outcome))
             → StandsAfter R.undoes (R.next setting) (R.start setting) self kept lost
             → StandsAfter R.undoes (R.next setting) (R.start setting) replay kept []) }
     {

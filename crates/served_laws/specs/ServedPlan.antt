@@ -9,7 +9,7 @@ use Rattle.nfs3_types.specs.declared.replies.Outcome.TheVariants.{Received}
 use Rattle.nfs_history.specs.declared.knowing.KnownCalls.{KnownCalls}
 use Rattle.certificate.specs.declared.plan.Certificate.{Certificate}
 use Rattle.cut_check.specs.Places.{bindings_of}
-use Rattle.replay_law.specs.Run.{Taken, Era, state_after, kept_steps}
+use Rattle.replay_law.specs.Run.{TakenStep, Era, state_after, kept_steps}
 use Rattle.tree_nodes.specs.Tree.{Tree, opening}
 use Rattle.witness_check.specs.Run.{eras_of, next_of}
 use Rattle.book_machine.specs.Served.{IsServed}
@@ -21,7 +21,7 @@ use Rattle.book_machine.specs.Steps.{opening_book, IsRun}
 -- lead that the eras ahead of this one kept, and behind these the places ahead of it in its era
 abbrev pub EachServed : KnownCalls → Certificate → Type 0
 EachServed history plan =
-    (ahead behind : List (Era NfsCall Outcome)) (era : Era NfsCall Outcome) (before after : List (Taken NfsCall Outcome)) (step : Taken NfsCall Outcome) (reply : NfsReply) (tree : Tree)
+    (ahead behind : List (Era NfsCall Outcome)) (era : Era NfsCall Outcome) (before after : List (TakenStep NfsCall Outcome)) (step : TakenStep NfsCall Outcome) (reply : NfsReply) (tree : Tree)
     → eras_of history plan ≡ ahead ++ era ∷ behind → era.steps ≡ before ++ step ∷ after → step.outcome ≡ Received reply
     → state_after (next_of history plan) opening (kept_steps ahead ++ before) ≡ Some tree → IsServed (bindings_of history.root plan.binds) tree step.number step.call reply
 

@@ -15,7 +15,7 @@ use Rattle.nfs3_types.specs.declared.replies.ReadSuccess.{ReadSuccess}
 use Rattle.nfs3_types.specs.declared.replies.NfsReply.TheVariants as replies
 use Rattle.nfs3_types.specs.declared.replies.Outcome.{Outcome}
 use Rattle.nfs3_types.specs.declared.replies.Outcome.TheVariants.{Received}
-use Rattle.replay_law.specs.Run.{Taken, state_after}
+use Rattle.replay_law.specs.Run.{TakenStep, state_after}
 use Rattle.file_tree.specs.Change.Change.{Keep}
 use Rattle.tree_nodes.specs.declared.node.Node.{Node}
 use Rattle.tree_nodes.specs.declared.node.File.{File}
@@ -41,7 +41,7 @@ use Rattle.tree_laws.proofs.Written.{right_is}
 
 -- ---- runs
 
-split_run : (binds : Bindings) (start last : Tree) (ahead behind : List (Taken NfsCall Outcome)) → state_after (next_tree binds) start (ahead ++ behind) ≡ Some last
+split_run : (binds : Bindings) (start last : Tree) (ahead behind : List (TakenStep NfsCall Outcome)) → state_after (next_tree binds) start (ahead ++ behind) ≡ Some last
     → (middle : Tree) × (state_after (next_tree binds) start ahead ≡ Some middle) × (state_after (next_tree binds) middle behind ≡ Some last)
 split_run binds start last [] behind e = (start, refl, e)
 split_run binds start last (one ∷ ahead) behind e =
@@ -50,7 +50,7 @@ split_run binds start last (one ∷ ahead) behind e =
     (parts.0, ap (option_and_then (λ after. state_after (next_tree binds) after ahead)) next.1 ∙ parts.1, parts.2)
 
 -- one more step
-join_run : (binds : Bindings) (start middle last : Tree) (ahead : List (Taken NfsCall Outcome)) (one : Taken NfsCall Outcome) → state_after (next_tree binds) start ahead ≡ Some middle
+join_run : (binds : Bindings) (start middle last : Tree) (ahead : List (TakenStep NfsCall Outcome)) (one : TakenStep NfsCall Outcome) → state_after (next_tree binds) start ahead ≡ Some middle
     → next_tree binds middle one.number one.call one.outcome ≡ Some last → state_after (next_tree binds) start (ahead ++ one ∷ []) ≡ Some last
 join_run binds start middle last [] one e next =
     ap (λ (t : Tree). option_and_then (λ after. Some after) (next_tree binds t one.number one.call one.outcome)) (same_some start middle e) ∙ ap (option_and_then (λ after. Some after)) next
@@ -59,7 +59,7 @@ join_run binds start middle last (first ∷ ahead) one e next =
     ap (option_and_then (λ after. state_after (next_tree binds) after (ahead ++ one ∷ []))) then_on.1 ∙ join_run binds then_on.0 middle last ahead one then_on.2 next
 
 -- where a file was ahead of calls of other numbers, with a byte that none of them writes over
-record WasAhead (binds : Bindings) (start : Tree) (steps : List (Taken NfsCall Outcome)) (object byte : ℕ) (now : File) : Type 0 where
+record WasAhead (binds : Bindings) (start : Tree) (steps : List (TakenStep NfsCall Outcome)) (object byte : ℕ) (now : File) : Type 0 where
   path : Names
   file : File
   stood : IsFileAt start path object file
@@ -68,7 +68,7 @@ record WasAhead (binds : Bindings) (start : Tree) (steps : List (Taken NfsCall O
 stays_on : (old middle new : List ℕ) (byte : ℕ) → ByteStays old middle byte → ByteStays middle new byte → ByteStays old new byte
 stays_on old middle new byte first second = record { same = second.same ∙ first.same; stands = λ stood. second.stands (first.stands stood) }
 
-was_ahead : (binds : Bindings) (object byte : ℕ) (start last : Tree) (steps : List (Taken NfsCall Outcome)) → IsWellFormed start → AllByRecursion (λ one. one.number ≢ object) steps
+was_ahead : (binds : Bindings) (object byte : ℕ) (start last : Tree) (steps : List (TakenStep NfsCall Outcome)) → IsWellFormed start → AllByRecursion (λ one. one.number ≢ object) steps
     → state_after (next_tree binds) start steps ≡ Some last → (q : Names) (y : File) → IsFileAt last q object y → WasAhead binds start steps object byte y
 was_ahead binds object byte start last [] formed others e q y there =
     record { path = q; file = y; stood = ap (λ (t : Tree). map.get t q) (same_some start last e) ∙ there; kept = λ none. record { same = refl; stands = λ h. h } }
@@ -101,20 +101,20 @@ all_so P Q [] so all = tt
 all_so P Q (x ∷ xs) so all = (so x all.0, all_so P Q xs so all.1)
 
 -- none of these has this number
-abbrev Unnumbered : List (Taken NfsCall Outcome) → ℕ → Type 0
+abbrev Unnumbered : List (TakenStep NfsCall Outcome) → ℕ → Type 0
 Unnumbered steps number = AllByRecursion (λ one. one.number ≢ number) steps
 
-both_so : (one : Taken NfsCall Outcome) (xs ys : List (Taken NfsCall Outcome)) → AllByRecursion (λ later. later.number ≢ one.number) ys → AllByRecursion (λ later. Unnumbered xs later.number) ys
+both_so : (one : TakenStep NfsCall Outcome) (xs ys : List (TakenStep NfsCall Outcome)) → AllByRecursion (λ later. later.number ≢ one.number) ys → AllByRecursion (λ later. Unnumbered xs later.number) ys
     → AllByRecursion (λ later. Unnumbered (one ∷ xs) later.number) ys
 both_so one xs [] first second = tt
 both_so one xs (y ∷ ys) first second = ((λ same. first.0 (sym same), second.0), both_so one xs ys first.1 second.1)
 
-none_yet : (ys : List (Taken NfsCall Outcome)) → AllByRecursion (λ later. Unnumbered [] later.number) ys
+none_yet : (ys : List (TakenStep NfsCall Outcome)) → AllByRecursion (λ later. Unnumbered [] later.number) ys
 none_yet [] = tt
 none_yet (y ∷ ys) = (tt, none_yet ys)
 
 -- those behind have other numbers than those ahead
-apart : (xs ys : List (Taken NfsCall Outcome)) → NumbersDiffer (xs ++ ys) → AllByRecursion (λ later. Unnumbered xs later.number) ys
+apart : (xs ys : List (TakenStep NfsCall Outcome)) → NumbersDiffer (xs ++ ys) → AllByRecursion (λ later. Unnumbered xs later.number) ys
 apart [] ys differ = none_yet ys
 apart (x ∷ xs) ys differ = both_so x xs ys (all_behind (λ later. later.number ≢ x.number) xs ys differ.0) (apart xs ys differ.1)
 
@@ -170,14 +170,14 @@ wrote_byte offset count sent old new byte are from within =
     (ap (slice_index new) (sym at) ∙ are.set (byte - offset) (omega arith), omega (arith, within, ends))
 
 -- a file of an object that stands was made by a call of its number
-made_ahead : (binds : Bindings) (ahead : List (Taken NfsCall Outcome)) (tree : Tree) (p : Names) (file : File) (object : ℕ) → state_after (next_tree binds) opening ahead ≡ Some tree → Unnumbered ahead object
+made_ahead : (binds : Bindings) (ahead : List (TakenStep NfsCall Outcome)) (tree : Tree) (p : Names) (file : File) (object : ℕ) → state_after (next_tree binds) opening ahead ≡ Some tree → Unnumbered ahead object
     → IsFileAt tree p object file → ⊥
 made_ahead binds ahead tree p file object reached unnumbered there =
     let was = was_ahead binds object 0 opening tree ahead formed_opening unnumbered reached p file there in
     no_file was.path object was.file was.stood
 
 module _ (binds : Bindings) (write : WriteArguments) (read : ReadArguments) (answer : ReadSuccess) (object byte : ℕ) (written_to : object_of binds write.file ≡ Some object)
-    (read_from : object_of binds read.file ≡ Some object) (before after last : Tree) (ahead between : List (Taken NfsCall Outcome)) (reached : state_after (next_tree binds) opening ahead ≡ Some before) where
+    (read_from : object_of binds read.file ≡ Some object) (before after last : Tree) (ahead between : List (TakenStep NfsCall Outcome)) (reached : state_after (next_tree binds) opening ahead ≡ Some before) where
   names_it : (tree : Tree) (handle : List ℕ) (f : FileEntry) → object_of binds handle ≡ Some object → file_of binds tree handle ≡ Some f → IsFileAt tree f.path object f.file
   names_it tree handle f bound is =
       subst (λ n. IsFileAt tree f.path n f.file) (same_some f.object object (sym (names_object binds tree handle f is) ∙ bound)) (file_stands binds tree handle f is)

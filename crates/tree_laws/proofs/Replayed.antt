@@ -11,7 +11,7 @@ use Rattle.tree_nodes.proofs.Entries.{path_total, entries_empty}
 use Rattle.file_tree.specs.Success.{next_tree}
 use Rattle.nfs3_types.specs.declared.calls.NfsCall.{NfsCall}
 use Rattle.nfs3_types.specs.declared.replies.Outcome.{Outcome}
-use Rattle.replay_law.specs.Run.{Taken, state_after}
+use Rattle.replay_law.specs.Run.{TakenStep, state_after}
 use Rattle.tree_nodes.specs.Moved.{moved, moved_entries, put_all}
 use Rattle.tree_nodes.proofs.Entries.{path_ties}
 use Rattle.tree_nodes.proofs.Found.{tied}
@@ -134,44 +134,44 @@ removed t is = simp (map.get-entries t, is)
 
 -- ---- the run
 
-run : (start next : Tree) (one : Taken NfsCall Outcome) (behind : List (Taken NfsCall Outcome)) → next_tree handles start one.number one.call one.outcome ≡ Some next
+run : (start next : Tree) (one : TakenStep NfsCall Outcome) (behind : List (TakenStep NfsCall Outcome)) → next_tree handles start one.number one.call one.outcome ≡ Some next
     → IsSome (state_after (next_tree handles) next behind) → IsSome (state_after (next_tree handles) start (one ∷ behind))
 run start next one behind goes later = subst (λ o. IsSome (option_and_then (λ after. state_after (next_tree handles) after behind) o)) (sym goes) later
 
-abbrev Runs : Tree → List (Taken NfsCall Outcome) → Type 0
+abbrev Runs : Tree → List (TakenStep NfsCall Outcome) → Type 0
 Runs t behind = IsSome (state_after (next_tree handles) t behind)
 
-abbrev from_twelve : List (Taken NfsCall Outcome)
+abbrev from_twelve : List (TakenStep NfsCall Outcome)
 from_twelve = step 12 remove_file unseen ∷ []
 
-abbrev from_eleven : List (Taken NfsCall Outcome)
+abbrev from_eleven : List (TakenStep NfsCall Outcome)
 from_eleven = step 11 make_link unseen ∷ from_twelve
 
-abbrev from_ten : List (Taken NfsCall Outcome)
+abbrev from_ten : List (TakenStep NfsCall Outcome)
 from_ten = step 10 rename_directory unseen ∷ from_eleven
 
-abbrev from_nine : List (Taken NfsCall Outcome)
+abbrev from_nine : List (TakenStep NfsCall Outcome)
 from_nine = step 9 rename_file unseen ∷ from_ten
 
-abbrev from_eight : List (Taken NfsCall Outcome)
+abbrev from_eight : List (TakenStep NfsCall Outcome)
 from_eight = step 8 make_directory unseen ∷ from_nine
 
-abbrev from_seven : List (Taken NfsCall Outcome)
+abbrev from_seven : List (TakenStep NfsCall Outcome)
 from_seven = step 7 remove_directory unseen ∷ from_eight
 
-abbrev from_six : List (Taken NfsCall Outcome)
+abbrev from_six : List (TakenStep NfsCall Outcome)
 from_six = step 6 make_directory unseen ∷ from_seven
 
-abbrev from_five : List (Taken NfsCall Outcome)
+abbrev from_five : List (TakenStep NfsCall Outcome)
 from_five = step 5 set_size unseen ∷ from_six
 
-abbrev from_four : List (Taken NfsCall Outcome)
+abbrev from_four : List (TakenStep NfsCall Outcome)
 from_four = step 4 look_up none_found ∷ from_five
 
-abbrev from_three : List (Taken NfsCall Outcome)
+abbrev from_three : List (TakenStep NfsCall Outcome)
 from_three = step 3 read two_read ∷ from_four
 
-abbrev from_two : List (Taken NfsCall Outcome)
+abbrev from_two : List (TakenStep NfsCall Outcome)
 from_two = step 2 write two_written ∷ from_three
 
 runs_from_ten : (t : Tree) → Has t (([], root) ∷ (d, directory 8) ∷ (dg, two_bytes) ∷ []) → Runs t from_ten

@@ -3,7 +3,7 @@ use Rattle.std.proofs.Common.{◌≡◌, ℕ, ◌⊎◌, inl, inr, Bool, List, [
 use Rattle.std.specs.FinMap as map
 use Rattle.nfs3_types.specs.declared.calls.NfsCall.{NfsCall}
 use Rattle.nfs3_types.specs.declared.replies.Outcome.{Outcome}
-use Rattle.replay_law.specs.Run.{Taken, state_after}
+use Rattle.replay_law.specs.Run.{TakenStep, state_after}
 use Rattle.file_tree.specs.Change.{Change}
 use Rattle.file_tree.specs.Change.Change.{Keep, Put, Remove, Move}
 use Rattle.tree_nodes.specs.declared.node.Node.{Node}
@@ -37,7 +37,7 @@ steps_keep binds before after number call outcome e formed =
     let change = mapped (changed before) (change_of binds before number call outcome) after e in
     subst IsWellFormed change.2 (formed_changed number (Over binds before call outcome) before (is_rename call) (path_taken binds before call) (path_asked binds before call) change.0 formed (change_fits binds before number call outcome change.0 change.1))
 
-run_keeps : (binds : Bindings) (start : Tree) (steps : List (Taken NfsCall Outcome)) (tree : Tree) → IsWellFormed start → state_after (next_tree binds) start steps ≡ Some tree → IsWellFormed tree
+run_keeps : (binds : Bindings) (start : Tree) (steps : List (TakenStep NfsCall Outcome)) (tree : Tree) → IsWellFormed start → state_after (next_tree binds) start steps ≡ Some tree → IsWellFormed tree
 run_keeps binds start [] tree formed e = subst IsWellFormed (same_some start tree e) formed
 run_keeps binds start (step ∷ steps) tree formed e =
     let next = chained (λ after. state_after (next_tree binds) after steps) (next_tree binds start step.number step.call step.outcome) tree e in

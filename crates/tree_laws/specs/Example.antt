@@ -13,7 +13,7 @@ use Rattle.nfs3_types.specs.declared.replies.NfsReply.TheVariants as replies
 use Rattle.nfs3_types.specs.declared.replies.Outcome.{Outcome}
 use Rattle.nfs3_types.specs.declared.replies.Outcome.TheVariants as outcomes
 use Rattle.nfs3_types.specs.declared.status.Failure.TheVariants.{NoEntry}
-use Rattle.replay_law.specs.Run.{Taken, state_after}
+use Rattle.replay_law.specs.Run.{TakenStep, state_after}
 use Rattle.tree_nodes.specs.Tree.{opening}
 use Rattle.tree_handles.specs.Binding.{Bindings}
 use Rattle.file_tree.specs.Success.{next_tree}
@@ -82,7 +82,7 @@ remove_file = calls.Remove (in_directory (103 ∷ []))
 abbrev pub unseen : Outcome
 unseen = outcomes.Taken None
 
-abbrev pub steps : List (Taken NfsCall Outcome)
+abbrev pub steps : List (TakenStep NfsCall Outcome)
 steps =
     step 1 create unseen ∷ step 2 write two_written ∷ step 3 read two_read ∷ step 4 look_up none_found ∷ step 5 set_size unseen
     ∷ step 6 make_directory unseen ∷ step 7 remove_directory unseen ∷ step 8 make_directory unseen ∷ step 9 rename_file unseen

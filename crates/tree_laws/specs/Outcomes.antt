@@ -20,5 +20,5 @@ count_written (Received _) = None
 count_written (Taken count) = count
 
 -- a call of a run
-abbrev pub step : ℕ → NfsCall → Outcome → run.Taken NfsCall Outcome
+abbrev pub step : ℕ → NfsCall → Outcome → run.TakenStep NfsCall Outcome
 step number call outcome = record { number = number; call = call; outcome = outcome }

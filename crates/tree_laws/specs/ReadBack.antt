@@ -46,19 +46,19 @@ WhatWasWritten =
     → (eof : Bool) × (read_is_legal binds after read (replies.Read (Done (record { attributes = attributes; count = count; eof = eof; bytes = take count write.bytes }))) ≡ true)
 
 -- no two of these calls have one number
-abbrev pub NumbersDiffer : List (run.Taken NfsCall Outcome) → Type 0
+abbrev pub NumbersDiffer : List (run.TakenStep NfsCall Outcome) → Type 0
 NumbersDiffer [] = ⊤
 NumbersDiffer (one ∷ steps) = AllByRecursion (λ later. later.number ≢ one.number) steps × NumbersDiffer steps
 
 -- among these calls a READ stands behind a WRITE of the same file, near or far; the WRITE wrote this byte, the READ asked for bytes
 -- from there or from ahead of it, and no call in between writes over it
-pub record ReadsLater (binds : Bindings) (steps : List (run.Taken NfsCall Outcome)) (write : WriteArguments) (read : ReadArguments) (answer : ReadSuccess) (byte : ℕ) : Type 0 where
-  pub ahead : List (run.Taken NfsCall Outcome)
+pub record ReadsLater (binds : Bindings) (steps : List (run.TakenStep NfsCall Outcome)) (write : WriteArguments) (read : ReadArguments) (answer : ReadSuccess) (byte : ℕ) : Type 0 where
+  pub ahead : List (run.TakenStep NfsCall Outcome)
   pub m : ℕ
   pub outcome : Outcome
-  pub between : List (run.Taken NfsCall Outcome)
+  pub between : List (run.TakenStep NfsCall Outcome)
   pub n : ℕ
-  pub behind : List (run.Taken NfsCall Outcome)
+  pub behind : List (run.TakenStep NfsCall Outcome)
   pub stand : steps ≡ ahead ++ step m (calls.Write write) outcome ∷ (between ++ step n (calls.Read read) (Received (replies.Read (Done answer))) ∷ behind)
   pub object : ℕ
   pub written_to : object_of binds write.file ≡ Some object
@@ -79,5 +79,5 @@ pub record GivesByte (write : WriteArguments) (read : ReadArguments) (answer : R
 -- so in a run whose calls have different numbers a READ gives each byte that a WRITE wrote, unless a call in between wrote over it
 abbrev pub RunsReadBack : Type 0
 RunsReadBack =
-    (binds : Bindings) (steps : List (run.Taken NfsCall Outcome)) (write : WriteArguments) (read : ReadArguments) (answer : ReadSuccess) (byte : ℕ)
+    (binds : Bindings) (steps : List (run.TakenStep NfsCall Outcome)) (write : WriteArguments) (read : ReadArguments) (answer : ReadSuccess) (byte : ℕ)
     → IsSome (run.state_after (next_tree binds) opening steps) → NumbersDiffer steps → ReadsLater binds steps write read answer byte → GivesByte write read answer byte

@@ -4,7 +4,7 @@ use Rattle.std.specs.FinMap as map
 use Rattle.nfs3_types.specs.declared.calls.DirectoryName.{DirectoryName}
 use Rattle.nfs3_types.specs.declared.calls.NfsCall.{NfsCall}
 use Rattle.nfs3_types.specs.declared.replies.Outcome.{Outcome}
-use Rattle.replay_law.specs.Run.{Taken, state_after}
+use Rattle.replay_law.specs.Run.{TakenStep, state_after}
 use Rattle.tree_nodes.specs.declared.node.Node.{Node}
 use Rattle.tree_nodes.specs.declared.node.Content.{Content}
 use Rattle.tree_nodes.specs.declared.node.Content.TheVariants.{Directory}
@@ -38,7 +38,7 @@ StepsKeep =
 
 -- each tree that calls reach from the opening one is well formed
 abbrev pub RunsKeep : Type 0
-RunsKeep = (binds : Bindings) (steps : List (Taken NfsCall Outcome)) (tree : Tree) → state_after (next_tree binds) opening steps ≡ Some tree → IsWellFormed tree
+RunsKeep = (binds : Bindings) (steps : List (TakenStep NfsCall Outcome)) (tree : Tree) → state_after (next_tree binds) opening steps ≡ Some tree → IsWellFormed tree
 
 -- in a well-formed tree nothing stands below a path at which no directory stands
 abbrev pub NothingBelow : Type 0

@@ -6,7 +6,7 @@ use Rattle.nfs3_types.specs.declared.calls.CreateMode.TheVariants.{Unchecked, Gu
 use Rattle.nfs3_types.specs.declared.calls.NfsCall.{NfsCall}
 use Rattle.nfs3_types.specs.declared.calls.NfsCall.TheVariants as calls
 use Rattle.nfs3_types.specs.declared.replies.Outcome.{Outcome}
-use Rattle.replay_law.specs.Run.{Taken}
+use Rattle.replay_law.specs.Run.{TakenStep}
 use Rattle.tree_nodes.specs.Tree.{Tree}
 use Rattle.tree_handles.specs.Binding.{Bindings, object_of}
 use Rattle.tree_handles.specs.Live.{FileEntry, file_of}
@@ -46,7 +46,7 @@ pub record WritesOver (binds : Bindings) (tree : Tree) (object byte : ℕ) (call
   pub sets : SetsByte call outcome byte
 
 -- none of these calls does, each in the tree that those ahead of it leave
-abbrev pub NoneWritesOver : Bindings → ℕ → ℕ → Tree → List (Taken NfsCall Outcome) → Type 0
+abbrev pub NoneWritesOver : Bindings → ℕ → ℕ → Tree → List (TakenStep NfsCall Outcome) → Type 0
 NoneWritesOver binds object byte tree [] = ⊤
 NoneWritesOver binds object byte tree (one ∷ steps) =
     (¬ WritesOver binds tree object byte one.call one.outcome)

@@ -17,7 +17,7 @@ use Rattle.certificate.specs.declared.plan.Place.{Place}
 use Rattle.certificate.specs.declared.plan.Place.TheVariants.{Answered}
 use Rattle.order_check.specs.Order.{EachEraRespectsOrder}
 use Rattle.order_check.proofs.ShapeLaws.{shape_from_none}
-use Rattle.replay_law.specs.Run.{Taken, state_after}
+use Rattle.replay_law.specs.Run.{TakenStep, state_after}
 use Rattle.replay_law.proofs.Crashes.{none_runs, one_more_runs}
 use Rattle.tree_nodes.specs.declared.node.Node.{Node}
 use Rattle.tree_nodes.specs.Files.{file_node}
@@ -63,25 +63,25 @@ f = (102 ∷ []) ∷ []
 abbrev file : List ℕ → Node
 file bytes = file_node 1 bytes (Some (record { value = 7 }))
 
-abbrev one : Taken NfsCall Outcome
+abbrev one : TakenStep NfsCall Outcome
 one = step 1 create (Received created)
 
-abbrev two : Taken NfsCall Outcome
+abbrev two : TakenStep NfsCall Outcome
 two = step 2 (calls.Write (write_at 0 FileSync (120 ∷ 121 ∷ 122 ∷ []) 3)) (Received (wrote 3 FileSync 7))
 
-abbrev three : Taken NfsCall Outcome
+abbrev three : TakenStep NfsCall Outcome
 three = step 3 (calls.Write (write_at 0 Unstable (97 ∷ []) 1)) (Received (wrote 1 Unstable 7))
 
-abbrev four : Taken NfsCall Outcome
+abbrev four : TakenStep NfsCall Outcome
 four = step 4 (calls.Write (write_at 3 FileSync (119 ∷ []) 1)) (Received (wrote 1 FileSync 8))
 
-abbrev five : Taken NfsCall Outcome
+abbrev five : TakenStep NfsCall Outcome
 five = step 5 (calls.Write (write_at 0 Unstable (98 ∷ []) 1)) (Received (wrote 1 Unstable 8))
 
-abbrev six : Taken NfsCall Outcome
+abbrev six : TakenStep NfsCall Outcome
 six = step 6 (calls.Read read) (Received (replies.Read (Done given)))
 
-abbrev Leads : Tree → Taken NfsCall Outcome → Tree → Type 0
+abbrev Leads : Tree → TakenStep NfsCall Outcome → Tree → Type 0
 Leads t x u = next_tree handles t x.number x.call x.outcome ≡ Some u
 
 abbrev with_file : List ℕ → List (Names × Node)
@@ -105,11 +105,11 @@ over_again t is = simp is
 looked : (t : Tree) → Has t (with_file (120 ∷ 121 ∷ 122 ∷ 119 ∷ [])) → Leads t six t
 looked t is = simp is
 
-run : (t u : Tree) (x : Taken NfsCall Outcome) (xs : List (Taken NfsCall Outcome)) → Leads t x u → IsSome (state_after (next_tree handles) u xs) → IsSome (state_after (next_tree handles) t (x ∷ xs))
+run : (t u : Tree) (x : TakenStep NfsCall Outcome) (xs : List (TakenStep NfsCall Outcome)) → Leads t x u → IsSome (state_after (next_tree handles) u xs) → IsSome (state_after (next_tree handles) t (x ∷ xs))
 run t u x xs leads later = subst (λ o. IsSome (option_and_then (λ after. state_after (next_tree handles) after xs) o)) (sym leads) later
 
 -- from the tree with xyz on
-from_two : (xs : List (Taken NfsCall Outcome)) → ((t : Tree) → Has t (with_file (120 ∷ 121 ∷ 122 ∷ [])) → IsSome (state_after (next_tree handles) t xs))
+from_two : (xs : List (TakenStep NfsCall Outcome)) → ((t : Tree) → Has t (with_file (120 ∷ 121 ∷ 122 ∷ [])) → IsSome (state_after (next_tree handles) t xs))
     → IsSome (state_after (next_tree handles) opening (one ∷ two ∷ xs))
 from_two xs later =
     let empty = map.insert opening f (file []) in
@@ -120,7 +120,7 @@ from_two xs later =
 first_runs : IsSome (state_after (next_tree handles) opening (one ∷ two ∷ three ∷ []))
 first_runs = from_two (three ∷ []) (λ t is. run t _ three [] (over t is) refl)
 
-from_four : (x : Taken NfsCall Outcome) → ((t : Tree) → Has t (with_file (120 ∷ 121 ∷ 122 ∷ 119 ∷ [])) → IsSome (state_after (next_tree handles) t (x ∷ [])))
+from_four : (x : TakenStep NfsCall Outcome) → ((t : Tree) → Has t (with_file (120 ∷ 121 ∷ 122 ∷ 119 ∷ [])) → IsSome (state_after (next_tree handles) t (x ∷ [])))
     → IsSome (state_after (next_tree handles) opening (one ∷ two ∷ four ∷ x ∷ []))
 from_four x later = from_two (four ∷ x ∷ []) (λ t is. run t _ four (x ∷ []) (behind t is) (later _ (put t _ f (file (120 ∷ 121 ∷ 122 ∷ 119 ∷ [])) is)))
 

@@ -15,7 +15,7 @@ use Rattle.certificate.specs.Plan.{call_of, cut_of}
 use Rattle.order_check.specs.declared.places.OrderedPlace.{OrderedPlace}
 use Rattle.order_check.specs.Places.{order_from, number_of}
 use Rattle.order_check.specs.Shape.{NameDifferentCalls}
-use Rattle.replay_law.specs.Run.{Taken}
+use Rattle.replay_law.specs.Run.{TakenStep}
 use Rattle.tree_nodes.proofs.Chains.{chained}
 use Rattle.tree_laws.specs.ReadBack.{NumbersDiffer}
 use Rattle.witness_check.specs.Run.{step_with, step_of_call, step_at, steps_of}
@@ -94,11 +94,11 @@ named_once (p ∷ order) once = (all_apart (number_of p) order once.0, named_onc
 
 -- ---- steps
 
-with_number : (n : ℕ) (meaning : Meaning) (outcome : Outcome) (one : Taken NfsCall Outcome) → step_with n meaning outcome ≡ Some one → one.number ≡ n
+with_number : (n : ℕ) (meaning : Meaning) (outcome : Outcome) (one : TakenStep NfsCall Outcome) → step_with n meaning outcome ≡ Some one → one.number ≡ n
 with_number n (meanings.Judged call) outcome one e = cc
 with_number n meanings.Unjudged outcome one e = absurd (cc)
 
-numbered : (calls : List RecordedCall) (place : Place) (one : Taken NfsCall Outcome) → step_at calls place ≡ Some one → one.number ≡ call_of place
+numbered : (calls : List RecordedCall) (place : Place) (one : TakenStep NfsCall Outcome) → step_at calls place ≡ Some one → one.number ≡ call_of place
 numbered calls (variants.Answered n) one e =
     let call = chained (step_of_call (variants.Answered n)) (call_at calls n) one e in
     let outcome = chained (step_with n call.0.meaning) call.0.outcome one call.2 in
@@ -107,24 +107,24 @@ numbered calls (variants.Taken n count) one e =
     let call = chained (step_of_call (variants.Taken n count)) (call_at calls n) one e in
     with_number n call.0.meaning _ one call.2
 
-numbers_of : List (Taken NfsCall Outcome) → List ℕ
+numbers_of : List (TakenStep NfsCall Outcome) → List ℕ
 numbers_of steps = map (λ one. one.number) steps
 
 steps_among : (calls : List RecordedCall) (places : List Place) → AreAmong (numbers_of (steps_of calls places)) (map call_of places)
 unfolding numbers_of
 steps_among calls [] = none
 steps_among calls (place ∷ places) = go (step_at calls place) (numbered calls place) (steps_among calls places) where
-  go : (o : Option (Taken NfsCall Outcome)) → ((one : Taken NfsCall Outcome) → o ≡ Some one → one.number ≡ call_of place)
+  go : (o : Option (TakenStep NfsCall Outcome)) → ((one : TakenStep NfsCall Outcome) → o ≡ Some one → one.number ≡ call_of place)
       → AreAmong (numbers_of (steps_of calls places)) (map call_of places) → AreAmong (numbers_of (cons_option o (steps_of calls places))) (call_of place ∷ map call_of places)
   go None is later = without_it (call_of place) later
   go (Some one) is later = subst (λ n. AreAmong (n ∷ numbers_of (steps_of calls places)) (call_of place ∷ map call_of places)) (sym (is one refl)) (with_it (call_of place) later)
 
-all_differ : (number : ℕ) (steps : List (Taken NfsCall Outcome)) → AllByRecursion (λ m. m ≢ number) (numbers_of steps) → AllByRecursion (λ later. later.number ≢ number) steps
+all_differ : (number : ℕ) (steps : List (TakenStep NfsCall Outcome)) → AllByRecursion (λ m. m ≢ number) (numbers_of steps) → AllByRecursion (λ later. later.number ≢ number) steps
 unfolding numbers_of
 all_differ number [] all = tt
 all_differ number (one ∷ steps) all = (all.0, all_differ number steps all.1)
 
-steps_differ : (steps : List (Taken NfsCall Outcome)) → Differ (numbers_of steps) → NumbersDiffer steps
+steps_differ : (steps : List (TakenStep NfsCall Outcome)) → Differ (numbers_of steps) → NumbersDiffer steps
 unfolding numbers_of
 steps_differ [] differ = tt
 steps_differ (one ∷ steps) differ = (all_differ one.number steps differ.0, steps_differ steps differ.1)

@@ -13,7 +13,7 @@ use Rattle.certificate.specs.declared.plan.EraPlan.{EraPlan}
 use Rattle.certificate.specs.Plan.{cut_of}
 use Rattle.order_check.specs.Places.{order_from}
 use Rattle.order_check.specs.Shape.{NameDifferentCalls}
-use Rattle.replay_law.specs.Run.{Taken, state_after, kept_steps}
+use Rattle.replay_law.specs.Run.{TakenStep, state_after, kept_steps}
 use Rattle.tree_nodes.specs.Tree.{opening}
 use Rattle.tree_laws.proofs.Later.{runs_read_back}
 use Rattle.cut_check.specs.Places.{bindings_of}
@@ -34,8 +34,8 @@ seen_runs : (history : KnownCalls) (plan : Certificate) (ahead behind : List Era
 seen_runs history plan ahead behind era witness eras =
     let runs = witness.runs (map (era_of history.calls) ahead) (map (era_of history.calls) behind) (era_of history.calls era)
     (ap (map (era_of history.calls)) eras ∙ map-append (era_of history.calls) ahead (era ∷ behind)) in
-    subst (λ (steps : List (Taken NfsCall Outcome)). IsSome (state_after (next_of history plan) opening steps))
-    (ap (λ (steps : List (Taken NfsCall Outcome)). steps ++ steps_of history.calls era.places) (kept_ahead history.calls ahead)
+    subst (λ (steps : List (TakenStep NfsCall Outcome)). IsSome (state_after (next_of history plan) opening steps))
+    (ap (λ (steps : List (TakenStep NfsCall Outcome)). steps ++ steps_of history.calls era.places) (kept_ahead history.calls ahead)
     ∙ sym (filter_map-append (step_at history.calls) (flat_map left_of ahead) era.places)) runs
 
 pub what_was_kept : WhatWasKept

@@ -6,7 +6,7 @@ use Rattle.std.specs.List.{filter_map, cons_option}
 use Rattle.std.proofs.Math.Seq.{take-append_seam}
 use Rattle.std.proofs.lemmas.List.{append-nil, take_more, drop_more, take-append-drop}
 use Rattle.std.proofs.lemmas.List.Elements.{filter_map-append}
-use Rattle.replay_law.specs.Run.{Taken, state_after, IsFirstIllegal}
+use Rattle.replay_law.specs.Run.{TakenStep, state_after, IsFirstIllegal}
 use Rattle.replay_law.specs.Standing.{StandsAfter}
 use Rattle.replay_law.proofs.Stands.{all_so_far}
 use Rattle.replay_law.proofs.Crashes.{from_base}
@@ -54,24 +54,24 @@ module _ {A B : Type 0} (f : A → Option B) where
 
 module _ (binds : Bindings) (calls : List RecordedCall) where
   -- no place yet
-  pub none_kept : (replay : Replay Tree Bindings NfsCall Outcome Undo) (kept : List (Taken NfsCall Outcome)) → Stands binds replay kept [] → Stands binds replay (kept ++ []) []
-  none_kept replay kept s = subst (λ (xs : List (Taken NfsCall Outcome)). Stands binds replay xs []) (sym (append-nil kept)) s
+  pub none_kept : (replay : Replay Tree Bindings NfsCall Outcome Undo) (kept : List (TakenStep NfsCall Outcome)) → Stands binds replay kept [] → Stands binds replay (kept ++ []) []
+  none_kept replay kept s = subst (λ (xs : List (TakenStep NfsCall Outcome)). Stands binds replay xs []) (sym (append-nil kept)) s
 
   -- one place more ahead of the cut, and past it
-  pub more_kept : (places : List Place) (i : ℕ) (d : Place) → i < length places → (replay : Replay Tree Bindings NfsCall Outcome Undo) (kept : List (Taken NfsCall Outcome))
+  pub more_kept : (places : List Place) (i : ℕ) (d : Place) → i < length places → (replay : Replay Tree Bindings NfsCall Outcome Undo) (kept : List (TakenStep NfsCall Outcome))
       → Stands binds replay ((kept ++ steps_of calls (take i places)) ++ option_to_list (step_at calls (get_or places i d))) [] → Stands binds replay (kept ++ steps_of calls (take (i + 1) places)) []
   more_kept places i d inside replay kept s =
-      subst (λ (xs : List (Taken NfsCall Outcome)). Stands binds replay xs [])
+      subst (λ (xs : List (TakenStep NfsCall Outcome)). Stands binds replay xs [])
       (append_assoc kept (steps_of calls (take i places)) (option_to_list (step_at calls (get_or places i d))) ∙ ap (λ xs. kept ++ xs) (sym (more (step_at calls) places i d inside))) s
 
-  pub more_lost : (places : List Place) (i : ℕ) (d : Place) → i < length places → (replay : Replay Tree Bindings NfsCall Outcome Undo) (kept : List (Taken NfsCall Outcome))
+  pub more_lost : (places : List Place) (i : ℕ) (d : Place) → i < length places → (replay : Replay Tree Bindings NfsCall Outcome Undo) (kept : List (TakenStep NfsCall Outcome))
       → Stands binds replay kept (steps_of calls (take i places) ++ option_to_list (step_at calls (get_or places i d))) → Stands binds replay kept (steps_of calls (take (i + 1) places))
   more_lost places i d inside replay kept s =
-      subst (λ (xs : List (Taken NfsCall Outcome)). Stands binds replay kept xs) (sym (more (step_at calls) places i d inside)) s
+      subst (λ (xs : List (TakenStep NfsCall Outcome)). Stands binds replay kept xs) (sym (more (step_at calls) places i d inside)) s
 
   -- a step without a next tree is the first such one
-  here : (places : List Place) (i : ℕ) (d : Place) (found : Option (Taken NfsCall Outcome)) (number : ℕ) → i < length places → step_at calls (get_or places i d) ≡ found
-      → (kept : List (Taken NfsCall Outcome)) (state : Tree) → tree_after binds (kept ++ steps_of calls (take i places)) ≡ Some state
+  here : (places : List Place) (i : ℕ) (d : Place) (found : Option (TakenStep NfsCall Outcome)) (number : ℕ) → i < length places → step_at calls (get_or places i d) ≡ found
+      → (kept : List (TakenStep NfsCall Outcome)) (state : Tree) → tree_after binds (kept ++ steps_of calls (take i places)) ≡ Some state
       → IsStuckAt binds (kept ++ steps_of calls (take i places)) found number → IsIllegalBehind binds kept (steps_of calls places) number
   here places i d None number inside at kept state before stuck = absurd stuck
   here places i d (Some x) number inside at kept state before stuck = λ base reached.
@@ -88,23 +88,23 @@ module _ (binds : Bindings) (calls : List RecordedCall) where
       }
 
   pub stuck_kept : (places : List Place) (i : ℕ) (d : Place) (number : ℕ) → i < length places
-      → (replay : Replay Tree Bindings NfsCall Outcome Undo) (kept : List (Taken NfsCall Outcome)) → Stands binds replay (kept ++ steps_of calls (take i places)) []
+      → (replay : Replay Tree Bindings NfsCall Outcome Undo) (kept : List (TakenStep NfsCall Outcome)) → Stands binds replay (kept ++ steps_of calls (take i places)) []
       → IsStuckAt binds (kept ++ steps_of calls (take i places)) (step_at calls (get_or places i d)) number → IsIllegalBehind binds kept (steps_of calls places) number
   stuck_kept places i d number inside replay kept s stuck = here places i d (step_at calls (get_or places i d)) number inside refl kept s.base s.reached stuck
 
   pub stuck_lost : (places : List Place) (i : ℕ) (d : Place) (number : ℕ) → i < length places
-      → (replay : Replay Tree Bindings NfsCall Outcome Undo) (kept : List (Taken NfsCall Outcome)) → Stands binds replay kept (steps_of calls (take i places))
+      → (replay : Replay Tree Bindings NfsCall Outcome Undo) (kept : List (TakenStep NfsCall Outcome)) → Stands binds replay kept (steps_of calls (take i places))
       → IsStuckAt binds (kept ++ steps_of calls (take i places)) (step_at calls (get_or places i d)) number → IsIllegalBehind binds kept (steps_of calls places) number
   stuck_lost places i d number inside replay kept s stuck =
       here places i d (step_at calls (get_or places i d)) number inside refl kept replay.state (all_so_far TakesBack (next_tree binds) opening replay kept (steps_of calls (take i places)) s) stuck
 
   -- the step of a place, or none
-  pub no_step : (o : Option (Taken NfsCall Outcome)) (xs : List (Taken NfsCall Outcome)) → o ≡ None → xs ++ option_to_list o ≡ xs
+  pub no_step : (o : Option (TakenStep NfsCall Outcome)) (xs : List (TakenStep NfsCall Outcome)) → o ≡ None → xs ++ option_to_list o ≡ xs
   no_step o xs none = ap (λ p. xs ++ option_to_list p) none ∙ append-nil xs
 
-  pub one_step : (o : Option (Taken NfsCall Outcome)) (x : Taken NfsCall Outcome) (xs : List (Taken NfsCall Outcome)) → o ≡ Some x → xs ++ option_to_list o ≡ xs ++ x ∷ []
+  pub one_step : (o : Option (TakenStep NfsCall Outcome)) (x : TakenStep NfsCall Outcome) (xs : List (TakenStep NfsCall Outcome)) → o ≡ Some x → xs ++ option_to_list o ≡ xs ++ x ∷ []
   one_step o x xs some = ap (λ p. xs ++ option_to_list p) some
 
-  pub is_stuck : (o : Option (Taken NfsCall Outcome)) (x : Taken NfsCall Outcome) (steps : List (Taken NfsCall Outcome)) (number : ℕ) → o ≡ Some x → x.number ≡ number
+  pub is_stuck : (o : Option (TakenStep NfsCall Outcome)) (x : TakenStep NfsCall Outcome) (steps : List (TakenStep NfsCall Outcome)) (number : ℕ) → o ≡ Some x → x.number ≡ number
       → tree_after binds (steps ++ x ∷ []) ≡ None → IsStuckAt binds steps o number
   is_stuck o x steps number some named stops = subst (λ p. IsStuckAt binds steps p number) (sym some) (named, stops)

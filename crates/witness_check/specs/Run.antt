@@ -22,21 +22,21 @@ use Rattle.cut_check.specs.Places.{bindings_of}
 use Rattle.file_tree.specs.Success.{next_tree}
 
 -- a judged call with an outcome, as a step of the run
-abbrev pub step_with : ℕ → Meaning → Outcome → Option (run.Taken NfsCall Outcome)
+abbrev pub step_with : ℕ → Meaning → Outcome → Option (run.TakenStep NfsCall Outcome)
 step_with n (meanings.Judged call) outcome = Some (record { number = n; call = call; outcome = outcome })
 step_with n meanings.Unjudged outcome = None
 
-abbrev pub step_of_call : Place → RecordedCall → Option (run.Taken NfsCall Outcome)
+abbrev pub step_of_call : Place → RecordedCall → Option (run.TakenStep NfsCall Outcome)
 step_of_call (Answered n) call = option_and_then (step_with n call.meaning) call.outcome
 step_of_call (Taken n count) call = step_with n call.meaning (outcomes.Taken count)
 
 -- the step at a place: the call with its received reply, or as taken. Where the plan has its shape each place has one.
-abbrev pub step_at : List RecordedCall → Place → Option (run.Taken NfsCall Outcome)
+abbrev pub step_at : List RecordedCall → Place → Option (run.TakenStep NfsCall Outcome)
 step_at calls (Answered n) = option_and_then (step_of_call (Answered n)) (call_at calls n)
 step_at calls (Taken n count) = option_and_then (step_of_call (Taken n count)) (call_at calls n)
 
 -- the steps of these places
-abbrev pub steps_of : List RecordedCall → List Place → List (run.Taken NfsCall Outcome)
+abbrev pub steps_of : List RecordedCall → List Place → List (run.TakenStep NfsCall Outcome)
 steps_of calls places = filter_map (step_at calls) places
 
 -- an era of a plan: the steps of its places, of which those of the places ahead of the cut are kept

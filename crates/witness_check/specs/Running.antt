@@ -24,22 +24,22 @@ outcome_at (Answered n) received = received
 outcome_at (Taken n count) received = Some (outcomes.Taken count)
 
 -- a call that was found at a place, as a step
-abbrev pub found_step : Found → run.Taken NfsCall Outcome
+abbrev pub found_step : Found → run.TakenStep NfsCall Outcome
 found_step found = record { number = found.number; call = found.call; outcome = found.outcome }
 
 -- a run that stands after these steps, those behind the cut last
-abbrev pub Stands : Bindings → Replay Tree Bindings NfsCall Outcome Undo → List (run.Taken NfsCall Outcome) → List (run.Taken NfsCall Outcome) → Type 0
+abbrev pub Stands : Bindings → Replay Tree Bindings NfsCall Outcome Undo → List (run.TakenStep NfsCall Outcome) → List (run.TakenStep NfsCall Outcome) → Type 0
 Stands binds replay kept lost = standing.StandsAfter TakesBack (next_tree binds) opening replay kept lost
 
 -- the tree after these steps from the opening one
-abbrev pub tree_after : Bindings → List (run.Taken NfsCall Outcome) → Option Tree
+abbrev pub tree_after : Bindings → List (run.TakenStep NfsCall Outcome) → Option Tree
 tree_after binds steps = state_after (next_tree binds) opening steps
 
 -- the step, if there is one, is of this call and has no next tree behind these steps
-abbrev pub IsStuckAt : Bindings → List (run.Taken NfsCall Outcome) → Option (run.Taken NfsCall Outcome) → ℕ → Type 0
+abbrev pub IsStuckAt : Bindings → List (run.TakenStep NfsCall Outcome) → Option (run.TakenStep NfsCall Outcome) → ℕ → Type 0
 IsStuckAt binds steps None number = ⊥
 IsStuckAt binds steps (Some step) number = (step.number ≡ number) × (tree_after binds (steps ++ step ∷ []) ≡ None)
 
 -- the steps have a first illegal one behind those that were kept, which is of this call
-abbrev pub IsIllegalBehind : Bindings → List (run.Taken NfsCall Outcome) → List (run.Taken NfsCall Outcome) → ℕ → Type 0
+abbrev pub IsIllegalBehind : Bindings → List (run.TakenStep NfsCall Outcome) → List (run.TakenStep NfsCall Outcome) → ℕ → Type 0
 IsIllegalBehind binds kept steps number = (base : Tree) → tree_after binds kept ≡ Some base → IsFirstIllegal (next_tree binds) base steps number

@@ -91,10 +91,10 @@ fn run_kept_step(
     binds: &Binds,
     step: &Option<Found>,
 ) -> Result<(), RunFault>
-    ensures ok { OnOk result ((kept : List (run.Taken NfsCall Outcome)) → Stands binds.now replay.old kept []
+    ensures ok { OnOk result ((kept : List (run.TakenStep NfsCall Outcome)) → Stands binds.now replay.old kept []
         → Stands binds.now replay.new (kept ++ option_to_list (option_map found_step step.now)) []) }
     ensures illegal { (number : ℕ) → result ≡ Err (RunFault.Illegal number)
-        → (kept : List (run.Taken NfsCall Outcome)) → Stands binds.now replay.old kept []
+        → (kept : List (run.TakenStep NfsCall Outcome)) → Stands binds.now replay.old kept []
         → IsStuckAt binds.now kept (option_map found_step step.now) number }
 {
     let Some(found) = step else {
@@ -115,10 +115,10 @@ fn run_kept_place(
     history: &KnownCalls<'_>,
     place: Place,
 ) -> Result<(), RunFault>
-    ensures ok { OnOk result ((kept : List (run.Taken NfsCall Outcome)) → Stands binds.now replay.old kept []
+    ensures ok { OnOk result ((kept : List (run.TakenStep NfsCall Outcome)) → Stands binds.now replay.old kept []
         → Stands binds.now replay.new (kept ++ option_to_list (step_at history.now.calls place)) []) }
     ensures illegal { (number : ℕ) → result ≡ Err (RunFault.Illegal number)
-        → (kept : List (run.Taken NfsCall Outcome)) → Stands binds.now replay.old kept []
+        → (kept : List (run.TakenStep NfsCall Outcome)) → Stands binds.now replay.old kept []
         → IsStuckAt binds.now kept (step_at history.now.calls place) number }
 {
     let found = find_step(alloc, history, place)?;
@@ -133,10 +133,10 @@ fn run_lost_step(
     binds: &Binds,
     step: &Option<Found>,
 ) -> Result<(), RunFault>
-    ensures ok { OnOk result ((kept lost : List (run.Taken NfsCall Outcome)) → Stands binds.now replay.old kept lost
+    ensures ok { OnOk result ((kept lost : List (run.TakenStep NfsCall Outcome)) → Stands binds.now replay.old kept lost
         → Stands binds.now replay.new kept (lost ++ option_to_list (option_map found_step step.now))) }
     ensures illegal { (number : ℕ) → result ≡ Err (RunFault.Illegal number)
-        → (kept lost : List (run.Taken NfsCall Outcome)) → Stands binds.now replay.old kept lost
+        → (kept lost : List (run.TakenStep NfsCall Outcome)) → Stands binds.now replay.old kept lost
         → IsStuckAt binds.now (kept ++ lost) (option_map found_step step.now) number }
 {
     let Some(found) = step else {
@@ -157,10 +157,10 @@ fn run_lost_place(
     history: &KnownCalls<'_>,
     place: Place,
 ) -> Result<(), RunFault>
-    ensures ok { OnOk result ((kept lost : List (run.Taken NfsCall Outcome)) → Stands binds.now replay.old kept lost
+    ensures ok { OnOk result ((kept lost : List (run.TakenStep NfsCall Outcome)) → Stands binds.now replay.old kept lost
         → Stands binds.now replay.new kept (lost ++ option_to_list (step_at history.now.calls place))) }
     ensures illegal { (number : ℕ) → result ≡ Err (RunFault.Illegal number)
-        → (kept lost : List (run.Taken NfsCall Outcome)) → Stands binds.now replay.old kept lost
+        → (kept lost : List (run.TakenStep NfsCall Outcome)) → Stands binds.now replay.old kept lost
         → IsStuckAt binds.now (kept ++ lost) (step_at history.now.calls place) number }
 {
     let found = find_step(alloc, history, place)?;
@@ -177,10 +177,10 @@ fn run_kept(
     history: &KnownCalls<'_>,
     places: &[Place],
 ) -> Result<(), RunFault>
-    ensures ok { OnOk result ((kept : List (run.Taken NfsCall Outcome)) → Stands binds.now replay.old kept []
+    ensures ok { OnOk result ((kept : List (run.TakenStep NfsCall Outcome)) → Stands binds.now replay.old kept []
         → Stands binds.now replay.new (kept ++ steps_of history.now.calls places.now) []) }
     ensures illegal { (number : ℕ) → result ≡ Err (RunFault.Illegal number)
-        → (kept : List (run.Taken NfsCall Outcome)) → Stands binds.now replay.old kept []
+        → (kept : List (run.TakenStep NfsCall Outcome)) → Stands binds.now replay.old kept []
         → IsIllegalBehind binds.now kept (steps_of history.now.calls places.now) number }
 {
     for place in places {
@@ -197,10 +197,10 @@ fn run_lost(
     history: &KnownCalls<'_>,
     places: &[Place],
 ) -> Result<(), RunFault>
-    ensures ok { OnOk result ((kept : List (run.Taken NfsCall Outcome)) → Stands binds.now replay.old kept []
+    ensures ok { OnOk result ((kept : List (run.TakenStep NfsCall Outcome)) → Stands binds.now replay.old kept []
         → Stands binds.now replay.new kept (steps_of history.now.calls places.now)) }
     ensures illegal { (number : ℕ) → result ≡ Err (RunFault.Illegal number)
-        → (kept : List (run.Taken NfsCall Outcome)) → Stands binds.now replay.old kept []
+        → (kept : List (run.TakenStep NfsCall Outcome)) → Stands binds.now replay.old kept []
         → IsIllegalBehind binds.now kept (steps_of history.now.calls places.now) number }
 {
     for place in places {
@@ -229,13 +229,13 @@ fn run_era(
     history: &KnownCalls<'_>,
     era: &EraPlan,
 ) -> Result<Replay<FileTree>, RunFault>
-    requires { (kept : List (run.Taken NfsCall Outcome)) × Stands binds.now replay kept [] }
-    ensures runs { OnOk result ((kept : List (run.Taken NfsCall Outcome)) → Stands binds.now replay kept []
+    requires { (kept : List (run.TakenStep NfsCall Outcome)) × Stands binds.now replay kept [] }
+    ensures runs { OnOk result ((kept : List (run.TakenStep NfsCall Outcome)) → Stands binds.now replay kept []
         → IsSome (tree_after binds.now (kept ++ steps_of history.now.calls era.now.places))) }
-    ensures crashed { IfOk result (λ after. (kept : List (run.Taken NfsCall Outcome)) → Stands binds.now replay kept []
+    ensures crashed { IfOk result (λ after. (kept : List (run.TakenStep NfsCall Outcome)) → Stands binds.now replay kept []
         → Stands binds.now after (kept ++ steps_of history.now.calls (take (cut_of era.now) era.now.places)) []) }
     ensures illegal { (number : ℕ) → result ≡ Err (RunFault.Illegal number)
-        → (kept : List (run.Taken NfsCall Outcome)) → Stands binds.now replay kept []
+        → (kept : List (run.TakenStep NfsCall Outcome)) → Stands binds.now replay kept []
         → IsIllegalBehind binds.now kept (steps_of history.now.calls era.now.places) number }
 {
     let (kept, lost) = split_at_cut(era);

@@ -5,7 +5,7 @@ use Rattle.nfs3_types.specs.declared.replies.Outcome.{Outcome}
 use Rattle.certificate.specs.declared.plan.Place.{Place}
 use Rattle.certificate.specs.Plan.{cut_of}
 use Rattle.replay_law.specs.declared.run.RunFault.TheVariants.{Illegal}
-use Rattle.replay_law.specs.Run.{Taken, IsFirstIllegal}
+use Rattle.replay_law.specs.Run.{TakenStep, IsFirstIllegal}
 use Rattle.replay_law.proofs.Crashes.{from_base}
 use Rattle.replay_law.proofs.Within.{first_of_front, first_behind, era_runs}
 use Rattle.tree_nodes.specs.Tree.{opening}
@@ -26,7 +26,7 @@ returns-in_err-run_kept-clause-illegal c = λ number is kept s base reached.
     let was : c.run_kept.result ≡ Err c.in_err-run_kept.field-0.0 = c.in_err-run_kept.was in
     let refused : c.run_kept.result ≡ Err (Illegal number) = cc (fault.1, fault.2, was, is) in
     let found = c.run_kept.ensures.illegal number refused kept s base reached in
-    subst (λ (steps : List (Taken NfsCall Outcome)). IsFirstIllegal next base steps number) (sym parts)
+    subst (λ (steps : List (TakenStep NfsCall Outcome)). IsFirstIllegal next base steps number) (sym parts)
     (first_of_front next base (steps_of calls c.split_at_cut.result.0.now) (steps_of calls c.split_at_cut.result.1.now) number found)
 
 pub returns-in_err-run_lost-clause-illegal : goal.returns-in_err-run_lost-clause-illegal
@@ -41,7 +41,7 @@ returns-in_err-run_lost-clause-illegal c = λ number is kept s base reached.
     let stands = c.in_ok-run_kept.ensures.ok kept s in
     let found = c.run_lost.ensures.illegal number refused (kept ++ front) stands stands.base stands.reached in
     let middle = sym (from_base next opening base kept front reached) ∙ stands.reached in
-    subst (λ (steps : List (Taken NfsCall Outcome)). IsFirstIllegal next base steps number) (sym parts)
+    subst (λ (steps : List (TakenStep NfsCall Outcome)). IsFirstIllegal next base steps number) (sym parts)
     (first_behind next base stands.base front (steps_of calls c.split_at_cut.result.1.now) number middle found)
 
 pub crash-requires : goal.crash-requires

@@ -4,7 +4,7 @@ use Rattle.std.proofs.lemmas.Result.{err_from_is_err_and}
 use Rattle.nfs3_types.specs.declared.calls.NfsCall.{NfsCall}
 use Rattle.nfs3_types.specs.declared.replies.Outcome.{Outcome}
 use Rattle.certificate.specs.declared.plan.Place.{Place}
-use Rattle.replay_law.specs.Run.{Taken}
+use Rattle.replay_law.specs.Run.{TakenStep}
 use Rattle.replay_law.specs.declared.run.RunFault.TheVariants.{Illegal}
 use Rattle.witness_check.specs.Run.{steps_of}
 use Rattle.witness_check.specs.Running.{Stands}

@@ -5,7 +5,7 @@ use Rattle.nfs3_types.specs.declared.calls.NfsCall.{NfsCall}
 use Rattle.nfs3_types.specs.declared.replies.Outcome.{Outcome}
 use Rattle.certificate.specs.declared.plan.EraPlan.{EraPlan}
 use Rattle.replay_law.specs.declared.run.RunFault.TheVariants.{Illegal}
-use Rattle.replay_law.specs.Run.{Era, Taken, EveryEraRuns, kept_steps}
+use Rattle.replay_law.specs.Run.{Era, TakenStep, EveryEraRuns, kept_steps}
 use Rattle.replay_law.proofs.Runs.{map_more, map_parts}
 use Rattle.replay_law.proofs.Crashes.{none_runs, one_more_runs, kept_one_more}
 use Rattle.tree_nodes.specs.Tree.{opening}
@@ -32,9 +32,9 @@ loop-era-preserved c =
     let stands = c.loop-era.invariant.stands in
     let crashed = c.in_ok-replay-2.ensures.crashed (kept_steps so_far) stands in
     let front = kept (step_at calls) (cut_of era) era.places in
-    let kept_front = ap (λ (xs : List (Taken NfsCall Outcome)). kept_steps so_far ++ xs) (sym front) in
+    let kept_front = ap (λ (xs : List (TakenStep NfsCall Outcome)). kept_steps so_far ++ xs) (sym front) in
     record {
-      stands = subst (λ (steps : List (Taken NfsCall Outcome)). Stands c.args.binds.now c.in_ok-replay-2.replay steps []) (kept_front ∙ sym (ap kept_steps more ∙ kept_one_more so_far (era_of calls era))) crashed;
+      stands = subst (λ (steps : List (TakenStep NfsCall Outcome)). Stands c.args.binds.now c.in_ok-replay-2.replay steps []) (kept_front ∙ sym (ap kept_steps more ∙ kept_one_more so_far (era_of calls era))) crashed;
       run = subst (λ (eras : List (Era NfsCall Outcome)). EveryEraRuns next opening eras) (sym more)
           (one_more_runs next opening so_far (era_of calls era) c.loop-era.invariant.run (c.in_ok-replay-2.ensures.runs (kept_steps so_far) stands));
     }
