@@ -14,8 +14,8 @@ use Rattle.tree_nodes.specs.Moved.{is_from}
 use Rattle.tree_nodes.specs.Place.{node_in}
 use Rattle.file_tree.specs.Change.{Change}
 use Rattle.file_tree.specs.Change.Change.{Keep, Put, Remove, Move}
-use Rattle.file_tree.specs.declared.plan.Plan.{Plan}
-use Rattle.file_tree.specs.declared.plan.Plan.TheVariants as plans
+use Rattle.file_tree.specs.declared.object_change.ObjectChange.{ObjectChange}
+use Rattle.file_tree.specs.declared.object_change.ObjectChange.TheVariants as of_objects
 
 -- a name that is free in a directory gets a node with an object number that is free
 pub record Makes (tree : Tree) (directory : ℕ) (name : List ℕ) (node : Node) (change : Change) : Type 0 where
@@ -56,16 +56,16 @@ pub record Moves (tree : Tree) (object directory : ℕ) (name : List ℕ) (chang
   pub short : length name < 2 ^ 32
 
 -- what is done with objects is this change
-abbrev pub Does : Tree → Plan → Change → Type 0
-Does tree plans.Keep change = change ≡ Keep
-Does tree (plans.Make directory name node) change = Makes tree directory name.now node change
-Does tree (plans.Write object offset bytes) change = Fills tree object (λ old. written old offset bytes.now) change
-Does tree (plans.Resize object size) change = Fills tree object (λ old. resized old size) change
-Does tree (plans.Remove object) change = Takes tree object change
-Does tree (plans.Rename object directory name) change = Moves tree object directory name.now change
+abbrev pub Does : Tree → ObjectChange → Change → Type 0
+Does tree of_objects.Keep change = change ≡ Keep
+Does tree (of_objects.Make directory name node) change = Makes tree directory name.now node change
+Does tree (of_objects.Write object offset bytes) change = Fills tree object (λ old. written old offset bytes.now) change
+Does tree (of_objects.Resize object size) change = Fills tree object (λ old. resized old size) change
+Does tree (of_objects.Remove object) change = Takes tree object change
+Does tree (of_objects.Rename object directory name) change = Moves tree object directory name.now change
 
 -- the plan of the change where there is one, `NotAllowed` where there is none; only the want of memory says nothing
-abbrev pub Plans : Tree → Result Plan StepFault → Option Change → Type 0
+abbrev pub Plans : Tree → Result ObjectChange StepFault → Option Change → Type 0
 Plans tree (Ok plan) value = (change : Change) × (value ≡ Some change) × Does tree plan change
 Plans tree (Err NotAllowed) value = value ≡ None
 Plans tree (Err NoMemory) value = ⊤

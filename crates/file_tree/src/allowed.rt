@@ -11,7 +11,7 @@ ghost use Rattle.file_tree.specs.Planning.{Plans};
 ghost use Rattle.file_tree.specs.Success.{change_taken};
 ghost use Rattle.file_tree.specs.Allows.{may_be_found, may_succeed};
 
-use crate::plan::Plan;
+use crate::object_change::ObjectChange;
 use crate::success::change_taken;
 use nfs3_types::{DirectoryName, FileHandle, NfsCall};
 use replay_law::StepFault;
@@ -43,7 +43,7 @@ fn names_link(view: &View<'_>, handle: &FileHandle) -> bool
 }
 
 /// Whether there is a plan.
-fn is_planned(plan: Result<Plan<'_>, StepFault>) -> Result<bool, AllocError>
+fn is_planned(plan: Result<ObjectChange<'_>, StepFault>) -> Result<bool, AllocError>
     ensures { (tree : Tree) (change : Option Change) → Plans tree plan.entry change → IfOk result (λ planned. planned ≡ is_some change) }
 {
     match plan {

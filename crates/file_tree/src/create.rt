@@ -9,7 +9,7 @@ ghost use Rattle.tree_nodes.specs.declared.node.Content.TheVariants as contents;
 ghost use Rattle.file_tree.specs.Planning.{Plans};
 ghost use Rattle.file_tree.specs.Made.{first_size, first_verifier, made_by, create_absent, set_size, create_over, create_present, create_change};
 
-use crate::plan::Plan;
+use crate::object_change::ObjectChange;
 use file_bytes::FileBytes;
 use nfs3_types::{CreateArguments, CreateMode, FILE_LIMIT, FileHandle, Verifier};
 use replay_law::StepFault;
@@ -74,7 +74,7 @@ fn create_absent<'a>(
     call: &'a CreateArguments,
     handle: &Option<FileHandle>,
     directory: u64,
-) -> Result<Plan<'a>, StepFault>
+) -> Result<ObjectChange<'a>, StepFault>
     requires { node_in view.now.nodes.now directory call.now.place.name ≡ None }
     ensures { (e : Names × Node) → entry_of view.now.nodes.now directory ≡ Some e → Plans view.now.nodes.now result
         (create_absent view.now.binds.now view.now.nodes.now number call.now.mode handle.now (e.0 ++ call.now.place.name ∷ [])) }
@@ -87,7 +87,7 @@ fn create_absent<'a>(
     {
         let node = new_file(alloc, number, &call.mode, size);
         let name = call.place.name.as_slice();
-        Ok(Plan::Make {
+        Ok(ObjectChange::Make {
             directory,
             name,
             node,
@@ -103,13 +103,13 @@ pub(crate) fn set_size<'a>(
     object: u64,
     file: &File,
     size: Option<u64>,
-) -> Result<Plan<'a>, StepFault>
+) -> Result<ObjectChange<'a>, StepFault>
     ensures { (path : Names) → entry_of nodes.now object ≡ Some (path, record { object = object; content = contents.File file.now })
         → Plans nodes.now result (set_size path object file.now size) }
 {
     match size {
-        None => Ok(Plan::Keep),
-        Some(size) if size <= FILE_LIMIT => Ok(Plan::Resize { object, size }),
+        None => Ok(ObjectChange::Keep),
+        Some(size) if size <= FILE_LIMIT => Ok(ObjectChange::Resize { object, size }),
         Some(_) => Err(StepFault::NotAllowed),
     }
 }
@@ -120,7 +120,7 @@ fn create_over<'a>(
     mode: &CreateMode,
     object: u64,
     file: &File,
-) -> Result<Plan<'a>, StepFault>
+) -> Result<ObjectChange<'a>, StepFault>
     ensures { (path : Names) → entry_of nodes.now object ≡ Some (path, record { object = object; content = contents.File file.now })
         → Plans nodes.now result (create_over mode.now path object file.now) }
 {
@@ -129,7 +129,7 @@ fn create_over<'a>(
         CreateMode::Guarded(_) => Err(StepFault::NotAllowed),
         CreateMode::Exclusive(verifier) => {
             if is_made_by(&file.verifier, *verifier) {
-                Ok(Plan::Keep)
+                Ok(ObjectChange::Keep)
             } else {
                 Err(StepFault::NotAllowed)
             }
@@ -143,7 +143,7 @@ fn create_present<'a>(
     mode: &CreateMode,
     handle: &Option<FileHandle>,
     node: &Node,
-) -> Result<Plan<'a>, StepFault>
+) -> Result<ObjectChange<'a>, StepFault>
     ensures { (path : Names) → entry_of view.now.nodes.now node.now.object ≡ Some (path, node.now)
         → Plans view.now.nodes.now result (create_present view.now.binds.now mode.now handle.now path node.now.object node.now.content) }
 {
@@ -166,7 +166,7 @@ pub(crate) fn create_change<'a>(
     number: u64,
     call: &'a CreateArguments,
     handle: &Option<FileHandle>,
-) -> Result<Plan<'a>, StepFault>
+) -> Result<ObjectChange<'a>, StepFault>
     ensures { Plans view.now.nodes.now result (create_change view.now.binds.now view.now.nodes.now number call.now handle.now) }
 {
     let Some(directory) = directory_of(view, &call.place.directory) else {

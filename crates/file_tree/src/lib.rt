@@ -4,7 +4,7 @@
 mod allowed;
 mod create;
 mod naming;
-mod plan;
+mod object_change;
 mod rename;
 mod success;
 mod tree;

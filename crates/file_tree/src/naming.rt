@@ -6,7 +6,7 @@ ghost use Rattle.file_tree.specs.Written.{set_attributes};
 ghost use Rattle.file_tree.specs.Removed.{remove_entry, remove_directory};
 
 use crate::create::{NODE_LIMIT, set_size};
-use crate::plan::Plan;
+use crate::object_change::ObjectChange;
 use nfs3_types::{DirectoryName, FileHandle, MkDirArguments, SetAttrArguments, SymLinkArguments};
 use replay_law::StepFault;
 use std::alloc::Global;
@@ -19,7 +19,7 @@ use tree_nodes::{Bytes, Content, Node};
 pub(crate) fn set_attributes<'a>(
     view: &View<'_>,
     call: &SetAttrArguments,
-) -> Result<Plan<'a>, StepFault>
+) -> Result<ObjectChange<'a>, StepFault>
     ensures { Plans view.now.nodes.now result (set_attributes view.now.binds.now view.now.nodes.now call.now) }
 {
     if call.attributes.size.is_some() {
@@ -28,7 +28,7 @@ pub(crate) fn set_attributes<'a>(
         };
         set_size(view.nodes, entry.object, entry.file, call.attributes.size)
     } else if live_entry(view, &call.object).is_some() {
-        Ok(Plan::Keep)
+        Ok(ObjectChange::Keep)
     } else {
         Err(StepFault::NotAllowed)
     }
@@ -41,7 +41,7 @@ fn make_entry<'a>(
     place: &'a DirectoryName,
     handle: &Option<FileHandle>,
     content: Content,
-) -> Result<Plan<'a>, StepFault>
+) -> Result<ObjectChange<'a>, StepFault>
     ensures { Plans view.now.nodes.now result (make_entry view.now.binds.now view.now.nodes.now number place.now handle.now content) }
 {
     let Some(directory) = directory_of(view, &place.directory) else {
@@ -58,7 +58,7 @@ fn make_entry<'a>(
             object: number,
             content,
         };
-        Ok(Plan::Make {
+        Ok(ObjectChange::Make {
             directory,
             name,
             node,
@@ -74,7 +74,7 @@ pub(crate) fn make_directory<'a>(
     number: u64,
     call: &'a MkDirArguments,
     handle: &Option<FileHandle>,
-) -> Result<Plan<'a>, StepFault>
+) -> Result<ObjectChange<'a>, StepFault>
     ensures { Plans view.now.nodes.now result (make_directory view.now.binds.now view.now.nodes.now number call.now handle.now) }
 {
     make_entry(view, number, &call.place, handle, Content::Directory)
@@ -87,7 +87,7 @@ pub(crate) fn make_link<'a>(
     number: u64,
     call: &'a SymLinkArguments,
     handle: &Option<FileHandle>,
-) -> Result<Plan<'a>, StepFault>
+) -> Result<ObjectChange<'a>, StepFault>
     ensures { Plans view.now.nodes.now result (make_link view.now.binds.now view.now.nodes.now number call.now handle.now) }
 {
     let target = Bytes::from_slice(alloc, call.target.as_slice())?;
@@ -98,7 +98,7 @@ pub(crate) fn make_link<'a>(
 pub(crate) fn remove_entry<'a>(
     view: &View<'_>,
     place: &DirectoryName,
-) -> Result<Plan<'a>, StepFault>
+) -> Result<ObjectChange<'a>, StepFault>
     ensures { Plans view.now.nodes.now result (remove_entry view.now.binds.now view.now.nodes.now place.now) }
 {
     let Some(node) = named(view, place) else {
@@ -106,7 +106,7 @@ pub(crate) fn remove_entry<'a>(
     };
     let object = node.object;
     if !is_directory(&node.content) && view.nodes.is_bare(object) {
-        Ok(Plan::Remove { object })
+        Ok(ObjectChange::Remove { object })
     } else {
         Err(StepFault::NotAllowed)
     }
@@ -116,7 +116,7 @@ pub(crate) fn remove_entry<'a>(
 pub(crate) fn remove_directory<'a>(
     view: &View<'_>,
     place: &DirectoryName,
-) -> Result<Plan<'a>, StepFault>
+) -> Result<ObjectChange<'a>, StepFault>
     ensures { Plans view.now.nodes.now result (remove_directory view.now.binds.now view.now.nodes.now place.now) }
 {
     let Some(node) = named(view, place) else {
@@ -124,7 +124,7 @@ pub(crate) fn remove_directory<'a>(
     };
     let object = node.object;
     if is_directory(&node.content) && view.nodes.is_bare(object) {
-        Ok(Plan::Remove { object })
+        Ok(ObjectChange::Remove { object })
     } else {
         Err(StepFault::NotAllowed)
     }

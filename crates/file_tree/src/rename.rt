@@ -7,7 +7,7 @@ ghost use Rattle.tree_nodes.specs.Tree.{Names, entry_of};
 ghost use Rattle.file_tree.specs.Planning.{Plans};
 ghost use Rattle.file_tree.specs.Removed.{may_replace, rename_at, rename};
 
-use crate::plan::Plan;
+use crate::object_change::ObjectChange;
 use nfs3_types::RenameArguments;
 use replay_law::StepFault;
 use tree_handles::{View, directory_of, is_directory, is_plain, named};
@@ -39,7 +39,7 @@ fn rename_at<'a>(
     source: &Node,
     directory: u64,
     name: &'a [u8],
-) -> Result<Plan<'a>, StepFault>
+) -> Result<ObjectChange<'a>, StepFault>
     requires { length name.now < 2 ^ 32 }
     ensures { (p : Names) (e : Names × Node) → entry_of nodes.now source.now.object ≡ Some (p, source.now)
         → entry_of nodes.now directory ≡ Some e → Plans nodes.now result (rename_at nodes.now p source.now.content (e.0 ++ name.now ∷ [])) }
@@ -47,7 +47,7 @@ fn rename_at<'a>(
     let target = nodes.entry(directory, name);
     let object = source.object;
     if is_object(target, object) {
-        return Ok(Plan::Keep);
+        return Ok(ObjectChange::Keep);
     }
     if nodes.is_from(directory, object)
         || !may_replace(&source.content, target)
@@ -55,7 +55,7 @@ fn rename_at<'a>(
     {
         return Err(StepFault::NotAllowed);
     }
-    Ok(Plan::Rename {
+    Ok(ObjectChange::Rename {
         object,
         directory,
         name,
@@ -63,7 +63,10 @@ fn rename_at<'a>(
 }
 
 /// What the call makes of the tree.
-pub(crate) fn rename<'a>(view: &View<'_>, call: &'a RenameArguments) -> Result<Plan<'a>, StepFault>
+pub(crate) fn rename<'a>(
+    view: &View<'_>,
+    call: &'a RenameArguments,
+) -> Result<ObjectChange<'a>, StepFault>
     ensures { Plans view.now.nodes.now result (rename view.now.binds.now view.now.nodes.now call.now) }
 {
     let Some(source) = named(view, &call.from) else {

@@ -8,7 +8,7 @@ ghost use Rattle.file_tree.specs.Made.{only_if};
 
 use crate::create::create_change;
 use crate::naming::{make_directory, make_link, remove_directory, remove_entry, set_attributes};
-use crate::plan::Plan;
+use crate::object_change::ObjectChange;
 use crate::rename::rename;
 use crate::write::write_change;
 use nfs3_types::{
@@ -25,11 +25,11 @@ use tree_reads::{
 };
 
 /// The tree stays, where this is right.
-fn keep_if<'a>(right: bool) -> Result<Plan<'a>, StepFault>
+fn keep_if<'a>(right: bool) -> Result<ObjectChange<'a>, StepFault>
     ensures { (tree : Tree) → Plans tree result (only_if right Keep) }
 {
     if right {
-        Ok(Plan::Keep)
+        Ok(ObjectChange::Keep)
     } else {
         Err(StepFault::NotAllowed)
     }
@@ -40,7 +40,7 @@ fn change_written<'a>(
     view: &View<'_>,
     call: &'a WriteArguments,
     reply: &NfsReply,
-) -> Result<Plan<'a>, StepFault>
+) -> Result<ObjectChange<'a>, StepFault>
     ensures { Plans view.now.nodes.now result (change_written view.now.binds.now view.now.nodes.now call.now reply.now) }
 {
     match reply {
@@ -58,7 +58,7 @@ fn change_created<'a>(
     number: u64,
     call: &'a CreateArguments,
     reply: &NfsReply,
-) -> Result<Plan<'a>, StepFault>
+) -> Result<ObjectChange<'a>, StepFault>
     ensures { Plans view.now.nodes.now result (change_created view.now.binds.now view.now.nodes.now number call.now reply.now) }
 {
     match reply {
@@ -74,7 +74,7 @@ fn change_set<'a>(
     view: &View<'_>,
     call: &'a SetAttrArguments,
     reply: &NfsReply,
-) -> Result<Plan<'a>, StepFault>
+) -> Result<ObjectChange<'a>, StepFault>
     ensures { Plans view.now.nodes.now result (change_set view.now.binds.now view.now.nodes.now call.now reply.now) }
 {
     match reply {
@@ -89,7 +89,7 @@ fn change_directory_made<'a>(
     number: u64,
     call: &'a MkDirArguments,
     reply: &NfsReply,
-) -> Result<Plan<'a>, StepFault>
+) -> Result<ObjectChange<'a>, StepFault>
     ensures { Plans view.now.nodes.now result (change_directory_made view.now.binds.now view.now.nodes.now number call.now reply.now) }
 {
     match reply {
@@ -110,7 +110,7 @@ fn change_link_made<'a>(
     number: u64,
     call: &'a SymLinkArguments,
     reply: &NfsReply,
-) -> Result<Plan<'a>, StepFault>
+) -> Result<ObjectChange<'a>, StepFault>
     ensures { Plans view.now.nodes.now result (change_link_made view.now.binds.now view.now.nodes.now number call.now reply.now) }
 {
     match reply {
@@ -130,7 +130,7 @@ fn change_removed<'a>(
     view: &View<'_>,
     place: &'a DirectoryName,
     reply: &NfsReply,
-) -> Result<Plan<'a>, StepFault>
+) -> Result<ObjectChange<'a>, StepFault>
     ensures { Plans view.now.nodes.now result (change_removed view.now.binds.now view.now.nodes.now place.now reply.now) }
 {
     match reply {
@@ -144,7 +144,7 @@ fn change_directory_removed<'a>(
     view: &View<'_>,
     place: &'a DirectoryName,
     reply: &NfsReply,
-) -> Result<Plan<'a>, StepFault>
+) -> Result<ObjectChange<'a>, StepFault>
     ensures { Plans view.now.nodes.now result (change_directory_removed view.now.binds.now view.now.nodes.now place.now reply.now) }
 {
     match reply {
@@ -158,7 +158,7 @@ fn change_renamed<'a>(
     view: &View<'_>,
     call: &'a RenameArguments,
     reply: &NfsReply,
-) -> Result<Plan<'a>, StepFault>
+) -> Result<ObjectChange<'a>, StepFault>
     ensures { Plans view.now.nodes.now result (change_renamed view.now.binds.now view.now.nodes.now call.now reply.now) }
 {
     match reply {
@@ -174,7 +174,7 @@ fn change_done<'a>(
     number: u64,
     call: &'a NfsCall,
     reply: &NfsReply,
-) -> Result<Plan<'a>, StepFault>
+) -> Result<ObjectChange<'a>, StepFault>
     ensures { Plans view.now.nodes.now result (change_done view.now.binds.now view.now.nodes.now number call.now reply.now) }
 {
     match call {
@@ -203,7 +203,7 @@ fn change_received<'a>(
     number: u64,
     call: &'a NfsCall,
     reply: &NfsReply,
-) -> Result<Plan<'a>, StepFault>
+) -> Result<ObjectChange<'a>, StepFault>
     ensures { Plans view.now.nodes.now result (change_received view.now.binds.now view.now.nodes.now number call.now reply.now) }
 {
     let Some(failure) = reply.failure() else {
@@ -222,7 +222,7 @@ pub(crate) fn change_taken<'a>(
     number: u64,
     call: &'a NfsCall,
     count: Option<u32>,
-) -> Result<Plan<'a>, StepFault>
+) -> Result<ObjectChange<'a>, StepFault>
     ensures { Plans view.now.nodes.now result (change_taken view.now.binds.now view.now.nodes.now number call.now count) }
 {
     match (call, count) {
@@ -245,7 +245,7 @@ pub(crate) fn change_of<'a>(
     number: u64,
     call: &'a NfsCall,
     outcome: &Outcome,
-) -> Result<Plan<'a>, StepFault>
+) -> Result<ObjectChange<'a>, StepFault>
     ensures { Plans view.now.nodes.now result (change_of view.now.binds.now view.now.nodes.now number call.now outcome.now) }
 {
     match outcome {

@@ -11,7 +11,7 @@ ghost use Rattle.tree_nodes.specs.Printed.{tree_text, IsPrintable};
 ghost use Rattle.tree_nodes.specs.Unprinted.{same_text};
 
 use crate::allowed::may_succeed;
-use crate::plan::Plan;
+use crate::object_change::ObjectChange;
 use crate::success::change_of;
 use nfs3_types::{NfsCall, Outcome};
 use replay_law::{Replayable, StepFault};
@@ -49,27 +49,27 @@ impl Model for FileTree {
 
 impl FileTree {
     /// Does what is planned.
-    fn carry_out(&mut self, plan: Plan<'_>) -> Result<Undo, AllocError>
+    fn carry_out(&mut self, plan: ObjectChange<'_>) -> Result<Undo, AllocError>
         requires { (change : Change) × Does self.old plan change }
         ensures next { OnOk result ((change : Change) → Does self.old plan.entry change → self.new ≡ changed self.old change) }
         ensures undo { IfOk result (λ undo. TakesBack undo self.new self.old) }
         ensures err { OnErr result (self.new ≡ self.old) }
     {
         match plan {
-            Plan::Keep => Ok(Undo::nothing()),
-            Plan::Make {
+            ObjectChange::Keep => Ok(Undo::nothing()),
+            ObjectChange::Make {
                 directory,
                 name,
                 node,
             } => self.nodes.make(directory, name, node),
-            Plan::Write {
+            ObjectChange::Write {
                 object,
                 offset,
                 bytes,
             } => self.nodes.write(object, offset, bytes),
-            Plan::Resize { object, size } => self.nodes.resize(object, size),
-            Plan::Remove { object } => Ok(self.nodes.remove(object)),
-            Plan::Rename {
+            ObjectChange::Resize { object, size } => self.nodes.resize(object, size),
+            ObjectChange::Remove { object } => Ok(self.nodes.remove(object)),
+            ObjectChange::Rename {
                 object,
                 directory,
                 name,

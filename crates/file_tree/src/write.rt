@@ -6,7 +6,7 @@ ghost use Rattle.tree_nodes.specs.declared.node.Content.TheVariants as contents;
 ghost use Rattle.file_tree.specs.Planning.{Plans};
 ghost use Rattle.file_tree.specs.Written.{level_rank, reaches, write_at, write_change};
 
-use crate::plan::Plan;
+use crate::object_change::ObjectChange;
 use nfs3_types::{StableHow, WriteArguments};
 use replay_law::StepFault;
 use tree_handles::{View, file_of};
@@ -40,18 +40,18 @@ fn write_at<'a>(
     file: &File,
     offset: u64,
     added: &'a [u8],
-) -> Result<Plan<'a>, StepFault>
+) -> Result<ObjectChange<'a>, StepFault>
     requires { length added.now < 2 ^ 32 }
     ensures { (path : Names) → entry_of nodes.now object ≡ Some (path, record { object = object; content = contents.File file.now })
         → Plans nodes.now result (write_at (record { path = path; object = object; file = file.now }) offset added.now) }
 {
     if added.is_empty() {
-        return Ok(Plan::Keep);
+        return Ok(ObjectChange::Keep);
     }
     if !is_within_limit(file.bytes.len() as usize, offset, added.len()) {
         return Err(StepFault::NotAllowed);
     }
-    Ok(Plan::Write {
+    Ok(ObjectChange::Write {
         object,
         offset,
         bytes: added,
@@ -64,7 +64,7 @@ pub(crate) fn write_change<'a>(
     call: &'a WriteArguments,
     count: u32,
     level: Option<StableHow>,
-) -> Result<Plan<'a>, StepFault>
+) -> Result<ObjectChange<'a>, StepFault>
     ensures { Plans view.now.nodes.now result (write_change view.now.binds.now view.now.nodes.now call.now count level) }
 {
     let Some(entry) = file_of(view, &call.file) else {

@@ -37,7 +37,7 @@ pub enum Kind {
 
 /// What is measured.
 #[derive(Clone, Copy)]
-pub struct Plan {
+pub struct Load {
     /// How many threads call.
     pub threads: u64,
     /// What they ask for.
@@ -160,10 +160,10 @@ fn run_calls<R: Wait>(
 }
 
 // What one thread knows; nothing, if a call failed.
-fn run_thread<R: Wait>(rt: &R, alloc: Global, server: &BenchServer, plan: Plan) -> Option<Pass> {
+fn run_thread<R: Wait>(rt: &R, alloc: Global, server: &BenchServer, load: Load) -> Option<Pass> {
     let mut pass = server.join_lane(rt).ok()?;
-    let calls = plan.calls / plan.threads.max(1);
-    match run_calls(rt, alloc, server, &mut pass, plan.kind, calls) {
+    let calls = load.calls / load.threads.max(1);
+    match run_calls(rt, alloc, server, &mut pass, load.kind, calls) {
         Ok(()) => Some(pass),
         Err(_) => None,
     }
@@ -174,7 +174,7 @@ fn run_threads<R: Wait + Threads + Clock + Sync>(
     rt: &R,
     alloc: Global,
     server: &BenchServer,
-    plan: Plan,
+    load: Load,
 ) -> Option<(Vec<Pass>, u64)> {
     let mut passes = Vec::new(alloc);
     passes.push(make_files(rt, alloc, server).ok()?).ok()?;
@@ -182,8 +182,8 @@ fn run_threads<R: Wait + Threads + Clock + Sync>(
     let ran = thread::map_indices(
         rt,
         alloc,
-        plan.threads as usize,
-        &|_| { run_thread(rt, alloc, server, plan) },
+        load.threads as usize,
+        &|_| { run_thread(rt, alloc, server, load) },
     );
     let taken = u64::try_from(start.elapsed(rt).ok()?.as_micros()).ok()?;
     for pass in ran.ok()? {
@@ -283,11 +283,11 @@ fn tell<R: Clock + Print>(
     rt: &R,
     alloc: Global,
     closed: &Closed,
-    plan: Plan,
+    load: Load,
     taken: u64,
 ) -> Result<()> {
-    let speed = plan.calls.saturating_mul(1_000_000) / taken.max(1);
-    let Plan { threads, calls, .. } = plan;
+    let speed = load.calls.saturating_mul(1_000_000) / taken.max(1);
+    let Load { threads, calls, .. } = load;
     println!(rt; "threads {threads}, calls {calls}, microseconds {taken}, calls a second {speed}")?;
     if threads == 1 {
         let book = measure_book(rt, alloc, closed)?;
@@ -304,15 +304,15 @@ fn tell<R: Clock + Print>(
 pub fn measure<R: Wait + Threads + Clock + Print + Sync>(
     rt: &R,
     alloc: Global,
-    plan: Plan,
+    load: Load,
 ) -> Result<ExitCode> {
     let server = Server::new(alloc, OpenGate, SimDevice::new(alloc, None, None, None))?;
-    let ran = run_threads(rt, alloc, &server, plan);
+    let ran = run_threads(rt, alloc, &server, load);
     let (passes, taken) = match ran {
         Some(ran) => ran,
         None => (Vec::new(alloc), 0),
     };
     let closed = server.close(passes).context("not closed")?;
-    tell(rt, alloc, &closed, plan, taken)?;
+    tell(rt, alloc, &closed, load, taken)?;
     Ok(ExitCode::SUCCESS)
 }

@@ -26,6 +26,6 @@ fn main(rt: HostRuntime) -> Result<ExitCode> {
     let words: Vec<String> = env::args(&rt)?.collect(rt.alloc())?;
     match read_words(words.as_slice())? {
         Wanted::Soak(span, figures) => soak(&rt, rt.alloc(), span, figures),
-        Wanted::Bench(plan) => measure(&rt, rt.alloc(), plan),
+        Wanted::Bench(load) => measure(&rt, rt.alloc(), load),
     }
 }

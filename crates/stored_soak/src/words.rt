@@ -1,6 +1,6 @@
 //! What the words of the command line ask for.
 
-use crate::bench::{Kind, Plan};
+use crate::bench::{Kind, Load};
 use anyhow::{Context, Result, bail};
 
 /// How long servers are made.
@@ -17,7 +17,7 @@ pub enum Wanted {
     /// Servers for so long, and whether figures are told.
     Soak(Span, bool),
     /// A measurement of how fast a server answers.
-    Bench(Plan),
+    Bench(Load),
 }
 
 // The word at a place; none where there are fewer.
@@ -44,8 +44,8 @@ fn kind_of(word: &str) -> Result<Kind> {
     }
 }
 
-fn plan_of(words: &[String]) -> Result<Plan> {
-    Ok(Plan {
+fn load_of(words: &[String]) -> Result<Load> {
+    Ok(Load {
         threads: word_at(words, 2).parse().context("no number of threads")?,
         kind: kind_of(word_at(words, 3))?,
         calls: word_at(words, 4).parse().context("no number of calls")?,
@@ -56,7 +56,7 @@ fn plan_of(words: &[String]) -> Result<Plan> {
 pub fn read_words(words: &[String]) -> Result<Wanted> {
     let first = word_at(words, 1);
     if first == "bench" {
-        return Ok(Wanted::Bench(plan_of(words)?));
+        return Ok(Wanted::Bench(load_of(words)?));
     }
     Ok(Wanted::Soak(span_of(first)?, word_at(words, 2) == "figures"))
 }

@@ -4,7 +4,7 @@ use tree_nodes::Node;
 
 /// What becomes of a tree.
 #[derive(Drop)]
-pub(crate) enum Plan<'a> {
+pub(crate) enum ObjectChange<'a> {
     /// It stays.
     Keep,
     /// A directory gets an entry.
