@@ -37,7 +37,7 @@ fn not_judged(reader: &Reader<'_>) -> MessageFault
 
 // The arguments of a procedure at the front of what is left.
 #[tactic(auto, unfolding(crate::specs::Messages::arguments))]
-fn read_call(
+fn arguments_from(
     alloc: Global,
     procedure: u32,
     reader: &mut Reader<'_>,
@@ -66,7 +66,7 @@ fn read_call(
 
 // The result of a procedure at the front of what is left.
 #[tactic(auto, unfolding(crate::specs::Messages::results))]
-fn read_reply(
+fn result_from(
     alloc: Global,
     procedure: u32,
     reader: &mut Reader<'_>,
@@ -119,7 +119,7 @@ fn all_arguments(alloc: Global, procedure: u32, bytes: &[u8]) -> Result<NfsCall,
     ensures { IsButForMemory result (arguments_of procedure bytes.now) }
 {
     let mut reader = Reader::new(bytes);
-    let call = read_call(alloc, procedure, &mut reader)?;
+    let call = arguments_from(alloc, procedure, &mut reader)?;
     ended(&reader)?;
     Ok(call)
 }
@@ -129,7 +129,7 @@ fn all_results(alloc: Global, procedure: u32, bytes: &[u8]) -> Result<NfsReply, 
     ensures { IsButForMemory result (result_of procedure bytes.now) }
 {
     let mut reader = Reader::new(bytes);
-    let reply = read_reply(alloc, procedure, &mut reader)?;
+    let reply = result_from(alloc, procedure, &mut reader)?;
     ended(&reader)?;
     Ok(reply)
 }
@@ -174,7 +174,7 @@ pub fn read_result(alloc: Global, procedure: u32, bytes: &[u8]) -> Result<NfsRep
 
 // Appends the arguments of a call, or a part of them.
 #[tactic(auto, unfolding(crate::specs::Messages::arguments_text, crate::specs::Fits::CallFits))]
-fn put_call(out: &mut Vec<u8>, call: &NfsCall) -> Result<(), AllocError>
+fn append_arguments(out: &mut Vec<u8>, call: &NfsCall) -> Result<(), AllocError>
     ensures ok { OnOk result (out.new.items ≡ out.old.items ++ arguments_text call.now) }
     ensures fits { OnOk result (CallFits call.now) }
 {
@@ -199,7 +199,7 @@ fn put_call(out: &mut Vec<u8>, call: &NfsCall) -> Result<(), AllocError>
 
 // Appends a result, or a part of it.
 #[tactic(auto, unfolding(crate::specs::Messages::result_text, crate::specs::Fits::ReplyFits))]
-fn put_reply(out: &mut Vec<u8>, reply: &NfsReply) -> Result<(), AllocError>
+fn append_result(out: &mut Vec<u8>, reply: &NfsReply) -> Result<(), AllocError>
     ensures ok { OnOk result (out.new.items ≡ out.old.items ++ result_text reply.now) }
     ensures fits { OnOk result (ReplyFits reply.now) }
 {
@@ -234,7 +234,7 @@ pub fn put_args(out: &mut Vec<u8>, call: &NfsCall) -> Result<(), AllocError>
         (arguments_of (procedure_called call.now) (arguments_text call.now) ≡ Ok call.now) }
 {
     let mut text = Vec::new(*out.allocator());
-    put_call(&mut text, call)?;
+    append_arguments(&mut text, call)?;
     out.extend_from_slice(&text)
 }
 
@@ -250,6 +250,6 @@ pub fn put_result(out: &mut Vec<u8>, reply: &NfsReply) -> Result<(), AllocError>
         (result_of (procedure_answered reply.now) (result_text reply.now) ≡ Ok reply.now) }
 {
     let mut text = Vec::new(*out.allocator());
-    put_reply(&mut text, reply)?;
+    append_result(&mut text, reply)?;
     out.extend_from_slice(&text)
 }
