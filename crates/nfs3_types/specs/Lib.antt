@@ -1,3 +1,4 @@
 pub mod Procedures
 pub mod Limits
+pub mod Numbers
 pub mod Short

@@ -1,5 +1,8 @@
 //! Attributes of files, before and after an operation, and as a call asks for them.
 
+ghost use Rattle.std.specs.Prelude.{◌≡◌};
+ghost use Rattle.nfs3_types.specs.Numbers.{type_number};
+
 use crate::held::Optional;
 
 /// What kind of object a handle names, `ftype3` (RFC 1813, section 2.6).
@@ -19,6 +22,15 @@ pub enum FileType {
     Socket = 6,
     /// `NF3FIFO`, 7: a named pipe.
     Fifo = 7,
+}
+
+impl FileType {
+    /// Its number.
+    pub fn number(self) -> u32
+        ensures { result ≡ type_number self }
+    {
+        self as u32
+    }
 }
 
 /// A moment since the first of January 1970, `nfstime3`.

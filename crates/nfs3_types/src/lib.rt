@@ -24,6 +24,7 @@ pub use calls::{
 };
 pub use entries::Entries;
 pub use held::{Held, Optional};
+pub use procedures::Procedure;
 pub use replies::{
     Answer, CommitSuccess, CreateSuccess, DirectoryEntry, DirectoryEntryPlus, LookupSuccess,
     NfsReply, Outcome, ReadDirPlusSuccess, ReadDirSuccess, ReadLinkSuccess, ReadSuccess, RenameWcc,

@@ -1,5 +1,8 @@
 //! The statuses of a reply that is no success.
 
+ghost use Rattle.std.specs.Prelude.{◌≡◌};
+ghost use Rattle.nfs3_types.specs.Numbers.{failure_of, status_number};
+
 /// A status other than `NFS3_OK`, with its number in `nfsstat3` (RFC 1813, section 2.6).
 #[derive(Clone, Copy, PartialEq, Eq)]
 pub enum Failure {
@@ -59,4 +62,51 @@ pub enum Failure {
     BadType = 10007,
     /// `NFS3ERR_JUKEBOX`, 10008: the server needs more time; the client has to try again later.
     Jukebox = 10008,
+}
+
+impl Failure {
+    /// Its number.
+    pub fn number(self) -> u32
+        ensures { result ≡ status_number self }
+    {
+        self as u32
+    }
+
+    /// The failure whose status has this number.
+    #[tactic(auto, unfolding(crate::specs::Numbers::failure_of))]
+    pub fn from_number(word: u32) -> Option<Failure>
+        ensures { result ≡ failure_of word }
+    {
+        Some(match word {
+            1 => Failure::NotOwner,
+            2 => Failure::NoEntry,
+            5 => Failure::InputOutput,
+            6 => Failure::NoDevice,
+            13 => Failure::Access,
+            17 => Failure::Exists,
+            18 => Failure::CrossDevice,
+            19 => Failure::NoSuchDevice,
+            20 => Failure::NotDirectory,
+            21 => Failure::IsDirectory,
+            22 => Failure::Invalid,
+            27 => Failure::FileTooLarge,
+            28 => Failure::NoSpace,
+            30 => Failure::ReadOnly,
+            31 => Failure::TooManyLinks,
+            63 => Failure::NameTooLong,
+            66 => Failure::NotEmpty,
+            69 => Failure::Quota,
+            70 => Failure::Stale,
+            71 => Failure::Remote,
+            10001 => Failure::BadHandle,
+            10002 => Failure::NotSynchronized,
+            10003 => Failure::BadCookie,
+            10004 => Failure::NotSupported,
+            10005 => Failure::TooSmall,
+            10006 => Failure::ServerFault,
+            10007 => Failure::BadType,
+            10008 => Failure::Jukebox,
+            _ => return None,
+        })
+    }
 }

@@ -10,7 +10,8 @@ use Rattle.nfs3_types.specs.declared.attributes.FileAttributes.{FileAttributes}
 use Rattle.nfs3_types.specs.declared.attributes.WccAttributes.{WccAttributes}
 use Rattle.nfs3_types.specs.declared.attributes.WccData.{WccData}
 use Rattle.nfs3_values.specs.declared.fault.Kind.{Kind}
-use Rattle.nfs3_values.specs.Words.{file_type_of, file_type_word}
+use Rattle.nfs3_types.specs.Numbers.{type_number}
+use Rattle.nfs3_values.specs.Words.{file_type_of}
 use Rattle.nfs3_values.specs.Bytes.{optional_of}
 
 -- nfstime3
@@ -80,7 +81,7 @@ unfoldable pub sizes_text : FileAttributes → List ℕ
 sizes_text a = long_text a.size ++ (long_text a.used ++ (device_text a.device ++ (long_text a.file_system ++ (long_text a.file_number ++ times_text a))))
 
 unfoldable pub file_attributes_text : FileAttributes → List ℕ
-file_attributes_text a = word_text (file_type_word a.file_type) ++ (word_text a.mode ++ (word_text a.link_count ++ (word_text a.user ++ (word_text a.group ++ sizes_text a))))
+file_attributes_text a = word_text (type_number a.file_type) ++ (word_text a.mode ++ (word_text a.link_count ++ (word_text a.user ++ (word_text a.group ++ sizes_text a))))
 
 unfoldable pub TimesFit : FileAttributes → Type 0
 TimesFit a = TimeFits a.access_time × TimeFits a.modify_time × TimeFits a.change_time

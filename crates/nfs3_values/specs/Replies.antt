@@ -14,7 +14,8 @@ use Rattle.nfs3_types.specs.declared.replies.ReadLinkSuccess.{ReadLinkSuccess}
 use Rattle.nfs3_types.specs.declared.replies.RenameWcc.{RenameWcc}
 use Rattle.nfs3_types.specs.declared.replies.CommitSuccess.{CommitSuccess}
 use Rattle.nfs3_values.specs.declared.fault.Kind.{Kind}
-use Rattle.nfs3_values.specs.Words.{stable_how_of, stable_how_word, failure_word, status_of}
+use Rattle.nfs3_types.specs.Numbers.{status_number}
+use Rattle.nfs3_values.specs.Words.{stable_how_of, stable_how_word, status_of}
 use Rattle.nfs3_values.specs.Bytes.{handle, link_text, file_data, verifier, verifier_text, optional_of}
 use Rattle.nfs3_values.specs.Attributes.{file_attributes, file_attributes_text, FileAttributesFit, wcc_data, wcc_data_text, WccDataFits}
 
@@ -35,7 +36,7 @@ answer success failure = do
 
 unfoldable pub answer_text : {S F : Type 0} → (S → List ℕ) → (F → List ℕ) → Answer S F → List ℕ
 answer_text success failure (answers.Done done) = word_text 0 ++ success done
-answer_text success failure (answers.Failed status failed) = word_text (failure_word status) ++ failure failed
+answer_text success failure (answers.Failed status failed) = word_text (status_number status) ++ failure failed
 
 unfoldable pub AnswerFits : {S F : Type 0} → (S → Type 0) → (F → Type 0) → Answer S F → Type 0
 AnswerFits success failure (answers.Done done) = success done

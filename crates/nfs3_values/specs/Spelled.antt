@@ -22,7 +22,8 @@ use Rattle.nfs3_types.specs.declared.attributes.SetTime.{SetTime}
 use Rattle.nfs3_types.specs.declared.attributes.SetTime.TheVariants as times
 use Rattle.nfs3_types.specs.declared.attributes.SetAttributes.{SetAttributes}
 use Rattle.nfs3_values.specs.declared.fault.Kind.{Kind}
-use Rattle.nfs3_values.specs.Words.{file_type_of, file_type_word, stable_how_of, stable_how_word, TimeHow, time_how_of, CreateHow, create_how_of, failure_of, failure_word, status_of}
+use Rattle.nfs3_types.specs.Numbers.{type_number}
+use Rattle.nfs3_values.specs.Words.{file_type_of, stable_how_of, stable_how_word, TimeHow, time_how_of, CreateHow, create_how_of, status_of}
 use Rattle.nfs3_values.specs.Bytes.{handle, name, link_text, file_data, verifier, verifier_text, optional_of, entries, void, void_text}
 use Rattle.nfs3_values.specs.Attributes.{time, time_text, TimeFits, device, device_text, DeviceFits, file_attributes, file_attributes_text, sizes_text, times_text, FileAttributesFit, SizesFit, TimesFit, wcc_attributes, wcc_attributes_text, WccAttributesFit, wcc_data, wcc_data_text, WccDataFits}
 use Rattle.nfs3_values.specs.Settings.{set_time, set_time_text, SetTimeFits, set_attributes, set_attributes_text, SetAttributesFit}
@@ -63,8 +64,8 @@ pub optional_of_spelled : {A : Type 0} (g : Grammar Kind A) (text : A → List �
 unfolding optional_of
 optional_of_spelled g text Fits law o fits = optional_spelled g text o (some_spelled g text Fits law o fits)
 
-file_type_named : (t : FileType) → (file_type_word t < 2 ^ 32) × (file_type_of (file_type_word t) ≡ Ok t)
-unfolding file_type_of file_type_word
+file_type_named : (t : FileType) → (type_number t < 2 ^ 32) × (file_type_of (type_number t) ≡ Ok t)
+unfolding file_type_of
 file_type_named types.Regular = (lit< tt, refl)
 file_type_named types.Directory = (lit< tt, refl)
 file_type_named types.BlockDevice = (lit< tt, refl)
@@ -73,8 +74,8 @@ file_type_named types.SymbolicLink = (lit< tt, refl)
 file_type_named types.Socket = (lit< tt, refl)
 file_type_named types.Fifo = (lit< tt, refl)
 
-pub file_type_spelled : (t : FileType) → Spells (named file_type_of) (word_text (file_type_word t)) t
-file_type_spelled t = let h = file_type_named t in (file_type_word t, word_spelled (file_type_word t) h.0, h.1)
+pub file_type_spelled : (t : FileType) → Spells (named file_type_of) (word_text (type_number t)) t
+file_type_spelled t = let h = file_type_named t in (type_number t, word_spelled (type_number t) h.0, h.1)
 
 pub time_spelled : (t : Time) → TimeFits t → Spells time (time_text t) t
 unfolding time time_text TimeFits
@@ -96,7 +97,7 @@ pub file_attributes_spelled : (a : FileAttributes) → FileAttributesFit a → S
 unfolding file_attributes file_attributes_text sizes_text times_text FileAttributesFit SizesFit TimesFit
 file_attributes_spelled a fits = (
   a.file_type,
-  joined (word_text (file_type_word a.file_type)) (word_text a.mode ++ (word_text a.link_count ++ (word_text a.user ++ (word_text a.group ++ sizes_text a)))) (file_type_spelled a.file_type) (
+  joined (word_text (type_number a.file_type)) (word_text a.mode ++ (word_text a.link_count ++ (word_text a.user ++ (word_text a.group ++ sizes_text a)))) (file_type_spelled a.file_type) (
     a.mode,
     joined (word_text a.mode) (word_text a.link_count ++ (word_text a.user ++ (word_text a.group ++ sizes_text a))) (word_spelled a.mode fits.0) (
       a.link_count,

@@ -27,7 +27,8 @@ use Rattle.nfs3_types.specs.declared.replies.ReadSuccess.{ReadSuccess}
 use Rattle.nfs3_types.specs.declared.replies.WriteSuccess.{WriteSuccess}
 use Rattle.nfs3_types.specs.declared.replies.CreateSuccess.{CreateSuccess}
 use Rattle.nfs3_values.specs.declared.fault.Kind.{Kind}
-use Rattle.nfs3_values.specs.Words.{file_type_of, file_type_word, stable_how_of, stable_how_word, TimeHow, time_how_of, CreateHow, create_how_of, failure_of, failure_word, status_of}
+use Rattle.nfs3_types.specs.Numbers.{status_number, failure_of}
+use Rattle.nfs3_values.specs.Words.{file_type_of, stable_how_of, stable_how_word, TimeHow, time_how_of, CreateHow, create_how_of, status_of}
 use Rattle.nfs3_values.specs.Bytes.{handle, name, link_text, file_data, verifier, verifier_text, optional_of, entries}
 use Rattle.nfs3_values.specs.Attributes.{time, time_text, TimeFits, device, device_text, DeviceFits, file_attributes, file_attributes_text, sizes_text, times_text, FileAttributesFit, SizesFit, TimesFit, wcc_attributes, wcc_attributes_text, WccAttributesFit, wcc_data, wcc_data_text, WccDataFits}
 use Rattle.nfs3_values.specs.Settings.{set_time, set_time_text, SetTimeFits, set_attributes, set_attributes_text, SetAttributesFit}
@@ -44,8 +45,8 @@ use Rattle.nfs3_types.specs.declared.replies.CommitSuccess.{CommitSuccess}
 use Rattle.nfs3_values.specs.Spelled.{joined, last, handle_spelled, name_spelled, link_text_spelled, file_data_spelled, verifier_spelled, optional_of_spelled, optional_attributes_spelled, entries_spelled, time_spelled, file_attributes_spelled, wcc_data_spelled, set_attributes_spelled, void_spelled}
 use Rattle.nfs3_values.specs.SpelledCalls.{stable_how_spelled}
 
-failure_named : (f : Failure) → (failure_word f < 2 ^ 32) × (status_of (failure_word f) ≡ Ok (Some f))
-unfolding failure_of failure_word status_of
+failure_named : (f : Failure) → (status_number f < 2 ^ 32) × (status_of (status_number f) ≡ Ok (Some f))
+unfolding failure_of status_of
 failure_named statuses.NotOwner = (lit< tt, refl)
 failure_named statuses.NoEntry = (lit< tt, refl)
 failure_named statuses.InputOutput = (lit< tt, refl)
@@ -85,7 +86,7 @@ answer_spelled success failure success_text failure_text SuccessFits FailureFits
     (None, joined (word_text 0) (success_text s) (0, word_spelled 0 (lit< tt), done_named) (s, last (answers.Done s) (success_text s) (success_law s fits)))
 answer_spelled success failure success_text failure_text SuccessFits FailureFits success_law failure_law (answers.Failed status f) fits =
     let h = failure_named status in
-    (Some status, joined (word_text (failure_word status)) (failure_text f) (failure_word status, word_spelled (failure_word status) h.0, h.1) (f, last (answers.Failed status f) (failure_text f) (failure_law f fits)))
+    (Some status, joined (word_text (status_number status)) (failure_text f) (status_number status, word_spelled (status_number status) h.0, h.1) (f, last (answers.Failed status f) (failure_text f) (failure_law f fits)))
 
 pub read_success_spelled : (s : ReadSuccess) → ReadSuccessFits s → Spells read_success (read_success_text s) s
 unfolding read_success read_success_text ReadSuccessFits

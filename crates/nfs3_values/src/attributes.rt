@@ -15,12 +15,13 @@ use xdr_records::{Reader, put_u32};
 impl XdrValue for FileType {
     ghost use Rattle.xdr_records.specs.Grammar.Grammar.{named};
     ghost use Rattle.xdr_records.specs.Texts.{word_text};
-    ghost use Rattle.nfs3_values.specs.Words.{file_type_of, file_type_word};
+    ghost use Rattle.nfs3_types.specs.Numbers.{type_number};
+    ghost use Rattle.nfs3_values.specs.Words.{file_type_of};
     ghost use Rattle.nfs3_values.specs.Spelled.{file_type_spelled};
 
     ghost grammar = { named file_type_of };
 
-    ghost text = { λ file_type. word_text (file_type_word file_type) };
+    ghost text = { λ file_type. word_text (type_number file_type) };
 
     ghost fits = { λ _. Unit {0} };
 
@@ -39,9 +40,8 @@ impl XdrValue for FileType {
         }
     }
 
-    #[tactic(auto, unfolding(crate::specs::Words::file_type_word))]
     fn put(&self, out: &mut Vec<u8>) -> Result<(), AllocError> {
-        put_u32(out, *self as u32)
+        put_u32(out, self.number())
     }
 
     ghost spelled = { λ file_type _. file_type_spelled file_type };

@@ -4,7 +4,8 @@ ghost use Rattle.std.specs.Prelude.{◌≡◌, ◌++◌, OnOk};
 ghost use Rattle.xdr_records.specs.Grammar.Grammar.{named};
 ghost use Rattle.nfs3_values.specs.Told.{Reads};
 ghost use Rattle.xdr_records.specs.Texts.{word_text};
-ghost use Rattle.nfs3_values.specs.Words.{failure_of, failure_word, status_of};
+ghost use Rattle.nfs3_types.specs.Numbers.{status_number};
+ghost use Rattle.nfs3_values.specs.Words.{status_of};
 
 use crate::fault::MessageFault;
 use crate::value::{XdrValue, bad_enum, read_word};
@@ -17,45 +18,6 @@ use nfs3_types::{
 use std::alloc::{AllocError, Global};
 use xdr_records::{Reader, put_u32};
 
-// The failure that a status word is.
-#[tactic(auto, unfolding(crate::specs::Words::failure_of))]
-fn failure(word: u32) -> Option<Failure>
-    ensures { result ≡ failure_of word }
-{
-    let failure = match word {
-        1 => Failure::NotOwner,
-        2 => Failure::NoEntry,
-        5 => Failure::InputOutput,
-        6 => Failure::NoDevice,
-        13 => Failure::Access,
-        17 => Failure::Exists,
-        18 => Failure::CrossDevice,
-        19 => Failure::NoSuchDevice,
-        20 => Failure::NotDirectory,
-        21 => Failure::IsDirectory,
-        22 => Failure::Invalid,
-        27 => Failure::FileTooLarge,
-        28 => Failure::NoSpace,
-        30 => Failure::ReadOnly,
-        31 => Failure::TooManyLinks,
-        63 => Failure::NameTooLong,
-        66 => Failure::NotEmpty,
-        69 => Failure::Quota,
-        70 => Failure::Stale,
-        71 => Failure::Remote,
-        10001 => Failure::BadHandle,
-        10002 => Failure::NotSynchronized,
-        10003 => Failure::BadCookie,
-        10004 => Failure::NotSupported,
-        10005 => Failure::TooSmall,
-        10006 => Failure::ServerFault,
-        10007 => Failure::BadType,
-        10008 => Failure::Jukebox,
-        _ => return None,
-    };
-    Some(failure)
-}
-
 // The status at the front of what is left: a failure, or none for `NFS3_OK`.
 #[tactic(auto, unfolding(crate::specs::Words::status_of))]
 fn read_status(reader: &mut Reader<'_>) -> Result<Option<Failure>, MessageFault>
@@ -66,18 +28,17 @@ fn read_status(reader: &mut Reader<'_>) -> Result<Option<Failure>, MessageFault>
     if word == 0 {
         return Ok(None);
     }
-    match failure(word) {
+    match Failure::from_number(word) {
         Some(status) => Ok(Some(status)),
         None => Err(bad_enum(at)),
     }
 }
 
 // Appends the status of a failure.
-#[tactic(auto, unfolding(crate::specs::Words::failure_word))]
 fn put_failure(out: &mut Vec<u8>, status: Failure) -> Result<(), AllocError>
-    ensures { OnOk result (out.new.items ≡ out.old.items ++ word_text (failure_word status)) }
+    ensures { OnOk result (out.new.items ≡ out.old.items ++ word_text (status_number status)) }
 {
-    put_u32(out, status as u32)
+    put_u32(out, status.number())
 }
 
 impl<S: XdrValue, F: XdrValue> XdrValue for Answer<S, F> {
