@@ -10,6 +10,8 @@ use Rattle.nfs3_types.specs.declared.calls.NfsCall.{NfsCall}
 use Rattle.nfs3_types.specs.declared.calls.NfsCall.TheVariants as calls
 use Rattle.nfs3_types.specs.declared.replies.NfsReply.{NfsReply}
 use Rattle.nfs3_types.specs.declared.replies.NfsReply.TheVariants as replies
+use Rattle.nfs3_types.specs.declared.procedures.Procedure.TheVariants as procedures
+use Rattle.nfs3_types.specs.Procedures.{number}
 use Rattle.nfs3_values.specs.declared.fault.Kind.{Kind}
 use Rattle.nfs3_values.specs.declared.fault.Kind.TheVariants as kinds
 use Rattle.nfs3_values.specs.Told.{kind_of}
@@ -24,41 +26,41 @@ use Rattle.nfs3_values.specs.Listings.{read_dir_success, read_dir_success_text, 
 -- the arguments of a procedure by its number, RFC 1813, section 3.3
 unfoldable pub arguments : ℕ → Grammar Kind NfsCall
 arguments procedure =
-    either (procedure == 1) (handle >>= λ a. nothing (calls.GetAttr a))
-    (either (procedure == 2) (set_attr_arguments >>= λ a. nothing (calls.SetAttr a))
-    (either (procedure == 3) (directory_name >>= λ a. nothing (calls.Lookup a))
-    (either (procedure == 5) (handle >>= λ a. nothing (calls.ReadLink a))
-    (either (procedure == 6) (read_arguments >>= λ a. nothing (calls.Read a))
-    (either (procedure == 7) (write_arguments >>= λ a. nothing (calls.Write a))
-    (either (procedure == 8) (create_arguments >>= λ a. nothing (calls.Create a))
-    (either (procedure == 9) (mk_dir_arguments >>= λ a. nothing (calls.MkDir a))
-    (either (procedure == 10) (sym_link_arguments >>= λ a. nothing (calls.SymLink a))
-    (either (procedure == 12) (directory_name >>= λ a. nothing (calls.Remove a))
-    (either (procedure == 13) (directory_name >>= λ a. nothing (calls.RmDir a))
-    (either (procedure == 14) (rename_arguments >>= λ a. nothing (calls.Rename a))
-    (either (procedure == 16) (read_dir_arguments >>= λ a. nothing (calls.ReadDir a))
-    (either (procedure == 17) (read_dir_plus_arguments >>= λ a. nothing (calls.ReadDirPlus a))
-    (either (procedure == 21) (commit_arguments >>= λ a. nothing (calls.Commit a))
+    either (procedure == number procedures.GetAttr) (handle >>= λ a. nothing (calls.GetAttr a))
+    (either (procedure == number procedures.SetAttr) (set_attr_arguments >>= λ a. nothing (calls.SetAttr a))
+    (either (procedure == number procedures.Lookup) (directory_name >>= λ a. nothing (calls.Lookup a))
+    (either (procedure == number procedures.ReadLink) (handle >>= λ a. nothing (calls.ReadLink a))
+    (either (procedure == number procedures.Read) (read_arguments >>= λ a. nothing (calls.Read a))
+    (either (procedure == number procedures.Write) (write_arguments >>= λ a. nothing (calls.Write a))
+    (either (procedure == number procedures.Create) (create_arguments >>= λ a. nothing (calls.Create a))
+    (either (procedure == number procedures.MkDir) (mk_dir_arguments >>= λ a. nothing (calls.MkDir a))
+    (either (procedure == number procedures.SymLink) (sym_link_arguments >>= λ a. nothing (calls.SymLink a))
+    (either (procedure == number procedures.Remove) (directory_name >>= λ a. nothing (calls.Remove a))
+    (either (procedure == number procedures.RmDir) (directory_name >>= λ a. nothing (calls.RmDir a))
+    (either (procedure == number procedures.Rename) (rename_arguments >>= λ a. nothing (calls.Rename a))
+    (either (procedure == number procedures.ReadDir) (read_dir_arguments >>= λ a. nothing (calls.ReadDir a))
+    (either (procedure == number procedures.ReadDirPlus) (read_dir_plus_arguments >>= λ a. nothing (calls.ReadDirPlus a))
+    (either (procedure == number procedures.Commit) (commit_arguments >>= λ a. nothing (calls.Commit a))
     (refused kinds.NotJudged)))))))))))))))
 
 -- the result of a procedure by its number, RFC 1813, section 3.3
 unfoldable pub results : ℕ → Grammar Kind NfsReply
 results procedure =
-    either (procedure == 1) (answer file_attributes void >>= λ r. nothing (replies.GetAttr r))
-    (either (procedure == 2) (answer wcc_data wcc_data >>= λ r. nothing (replies.SetAttr r))
-    (either (procedure == 3) (answer lookup_success (optional_of file_attributes) >>= λ r. nothing (replies.Lookup r))
-    (either (procedure == 5) (answer read_link_success (optional_of file_attributes) >>= λ r. nothing (replies.ReadLink r))
-    (either (procedure == 6) (answer read_success (optional_of file_attributes) >>= λ r. nothing (replies.Read r))
-    (either (procedure == 7) (answer write_success wcc_data >>= λ r. nothing (replies.Write r))
-    (either (procedure == 8) (answer create_success wcc_data >>= λ r. nothing (replies.Create r))
-    (either (procedure == 9) (answer create_success wcc_data >>= λ r. nothing (replies.MkDir r))
-    (either (procedure == 10) (answer create_success wcc_data >>= λ r. nothing (replies.SymLink r))
-    (either (procedure == 12) (answer wcc_data wcc_data >>= λ r. nothing (replies.Remove r))
-    (either (procedure == 13) (answer wcc_data wcc_data >>= λ r. nothing (replies.RmDir r))
-    (either (procedure == 14) (answer rename_wcc rename_wcc >>= λ r. nothing (replies.Rename r))
-    (either (procedure == 16) (answer read_dir_success (optional_of file_attributes) >>= λ r. nothing (replies.ReadDir r))
-    (either (procedure == 17) (answer read_dir_plus_success (optional_of file_attributes) >>= λ r. nothing (replies.ReadDirPlus r))
-    (either (procedure == 21) (answer commit_success wcc_data >>= λ r. nothing (replies.Commit r))
+    either (procedure == number procedures.GetAttr) (answer file_attributes void >>= λ r. nothing (replies.GetAttr r))
+    (either (procedure == number procedures.SetAttr) (answer wcc_data wcc_data >>= λ r. nothing (replies.SetAttr r))
+    (either (procedure == number procedures.Lookup) (answer lookup_success (optional_of file_attributes) >>= λ r. nothing (replies.Lookup r))
+    (either (procedure == number procedures.ReadLink) (answer read_link_success (optional_of file_attributes) >>= λ r. nothing (replies.ReadLink r))
+    (either (procedure == number procedures.Read) (answer read_success (optional_of file_attributes) >>= λ r. nothing (replies.Read r))
+    (either (procedure == number procedures.Write) (answer write_success wcc_data >>= λ r. nothing (replies.Write r))
+    (either (procedure == number procedures.Create) (answer create_success wcc_data >>= λ r. nothing (replies.Create r))
+    (either (procedure == number procedures.MkDir) (answer create_success wcc_data >>= λ r. nothing (replies.MkDir r))
+    (either (procedure == number procedures.SymLink) (answer create_success wcc_data >>= λ r. nothing (replies.SymLink r))
+    (either (procedure == number procedures.Remove) (answer wcc_data wcc_data >>= λ r. nothing (replies.Remove r))
+    (either (procedure == number procedures.RmDir) (answer wcc_data wcc_data >>= λ r. nothing (replies.RmDir r))
+    (either (procedure == number procedures.Rename) (answer rename_wcc rename_wcc >>= λ r. nothing (replies.Rename r))
+    (either (procedure == number procedures.ReadDir) (answer read_dir_success (optional_of file_attributes) >>= λ r. nothing (replies.ReadDir r))
+    (either (procedure == number procedures.ReadDirPlus) (answer read_dir_plus_success (optional_of file_attributes) >>= λ r. nothing (replies.ReadDirPlus r))
+    (either (procedure == number procedures.Commit) (answer commit_success wcc_data >>= λ r. nothing (replies.Commit r))
     (refused kinds.NotJudged)))))))))))))))
 
 -- the bytes, all of them, are the arguments of a call of the procedure

@@ -17,9 +17,9 @@ ghost use Rattle.nfs3_msgs.specs.Fits.{ReplyFits};
 use nfs3_types::{
     Answer, CommitArguments, CommitSuccess, CreateArguments, CreateSuccess, DirectoryName,
     FileAttributes, FileHandle, Held, LookupSuccess, MkDirArguments, NfsCall, NfsReply, Optional,
-    ReadArguments, ReadDirArguments, ReadDirPlusArguments, ReadDirPlusSuccess, ReadDirSuccess,
-    ReadLinkSuccess, ReadSuccess, RenameArguments, RenameWcc, SetAttrArguments, SymLinkArguments,
-    WccData, WriteArguments, WriteSuccess,
+    Procedure, ReadArguments, ReadDirArguments, ReadDirPlusArguments, ReadDirPlusSuccess,
+    ReadDirSuccess, ReadLinkSuccess, ReadSuccess, RenameArguments, RenameWcc, SetAttrArguments,
+    SymLinkArguments, WccData, WriteArguments, WriteSuccess,
 };
 use nfs3_values::{Kind, MessageFault, XdrValue, fault_at};
 use std::alloc::{AllocError, Global};
@@ -44,22 +44,27 @@ fn arguments_from(
 ) -> Result<NfsCall, MessageFault>
     ensures { Reads (arguments procedure) reader.old reader.new result }
 {
+    let Some(procedure) = Procedure::from_number(procedure) else {
+        return Err(not_judged(reader));
+    };
     match procedure {
-        1 => Ok(NfsCall::GetAttr(FileHandle::read(alloc, reader)?)),
-        2 => Ok(NfsCall::SetAttr(Held::<SetAttrArguments>::read(alloc, reader)?)),
-        3 => Ok(NfsCall::Lookup(DirectoryName::read(alloc, reader)?)),
-        5 => Ok(NfsCall::ReadLink(FileHandle::read(alloc, reader)?)),
-        6 => Ok(NfsCall::Read(ReadArguments::read(alloc, reader)?)),
-        7 => Ok(NfsCall::Write(WriteArguments::read(alloc, reader)?)),
-        8 => Ok(NfsCall::Create(Held::<CreateArguments>::read(alloc, reader)?)),
-        9 => Ok(NfsCall::MkDir(Held::<MkDirArguments>::read(alloc, reader)?)),
-        10 => Ok(NfsCall::SymLink(Held::<SymLinkArguments>::read(alloc, reader)?)),
-        12 => Ok(NfsCall::Remove(DirectoryName::read(alloc, reader)?)),
-        13 => Ok(NfsCall::RmDir(DirectoryName::read(alloc, reader)?)),
-        14 => Ok(NfsCall::Rename(Held::<RenameArguments>::read(alloc, reader)?)),
-        16 => Ok(NfsCall::ReadDir(ReadDirArguments::read(alloc, reader)?)),
-        17 => Ok(NfsCall::ReadDirPlus(ReadDirPlusArguments::read(alloc, reader)?)),
-        21 => Ok(NfsCall::Commit(CommitArguments::read(alloc, reader)?)),
+        Procedure::GetAttr => Ok(NfsCall::GetAttr(FileHandle::read(alloc, reader)?)),
+        Procedure::SetAttr => Ok(NfsCall::SetAttr(Held::<SetAttrArguments>::read(alloc, reader)?)),
+        Procedure::Lookup => Ok(NfsCall::Lookup(DirectoryName::read(alloc, reader)?)),
+        Procedure::ReadLink => Ok(NfsCall::ReadLink(FileHandle::read(alloc, reader)?)),
+        Procedure::Read => Ok(NfsCall::Read(ReadArguments::read(alloc, reader)?)),
+        Procedure::Write => Ok(NfsCall::Write(WriteArguments::read(alloc, reader)?)),
+        Procedure::Create => Ok(NfsCall::Create(Held::<CreateArguments>::read(alloc, reader)?)),
+        Procedure::MkDir => Ok(NfsCall::MkDir(Held::<MkDirArguments>::read(alloc, reader)?)),
+        Procedure::SymLink => Ok(NfsCall::SymLink(Held::<SymLinkArguments>::read(alloc, reader)?)),
+        Procedure::Remove => Ok(NfsCall::Remove(DirectoryName::read(alloc, reader)?)),
+        Procedure::RmDir => Ok(NfsCall::RmDir(DirectoryName::read(alloc, reader)?)),
+        Procedure::Rename => Ok(NfsCall::Rename(Held::<RenameArguments>::read(alloc, reader)?)),
+        Procedure::ReadDir => Ok(NfsCall::ReadDir(ReadDirArguments::read(alloc, reader)?)),
+        Procedure::ReadDirPlus => Ok(NfsCall::ReadDirPlus(ReadDirPlusArguments::read(
+            alloc, reader,
+        )?)),
+        Procedure::Commit => Ok(NfsCall::Commit(CommitArguments::read(alloc, reader)?)),
         _ => Err(not_judged(reader)),
     }
 }
@@ -73,35 +78,55 @@ fn result_from(
 ) -> Result<NfsReply, MessageFault>
     ensures { Reads (results procedure) reader.old reader.new result }
 {
+    let Some(procedure) = Procedure::from_number(procedure) else {
+        return Err(not_judged(reader));
+    };
     match procedure {
-        1 => Ok(NfsReply::GetAttr(Answer::<Held<FileAttributes>, ()>::read(alloc, reader)?)),
-        2 => Ok(NfsReply::SetAttr(Answer::<WccData, WccData>::read(alloc, reader)?)),
-        3 => Ok(NfsReply::Lookup(Answer::<Held<LookupSuccess>, Optional<FileAttributes>>::read(
+        Procedure::GetAttr => Ok(NfsReply::GetAttr(Answer::<Held<FileAttributes>, ()>::read(
             alloc, reader,
         )?)),
-        5 => Ok(NfsReply::ReadLink(Answer::<ReadLinkSuccess, Optional<FileAttributes>>::read(
+        Procedure::SetAttr => Ok(NfsReply::SetAttr(Answer::<WccData, WccData>::read(
             alloc, reader,
         )?)),
-        6 => Ok(NfsReply::Read(Answer::<ReadSuccess, Optional<FileAttributes>>::read(
+        Procedure::Lookup => Ok(NfsReply::Lookup(Answer::<
+            Held<LookupSuccess>,
+            Optional<FileAttributes>,
+        >::read(alloc, reader)?)),
+        Procedure::ReadLink => Ok(NfsReply::ReadLink(Answer::<
+            ReadLinkSuccess,
+            Optional<FileAttributes>,
+        >::read(alloc, reader)?)),
+        Procedure::Read => Ok(NfsReply::Read(Answer::<ReadSuccess, Optional<FileAttributes>>::read(
             alloc, reader,
         )?)),
-        7 => Ok(NfsReply::Write(Answer::<WriteSuccess, WccData>::read(alloc, reader)?)),
-        8 => Ok(NfsReply::Create(Answer::<Held<CreateSuccess>, WccData>::read(alloc, reader)?)),
-        9 => Ok(NfsReply::MkDir(Answer::<Held<CreateSuccess>, WccData>::read(alloc, reader)?)),
-        10 => Ok(NfsReply::SymLink(Answer::<Held<CreateSuccess>, WccData>::read(alloc, reader)?)),
-        12 => Ok(NfsReply::Remove(Answer::<WccData, WccData>::read(alloc, reader)?)),
-        13 => Ok(NfsReply::RmDir(Answer::<WccData, WccData>::read(alloc, reader)?)),
-        14 => Ok(NfsReply::Rename(Answer::<Held<RenameWcc>, Held<RenameWcc>>::read(
+        Procedure::Write => Ok(NfsReply::Write(Answer::<WriteSuccess, WccData>::read(
             alloc, reader,
         )?)),
-        16 => Ok(NfsReply::ReadDir(Answer::<Held<ReadDirSuccess>, Optional<FileAttributes>>::read(
+        Procedure::Create => Ok(NfsReply::Create(Answer::<Held<CreateSuccess>, WccData>::read(
             alloc, reader,
         )?)),
-        17 => Ok(NfsReply::ReadDirPlus(Answer::<
+        Procedure::MkDir => Ok(NfsReply::MkDir(Answer::<Held<CreateSuccess>, WccData>::read(
+            alloc, reader,
+        )?)),
+        Procedure::SymLink => Ok(NfsReply::SymLink(Answer::<Held<CreateSuccess>, WccData>::read(
+            alloc, reader,
+        )?)),
+        Procedure::Remove => Ok(NfsReply::Remove(Answer::<WccData, WccData>::read(alloc, reader)?)),
+        Procedure::RmDir => Ok(NfsReply::RmDir(Answer::<WccData, WccData>::read(alloc, reader)?)),
+        Procedure::Rename => Ok(NfsReply::Rename(Answer::<Held<RenameWcc>, Held<RenameWcc>>::read(
+            alloc, reader,
+        )?)),
+        Procedure::ReadDir => Ok(NfsReply::ReadDir(Answer::<
+            Held<ReadDirSuccess>,
+            Optional<FileAttributes>,
+        >::read(alloc, reader)?)),
+        Procedure::ReadDirPlus => Ok(NfsReply::ReadDirPlus(Answer::<
             Held<ReadDirPlusSuccess>,
             Optional<FileAttributes>,
         >::read(alloc, reader)?)),
-        21 => Ok(NfsReply::Commit(Answer::<CommitSuccess, WccData>::read(alloc, reader)?)),
+        Procedure::Commit => Ok(NfsReply::Commit(Answer::<CommitSuccess, WccData>::read(
+            alloc, reader,
+        )?)),
         _ => Err(not_judged(reader)),
     }
 }
