@@ -3,16 +3,17 @@
 use crate::node::{Content, File};
 use crate::table::ObjectTable;
 use names::Names;
+use nfs3_types::FileType;
 use std::alloc::{AllocError, Global};
 use thiserror::Error;
 use xdr_records::{Reader, XdrFault};
 
-/// The kinds of objects in a printed tree.
-const FILE: u32 = 1;
+/// The numbers of the types of objects in a printed tree.
+const FILE: u32 = FileType::Regular as u32;
 
-const DIRECTORY: u32 = 2;
+const DIRECTORY: u32 = FileType::Directory as u32;
 
-const LINK: u32 = 5;
+const LINK: u32 = FileType::SymbolicLink as u32;
 /// The bound on each opaque's length.
 const NO_BOUND: u32 = u32::MAX;
 

@@ -3,7 +3,9 @@ use Rattle.std.specs.Prelude.{ℕ, ◌-◌, ◌%◌, ◌^◌, ◌<◌, List, ◌
 use Rattle.std.specs.List.{flat_map}
 use Rattle.std.specs.Int.{w32, w64, to_be_bytes}
 use Rattle.std.specs.FinMap as map
+use Rattle.nfs3_types.specs.declared.attributes.FileType.TheVariants as types
 use Rattle.nfs3_types.specs.declared.attributes.Verifier.{Verifier}
+use Rattle.nfs3_types.specs.Numbers.{type_number}
 use Rattle.tree_nodes.specs.declared.node.Node.{Node}
 use Rattle.tree_nodes.specs.declared.node.Content.{Content}
 use Rattle.tree_nodes.specs.declared.node.Content.TheVariants as contents
@@ -25,11 +27,11 @@ unfoldable pub verifier_text : Option Verifier → List ℕ
 verifier_text None = word_text 0
 verifier_text (Some verifier) = word_text 1 ++ long_text verifier.value
 
--- the kind by its number in `ftype3`, with what a file or a link holds
+-- the type by its number in `ftype3`, with what a file or a link holds
 unfoldable pub content_text : Content → List ℕ
-content_text contents.Directory = word_text 2
-content_text (contents.File file) = word_text 1 ++ (opaque_text file.bytes ++ verifier_text file.verifier)
-content_text (contents.Link text) = word_text 5 ++ opaque_text text
+content_text contents.Directory = word_text (type_number types.Directory)
+content_text (contents.File file) = word_text (type_number types.Regular) ++ (opaque_text file.bytes ++ verifier_text file.verifier)
+content_text (contents.Link text) = word_text (type_number types.SymbolicLink) ++ opaque_text text
 
 -- the names, each with its length, behind their number
 unfoldable pub path_text : Names → List ℕ

@@ -7,6 +7,8 @@ use Rattle.std.specs.Int.{w32, w64, from_be_bytes}
 use Rattle.std.specs.List.{flat_map}
 use Rattle.std.specs.FinMap as map
 use Rattle.nfs3_types.specs.declared.attributes.Verifier.{Verifier}
+use Rattle.nfs3_types.specs.declared.attributes.FileType.TheVariants as types
+use Rattle.nfs3_types.specs.Numbers.{type_number}
 use Rattle.tree_nodes.specs.declared.node.Node.{Node}
 use Rattle.tree_nodes.specs.declared.node.File.{File}
 use Rattle.tree_nodes.specs.declared.node.Content.{Content}
@@ -118,11 +120,11 @@ files x y r s fx fy e =
     let made = verifiers x.verifier y.verifier r s fx.1 fy.1 bytes.1 in
     (same_file x y bytes.0 made.0, made.1)
 
--- the kind's word, and what stands behind it
+-- the type's number, and what stands behind it
 abbrev kind : Content → ℕ
-kind contents.Directory = 2
-kind (contents.File _) = 1
-kind (contents.Link _) = 5
+kind contents.Directory = type_number types.Directory
+kind (contents.File _) = type_number types.Regular
+kind (contents.Link _) = type_number types.SymbolicLink
 
 abbrev held : Content → List ℕ
 held contents.Directory = []
@@ -132,8 +134,8 @@ held (contents.Link text) = opaque_text text
 kind_first : (x : Content) (r : List ℕ) → content_text x ++ r ≡ word_text (kind x) ++ (held x ++ r)
 unfolding content_text
 kind_first contents.Directory r = refl
-kind_first (contents.File file) r = append_assoc (word_text 1) (opaque_text file.bytes ++ verifier_text file.verifier) r
-kind_first (contents.Link text) r = append_assoc (word_text 5) (opaque_text text) r
+kind_first (contents.File file) r = append_assoc (word_text (type_number types.Regular)) (opaque_text file.bytes ++ verifier_text file.verifier) r
+kind_first (contents.Link text) r = append_assoc (word_text (type_number types.SymbolicLink)) (opaque_text text) r
 
 kind_fits : (x : Content) → kind x < 2 ^ 32
 kind_fits contents.Directory = lit< tt

@@ -2,12 +2,13 @@
 
 ghost use Rattle.std.specs.Prelude.{◌≡◌, ◌+◌, ◌<◌, ◌^◌, ◌++◌, length, OnOk, All};
 ghost use Rattle.std.specs.List.{flat_map};
+ghost use Rattle.nfs3_types.specs.Numbers.{type_number};
 ghost use Rattle.tree_nodes.specs.Printed.{word_text, long_text, opaque_text, verifier_text, content_text, path_text, entry_text, IsShort, VerifierFits, ContentFits, EntryFits};
 
 use crate::bytes::Path;
 use crate::node::{Content, File, Node};
 use file_bytes::FileBytes;
-use nfs3_types::Verifier;
+use nfs3_types::{FileType, Verifier};
 use std::alloc::AllocError;
 
 /// Four bytes.
@@ -65,25 +66,25 @@ fn put_verifier(out: &mut Vec<u8>, verifier: &Option<Verifier>) -> Result<(), Al
 
 /// What a file holds.
 fn put_file(out: &mut Vec<u8>, file: &File) -> Result<(), AllocError>
-    ensures ok { OnOk result (out.new.items ≡ out.old.items ++ (word_text 1 ++ (opaque_text file.now.bytes ++ verifier_text file.now.verifier))) }
+    ensures ok { OnOk result (out.new.items ≡ out.old.items ++ (word_text (type_number FileType.Regular) ++ (opaque_text file.now.bytes ++ verifier_text file.now.verifier))) }
     ensures fits { OnOk result (IsShort file.now.bytes × VerifierFits file.now.verifier) }
 {
-    put_word(out, 1)?;
+    put_word(out, FileType::Regular.number())?;
     put_file_bytes(out, &file.bytes)?;
     put_verifier(out, &file.verifier)
 }
 
-/// The kind, and what the object holds.
+/// The type, and what the object holds.
 #[tactic(auto, unfolding(crate::specs::Printed::content_text))]
 fn put_content(out: &mut Vec<u8>, content: &Content) -> Result<(), AllocError>
     ensures ok { OnOk result (out.new.items ≡ out.old.items ++ content_text content.now) }
     ensures fits { OnOk result (ContentFits content.now) }
 {
     match content {
-        Content::Directory => put_word(out, 2),
+        Content::Directory => put_word(out, FileType::Directory.number()),
         Content::File(file) => put_file(out, file),
         Content::Link(text) => {
-            put_word(out, 5)?;
+            put_word(out, FileType::SymbolicLink.number())?;
             put_opaque(out, text.as_slice())
         }
     }
