@@ -1,14 +1,14 @@
 -- Binds among which none is bad rise, and none has an empty handle.
-use Rattle.std.proofs.Common.{◌≡◌, ℕ, zero, suc, ◌+◌, ◌<◌, ◌≤◌, ◌^◌, Bool, true, false, cond, List, [], ◌∷◌, ◌++◌, length, take, drop, get_or, Option, Some, None, option_map, is_some, refl, sym, ap, subst, ◌∙◌, arith}
+use Rattle.std.proofs.Common.{◌≡◌, ℕ, suc, ◌+◌, ◌<◌, ◌≤◌, Bool, true, false, not, cond, List, [], ◌∷◌, ◌++◌, length, take, drop, get_or, Option, Some, None, option_map, is_some, refl, sym, ap, subst, ◌∙◌, arith}
 use Rattle.std.specs.List.{AllByRecursion}
 use Rattle.std.specs.Ordering.{nat_cmp}
 use Rattle.std.specs.Cmp.Lexicographic.{slice_cmp}
-use Rattle.std.specs.declared.cmp.Ordering.TheVariants.{Less}
 use Rattle.std.proofs.lemmas.List.{take_more, take_all, drop_all}
 use Rattle.certificate.specs.declared.plan.Bind.{Bind}
 use Rattle.certificate.specs.declared.plan.EraPlan.{EraPlan}
 use Rattle.certificate.specs.Parts.{is_below, first_bad_bind, first_wrong_cut, first_bad_era, InRange}
 use Rattle.certificate.specs.CertificateText.{AreRising, HasHandle, AreEras, IsCertificate}
+use Rattle.certificate.proofs.FirstBad.{bad_from}
 use Rattle.certificate.proofs.Rising.{less}
 
 pub in_range_push : (binds : List Bind) (i : ℕ) (bind : Bind) → i < length binds → bind ≡ get_or binds i bind → AllByRecursion InRange (take i binds) → InRange bind → AllByRecursion InRange (take (i + 1) binds)
@@ -19,34 +19,30 @@ in_range_push binds i bind inside is all here =
       push (b ∷ bs) rest = (rest.0, push bs rest.1)
 
 -- one bind at fault, or another
-passed : (b : Bool) (rest : Option ℕ) → cond b (option_map (λ i. suc i) rest) (Some 1) ≡ None → (b ≡ true) × (rest ≡ None)
-passed true None none = (refl, refl)
-passed true (Some i) none = absurd (cc)
-passed false rest none = absurd (cc)
+passed : (b : Bool) (n : ℕ) (rest : Option ℕ) → cond (not b) (Some n) rest ≡ None → (b ≡ true) × (rest ≡ None)
+passed true n rest none = (refl, none)
+passed false n rest none = absurd (cc)
 
 above_none : (ahead handle : List ℕ) → is_below ahead handle ≡ true → 0 < length handle
 above_none [] [] below = absurd (cc)
 above_none (x ∷ ahead) [] below = absurd (cc)
 above_none ahead (y ∷ handle) below = omega arith
 
-chain : (ahead : List ℕ) (binds : List Bind) → first_bad_bind ahead binds ≡ None → AllByRecursion InRange binds → AreRising binds × AllByRecursion HasHandle binds
-chain ahead [] none all = (tt, tt)
-chain ahead (b ∷ []) none all =
-    let h = passed (is_below ahead b.handle) (first_bad_bind b.handle []) none in
+chain : (n : ℕ) (ahead : List ℕ) (binds : List Bind) → bad_from n ahead binds ≡ None → AllByRecursion InRange binds → AreRising binds × AllByRecursion HasHandle binds
+chain n ahead [] none all = (tt, tt)
+chain n ahead (b ∷ []) none all =
+    let h = passed (is_below ahead b.handle) n (bad_from (n + 1) b.handle []) none in
     (tt, ((above_none ahead b.handle h.0, all.0.0, all.0.1, all.0.2), tt))
-chain ahead (b ∷ c ∷ binds) none all =
-    let h = passed (is_below ahead b.handle) (first_bad_bind b.handle (c ∷ binds)) none in
-    let next = passed (is_below b.handle c.handle) (first_bad_bind c.handle binds) h.1 in
-    let rest = chain b.handle (c ∷ binds) h.1 all.1 in
+chain n ahead (b ∷ c ∷ binds) none all =
+    let h = passed (is_below ahead b.handle) n (bad_from (n + 1) b.handle (c ∷ binds)) none in
+    let next = passed (is_below b.handle c.handle) (n + 1) (bad_from (n + 1 + 1) c.handle binds) h.1 in
+    let rest = chain (n + 1) b.handle (c ∷ binds) h.1 all.1 in
     ((less (slice_cmp nat_cmp b.handle c.handle) next.0, rest.0), ((above_none ahead b.handle h.0, all.0.0, all.0.1, all.0.2), rest.1))
 
-nothing_left : (o : Option ℕ) (i : ℕ) (ahead : List ℕ) (binds : List Bind) → binds ≡ [] → o ≡ option_map (λ j. i + j) (first_bad_bind ahead binds) → o ≡ None
-nothing_left o i ahead binds none is = is ∙ ap (λ bs. option_map (λ j. i + j) (first_bad_bind ahead bs)) none
-
-pub good_binds : (binds : List Bind) (i : ℕ) (ahead : List ℕ) → length binds ≤ i → first_bad_bind [] binds ≡ option_map (λ j. i + j) (first_bad_bind ahead (drop i binds))
+pub good_binds : (binds : List Bind) (i : ℕ) (ahead : List ℕ) → length binds ≤ i → bad_from (i + 1) ahead (drop i binds) ≡ first_bad_bind binds
     → AllByRecursion InRange (take i binds) → AreRising binds × AllByRecursion HasHandle binds
 good_binds binds i ahead past is all =
-    chain [] binds (nothing_left (first_bad_bind [] binds) i ahead (drop i binds) (drop_all i binds past) is) (subst (AllByRecursion InRange) (take_all i binds past) all)
+    chain 1 [] binds (sym is ∙ ap (bad_from (i + 1) ahead) (drop_all i binds past)) (subst (AllByRecursion InRange) (take_all i binds past) all)
 
 has_cut : (o : Option ℕ) (rest : Option ℕ) → cond (is_some o) (option_map (λ e. suc e) rest) (Some 1) ≡ None → ((kept : ℕ) × (o ≡ Some kept)) × (rest ≡ None)
 has_cut (Some kept) None none = ((kept, refl), refl)

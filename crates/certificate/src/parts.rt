@@ -1,6 +1,6 @@
 //! A certificate of its parts.
 
-ghost use Rattle.std.specs.Prelude.{◌≡◌, ℕ, [], Some, None, Ok, Err, IfNone, IfOk};
+ghost use Rattle.std.specs.Prelude.{◌≡◌, ℕ, Some, None, Ok, Err, IfNone, IfOk};
 ghost use Rattle.std.specs.List.{AllByRecursion};
 ghost use Rattle.certificate.specs.declared.parts.CertificateFault.TheVariants.{BadBind, BadEra};
 ghost use Rattle.certificate.specs.CertificateText.{AreRising, HasHandle, IsCertificate};
@@ -43,7 +43,7 @@ fn handle_of(bind: &Bind) -> &[u8]
 }
 
 fn bad_bind(binds: &[Bind]) -> Option<u64>
-    ensures first { result ≡ first_bad_bind [] binds.now }
+    ensures first { result ≡ first_bad_bind binds.now }
     ensures kept { IfNone result (AreRising binds.now × AllByRecursion HasHandle binds.now) }
 {
     let mut ahead: &[u8] = &[];
@@ -84,9 +84,9 @@ fn bad_era(eras: &[EraPlan]) -> Option<u64>
 impl Certificate {
     /// The certificate of these binds and eras, with the checks that the fields by themselves don't have.
     pub fn new(binds: Vec<Bind>, eras: Vec<EraPlan>) -> Result<Certificate, CertificateFault>
-        ensures bad_bind { (i : ℕ) → first_bad_bind [] binds.items ≡ Some i → result ≡ Err (BadBind i) }
-        ensures bad_era { (e : ℕ) → first_bad_bind [] binds.items ≡ None → first_bad_era eras.items ≡ Some e → result ≡ Err (BadEra e) }
-        ensures ok { first_bad_bind [] binds.items ≡ None → first_bad_era eras.items ≡ None → result ≡ Ok (record { binds = binds.items; eras = eras.items }) }
+        ensures bad_bind { (i : ℕ) → first_bad_bind binds.items ≡ Some i → result ≡ Err (BadBind i) }
+        ensures bad_era { (e : ℕ) → first_bad_bind binds.items ≡ None → first_bad_era eras.items ≡ Some e → result ≡ Err (BadEra e) }
+        ensures ok { first_bad_bind binds.items ≡ None → first_bad_era eras.items ≡ None → result ≡ Ok (record { binds = binds.items; eras = eras.items }) }
         // So what is written of it is read back.
         ensures kept { IfOk result IsCertificate }
     {
