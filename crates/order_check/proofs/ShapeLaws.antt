@@ -1,9 +1,11 @@
 -- A plan has its shape exactly where no fault of the shape is found.
-use Rattle.std.proofs.Common.{◌≡◌, ◌≢◌, ◌==◌, ◌&&◌, ◌||◌, ℕ, zero, suc, ◌+◌, ◌<◌, ◌≤◌, Bool, true, false, not, cond, IsTrue, List, [], ◌∷◌, ◌++◌, length, take, drop, slice_index_or, All, Option, Some, None, IfSome, is_some, Result, Ok, Err, OnOk, unwrap_or, nat_lt, refl, sym, ap, subst, ◌∙◌, arith, inl, inr, add-zero, add-one}
-use Rattle.std.specs.List.{AllByRecursion, slice_get}
+use Rattle.std.proofs.Common.{◌≡◌, ◌≢◌, ◌==◌, ◌&&◌, ◌||◌, ℕ, zero, suc, ◌+◌, ◌<◌, ◌≤◌, Bool, true, false, not, cond, IsTrue, List, [], ◌∷◌, ◌++◌, length, take, ◌-◌, find, option_map, slice_index_or, All, Option, Some, None, IfSome, is_some, Result, Ok, Err, OnOk, unwrap_or, nat_lt, refl, sym, ap, subst, ◌∙◌, arith, inl, inr}
+use Rattle.std.specs.List.{AllByRecursion, enumerate_from, range_with_len, position_from}
+use Rattle.std.proofs.Math.Seq.{take-append_seam}
+use Rattle.std.proofs.lemmas.List.{append_assoc, length-append}
 use Rattle.std.proofs.lemmas.List.Elements.{All-from_recursion}
 use Rattle.std.proofs.lemmas.List.Recursion.{or_push}
-use Rattle.std.proofs.lemmas.Option.{slice_get_cases, none-some, same_Some}
+use Rattle.std.proofs.lemmas.Option.{slice_get_cases, none-some}
 use Rattle.std.proofs.lemmas.Bool.{false≢true, true≢false, not-false, not_from_true, or_parts, or_from, eqb-false, ne_eqb, eqb-true, eq-eqb, ltb-false, le-ltb, cond-false, cond-true}
 use Rattle.nfs_history.specs.declared.history.RecordedCall.{RecordedCall}
 use Rattle.nfs_history.specs.Precedence.{call_at}
@@ -11,9 +13,9 @@ use Rattle.certificate.specs.declared.plan.EraPlan.{EraPlan}
 use Rattle.order_check.specs.declared.places.OrderedPlace.{OrderedPlace}
 use Rattle.order_check.specs.declared.fault.ShapeFault.{ShapeFault}
 use Rattle.order_check.specs.declared.fault.ShapeFault.TheVariants as faults
-use Rattle.order_check.specs.Places.{order_from, number_of, passes, is_known, is_of_era, is_placeable, is_judged, is_answered, is_wanted}
+use Rattle.order_check.specs.Places.{order_from, number_of, passes, is_known, is_of_era, is_placeable, is_wanted}
 use Rattle.order_check.specs.Shape.{is_named, NameDifferentCalls, HasShape}
-use Rattle.order_check.specs.FirstFault.{Marks, at_place, failing, repeat_behind, missing_from, bad_cut_from, or_else, shape_fault_of_order, shape_fault, IsCheck}
+use Rattle.order_check.specs.FirstFault.{Marks, at_place, failing, is_repeat, first_repeat, is_missing, first_missing, keeps_too_many, first_bad_cut, or_else, shape_fault_of_order, shape_fault, IsCheck}
 
 -- a choice of a value or of another answer is none exactly where the test fails and the other answer is none
 not_chosen : {X : Type 0} (b : Bool) (x : X) (other : Option X) → cond b (Some x) other ≡ None → (b ≡ false) × (other ≡ None)
@@ -80,6 +82,25 @@ joined before p (q ∷ order) all others =
     let n = number_of q in
     (named_push before p n ∙ or_from (is_named before n) (number_of p == n) all.0 (ne_eqb (number_of p) n (λ same. others.0 (sym same))), joined before p order all.1 others.1)
 
+-- the first place that names a call which one of these, or a place ahead of it, names
+abbrev repeat_behind : List OrderedPlace → List OrderedPlace → Option OrderedPlace
+repeat_behind before [] = None
+repeat_behind before (p ∷ order) = cond (is_named before (number_of p)) (Some p) (repeat_behind (before ++ p ∷ []) order)
+
+place_of_choice : (b : Bool) (e : ℕ × OrderedPlace) (other : Option (ℕ × OrderedPlace)) → option_map (λ e. e.1) (cond b (Some e) other) ≡ cond b (Some e.1) (option_map (λ e. e.1) other)
+place_of_choice true e other = refl
+place_of_choice false e other = refl
+
+repeat_from : (before order : List OrderedPlace) → option_map (λ e. e.1) (find (is_repeat (before ++ order)) (enumerate_from (length before) order)) ≡ repeat_behind before order
+repeat_from before [] = refl
+repeat_from before (p ∷ order) =
+    let rest = find (is_repeat (before ++ p ∷ order)) (enumerate_from (length before + 1) order) in
+    place_of_choice (is_named (take (length before) (before ++ p ∷ order)) (number_of p)) (length before, p) rest
+    ∙ ap (λ front. cond (is_named front (number_of p)) (Some p) (option_map (λ e. e.1) rest)) (take-append_seam before (p ∷ order))
+    ∙ ap (λ all. cond (is_named before (number_of p)) (Some p) (option_map (λ e. e.1) (find (is_repeat all) (enumerate_from (length before + 1) order)))) (sym (append_assoc before (p ∷ []) order))
+    ∙ ap (λ n. cond (is_named before (number_of p)) (Some p) (option_map (λ e. e.1) (find (is_repeat ((before ++ p ∷ []) ++ order)) (enumerate_from n order)))) (sym (length-append before (p ∷ [])))
+    ∙ ap (λ found. cond (is_named before (number_of p)) (Some p) found) (repeat_from (before ++ p ∷ []) order)
+
 none_repeated : (before order : List OrderedPlace) → repeat_behind before order ≡ None
     → AllByRecursion (λ q. is_named before (number_of q) ≡ false) order × NameDifferentCalls order
 none_repeated before [] none = (tt, tt)
@@ -100,10 +121,6 @@ none_named : (order : List OrderedPlace) → AllByRecursion (λ q. is_named [] (
 none_named [] = tt
 none_named (p ∷ order) = (refl, none_named order)
 
--- of calls that are numbered from n on, each answered judged one is placed
-abbrev Complete : ℕ → List RecordedCall → List OrderedPlace → Type 0
-Complete n calls order = (k : ℕ) (call : RecordedCall) → slice_get calls k ≡ Some call → IsTrue (is_wanted call) → is_named order (n + k) ≡ true
-
 -- an answered judged call that isn't left out is named
 kept : (asked named : Bool) → (asked && not named) ≡ false → asked ≡ true → named ≡ true
 kept true true left asked = refl
@@ -114,25 +131,46 @@ not_left : (asked named : Bool) → (asked ≡ true → named ≡ true) → (ask
 not_left true named h = rw h refl
 not_left false named h = refl
 
-none_missing : (n : ℕ) (calls : List RecordedCall) (order : List OrderedPlace) → missing_from n calls order ≡ None → Complete n calls order
-none_missing n [] order none k call there asked = absurd (none-some call there)
-none_missing n (first ∷ calls) order none zero call there asked =
-    let h = not_chosen ((is_judged first.meaning && is_answered first) && not (is_named order n)) (faults.Missing n) (missing_from (n + 1) calls order) none in
-    let same = same_Some first call there in
-    let asked_first : (is_judged first.meaning && is_answered first) ≡ true = rw same asked in
-    rw add-zero (kept (is_judged first.meaning && is_answered first) (is_named order n) h.0 asked_first)
-none_missing n (first ∷ calls) order none (suc k) call there asked =
-    let h = not_chosen ((is_judged first.meaning && is_answered first) && not (is_named order n)) (faults.Missing n) (missing_from (n + 1) calls order) none in
-    let e : n + suc k ≡ (n + 1) + k = omega arith in
-    rw e (none_missing (n + 1) calls order h.1 k call there asked)
+-- a search along numbers finds none exactly where none of them passes
+none_found : (test : ℕ → Bool) (a n : ℕ) → find test (range_with_len a n) ≡ None → (k : ℕ) → k < n → test (a + k) ≡ false
+none_found test a zero none k lt = absurd (omega (arith, lt))
+none_found test a (suc n) none zero lt =
+    let h = not_chosen (test a) a (find test (range_with_len (a + 1) n)) none in
+    let e : a ≡ a + 0 = omega arith in subst (λ m. test m ≡ false) e h.0
+none_found test a (suc n) none (suc k) lt =
+    let h = not_chosen (test a) a (find test (range_with_len (a + 1) n)) none in
+    let e : (a + 1) + k ≡ a + suc k = omega arith in subst (λ m. test m ≡ false) e (none_found test (a + 1) n h.1 k (omega (arith, lt)))
 
-no_missing : (n : ℕ) (calls : List RecordedCall) (order : List OrderedPlace) → Complete n calls order → missing_from n calls order ≡ None
-no_missing n [] order complete = refl
-no_missing n (first ∷ calls) order complete =
-    let asked = is_judged first.meaning && is_answered first in
-    let here : asked ≡ true → is_named order n ≡ true = λ h. let e : n ≡ n + 0 = omega arith in rw e (complete 0 first refl h) in
-    let later : Complete (n + 1) calls order = λ k call there h. let e : (n + 1) + k ≡ n + suc k = omega arith in rw e (complete (suc k) call there h) in
-    skipped (asked && not (is_named order n)) (faults.Missing n) (missing_from (n + 1) calls order) (not_left asked (is_named order n) here) (no_missing (n + 1) calls order later)
+no_found : (test : ℕ → Bool) (a n : ℕ) → ((k : ℕ) → k < n → test (a + k) ≡ false) → find test (range_with_len a n) ≡ None
+no_found test a zero none = refl
+no_found test a (suc n) none =
+    let e : a + 0 ≡ a = omega arith in
+    let here : test a ≡ false = subst (λ m. test m ≡ false) e (none 0 (omega arith)) in
+    let later : (k : ℕ) → k < n → test ((a + 1) + k) ≡ false = λ k lt.
+    let f : a + suc k ≡ (a + 1) + k = omega arith in subst (λ m. test m ≡ false) f (none (suc k) (omega (arith, lt))) in
+    skipped (test a) a (find test (range_with_len (a + 1) n)) here (no_found test (a + 1) n later)
+
+-- each call that has to have a place has one
+abbrev Complete : List RecordedCall → List OrderedPlace → Type 0
+Complete calls order = (n : ℕ) (call : RecordedCall) → call_at calls n ≡ Some call → IsTrue (is_wanted call) → IsTrue (is_named order n)
+
+none_missing : (calls : List RecordedCall) (order : List OrderedPlace) → first_missing calls order ≡ None → Complete calls order
+none_missing calls order none zero call there asked = absurd (none-some call there)
+none_missing calls order none (suc k) call there asked =
+    let inside = within calls (suc k) (ap is_some there) in
+    let e : 1 + k ≡ suc k = omega arith in
+    let left : is_missing calls order (suc k) ≡ false = subst (λ n. is_missing calls order n ≡ false) e (none_found (is_missing calls order) 1 (length calls) none k (omega (arith, inside.1))) in
+    kept (passes is_wanted (call_at calls (suc k))) (is_named order (suc k)) left (ap (passes is_wanted) there ∙ asked)
+
+wanted_named : (calls : List RecordedCall) (order : List OrderedPlace) → Complete calls order
+    → (n : ℕ) (there : Option RecordedCall) → call_at calls n ≡ there → passes is_wanted there ≡ true → is_named order n ≡ true
+wanted_named calls order complete n None is asked = absurd (false≢true asked)
+wanted_named calls order complete n (Some call) is asked = complete n call is asked
+
+no_missing : (calls : List RecordedCall) (order : List OrderedPlace) → Complete calls order → first_missing calls order ≡ None
+no_missing calls order complete =
+    no_found (is_missing calls order) 1 (length calls)
+    (λ k lt. not_left (passes is_wanted (call_at calls (1 + k))) (is_named order (1 + k)) (wanted_named calls order complete (1 + k) (call_at calls (1 + k)) refl))
 
 kept_within : (cut : Option ℕ) (most : ℕ) → unwrap_or cut 0 ≤ most → IfSome cut (λ count. count ≤ most)
 kept_within None most h = tt
@@ -142,18 +180,18 @@ within_kept : (cut : Option ℕ) (most : ℕ) → IfSome cut (λ count. count �
 within_kept None most h = omega arith
 within_kept (Some count) most h = h
 
-none_cut : (e : ℕ) (plan : List EraPlan) → bad_cut_from e plan ≡ None → AllByRecursion (λ era. IfSome era.cut (λ count. count ≤ length era.places)) plan
+none_cut : (e : ℕ) (plan : List EraPlan) → position_from keeps_too_many e plan ≡ None → AllByRecursion (λ era. IfSome era.cut (λ count. count ≤ length era.places)) plan
 none_cut e [] none = tt
 none_cut e (era ∷ plan) none =
     let most = length era.places in
-    let h = not_chosen (nat_lt most (unwrap_or era.cut 0)) (faults.BadCut e) (bad_cut_from (e + 1) plan) none in
+    let h = not_chosen (nat_lt most (unwrap_or era.cut 0)) e (position_from keeps_too_many (e + 1) plan) none in
     (kept_within era.cut most (ltb-false most (unwrap_or era.cut 0) h.0), none_cut (e + 1) plan h.1)
 
-no_cut : (e : ℕ) (plan : List EraPlan) → AllByRecursion (λ era. IfSome era.cut (λ count. count ≤ length era.places)) plan → bad_cut_from e plan ≡ None
+no_cut : (e : ℕ) (plan : List EraPlan) → AllByRecursion (λ era. IfSome era.cut (λ count. count ≤ length era.places)) plan → position_from keeps_too_many e plan ≡ None
 no_cut e [] cuts = refl
 no_cut e (era ∷ plan) cuts =
     let most = length era.places in
-    skipped (nat_lt most (unwrap_or era.cut 0)) (faults.BadCut e) (bad_cut_from (e + 1) plan) (le-ltb most (unwrap_or era.cut 0) (within_kept era.cut most cuts.0)) (no_cut (e + 1) plan cuts.1)
+    skipped (nat_lt most (unwrap_or era.cut 0)) e (position_from keeps_too_many (e + 1) plan) (le-ltb most (unwrap_or era.cut 0) (within_kept era.cut most cuts.0)) (no_cut (e + 1) plan cuts.1)
 
 neither : (found other : Option ShapeFault) → or_else found other ≡ None → (found ≡ None) × (other ≡ None)
 neither None other none = (refl, none)
@@ -166,46 +204,46 @@ nowhere : (fault : ℕ → ShapeFault) (place : Option OrderedPlace) → at_plac
 nowhere fault None none = refl
 nowhere fault (Some p) none = absurd (none-some (fault (number_of p)) (sym none))
 
+no_number : (fault : ℕ → ShapeFault) (number : Option ℕ) → option_map fault number ≡ None → number ≡ None
+no_number fault None none = refl
+no_number fault (Some n) none = absurd (none-some (fault n) (sym none))
+
+none_of : (fault : ℕ → ShapeFault) (number : Option ℕ) → number ≡ None → option_map fault number ≡ None
+none_of fault number none = rw none refl
+
 at_none : (fault : ℕ → ShapeFault) (place : Option OrderedPlace) → place ≡ None → at_place fault place ≡ None
 at_none fault place none = rw none refl
-
--- by the number of a call
-named_call : (calls : List RecordedCall) (order : List OrderedPlace) → Complete 1 calls order
-    → (n : ℕ) (call : RecordedCall) → call_at calls n ≡ Some call → IsTrue (is_wanted call) → IsTrue (is_named order n)
-named_call calls order complete zero call there asked = absurd (none-some call there)
-named_call calls order complete (suc k) call there asked = let e : suc k ≡ 1 + k = omega arith in rw e (complete k call there asked)
 
 shape_of_order : (eras : ℕ) (calls : List RecordedCall) (plan : List EraPlan) → length plan ≡ eras → shape_fault_of_order calls plan (order_from 1 plan) ≡ None → HasShape eras calls plan
 shape_of_order eras calls plan as_many none =
     let order = order_from 1 plan in
-    let cut = bad_cut_from 1 plan in
-    let absent = or_else (missing_from 1 calls order) cut in
+    let cut = option_map faults.BadCut (first_bad_cut plan) in
+    let absent = or_else (option_map faults.Missing (first_missing calls order)) cut in
     let wrong = or_else (at_place faults.NotToPlace (failing (is_placeable calls) order)) absent in
-    let twice = or_else (at_place faults.Twice (repeat_behind [] order)) wrong in
+    let twice = or_else (at_place faults.Twice (first_repeat order)) wrong in
     let era = or_else (at_place faults.WrongEra (failing (is_of_era calls) order)) twice in
     let a = neither (at_place faults.Unknown (failing (is_known calls) order)) era none in
     let b = neither (at_place faults.WrongEra (failing (is_of_era calls) order)) twice a.1 in
-    let c = neither (at_place faults.Twice (repeat_behind [] order)) wrong b.1 in
+    let c = neither (at_place faults.Twice (first_repeat order)) wrong b.1 in
     let d = neither (at_place faults.NotToPlace (failing (is_placeable calls) order)) absent c.1 in
-    let e = neither (missing_from 1 calls order) cut d.1 in
+    let e = neither (option_map faults.Missing (first_missing calls order)) cut d.1 in
     record {
       as_many_eras = as_many;
       of_their_eras = none_failing (is_of_era calls) order (nowhere faults.WrongEra (failing (is_of_era calls) order) b.0);
-      once = (none_repeated [] order (nowhere faults.Twice (repeat_behind [] order) c.0)).1;
+      once = (none_repeated [] order (sym (repeat_from [] order) ∙ nowhere faults.Twice (first_repeat order) c.0)).1;
       right = none_failing (is_placeable calls) order (nowhere faults.NotToPlace (failing (is_placeable calls) order) d.0);
-      complete = named_call calls order (none_missing 1 calls order e.0);
-      cuts = none_cut 1 plan e.1;
+      complete = none_missing calls order (no_number faults.Missing (first_missing calls order) e.0);
+      cuts = none_cut 1 plan (no_number faults.BadCut (first_bad_cut plan) e.1);
     }
 
 no_fault_of_order : (eras : ℕ) (calls : List RecordedCall) (plan : List EraPlan) → HasShape eras calls plan → shape_fault_of_order calls plan (order_from 1 plan) ≡ None
 no_fault_of_order eras calls plan shape =
     let order = order_from 1 plan in
-    let complete : Complete 1 calls order = λ k call there asked. let e : 1 + k ≡ suc k = omega arith in rw e (shape.complete (suc k) call there asked) in
     or_none _ _ (at_none faults.Unknown (failing (is_known calls) order) (all_pass (is_known calls) order (all_known calls order shape.of_their_eras)))
     (or_none _ _ (at_none faults.WrongEra (failing (is_of_era calls) order) (all_pass (is_of_era calls) order shape.of_their_eras))
-    (or_none _ _ (at_none faults.Twice (repeat_behind [] order) (no_repeat [] order (none_named order) shape.once))
+    (or_none _ _ (at_none faults.Twice (first_repeat order) (repeat_from [] order ∙ no_repeat [] order (none_named order) shape.once))
     (or_none _ _ (at_none faults.NotToPlace (failing (is_placeable calls) order) (all_pass (is_placeable calls) order shape.right))
-    (or_none (missing_from 1 calls order) (bad_cut_from 1 plan) (no_missing 1 calls order complete) (no_cut 1 plan shape.cuts)))))
+    (or_none _ _ (none_of faults.Missing (first_missing calls order) (no_missing calls order shape.complete)) (none_of faults.BadCut (first_bad_cut plan) (no_cut 1 plan shape.cuts))))))
 
 -- a choice between the order's faults and another fault
 chosen : (b : Bool) (found : Option ShapeFault) (fault : ShapeFault) → cond b found (Some fault) ≡ None → (b ≡ true) × (found ≡ None)
@@ -243,33 +281,28 @@ shape_only eras calls plan result found shape = subst (λ fault. IsCheck result 
 
 -- ---- the calls one after the other
 
-abbrev missing_at : ℕ → List RecordedCall → ℕ → List OrderedPlace → Option ShapeFault
-missing_at n calls k order =
-    cond (passes is_wanted (slice_get calls k) && not (is_named order n)) (Some (faults.Missing n)) (missing_from (n + 1) (drop (suc k) calls) order)
-
-missing_behind : (n : ℕ) (calls : List RecordedCall) (k : ℕ) (order : List OrderedPlace) → k < length calls → missing_from n (drop k calls) order ≡ missing_at n calls k order
-missing_behind n [] k order lt = absurd (omega (arith, lt))
-missing_behind n (call ∷ calls) zero order lt = refl
-missing_behind n (call ∷ calls) (suc k) order lt = missing_behind n calls k order (omega (arith, lt))
-
 -- whether the call behind the first i is missing
 abbrev pub IsMissingAt : List RecordedCall → List OrderedPlace → ℕ → List Bool → ℕ → Bool → Type 0
 IsMissingAt calls order many named i found =
     Marks order named many × (many ≡ length calls) × (i < many) × (found ≡ (passes is_wanted (call_at calls (i + 1)) && not (slice_index_or named i false)))
 
+-- what is left to search finds what all do
+abbrev pub IsSoFar : List RecordedCall → List OrderedPlace → ℕ → Type 0
+IsSoFar calls order i = find (is_missing calls order) (range_with_len (i + 1) (length calls - i)) ≡ first_missing calls order
+
 missing_is : (calls : List RecordedCall) (order : List OrderedPlace) (many : ℕ) (named : List Bool) (i : ℕ) (found : Bool) → IsMissingAt calls order many named i found
-    → missing_from (i + 1) (drop i calls) order ≡ cond found (Some (faults.Missing (i + 1))) (missing_from (i + 1 + 1) (drop (i + 1) calls) order)
+    → find (is_missing calls order) (range_with_len (i + 1) (length calls - i))
+    ≡ cond found (Some (i + 1)) (find (is_missing calls order) (range_with_len (i + 1 + 1) (length calls - (i + 1))))
 missing_is calls order many named i found (marks, size, lt, is) =
-    let same : found ≡ (passes is_wanted (slice_get calls i) && not (is_named order (i + 1))) =
-    is ∙ ap (λ (n : ℕ). passes is_wanted (call_at calls n) && not (slice_index_or named i false)) (add-one i) ∙ ap (λ (b : Bool). passes is_wanted (slice_get calls i) && not b) (marks.marked i lt) in
-    missing_behind (i + 1) calls i order (subst (λ m. i < m) size lt)
-    ∙ ap (λ (b : Bool). cond b (Some (faults.Missing (i + 1))) (missing_from (i + 1 + 1) (drop (suc i) calls) order)) (sym same)
-    ∙ ap (λ (k : ℕ). cond found (Some (faults.Missing (i + 1))) (missing_from (i + 1 + 1) (drop k calls) order)) (sym (add-one i))
+    let same : is_missing calls order (i + 1) ≡ found = sym (is ∙ ap (λ (b : Bool). passes is_wanted (call_at calls (i + 1)) && not b) (marks.marked i lt)) in
+    let left : length calls - i ≡ suc (length calls - (i + 1)) = omega (arith, lt, size) in
+    ap (λ n. find (is_missing calls order) (range_with_len (i + 1) n)) left
+    ∙ ap (λ (b : Bool). cond b (Some (i + 1)) (find (is_missing calls order) (range_with_len (i + 1 + 1) (length calls - (i + 1))))) same
 
 pub missing_here : (calls : List RecordedCall) (order : List OrderedPlace) (many : ℕ) (named : List Bool) (i : ℕ) → IsMissingAt calls order many named i true
-    → missing_from (i + 1) (drop i calls) order ≡ missing_from 1 calls order → Some (faults.Missing (i + 1)) ≡ missing_from 1 calls order
-missing_here calls order many named i is so_far = sym (missing_is calls order many named i true is) ∙ so_far
+    → IsSoFar calls order i → Some (faults.Missing (i + 1)) ≡ option_map faults.Missing (first_missing calls order)
+missing_here calls order many named i is so_far = ap (option_map faults.Missing) (sym (missing_is calls order many named i true is) ∙ so_far)
 
 pub missing_later : (calls : List RecordedCall) (order : List OrderedPlace) (many : ℕ) (named : List Bool) (i : ℕ) → IsMissingAt calls order many named i false
-    → missing_from (i + 1) (drop i calls) order ≡ missing_from 1 calls order → missing_from (i + 1 + 1) (drop (i + 1) calls) order ≡ missing_from 1 calls order
+    → IsSoFar calls order i → IsSoFar calls order (i + 1)
 missing_later calls order many named i is so_far = sym (missing_is calls order many named i false is) ∙ so_far

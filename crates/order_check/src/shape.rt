@@ -1,11 +1,12 @@
 //! Whether a plan has the shape that a history asks for.
 
-ghost use Rattle.std.specs.Prelude.{◌≡◌, ◌<◌, ◌≤◌, ◌+◌, ◌&&◌, not, false, slice_index_or, length, [], None, All, IfOk, OnOk};
+ghost use Rattle.std.specs.Prelude.{◌≡◌, ◌<◌, ◌≤◌, ◌+◌, ◌&&◌, not, false, slice_index_or, length, None, option_map, All, IfOk, OnOk};
 ghost use Rattle.std.specs.Option.{option_copied};
 ghost use Rattle.order_check.specs.Places.{number_of, passes, is_wanted, is_known, is_of_era, is_placeable};
 ghost use Rattle.nfs_history.specs.Precedence.{call_at};
 ghost use Rattle.order_check.specs.Shape.{HasShape};
-ghost use Rattle.order_check.specs.FirstFault.{failing, missing_from, bad_cut_from, repeat_behind, shape_fault, shape_fault_of_order, Marks, IsCheck};
+ghost use Rattle.order_check.specs.declared.fault.ShapeFault.TheVariants.{Missing, BadCut};
+ghost use Rattle.order_check.specs.FirstFault.{failing, first_missing, first_bad_cut, first_repeat, shape_fault, shape_fault_of_order, Marks, IsCheck};
 
 use crate::fault::ShapeFault;
 use crate::places::{
@@ -56,7 +57,7 @@ fn is_missing(history: &KnownCalls<'_>, named: &[bool], index: usize) -> bool
 /// The first answered judged call that isn't named, where `named` tells of each call whether it is.
 fn missing(history: &KnownCalls<'_>, order: &[OrderedPlace], named: &[bool]) -> Option<ShapeFault>
     requires { Marks order.now named.now (length history.now.calls) }
-    ensures { result ≡ missing_from 1 history.now.calls order.now }
+    ensures { result ≡ option_map Missing (first_missing history.now.calls order.now) }
 {
     let count = history.count();
     for index in 0..count {
@@ -69,7 +70,7 @@ fn missing(history: &KnownCalls<'_>, order: &[OrderedPlace], named: &[bool]) -> 
 
 /// The first era that keeps more places than it has.
 fn bad_cut(eras: &[EraPlan]) -> Option<ShapeFault>
-    ensures { result ≡ bad_cut_from 1 eras.now }
+    ensures { result ≡ option_map BadCut (first_bad_cut eras.now) }
 {
     for (index, era) in eras.iter().enumerate() {
         if (era.places.as_slice().len() as u64) < era.cut.unwrap_or(0) {
@@ -89,7 +90,7 @@ struct Marking {
 
 fn mark_calls(alloc: Global, calls: usize, order: &[OrderedPlace]) -> Result<Marking, AllocError>
     requires { All (λ p. (0 < number_of p) × (number_of p ≤ calls)) order.now }
-    ensures repeat { IfOk result (λ m. m.repeat ≡ repeat_behind [] order.now) }
+    ensures repeat { IfOk result (λ m. m.repeat ≡ first_repeat order.now) }
     ensures marks { IfOk result (λ m. m.repeat ≡ None → Marks order.now m.named.items calls) }
 {
     let mut named = vec![in alloc; false; calls]?;

@@ -1,6 +1,7 @@
 use Rattle.std.proofs.Common.{◌≡◌, ◌+◌, drop}
-use Rattle.order_check.specs.FirstFault.{bad_cut_from}
+use Rattle.std.specs.List.{position_from}
+use Rattle.order_check.specs.FirstFault.{keeps_too_many, first_bad_cut}
 use Rattle.order_check.proofs.shape.bad_cut.Given as goal
 
 abbrev pub invariant-loop-index : goal.invariant-loop-index
-invariant-loop-index l = bad_cut_from (l.index + 1) (drop l.index l.eras) ≡ bad_cut_from 1 l.eras
+invariant-loop-index l = position_from keeps_too_many (l.index + 1) (drop l.index l.eras) ≡ first_bad_cut l.eras
