@@ -15,7 +15,8 @@ use Rattle.nfs_history.specs.declared.fault.Which.{Which}
 use Rattle.nfs_history.specs.declared.fault.CallFault.{CallFault}
 use Rattle.nfs_history.specs.declared.fault.CallFault.TheVariants as faults
 use Rattle.nfs_history.specs.Calls.{CallEvent}
-use Rattle.nfs_history.specs.Effects.{was_refused, is_of_nfs, has_failed_status, results_of, is_judged, is_left_out, has_no_effect}
+use Rattle.nfs3_types.specs.Procedures.{is_judged}
+use Rattle.nfs_history.specs.Effects.{was_refused, is_of_nfs, has_failed_status, results_of, is_left_out, has_no_effect}
 use Rattle.nfs_history.specs.History.{CameOut}
 use Rattle.nfs_history.specs.Outside.{outside}
 use Rattle.nfs_history.specs.CallFaults.{which_left_out, AreNoArguments, IsBadResult, LiesOutside, IsEffectFault, IsCallFault}

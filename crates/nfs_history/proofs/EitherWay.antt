@@ -37,7 +37,8 @@ use Rattle.nfs_history.specs.declared.history.RecordedCall.{RecordedCall}
 use Rattle.nfs_history.specs.HistoryValue.{HistoryValue}
 use Rattle.nfs_history.specs.Calls.{CallEvent, calls_of, eras_from, xid_of}
 use Rattle.nfs_history.specs.Standing.{CanBeCall, CanBeReply, has_unanswered, IsClosed, MayFollow, EachMayFollow}
-use Rattle.nfs_history.specs.Effects.{was_refused, is_of_nfs, results_of, is_judged, is_left_out, has_failed_status, has_no_effect}
+use Rattle.nfs3_types.specs.Procedures.{is_judged}
+use Rattle.nfs_history.specs.Effects.{was_refused, is_of_nfs, results_of, is_left_out, has_failed_status, has_no_effect}
 use Rattle.nfs_history.specs.History.{CameOut, IsKnownAs, Means, AreRecorded, IsHistoryFile}
 use Rattle.nfs_history.specs.Outside.{outside}
 use Rattle.nfs_history.specs.EventFaults.{IsAtFault, FirstEventFault}

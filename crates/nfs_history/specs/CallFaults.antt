@@ -13,13 +13,15 @@ use Rattle.nfs_history.specs.declared.fault.CallFault.{CallFault}
 use Rattle.nfs_history.specs.declared.fault.CallFault.TheVariants as faults
 use Rattle.nfs_history.specs.declared.history.Meaning.{Meaning}
 use Rattle.nfs_history.specs.Calls.{CallEvent}
-use Rattle.nfs_history.specs.Effects.{Says, results_of, is_judged, is_left_out, has_no_effect}
+use Rattle.nfs3_types.specs.declared.procedures.Procedure.TheVariants as procedures
+use Rattle.nfs3_types.specs.Procedures.{number, is_judged}
+use Rattle.nfs_history.specs.Effects.{Says, results_of, is_left_out, has_no_effect}
 use Rattle.nfs_history.specs.History.{CameOut, Means}
 use Rattle.nfs_history.specs.Outside.{outside}
 
 -- MKNOD or LINK
 abbrev pub which_left_out : ℕ → Which
-which_left_out procedure = if procedure == 15 then which.Link else which.Node
+which_left_out procedure = if procedure == number procedures.Link then which.Link else which.Node
 
 -- a result of less than four bytes, so without a status word
 abbrev pub HasNoStatus : Option (List ℕ) → Type 0

@@ -1,6 +1,8 @@
 -- Which calls may have an effect, by their heads and replies (RFC 5531, section 9, and RFC 1813, section 3.3).
 use Rattle.std.specs.Prelude.{◌≡◌, ◌==◌, ◌&&◌, ◌||◌, not, nat_le, ℕ, Bool, true, false, if◌then◌else◌, List, length, Option, Some, None}
 use Rattle.xdr_records.specs.Items.{word_of}
+use Rattle.nfs3_types.specs.declared.procedures.Procedure.TheVariants.{MkNod, Link}
+use Rattle.nfs3_types.specs.Procedures.{number, is_judged}
 use Rattle.rpc_reader.specs.Values.{CallValue, ReplyValue, Body}
 use Rattle.rpc_reader.specs.Values.Body.{success}
 use Rattle.rpc_reader.specs.Messages.{IsReply}
@@ -31,17 +33,10 @@ has_failed_status (Some results) = nat_le 4 (length results) && not (word_of res
 abbrev pub is_of_nfs : CallValue → Bool
 is_of_nfs head = (head.program == 100003) && (head.version == 3)
 
--- the judged procedures, all of RFC 1813, section 3.3, but for those that change nothing and show nothing of the tree,
--- and for the next two
-abbrev pub is_judged : ℕ → Bool
-is_judged procedure =
-    procedure == 1 || procedure == 2 || procedure == 3 || procedure == 5 || procedure == 6 || procedure == 7 || procedure == 8 || procedure == 9
-    || procedure == 10 || procedure == 12 || procedure == 13 || procedure == 14 || procedure == 16 || procedure == 17 || procedure == 21
-
 -- MKNOD and LINK (RFC 1813, sections 3.3.11 and 3.3.15): in the model an object has one path, and nodes are of three
 -- kinds
 abbrev pub is_left_out : ℕ → Bool
-is_left_out procedure = procedure == 11 || procedure == 15
+is_left_out procedure = procedure == number MkNod || procedure == number Link
 
 -- a call that failed in RPC, of another program or version, of a procedure that isn't judged, or a LINK or MKNOD that
 -- was answered by a failure; what RPCSEC_GSS (flavor 6, RFC 2203) hides may have an effect

@@ -18,7 +18,8 @@ use Rattle.nfs_history.specs.Calls.{CallEvent, calls_of, eras_from, xid_of}
 use Rattle.nfs_history.specs.Standing.{EachMayFollow}
 use Rattle.history_file.specs.Owning.{all_happened}
 use Rattle.nfs_history.specs.Outside.{outside}
-use Rattle.nfs_history.specs.Effects.{Says, was_refused, results_of, is_judged, has_no_effect}
+use Rattle.nfs3_types.specs.Procedures.{is_judged}
+use Rattle.nfs_history.specs.Effects.{Says, was_refused, results_of, has_no_effect}
 
 -- how a call of a procedure came out: with the result that the reply to it holds
 abbrev pub CameOut : ℕ → Option (List ℕ) → Option Outcome → Type 0

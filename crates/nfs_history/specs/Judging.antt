@@ -22,7 +22,8 @@ use Rattle.nfs_history.specs.JoinedFaults.{of_call}
 use Rattle.history_file.specs.Event.{Event}
 use Rattle.nfs_history.specs.Calls.{CallEvent, calls_of}
 use Rattle.nfs_history.specs.Standing.{EachMayFollow}
-use Rattle.nfs_history.specs.Effects.{Says, results_of, is_judged, has_no_effect}
+use Rattle.nfs3_types.specs.Procedures.{is_judged}
+use Rattle.nfs_history.specs.Effects.{Says, results_of, has_no_effect}
 use Rattle.nfs_history.specs.History.{AreRecorded}
 use Rattle.nfs_history.specs.Outside.{outside}
 use Rattle.nfs_history.specs.CallFaults.{which_left_out}

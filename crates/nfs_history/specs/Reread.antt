@@ -10,7 +10,7 @@ use Rattle.rpc_reader.specs.Values.Body.{success}
 use Rattle.rpc_reader.specs.Heads.{kind_of, CallStart, call_head}
 use Rattle.rpc_reader.specs.ReplyHeads.{Status, ReplyStart, reply_head}
 use Rattle.rpc_reader.specs.ReplyHeads.Status.{results_follow, final}
-use Rattle.nfs3_types.specs.Procedures.{procedure_called}
+use Rattle.nfs3_types.specs.Procedures.{asked_for}
 use Rattle.nfs3_types.specs.declared.calls.NfsCall.{NfsCall}
 use Rattle.nfs3_types.specs.declared.replies.NfsReply.{NfsReply}
 use Rattle.nfs3_types.specs.declared.replies.Outcome.{Outcome}
@@ -93,8 +93,8 @@ item_at items (suc n) = slice_get items n
 -- what a call is for a plan
 abbrev pub kind_as : Meaning → Option Outcome → CallKind
 kind_as meanings.Unjudged outcome = kinds.Unjudged
-kind_as (meanings.Judged call) None = kinds.Unanswered (procedure_called call)
-kind_as (meanings.Judged call) (Some outcome) = kinds.Answered (procedure_called call)
+kind_as (meanings.Judged call) None = kinds.Unanswered (asked_for call)
+kind_as (meanings.Judged call) (Some outcome) = kinds.Answered (asked_for call)
 
 abbrev pub call_kind : RecordedCall → CallKind
 call_kind call = kind_as call.meaning call.outcome

@@ -26,7 +26,7 @@ use crate::judging::{Stop, judged_call};
 use crate::knowing::KnownCalls;
 use crate::matching::{SeenCall, SeenReply};
 use history_file::{Event, Message, lend_events};
-use nfs3_types::{FileHandle, NfsCall, Outcome};
+use nfs3_types::{FileHandle, NfsCall, Outcome, Procedure};
 use std::alloc::{AllocError, Global};
 use std::marker::Model;
 
@@ -57,15 +57,15 @@ pub struct RecordedCall {
     pub outcome: Option<Outcome>,
 }
 
-/// What a call is for a plan. Procedures are numbered as in RFC 1813, section 3.3.
+/// What a call is for a plan.
 #[derive(Clone, Copy)]
 pub enum CallKind {
     /// It has no effect and no place in the serial order.
     Unjudged,
     /// A judged call of this procedure, to which no reply came.
-    Unanswered(u32),
+    Unanswered(Procedure),
     /// A judged call of this procedure, with its outcome.
-    Answered(u32),
+    Answered(Procedure),
 }
 
 impl RecordedCall {

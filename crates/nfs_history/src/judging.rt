@@ -5,32 +5,22 @@ ghost use Rattle.rpc_reader.specs.Values.{Body};
 ghost use Rattle.rpc_reader.specs.Views.{call_value, body_value};
 ghost use Rattle.nfs3_msgs.specs.Messages.{IsArguments};
 ghost use Rattle.nfs_history.specs.Matching.{seen_call, seen_reply, bytes_of};
-ghost use Rattle.nfs_history.specs.Effects.{Says, was_refused, results_of, has_failed_status, is_judged, has_no_effect};
+ghost use Rattle.nfs_history.specs.Effects.{Says};
 ghost use Rattle.nfs_history.specs.History.{CameOut, IsKnownAs, IsRecorded};
-ghost use Rattle.nfs_history.specs.Outside.{asked_size, was_failure, too_far, outside};
-ghost use Rattle.nfs_history.specs.CallFaults.{which_left_out, FirstCallFault};
+ghost use Rattle.nfs_history.specs.Outside.{outside};
+ghost use Rattle.nfs_history.specs.CallFaults.{FirstCallFault};
 ghost use Rattle.nfs_history.specs.Judging.{left_out, outside_fault, result_fault, judged_fault, fault_of, IsFound, IsReadable, AreReadable, IsStopFor};
 ghost use Rattle.nfs_history.specs.Reread.{known_call, IsReadAs, AreReadTo};
 
+use crate::effects::{has_no_effect, is_judged, is_sealed, results_of, which_left_out};
 use crate::fault::{CallFault, HistoryFault, Which};
 use crate::history::{CallKind, Meaning, RecordedCall};
+use crate::limits::outside_model;
 use crate::matching::{SeenCall, SeenReply, transaction};
-use byteorder::{BigEndian, ByteOrder};
 use nfs3_msgs::{MessageFault, read_args, read_result};
-use nfs3_types::{CreateMode, FILE_LIMIT, NfsCall, Outcome};
+use nfs3_types::{NfsCall, Outcome};
 use rpc_reader::{CallHead, ReplyBody, read_call, read_reply};
 use std::alloc::{AllocError, AllocFailed, Global};
-
-/// The program number of NFS (RFC 1813, section 2.2).
-const NFS_PROGRAM: u32 = 100_003;
-/// The version that is judged.
-const NFS_VERSION: u32 = 3;
-/// The credential flavor of RPCSEC_GSS (RFC 2203).
-const SEALED_FLAVOR: u32 = 6;
-/// Procedures of NFS version 3 (RFC 1813, sections 3.3.11 and 3.3.15).
-const MKNOD: u32 = 11;
-
-const LINK: u32 = 15;
 
 /// Why it isn't found what a call was.
 #[derive(Clone, Copy, PartialEq, Eq)]
@@ -85,126 +75,6 @@ impl From<Stop> for HistoryFault {
             Stop::Fault(fault) => HistoryFault::from(fault),
             Stop::NoMemory => HistoryFault::NoMemory,
         }
-    }
-}
-
-fn is_failure(outcome: &Option<Outcome>) -> bool
-    ensures { result ≡ was_failure outcome.now }
-{
-    match outcome {
-        Some(Outcome::Received(reply)) => reply.failure().is_some(),
-        _ => false,
-    }
-}
-
-fn size_asked(mode: &CreateMode) -> u64
-    ensures { result ≡ asked_size mode.now }
-{
-    match mode {
-        CreateMode::Unchecked(attributes) | CreateMode::Guarded(attributes) => {
-            attributes.size.unwrap_or(0)
-        }
-        CreateMode::Exclusive(_) => 0,
-    }
-}
-
-/// Whether a size that wasn't refused is over the limit.
-fn goes_too_far(size: u64, outcome: &Option<Outcome>) -> Option<Which>
-    ensures { result ≡ too_far size outcome.now }
-{
-    if size > FILE_LIMIT && !is_failure(outcome) {
-        Some(Which::TooFar)
-    } else {
-        None
-    }
-}
-
-/// What of a call lies outside the model.
-fn outside_model(call: &NfsCall, outcome: &Option<Outcome>) -> Option<Which>
-    ensures { result ≡ outside call.now outcome.now }
-{
-    match call {
-        NfsCall::SetAttr(call) => goes_too_far(call.attributes.size.unwrap_or(0), outcome),
-        NfsCall::Write(write) => {
-            if write.count as usize != write.bytes.as_slice().len() {
-                return Some(Which::CountDiffers);
-            }
-            let far = write.offset > FILE_LIMIT
-                || write.offset + u64::from(write.count) > FILE_LIMIT;
-            if write.count > 0 && far && !is_failure(outcome) {
-                return Some(Which::TooFar);
-            }
-            None
-        }
-        NfsCall::Create(create) => goes_too_far(size_asked(&create.mode), outcome),
-        _ => None,
-    }
-}
-
-/// The result that a reply holds.
-fn results_of<'a>(body: &Option<ReplyBody<'a>>) -> Option<&'a [u8]>
-    ensures { bytes_of result ≡ results_of (option_map body_value body.now) }
-{
-    match body {
-        Some(ReplyBody::Success(results)) => Some(*results),
-        _ => None,
-    }
-}
-
-/// Whether any reply but an accepted SUCCESS came.
-fn was_refused(body: &Option<ReplyBody<'_>>) -> bool
-    ensures { result ≡ was_refused (option_map body_value body.now) }
-{
-    match body {
-        None | Some(ReplyBody::Success(_)) => false,
-        Some(_) => true,
-    }
-}
-
-/// Whether a result begins with a status other than 0.
-#[tactic(auto, unfolding(xdr_records::specs::Items::word_of))]
-fn has_failed_status(results: Option<&[u8]>) -> bool
-    ensures { result ≡ has_failed_status (bytes_of results.entry) }
-{
-    match results {
-        Some(results) => results.len() >= 4 && BigEndian::read_u32(results) != 0,
-        None => false,
-    }
-}
-
-fn is_judged(procedure: u32) -> bool
-    ensures { result ≡ is_judged procedure }
-{
-    matches!(
-        procedure,
-        1 | 2 | 3 | 5 | 6 | 7 | 8 | 9 | 10 | 12 | 13 | 14 | 16 | 17 | 21
-    )
-}
-
-/// Whether a call is known to have had no effect.
-fn has_no_effect(head: &CallHead<'_>, body: &Option<ReplyBody<'_>>) -> bool
-    ensures { result ≡ has_no_effect (call_value head.now) (option_map body_value body.now) }
-{
-    if was_refused(body) || head.program != NFS_PROGRAM || head.version != NFS_VERSION {
-        return true;
-    }
-    if head.flavor == SEALED_FLAVOR {
-        return false;
-    }
-    match head.procedure {
-        MKNOD | LINK => has_failed_status(results_of(body)),
-        procedure => !is_judged(procedure),
-    }
-}
-
-/// MKNOD or LINK.
-fn which_left_out(procedure: u32) -> Which
-    ensures { result ≡ which_left_out procedure }
-{
-    if procedure == LINK {
-        Which::Link
-    } else {
-        Which::Node
     }
 }
 
@@ -291,7 +161,7 @@ fn known_of(
     if has_no_effect(head, body) {
         return Ok((Meaning::Unjudged, None));
     }
-    if head.flavor == SEALED_FLAVOR {
+    if is_sealed(head) {
         return Err(Stop::Fault(CallFault::Sealed(number)));
     }
     let results = results_of(body);

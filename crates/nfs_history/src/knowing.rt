@@ -85,8 +85,8 @@ fn seen_at<'s, 'a>(seen: &'s [SeenCall<'a>], number: u64) -> Option<&'s SeenCall
     seen.get(number as usize - 1)
 }
 
-/// Item `number` of the calls' kinds, from 1 on.
-fn kind_at(kinds: &[CallKind], number: u64) -> Option<CallKind>
+/// Item `number` of the calls' kinds, from 1 on. It is proved for any `K`: of a `CallKind` the search looks at each procedure.
+fn kind_at<K: Copy>(kinds: &[K], number: u64) -> Option<K>
     ensures { result ≡ item_at kinds.now number }
 {
     if number == 0 {

@@ -2,11 +2,13 @@
 #![tactic(auto)]
 
 mod checking;
+mod effects;
 mod fault;
 mod history;
 mod judging;
 mod knowing;
 mod laws;
+mod limits;
 mod matching;
 mod reading;
 

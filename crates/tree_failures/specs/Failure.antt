@@ -4,6 +4,7 @@ use Rattle.std.specs.List.{list_any}
 use Rattle.nfs3_types.specs.declared.calls.NfsCall.{NfsCall}
 use Rattle.nfs3_types.specs.declared.status.Failure.{Failure}
 use Rattle.nfs3_types.specs.declared.status.Failure.TheVariants as status
+use Rattle.nfs3_types.specs.Numbers.{status_number}
 use Rattle.tree_nodes.specs.Tree.{Tree}
 use Rattle.tree_failures.specs.declared.failure.Cause.{Cause}
 use Rattle.tree_failures.specs.declared.failure.Cause.TheVariants as cause
@@ -11,37 +12,6 @@ use Rattle.tree_handles.specs.Binding.{Bindings}
 use Rattle.tree_failures.specs.Asked.{is_listing_call}
 use Rattle.tree_failures.specs.Causes as when
 use Rattle.tree_failures.specs.RenameCauses as when_renamed
-
--- a status's number in `nfsstat3`, RFC 1813, section 2.6
-abbrev pub status_number : Failure → ℕ
-status_number status.NotOwner = 1
-status_number status.NoEntry = 2
-status_number status.InputOutput = 5
-status_number status.NoDevice = 6
-status_number status.Access = 13
-status_number status.Exists = 17
-status_number status.CrossDevice = 18
-status_number status.NoSuchDevice = 19
-status_number status.NotDirectory = 20
-status_number status.IsDirectory = 21
-status_number status.Invalid = 22
-status_number status.FileTooLarge = 27
-status_number status.NoSpace = 28
-status_number status.ReadOnly = 30
-status_number status.TooManyLinks = 31
-status_number status.NameTooLong = 63
-status_number status.NotEmpty = 66
-status_number status.Quota = 69
-status_number status.Stale = 70
-status_number status.Remote = 71
-status_number status.BadHandle = 10001
-status_number status.NotSynchronized = 10002
-status_number status.BadCookie = 10003
-status_number status.NotSupported = 10004
-status_number status.TooSmall = 10005
-status_number status.ServerFault = 10006
-status_number status.BadType = 10007
-status_number status.Jukebox = 10008
 
 abbrev pub same_status : Failure → Failure → Bool
 same_status a b = status_number a == status_number b

@@ -2,7 +2,7 @@
 
 ghost use Rattle.std.specs.Prelude.{◌≡◌};
 ghost use Rattle.std.specs.List.{list_any};
-ghost use Rattle.tree_failures.specs.Failure.{status_number, same_status, row, causes, is_judged_status, is_caused_by, is_permitted};
+ghost use Rattle.tree_failures.specs.Failure.{same_status, row, causes, is_judged_status, is_caused_by, is_permitted};
 
 use crate::asked::is_listing_call;
 use crate::handle_causes::{
@@ -65,19 +65,12 @@ pub enum Cause {
     AnyListing,
 }
 
-/// The number of a status in `nfsstat3` (RFC 1813, section 2.6).
-fn status_number(failure: Failure) -> u32
-    ensures { result ≡ status_number failure }
-{
-    failure as u32
-}
-
 /// Whether a status is one of these.
 fn is_one_of(failure: Failure, statuses: &[Failure]) -> bool
     ensures { result ≡ list_any (same_status failure) statuses.now }
 {
     for status in statuses {
-        if status_number(failure) == status_number(*status) {
+        if failure.number() == status.number() {
             return true;
         }
     }

@@ -2,9 +2,9 @@
 use Rattle.std.specs.Prelude.{ℕ, ◌+◌, ◌==◌, nat_le, Bool, true, false, not, ◌&&◌, if◌then◌else◌, List, length, take, drop, Option, is_some, option_map}
 use Rattle.std.specs.Option.{option_map_or}
 use Rattle.std.specs.FinMap as map
-use Rattle.nfs3_types.specs.declared.attributes.FileType.{FileType}
 use Rattle.nfs3_types.specs.declared.attributes.FileType.TheVariants as types
 use Rattle.nfs3_types.specs.declared.attributes.FileAttributes.{FileAttributes}
+use Rattle.nfs3_types.specs.Numbers.{type_number}
 use Rattle.nfs3_types.specs.declared.calls.ReadArguments.{ReadArguments}
 use Rattle.nfs3_types.specs.declared.calls.DirectoryName.{DirectoryName}
 use Rattle.nfs3_types.specs.declared.replies.Answer.TheVariants.{Done}
@@ -20,19 +20,10 @@ use Rattle.tree_handles.specs.Live.{live_entry, directory_of, file_of}
 use Rattle.tree_handles.specs.Entry.{is_dot, is_two_dots, entry_at}
 
 -- GETATTR, RFC 1813, section 3.3.1: the type is the object's (`ftype3`, section 2.6), and a file's size is its length
-abbrev pub type_number : FileType → ℕ
-type_number types.Regular = 1
-type_number types.Directory = 2
-type_number types.BlockDevice = 3
-type_number types.CharacterDevice = 4
-type_number types.SymbolicLink = 5
-type_number types.Socket = 6
-type_number types.Fifo = 7
-
 abbrev pub shows : Content → FileAttributes → Bool
-shows contents.Directory attributes = type_number attributes.file_type == 2
-shows (contents.File file) attributes = (type_number attributes.file_type == 1) && (attributes.size == length file.bytes)
-shows (contents.Link _) attributes = type_number attributes.file_type == 5
+shows contents.Directory attributes = type_number attributes.file_type == type_number types.Directory
+shows (contents.File file) attributes = (type_number attributes.file_type == type_number types.Regular) && (attributes.size == length file.bytes)
+shows (contents.Link _) attributes = type_number attributes.file_type == type_number types.SymbolicLink
 
 abbrev pub getattr_is_legal : Bindings → Tree → List ℕ → NfsReply → Bool
 getattr_is_legal binds tree object (replies.GetAttr (Done attributes)) = option_map_or (λ e. shows e.1.content attributes) (live_entry binds tree object) false

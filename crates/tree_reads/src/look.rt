@@ -3,7 +3,7 @@
 ghost use Rattle.std.specs.Prelude.{◌≡◌, option_and_then};
 ghost use Rattle.std.specs.Option.{option_copied};
 ghost use Rattle.tree_nodes.specs.Place.{path_of};
-ghost use Rattle.tree_reads.specs.Look.{type_number, shows, getattr_is_legal, object_at, object_named, lookup_is_legal, has_text, readlink_is_legal, commit_is_legal};
+ghost use Rattle.tree_reads.specs.Look.{shows, getattr_is_legal, object_at, object_named, lookup_is_legal, has_text, readlink_is_legal, commit_is_legal};
 
 use nfs3_types::{Answer, DirectoryName, FileAttributes, FileHandle, FileType, NfsReply};
 use tree_handles::{
@@ -11,22 +11,16 @@ use tree_handles::{
 };
 use tree_nodes::{Content, Node, Nodes};
 
-/// The number of a type in `ftype3` (RFC 1813, section 2.6).
-fn type_number(file_type: FileType) -> u32
-    ensures { result ≡ type_number file_type }
-{
-    file_type as u32
-}
-
 /// Whether attributes are those of such an object, as far as the tree has it.
 fn shows(content: &Content, attributes: &FileAttributes) -> bool
     ensures { result ≡ shows content.now attributes.now }
 {
-    let number = type_number(attributes.file_type);
     match content {
-        Content::Directory => number == 2,
-        Content::File(file) => number == 1 && attributes.size == file.bytes.len(),
-        Content::Link(_) => number == 5,
+        Content::Directory => attributes.file_type == FileType::Directory,
+        Content::File(file) => {
+            attributes.file_type == FileType::Regular && attributes.size == file.bytes.len()
+        }
+        Content::Link(_) => attributes.file_type == FileType::SymbolicLink,
     }
 }
 
