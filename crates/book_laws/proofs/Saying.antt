@@ -11,13 +11,13 @@ use Rattle.rpc_reader.specs.Values.{CallValue}
 use Rattle.rpc_reader.proofs.OneMessage.{one_head}
 use Rattle.nfs3_types.specs.declared.calls.NfsCall.{NfsCall}
 use Rattle.nfs3_types.specs.declared.calls.NfsCall.TheVariants as calls
-use Rattle.nfs3_types.specs.Procedures.{procedure_called, is_answered, failure_in}
+use Rattle.nfs3_types.specs.Procedures.{procedure_called, is_answered, failure_in, changes_the_tree}
 use Rattle.nfs3_values.specs.declared.fault.Kind.{Kind}
 use Rattle.nfs3_values.specs.declared.fault.Kind.TheVariants as kinds
 use Rattle.nfs3_msgs.specs.Messages.{arguments, IsArguments}
 use Rattle.nfs_history.specs.History.{IsCallOfNfs}
 use Rattle.journal_records.specs.declared.change.Change.{Change}
-use Rattle.journal_records.specs.Journal.{journal_record, is_changing, IsChange, IsJournalRecord}
+use Rattle.journal_records.specs.Journal.{journal_record, IsChange, IsJournalRecord}
 use Rattle.journal_records.proofs.Meanings.{spelled_so}
 use Rattle.tree_laws.specs.Leaving.{only_looks}
 use Rattle.tree_nodes.proofs.Chains.{both_pass, negated, none_is}
@@ -26,7 +26,6 @@ use Rattle.book_machine.specs.Placing.{Placed, is_recorded}
 use Rattle.book_machine.specs.Book.{Book}
 use Rattle.book_machine.specs.Steps.{reply_message}
 use Rattle.journal_rebuild.specs.Rebuilding.{AreJournalRecords, step_in, numbers_in}
-use Rattle.book_laws.specs.Alone.{IsSayable}
 use Rattle.book_laws.proofs.Recording.{IsKept, AreKept}
 
 -- ---- the procedure of a call's arguments
@@ -58,7 +57,7 @@ procedure_is procedure bytes call =
     (level procedure 17 bytes call _ (λ a. calls.ReadDirPlus a) _ (λ a. refl)
     (level procedure 21 bytes call _ (λ a. calls.Commit a) (refused kinds.NotJudged) (λ a. refl) (λ s. absurd s)))))))))))))))
 
-changing_called : (call : NfsCall) → only_looks call ≡ false → is_changing (procedure_called call) ≡ true
+changing_called : (call : NfsCall) → only_looks call ≡ false → changes_the_tree (procedure_called call) ≡ true
 changing_called (calls.GetAttr a) e = absurd (cc)
 changing_called (calls.Lookup a) e = absurd (cc)
 changing_called (calls.ReadLink a) e = absurd (cc)
@@ -98,7 +97,7 @@ module _ (book : Book) (bytes : List ℕ) (step : Placed) (k : IsKept book bytes
     head = k.answers.head;
     asked = k.answers.is_call;
     of_nfs = of_nfs;
-    changing = ap is_changing (procedure_is k.answers.head.procedure k.answers.head.args step.call of_nfs.arguments) ∙ changing_called step.call parts.0;
+    changing = ap changes_the_tree (procedure_is k.answers.head.procedure k.answers.head.args step.call of_nfs.arguments) ∙ changing_called step.call parts.0;
     inside = k.recordable.inside;
     results = k.answers.results;
     answered = k.answers.is_reply;

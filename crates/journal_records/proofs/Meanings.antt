@@ -15,13 +15,13 @@ use Rattle.rpc_reader.specs.Messages.{IsCall, IsReply}
 use Rattle.rpc_reader.specs.Views.{call_value, reply_value}
 use Rattle.nfs3_types.specs.declared.calls.NfsCall.{NfsCall}
 use Rattle.nfs3_types.specs.declared.replies.NfsReply.{NfsReply}
-use Rattle.nfs3_types.specs.Procedures.{failure_in}
+use Rattle.nfs3_types.specs.Procedures.{failure_in, is_judged, changes_the_tree}
 use Rattle.nfs3_values.specs.declared.fault.Kind.{Kind}
 use Rattle.nfs3_values.specs.declared.fault.MessageFault.{MessageFault}
 use Rattle.nfs3_values.specs.declared.fault.MessageFault.TheVariants as message_faults
 use Rattle.nfs3_values.specs.Told.{kind_of, told, IsButForMemory}
 use Rattle.nfs3_msgs.specs.Messages.{IsArguments, IsResult}
-use Rattle.nfs_history.specs.Effects.{is_judged, results_of}
+use Rattle.nfs_history.specs.Effects.{results_of}
 use Rattle.nfs_history.specs.Matching.{bytes_of}
 use Rattle.nfs_history.specs.Outside.{outside}
 use Rattle.journal_records.specs.declared.fault.RecordFault.{RecordFault}
@@ -29,7 +29,7 @@ use Rattle.journal_records.specs.declared.fault.RecordFault.TheVariants.{NoRecor
 use Rattle.journal_records.specs.declared.text.JournalRecord.{JournalRecord}
 use Rattle.journal_records.specs.declared.change.Change.{Change}
 use Rattle.journal_records.specs.Exactly.{IsOnly, MeansNothing, Exactly, ExactlySeen}
-use Rattle.journal_records.specs.Journal.{journal_record, record_text, RecordFits, is_changing, IsChange, IsJournalRecord}
+use Rattle.journal_records.specs.Journal.{journal_record, record_text, RecordFits, IsChange, IsJournalRecord}
 use Rattle.journal_records.specs.SpelledRecord.{record_spelled}
 use Rattle.journal_records.specs.Parts.{asks_change, AsksChange, IsAsked, AreResults, IsSuccess, results_to}
 
@@ -115,7 +115,7 @@ either_of true b e = inl refl
 either_of false b e = inr e
 
 -- a changing procedure is a judged one
-changing_is_judged : (procedure : ℕ) → is_changing procedure ≡ true → is_judged procedure ≡ true
+changing_is_judged : (procedure : ℕ) → changes_the_tree procedure ≡ true → is_judged procedure ≡ true
 changing_is_judged procedure e = last (either_of _ _ e) where
   at : (n : ℕ) → (procedure == n) ≡ true → is_judged n ≡ true → is_judged procedure ≡ true
   at n same judged = ap is_judged (eqb-true procedure n same) ∙ judged

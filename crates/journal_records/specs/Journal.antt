@@ -10,7 +10,7 @@ use Rattle.rpc_reader.specs.Values.Body.{success}
 use Rattle.rpc_reader.specs.Messages.{IsCall, IsReply}
 use Rattle.nfs3_types.specs.declared.calls.NfsCall.{NfsCall}
 use Rattle.nfs3_types.specs.declared.replies.NfsReply.{NfsReply}
-use Rattle.nfs3_types.specs.Procedures.{failure_in}
+use Rattle.nfs3_types.specs.Procedures.{changes_the_tree, failure_in}
 use Rattle.nfs3_values.specs.declared.fault.Kind.{Kind}
 use Rattle.nfs3_values.specs.Bytes.{file_data}
 use Rattle.nfs3_msgs.specs.Messages.{IsResult}
@@ -33,11 +33,6 @@ record_text r = long_text r.number ++ (opaque_text r.call ++ opaque_text r.reply
 unfoldable pub RecordFits : JournalRecord → Type 0
 RecordFits r = (r.number < 2 ^ 64) × (length r.call < 2 ^ 32) × (length r.reply < 2 ^ 32)
 
--- SETATTR, WRITE, CREATE, MKDIR, SYMLINK, REMOVE, RMDIR and RENAME, RFC 1813, section 3.3: those that change the tree where they succeed
-abbrev pub is_changing : ℕ → Bool
-is_changing procedure =
-    procedure == 2 || procedure == 7 || procedure == 8 || procedure == 9 || procedure == 10 || procedure == 12 || procedure == 13 || procedure == 14
-
 -- the messages are a call that changes the tree, which a history file can hold and of which a history can be read whatever its reply, and a
 -- reply to it that is a success of its procedure
 pub record IsChange (call_message reply_message : List ℕ) (call : NfsCall) (reply : NfsReply) : Type 0 where
@@ -45,7 +40,7 @@ pub record IsChange (call_message reply_message : List ℕ) (call : NfsCall) (re
   pub head : CallValue
   pub asked : IsCall call_message head
   pub of_nfs : IsCallOfNfs head call
-  pub changing : is_changing head.procedure ≡ true
+  pub changing : changes_the_tree head.procedure ≡ true
   pub inside : outside call None ≡ None
   pub results : List ℕ
   pub answered : IsReply reply_message (record { xid = head.xid; body = success results })

@@ -2,16 +2,15 @@
 
 ghost use Rattle.std.specs.Prelude.{◌≡◌, None, is_none};
 ghost use Rattle.rpc_reader.specs.Views.{call_value, reply_value};
-ghost use Rattle.nfs3_types.specs.Procedures.{failure_in};
+ghost use Rattle.nfs3_types.specs.Procedures.{changes_the_tree, failure_in};
 ghost use Rattle.nfs_history.specs.Matching.{bytes_of};
 ghost use Rattle.nfs_history.specs.Outside.{outside, asked_size};
 ghost use Rattle.journal_records.specs.Exactly.{Exactly, ExactlySeen};
-ghost use Rattle.journal_records.specs.Journal.{is_changing};
 ghost use Rattle.journal_records.specs.Parts.{asks_change, AsksChange, IsAsked, AreResults, IsSuccess, results_to};
 
 use crate::fault::RecordFault;
 use nfs3_msgs::{MessageFault, read_args, read_result};
-use nfs3_types::{CreateMode, FILE_LIMIT, NfsCall, NfsReply};
+use nfs3_types::{CreateMode, FILE_LIMIT, NfsCall, NfsReply, Procedure};
 use rpc_reader::{CallHead, ReplyBody, ReplyHead, read_call, read_reply};
 use std::alloc::Global;
 
@@ -22,10 +21,14 @@ const NFS_VERSION: u32 = 3;
 /// The credential flavor of RPCSEC_GSS (RFC 2203), which hides arguments.
 const SEALED_FLAVOR: u32 = 6;
 
-fn is_changing(procedure: u32) -> bool
-    ensures { result ≡ is_changing procedure }
+/// Whether the procedure of this number changes the tree.
+fn changes_the_tree(number: u32) -> bool
+    ensures { result ≡ changes_the_tree number }
 {
-    matches!(procedure, 2 | 7 | 8 | 9 | 10 | 12 | 13 | 14)
+    match Procedure::from_number(number) {
+        Some(procedure) => procedure.changes_the_tree(),
+        None => false,
+    }
 }
 
 fn asks_change(head: &CallHead<'_>) -> bool
@@ -34,7 +37,7 @@ fn asks_change(head: &CallHead<'_>) -> bool
     head.program == NFS_PROGRAM
         && head.version == NFS_VERSION
         && head.flavor != SEALED_FLAVOR
-        && is_changing(head.procedure)
+        && changes_the_tree(head.procedure)
 }
 
 /// The head of a call that would change the tree.
