@@ -2,6 +2,7 @@
 
 ghost use Rattle.std.specs.Prelude.{◌<◌, ◌^◌, length};
 
+use nfs3_types::Procedure;
 use rpc_reader::put_call;
 use std::alloc::{AllocError, Global};
 use xdr_records::{put_opaque, put_u32, put_u64};
@@ -48,11 +49,11 @@ pub(crate) fn put_attributes(out: &mut Vec<u8>, size: Option<u64>) -> Result<(),
 pub(crate) fn call_on(
     alloc: Global,
     xid: u32,
-    procedure: u32,
+    procedure: Procedure,
     object: u64,
 ) -> Result<Vec<u8>, AllocError> {
     let mut out = Vec::new(alloc);
-    put_head(&mut out, xid, procedure)?;
+    put_head(&mut out, xid, procedure.number())?;
     put_object(&mut out, object)?;
     Ok(out)
 }
@@ -61,14 +62,14 @@ pub(crate) fn call_on(
 pub(crate) fn call_in(
     alloc: Global,
     xid: u32,
-    procedure: u32,
+    procedure: Procedure,
     directory: u64,
     name: &[u8],
 ) -> Result<Vec<u8>, AllocError>
     requires { length name.now < 2 ^ 32 }
 {
     let mut out = Vec::new(alloc);
-    put_head(&mut out, xid, procedure)?;
+    put_head(&mut out, xid, procedure.number())?;
     put_entry(&mut out, directory, name)?;
     Ok(out)
 }

@@ -3,6 +3,7 @@
 ghost use Rattle.std.specs.Prelude.{◌<◌, ◌^◌, length};
 
 use crate::arguments::{call_in, call_on, put_attributes, put_entry};
+use nfs3_types::Procedure;
 use std::alloc::{AllocError, Global};
 use xdr_records::{put_opaque, put_u32, put_u64};
 
@@ -10,7 +11,7 @@ use xdr_records::{put_opaque, put_u32, put_u64};
 pub fn look_up(alloc: Global, xid: u32, directory: u64, name: &[u8]) -> Result<Vec<u8>, AllocError>
     requires { length name.now < 2 ^ 32 }
 {
-    call_in(alloc, xid, 3, directory, name)
+    call_in(alloc, xid, Procedure::Lookup, directory, name)
 }
 
 /// MKDIR.
@@ -22,7 +23,7 @@ pub fn make_directory(
 ) -> Result<Vec<u8>, AllocError>
     requires { length name.now < 2 ^ 32 }
 {
-    let mut out = call_in(alloc, xid, 9, directory, name)?;
+    let mut out = call_in(alloc, xid, Procedure::MkDir, directory, name)?;
     put_attributes(&mut out, None)?;
     Ok(out)
 }
@@ -38,7 +39,7 @@ pub fn make_link(
     requires name { length name.now < 2 ^ 32 }
     requires text { length text.now < 2 ^ 32 }
 {
-    let mut out = call_in(alloc, xid, 10, directory, name)?;
+    let mut out = call_in(alloc, xid, Procedure::SymLink, directory, name)?;
     put_attributes(&mut out, None)?;
     put_opaque(&mut out, text)?;
     Ok(out)
@@ -48,7 +49,7 @@ pub fn make_link(
 pub fn remove(alloc: Global, xid: u32, directory: u64, name: &[u8]) -> Result<Vec<u8>, AllocError>
     requires { length name.now < 2 ^ 32 }
 {
-    call_in(alloc, xid, 12, directory, name)
+    call_in(alloc, xid, Procedure::Remove, directory, name)
 }
 
 /// RMDIR.
@@ -60,7 +61,7 @@ pub fn remove_directory(
 ) -> Result<Vec<u8>, AllocError>
     requires { length name.now < 2 ^ 32 }
 {
-    call_in(alloc, xid, 13, directory, name)
+    call_in(alloc, xid, Procedure::RmDir, directory, name)
 }
 
 /// RENAME.
@@ -73,7 +74,7 @@ pub fn rename(
     requires from { length from.1.now < 2 ^ 32 }
     requires to { length to.1.now < 2 ^ 32 }
 {
-    let mut out = call_in(alloc, xid, 14, from.0, from.1)?;
+    let mut out = call_in(alloc, xid, Procedure::Rename, from.0, from.1)?;
     put_entry(&mut out, to.0, to.1)?;
     Ok(out)
 }
@@ -86,7 +87,7 @@ pub fn read_directory(
     cookie: u64,
     count: u32,
 ) -> Result<Vec<u8>, AllocError> {
-    let mut out = call_on(alloc, xid, 16, directory)?;
+    let mut out = call_on(alloc, xid, Procedure::ReadDir, directory)?;
     put_u64(&mut out, cookie)?;
     put_u64(&mut out, 0)?;
     put_u32(&mut out, count)?;
@@ -101,7 +102,7 @@ pub fn read_directory_plus(
     cookie: u64,
     count: u32,
 ) -> Result<Vec<u8>, AllocError> {
-    let mut out = call_on(alloc, xid, 17, directory)?;
+    let mut out = call_on(alloc, xid, Procedure::ReadDirPlus, directory)?;
     put_u64(&mut out, cookie)?;
     put_u64(&mut out, 0)?;
     put_u32(&mut out, count)?;

@@ -3,6 +3,7 @@
 ghost use Rattle.std.specs.Prelude.{◌<◌, ◌^◌, length};
 
 use crate::arguments::{call_in, call_on, put_attributes, put_head};
+use nfs3_types::Procedure;
 use std::alloc::{AllocError, Global};
 use xdr_records::{put_opaque, put_u32, put_u64};
 
@@ -37,7 +38,7 @@ pub fn plain_call(alloc: Global, xid: u32, procedure: u32) -> Result<Vec<u8>, Al
 
 /// GETATTR.
 pub fn get_attributes(alloc: Global, xid: u32, object: u64) -> Result<Vec<u8>, AllocError> {
-    call_on(alloc, xid, 1, object)
+    call_on(alloc, xid, Procedure::GetAttr, object)
 }
 
 /// SETATTR of a size, or of nothing, without a guard.
@@ -47,7 +48,7 @@ pub fn set_size(
     object: u64,
     size: Option<u64>,
 ) -> Result<Vec<u8>, AllocError> {
-    let mut out = call_on(alloc, xid, 2, object)?;
+    let mut out = call_on(alloc, xid, Procedure::SetAttr, object)?;
     put_attributes(&mut out, size)?;
     put_u32(&mut out, 0)?;
     Ok(out)
@@ -55,7 +56,7 @@ pub fn set_size(
 
 /// READLINK.
 pub fn read_link(alloc: Global, xid: u32, object: u64) -> Result<Vec<u8>, AllocError> {
-    call_on(alloc, xid, 5, object)
+    call_on(alloc, xid, Procedure::ReadLink, object)
 }
 
 /// READ.
@@ -66,7 +67,7 @@ pub fn read(
     offset: u64,
     count: u32,
 ) -> Result<Vec<u8>, AllocError> {
-    let mut out = call_on(alloc, xid, 6, object)?;
+    let mut out = call_on(alloc, xid, Procedure::Read, object)?;
     put_u64(&mut out, offset)?;
     put_u32(&mut out, count)?;
     Ok(out)
@@ -92,7 +93,7 @@ pub fn write(
 ) -> Result<Vec<u8>, AllocError>
     requires { length bytes.now < 2 ^ 32 }
 {
-    let mut out = call_on(alloc, xid, 7, object)?;
+    let mut out = call_on(alloc, xid, Procedure::Write, object)?;
     put_u64(&mut out, offset)?;
     put_u32(&mut out, bytes.len() as u32)?;
     put_u32(&mut out, level_word(level))?;
@@ -128,7 +129,7 @@ pub fn create(
 ) -> Result<Vec<u8>, AllocError>
     requires { length name.now < 2 ^ 32 }
 {
-    let mut out = call_in(alloc, xid, 8, directory, name)?;
+    let mut out = call_in(alloc, xid, Procedure::Create, directory, name)?;
     put_creation(&mut out, creation)?;
     Ok(out)
 }
@@ -141,7 +142,7 @@ pub fn commit(
     offset: u64,
     count: u32,
 ) -> Result<Vec<u8>, AllocError> {
-    let mut out = call_on(alloc, xid, 21, object)?;
+    let mut out = call_on(alloc, xid, Procedure::Commit, object)?;
     put_u64(&mut out, offset)?;
     put_u32(&mut out, count)?;
     Ok(out)
