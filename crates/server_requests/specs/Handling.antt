@@ -9,6 +9,10 @@ use Rattle.rpc_reader.specs.Values.Body.{success, prog_unavail, prog_mismatch, p
 use Rattle.rpc_reader.specs.Messages.{IsCall}
 use Rattle.rpc_reader.specs.Texts.{reply_text}
 use Rattle.nfs3_types.specs.declared.calls.NfsCall.{NfsCall}
+use Rattle.nfs3_types.specs.declared.procedures.Procedure.TheVariants.{Null, Access, MkNod, Link, FsStat, FsInfo, PathConf, Commit}
+use Rattle.nfs3_types.specs.declared.status.Failure.TheVariants as statuses
+use Rattle.nfs3_types.specs.Numbers.{status_number}
+use Rattle.nfs3_types.specs.Procedures.{number}
 use Rattle.nfs3_msgs.specs.Messages.{IsArguments}
 use Rattle.nfs_history.specs.declared.fault.Which.{Which}
 use Rattle.nfs_history.specs.declared.fault.Which.TheVariants as which
@@ -20,15 +24,18 @@ use Rattle.server_requests.specs.declared.request.Request.TheVariants as request
 abbrev pub failure_with : ℕ → ℕ → Body
 failure_with status words = success (word_text status ++ replicate (4 * words) 0)
 
--- NULL does nothing. LINK and MKNOD aren't served, nor ACCESS, FSSTAT, FSINFO and PATHCONF (NFS3ERR_NOTSUPP), and there is no procedure
--- above 21
+-- NFS3ERR_NOTSUPP
+abbrev pub not_supported : ℕ → Body
+not_supported words = failure_with (status_number statuses.NotSupported) words
+
+-- NULL does nothing. LINK and MKNOD aren't served, nor ACCESS, FSSTAT, FSINFO and PATHCONF, and there is no procedure above COMMIT
 abbrev pub answer_of_procedure : ℕ → Option Body
 answer_of_procedure procedure =
-    if nat_lt 21 procedure then Some proc_unavail
-    else if procedure == 0 then Some (success [])
-    else if procedure == 4 || procedure == 18 || procedure == 19 || procedure == 20 then Some (failure_with 10004 1)
-    else if procedure == 11 then Some (failure_with 10004 2)
-    else if procedure == 15 then Some (failure_with 10004 3)
+    if nat_lt (number Commit) procedure then Some proc_unavail
+    else if procedure == number Null then Some (success [])
+    else if procedure == number Access || procedure == number FsStat || procedure == number FsInfo || procedure == number PathConf then Some (not_supported 1)
+    else if procedure == number MkNod then Some (not_supported 2)
+    else if procedure == number Link then Some (not_supported 3)
     else None
 
 -- another program or version, or a credential of RPCSEC_GSS (AUTH_BADCRED), comes first
@@ -41,8 +48,8 @@ answer_ahead head =
 
 -- a count that isn't that of the data (NFS3ERR_INVAL), and a file over the limit (NFS3ERR_FBIG)
 abbrev pub answer_outside : Which → Option Body
-answer_outside which.CountDiffers = Some (failure_with 22 2)
-answer_outside which.TooFar = Some (failure_with 27 2)
+answer_outside which.CountDiffers = Some (failure_with (status_number statuses.Invalid) 2)
+answer_outside which.TooFar = Some (failure_with (status_number statuses.FileTooLarge) 2)
 answer_outside other = None
 
 -- the answer to arguments that can't be read, or are those of a call that a history mightn't take

@@ -4,6 +4,7 @@ use Rattle.rpc_reader.specs.Values.{CallValue, Body}
 use Rattle.rpc_reader.specs.Values.Body.{success, prog_unavail, prog_mismatch, proc_unavail, garbage_args, auth_error}
 use Rattle.nfs3_types.specs.declared.calls.NfsCall.{NfsCall}
 use Rattle.nfs3_types.specs.declared.calls.NfsCall.TheVariants as calls
+use Rattle.nfs3_types.specs.Numbers.{status_number}
 use Rattle.rpc_reader.specs.Texts.{reply_text}
 use Rattle.nfs3_msgs.specs.Messages.{IsArguments}
 use Rattle.nfs_history.specs.Outside.{outside}
@@ -22,7 +23,7 @@ body_of plain.OtherVersion = prog_mismatch 3 3
 body_of plain.SealedCredential = auth_error 1
 body_of plain.NoProcedure = proc_unavail
 body_of plain.Nothing = success []
-body_of (plain.Failed status words) = failure_with status words
+body_of (plain.Failed status words) = failure_with (status_number status) words
 body_of plain.BadArguments = garbage_args
 
 -- what becomes of a procedure's arguments

@@ -4,12 +4,13 @@ ghost use Rattle.std.specs.Prelude.{◌≡◌, ◌*◌, ◌++◌, [], replicate,
 ghost use Rattle.xdr_records.specs.Texts.{word_text};
 ghost use Rattle.rpc_reader.specs.Texts.{reply_text};
 ghost use Rattle.rpc_reader.specs.Views.{call_value, body_value};
+ghost use Rattle.nfs3_types.specs.Numbers.{status_number};
 ghost use Rattle.nfs_history.specs.Outside.{outside};
 ghost use Rattle.server_requests.specs.Handling.{failure_with, answer_of_procedure, answer_ahead, answer_outside};
 ghost use Rattle.server_requests.specs.Plainly.{body_of, CountsItsData};
 
 use journal_records::is_inside;
-use nfs3_types::{Failure, NfsCall};
+use nfs3_types::{Failure, NfsCall, Procedure};
 use rpc_reader::{CallHead, ReplyBody, put_reply};
 use std::alloc::{AllocError, Global};
 use xdr_records::put_u32;
@@ -23,13 +24,6 @@ const SEALED_FLAVOR: u32 = 6;
 /// `AUTH_BADCRED` (RFC 5531, section 9).
 const BAD_CREDENTIAL: u32 = 1;
 
-/// `NFS3ERR_NOTSUPP`, `NFS3ERR_INVAL` and `NFS3ERR_FBIG` (RFC 1813, section 2.6).
-const NOT_SUPPORTED: u32 = Failure::NotSupported as u32;
-
-const INVALID: u32 = Failure::Invalid as u32;
-
-const FILE_TOO_LARGE: u32 = Failure::FileTooLarge as u32;
-
 /// An answer that stands in no history.
 #[derive(Clone, Copy)]
 pub(crate) enum Plain {
@@ -40,20 +34,24 @@ pub(crate) enum Plain {
     /// Of NULL.
     Nothing,
     /// A status with so many zero words behind it.
-    Failed(u32, u32),
+    Failed(Failure, u32),
     BadArguments,
 }
 
 /// What is answered to a call of a procedure, whatever its arguments.
-fn answer_of_procedure(procedure: u32) -> Option<Plain>
-    ensures { option_map body_of result ≡ answer_of_procedure procedure }
+fn answer_of_procedure(number: u32) -> Option<Plain>
+    ensures { option_map body_of result ≡ answer_of_procedure number }
 {
+    let Some(procedure) = Procedure::from_number(number) else {
+        return Some(Plain::NoProcedure);
+    };
     match procedure {
-        22.. => Some(Plain::NoProcedure),
-        0 => Some(Plain::Nothing),
-        4 | 18 | 19 | 20 => Some(Plain::Failed(NOT_SUPPORTED, 1)),
-        11 => Some(Plain::Failed(NOT_SUPPORTED, 2)),
-        15 => Some(Plain::Failed(NOT_SUPPORTED, 3)),
+        Procedure::Null => Some(Plain::Nothing),
+        Procedure::Access | Procedure::FsStat | Procedure::FsInfo | Procedure::PathConf => {
+            Some(Plain::Failed(Failure::NotSupported, 1))
+        }
+        Procedure::MkNod => Some(Plain::Failed(Failure::NotSupported, 2)),
+        Procedure::Link => Some(Plain::Failed(Failure::NotSupported, 3)),
         _ => None,
     }
 }
@@ -91,25 +89,30 @@ pub(crate) fn answer_outside(call: &NfsCall) -> Option<Plain>
     if is_inside(call) {
         None
     } else if counts_its_data(call) {
-        Some(Plain::Failed(FILE_TOO_LARGE, 2))
+        Some(Plain::Failed(Failure::FileTooLarge, 2))
     } else {
-        Some(Plain::Failed(INVALID, 2))
+        Some(Plain::Failed(Failure::Invalid, 2))
     }
 }
 
 /// The results of a failure: its status, with zero words behind it.
-fn put_failure(out: &mut Vec<u8>, status: u32, words: u32) -> Result<(), AllocError>
+fn put_failure(out: &mut Vec<u8>, status: Failure, words: u32) -> Result<(), AllocError>
     requires { out.old.items ≡ [] }
-    ensures { OnOk result (out.new.items ≡ word_text status ++ replicate (4 * words) 0) }
+    ensures { OnOk result (out.new.items ≡ word_text (status_number status) ++ replicate (4 * words) 0) }
 {
     let zeros = vec![in *out.allocator(); 0u8; 4 * words as usize]?;
-    put_u32(out, status)?;
+    put_u32(out, status.number())?;
     out.extend_from_slice(zeros.as_slice())
 }
 
 /// A failure as a message.
-fn failure_message(alloc: Global, xid: u32, status: u32, words: u32) -> Result<Vec<u8>, AllocError>
-    ensures { IfOk result (λ message. message.items ≡ reply_text xid (failure_with status words)) }
+fn failure_message(
+    alloc: Global,
+    xid: u32,
+    status: Failure,
+    words: u32,
+) -> Result<Vec<u8>, AllocError>
+    ensures { IfOk result (λ message. message.items ≡ reply_text xid (failure_with (status_number status) words)) }
 {
     let mut results = Vec::new(alloc);
     put_failure(&mut results, status, words)?;
