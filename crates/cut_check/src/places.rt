@@ -12,7 +12,7 @@ use crate::effect::{Effect, effect_of};
 use crate::procedures::may_last;
 use certificate::{Bind, Certificate, EraPlan, Place};
 use nfs_history::{CallKind, KnownCalls, Meaning, RecordedCall};
-use nfs3_types::{NfsCall, Outcome};
+use nfs3_types::{NfsCall, Outcome, Procedure};
 use std::alloc::{AllocError, Global};
 use tree_handles::Binds;
 
@@ -53,7 +53,7 @@ pub fn cut_of(era: &EraPlan) -> u64
 }
 
 /// The procedure that a kind of call has, where it was judged and answered.
-fn procedure_answered(kind: CallKind) -> Option<u32>
+fn procedure_answered(kind: CallKind) -> Option<Procedure>
     ensures { result ≡ procedure_answered kind }
 {
     match kind {
@@ -63,7 +63,7 @@ fn procedure_answered(kind: CallKind) -> Option<u32>
 }
 
 /// The procedure of the judged call at an answered place. The call isn't read.
-pub fn procedure_at(history: &KnownCalls<'_>, place: Place) -> Option<u32>
+pub fn procedure_at(history: &KnownCalls<'_>, place: Place) -> Option<Procedure>
     ensures { result ≡ procedure_at history.now.calls place }
 {
     let Place::Answered(number) = place else {

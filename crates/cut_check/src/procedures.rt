@@ -1,46 +1,27 @@
-//! What the procedure of a call says of it before it is read. Procedures are numbered as in RFC 1813, section 3.3.
+//! What the procedure of a call says of it before it is read.
 
 ghost use Rattle.std.specs.Prelude.{◌≡◌};
 ghost use Rattle.cut_check.specs.Procedures.{may_last, may_show_verifier, may_write};
 
-const SETATTR: u32 = 2;
-
-const WRITE: u32 = 7;
-
-const CREATE: u32 = 8;
-
-const MKDIR: u32 = 9;
-
-const SYMLINK: u32 = 10;
-
-const REMOVE: u32 = 12;
-
-const RMDIR: u32 = 13;
-
-const RENAME: u32 = 14;
-
-const COMMIT: u32 = 21;
+use nfs3_types::Procedure;
 
 /// Whether a call of this procedure may mean something for stable storage.
-pub fn may_last(procedure: u32) -> bool
+pub fn may_last(procedure: Procedure) -> bool
     ensures { result ≡ may_last procedure }
 {
-    matches!(
-        procedure,
-        SETATTR | WRITE | CREATE | MKDIR | SYMLINK | REMOVE | RMDIR | RENAME | COMMIT
-    )
+    procedure.changes_the_tree() || procedure == Procedure::Commit
 }
 
 /// Whether a call of this procedure may show a write verifier.
-pub fn may_show_verifier(procedure: u32) -> bool
+pub fn may_show_verifier(procedure: Procedure) -> bool
     ensures { result ≡ may_show_verifier procedure }
 {
-    matches!(procedure, WRITE | COMMIT)
+    matches!(procedure, Procedure::Write | Procedure::Commit)
 }
 
 /// Whether a call of this procedure may write bytes.
-pub fn may_write(procedure: u32) -> bool
+pub fn may_write(procedure: Procedure) -> bool
     ensures { result ≡ may_write procedure }
 {
-    procedure == WRITE
+    procedure == Procedure::Write
 }

@@ -4,6 +4,8 @@
 use Rattle.std.specs.Prelude.{◌≡◌, ◌≢◌, ◌==◌, ◌||◌, if◌then◌else◌, ℕ, ◌+◌, ◌<◌, ◌≤◌, Bool, false, IsTrue, List, [], ◌∷◌, length, Option, Some, None, unwrap_or}
 use Rattle.std.specs.List.{AllByRecursion, Contains, IsDistinct}
 use Rattle.std.specs.List.Sorted.{IsNonDecreasingBy}
+use Rattle.nfs3_types.specs.declared.procedures.Procedure.TheVariants.{Create, MkDir, SymLink}
+use Rattle.nfs3_types.specs.Procedures.{number}
 use Rattle.nfs3_types.specs.declared.replies.Answer.{Answer}
 use Rattle.nfs3_types.specs.declared.replies.Answer.TheVariants.{Done, Failed}
 use Rattle.nfs3_types.specs.declared.replies.CreateSuccess.{CreateSuccess}
@@ -84,7 +86,8 @@ ErasFollow calls e (era ∷ eras) =
 
 -- an answered CREATE, MKDIR or SYMLINK
 abbrev pub makes_object : CallKind → Bool
-makes_object (kinds.Answered procedure) = (procedure == 8) || (procedure == 9) || (procedure == 10)
+makes_object (kinds.Answered procedure) =
+    number procedure == number Create || number procedure == number MkDir || number procedure == number SymLink
 makes_object kind = false
 
 -- the handle in a successful answer

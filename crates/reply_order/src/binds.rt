@@ -9,7 +9,7 @@ use crate::replies::Reply;
 use certificate::Bind;
 use nfs_history::{CallKind, KnownCalls};
 use nfs3_types::{
-    Answer, CreateSuccess, FileHandle, HANDLE_LIMIT, Held, NfsReply, Outcome, WccData,
+    Answer, CreateSuccess, FileHandle, HANDLE_LIMIT, Held, NfsReply, Outcome, Procedure, WccData,
 };
 use std::alloc::{AllocError, Global};
 use tree_handles::Binds;
@@ -19,7 +19,12 @@ fn makes_object(kind: CallKind) -> bool
     ensures { result ≡ makes_object kind }
 {
     match kind {
-        CallKind::Answered(procedure) => procedure == 8 || procedure == 9 || procedure == 10,
+        CallKind::Answered(procedure) => {
+            matches!(
+                procedure,
+                Procedure::Create | Procedure::MkDir | Procedure::SymLink
+            )
+        }
         _ => false,
     }
 }
