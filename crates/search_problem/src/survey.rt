@@ -1,7 +1,7 @@
 //! What one pass over the calls of a history gathers.
 
 use nfs_history::{CallKind, KnownCalls, RecordedCall};
-use nfs3_types::{Answer, NfsReply, Outcome, Verifier};
+use nfs3_types::{Answer, NfsReply, Outcome, Procedure, Verifier};
 use std::alloc::{AllocError, Global};
 use std::collections::BTreeMap;
 
@@ -44,11 +44,6 @@ impl EraSpan {
     };
 }
 
-/// Whether a procedure may change the tree (RFC 1813, section 3.3).
-fn may_change(procedure: u32) -> bool {
-    matches!(procedure, 2 | 7..=10 | 12..=14)
-}
-
 /// The write verifier that a reply shows.
 fn verifier_in(reply: &NfsReply) -> Option<Verifier> {
     match reply {
@@ -59,11 +54,10 @@ fn verifier_in(reply: &NfsReply) -> Option<Verifier> {
 }
 
 /// What a call that was read can do.
-fn nature_of(recorded: &RecordedCall, procedure: u32) -> Nature {
+fn nature_of(recorded: &RecordedCall, procedure: Procedure) -> Nature {
     match &recorded.outcome {
-        Some(Outcome::Received(reply)) if reply.failure().is_none() && may_change(procedure) => {
-            Nature::Changing
-        }
+        Some(Outcome::Received(reply))
+            if reply.failure().is_none() && procedure.changes_the_tree() => { Nature::Changing }
         Some(_) => Nature::Looking,
         None => Nature::Unplaced,
     }
@@ -138,7 +132,8 @@ impl Survey {
         let era = known.era(number).unwrap_or(0);
         self.extend_calls(era, number);
         let nature = match known.kind(number) {
-            Some(CallKind::Answered(procedure)) if may_change(procedure) || procedure == 21 => {
+            Some(CallKind::Answered(procedure))
+                if procedure.changes_the_tree() || procedure == Procedure::Commit => {
                 match known.call(alloc, number)? {
                     Some(recorded) => {
                         if let Some(verifier) = shown_by(&recorded) {
@@ -150,7 +145,8 @@ impl Survey {
                 }
             }
             Some(CallKind::Answered(_)) => Nature::Looking,
-            Some(CallKind::Unanswered(procedure)) if may_change(procedure) => Nature::Unanswered,
+            Some(CallKind::Unanswered(procedure)) if procedure.changes_the_tree() =>
+                Nature::Unanswered,
             _ => Nature::Unplaced,
         };
         self.natures.push(nature)?;
