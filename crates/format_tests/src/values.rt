@@ -2,7 +2,7 @@
 
 use nfs3_types::{
     Answer, DirectoryEntryPlus, DirectoryName, Entries, FileHandle, Held, Name, NfsCall, NfsReply,
-    Optional, Outcome, ReadDirPlusSuccess, Verifier,
+    Optional, Outcome, Procedure, ReadDirPlusSuccess, Verifier,
 };
 use std::alloc::{AllocError, Global};
 use std::test::Fail;
@@ -39,7 +39,7 @@ fn listed(alloc: Global, cookie: u64) -> Result<Outcome, Fail> {
 fn a_call_is_copied(rt: HostRuntime) -> Result<(), Fail> {
     let call = remove(rt.alloc(), b"a")?;
     let copy = call.copy()?;
-    assert_eq!(rt; copy.procedure(), 12);
+    assert!(rt; copy.procedure() == Procedure::Remove);
     Ok(())
 }
 

@@ -9,6 +9,7 @@ use client_calls::{
     plain_call, read, read_directory, read_directory_plus, read_link, remove, remove_directory,
     rename, set_size, write,
 };
+use nfs3_types::Procedure;
 use std::alloc::{AllocError, Global};
 
 /// What is written.
@@ -209,16 +210,17 @@ impl<'k> Asker<'k> {
     // A call that stands in no history.
     fn ask_unjudged(&mut self) -> Result<Vec<u8>, AllocError> {
         let procedure = match self.random.below(9) {
-            0 => 0,
-            1 => 4,
-            2 => 11,
-            3 => 15,
-            4 => 18,
-            5 => 19,
-            6 => 20,
+            0 => Procedure::Null.number(),
+            1 => Procedure::Access.number(),
+            2 => Procedure::MkNod.number(),
+            3 => Procedure::Link.number(),
+            4 => Procedure::FsStat.number(),
+            5 => Procedure::FsInfo.number(),
+            6 => Procedure::PathConf.number(),
+            // No procedure's.
             7 => 22,
-            // GETATTR without arguments.
-            _ => 1,
+            // Without arguments.
+            _ => Procedure::GetAttr.number(),
         };
         plain_call(self.alloc, self.xid, procedure)
     }

@@ -7,7 +7,7 @@ use client_calls::{Creation, Level, create, read, remove, rename, write};
 use history_file::Event;
 use journal_server::{CallFault, Closed, OpenGate, Pass, Server, SimDevice};
 use nfs3_msgs::read_result;
-use nfs3_types::NfsReply;
+use nfs3_types::{NfsReply, Procedure};
 use recorder::Book;
 use rpc_reader::{ReplyBody, read_reply};
 use std::alloc::Global;
@@ -214,15 +214,19 @@ impl Drop for Recorded {
 
 // A call and its reply, from their messages.
 fn read_exchange(alloc: Global, message: &[u8], reply: &[u8]) -> Result<Recorded> {
-    let procedure = procedure_of(message);
+    let Some(procedure) = procedure_of(message) else {
+        bail!("a call was of no procedure");
+    };
     let head = read_reply(reply)?;
     let ReplyBody::Success(results) = head.body else {
         bail!("a call failed");
     };
     Ok(Recorded {
         message: Vec::from_slice(alloc, message)?,
-        reply: read_result(alloc, u32::try_from(procedure)?, results)?,
-        is_safe: procedure >= 8 && number_at(results, 0, 4) == 0,
+        reply: read_result(alloc, procedure.number(), results)?,
+        is_safe: procedure.changes_the_tree()
+            && procedure != Procedure::Write
+            && number_at(results, 0, 4) == 0,
     })
 }
 

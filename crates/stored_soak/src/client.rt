@@ -4,6 +4,7 @@ use crate::asking::Asker;
 use crate::known::ObjectKind;
 use crate::told::{is_answer_to, made_object, procedure_of};
 use journal_server::{CallFault, Gate, JournalDevice, Pass, Server};
+use nfs3_types::Procedure;
 use std::sync::Wait;
 use std::thread;
 use std::time::{Clock, Duration};
@@ -60,9 +61,9 @@ impl Told {
 // Tells the others of an object that was made.
 fn learn(asker: &mut Asker<'_>, message: &[u8], reply: &[u8]) {
     let kind = match procedure_of(message) {
-        8 => ObjectKind::File,
-        9 => ObjectKind::Directory,
-        10 => ObjectKind::Link,
+        Some(Procedure::Create) => ObjectKind::File,
+        Some(Procedure::MkDir) => ObjectKind::Directory,
+        Some(Procedure::SymLink) => ObjectKind::Link,
         _ => return,
     };
     if let Some(object) = made_object(reply) {

@@ -1,5 +1,7 @@
 //! What stands in messages.
 
+use nfs3_types::Procedure;
+
 /// The number that so many bytes spell from a place on; 0 where there are fewer.
 pub fn number_at(message: &[u8], place: usize, length: usize) -> u64 {
     let mut number = 0u64;
@@ -13,8 +15,11 @@ pub fn number_at(message: &[u8], place: usize, length: usize) -> u64 {
 }
 
 /// The procedure of a call.
-pub fn procedure_of(message: &[u8]) -> u64 {
-    number_at(message, 20, 4)
+pub fn procedure_of(message: &[u8]) -> Option<Procedure> {
+    match u32::try_from(number_at(message, 20, 4)) {
+        Ok(number) => Procedure::from_number(number),
+        Err(_) => None,
+    }
 }
 
 /// Whether a reply has the transaction number of its call.
