@@ -11,7 +11,7 @@ use Rattle.nfs_history.specs.declared.fault.HistoryFault.TheVariants as history_
 use Rattle.nfs_history.specs.HistoryValue.{HistoryValue}
 use Rattle.nfs_history.specs.Calls.{xid_of}
 use Rattle.nfs_history.specs.Standing.{has_unanswered, EachMayFollow}
-use Rattle.nfs_history.specs.Effects.{is_judged}
+use Rattle.nfs3_types.specs.Procedures.{is_judged}
 use Rattle.nfs_history.specs.Outside.{outside}
 use Rattle.nfs3_msgs.specs.Messages.{IsArguments}
 use Rattle.rpc_reader.specs.Messages.{IsCall}

@@ -2,6 +2,7 @@
 
 ghost use Rattle.std.specs.Prelude.{◌≡◌, ◌↔◌, ◌⊎◌, not, true, None, IsTrue, option_map};
 ghost use Rattle.rpc_reader.specs.Views.{call_value};
+ghost use Rattle.nfs3_types.specs.Procedures.{is_judged};
 ghost use Rattle.cut_check.specs.Effect.{succeeded, effect_of, write_success, commit_success};
 ghost use Rattle.cut_check.specs.declared.effect.Effect.TheVariants.{Lasting};
 ghost use Rattle.cut_check.specs.Verifier.{verifier_of};
@@ -15,7 +16,7 @@ ghost use Rattle.recorder.specs.Recordable.{asks_judged, may_make, step_so, Asks
 use crate::fault::BeginFault;
 use journal_records::is_inside;
 use nfs3_msgs::{MessageFault, read_args};
-use nfs3_types::{Answer, NfsCall, NfsReply, Outcome, StableHow};
+use nfs3_types::{Answer, NfsCall, NfsReply, Outcome, Procedure, StableHow};
 use rpc_reader::{CallHead, read_call};
 use std::alloc::Global;
 use xdr_records::RECORD_LIMIT;
@@ -27,6 +28,16 @@ const NFS_VERSION: u32 = 3;
 /// The credential flavor of RPCSEC_GSS (RFC 2203).
 const SEALED_FLAVOR: u32 = 6;
 
+/// Whether the procedure of this number is judged.
+fn is_judged(number: u32) -> bool
+    ensures { result ≡ is_judged number }
+{
+    match Procedure::from_number(number) {
+        Some(procedure) => procedure.is_judged(),
+        None => false,
+    }
+}
+
 /// Whether a message is a call of a judged procedure whose arguments can be read.
 fn asks_judged(head: &CallHead<'_>) -> bool
     ensures { result ≡ asks_judged (call_value head.now) }
@@ -34,10 +45,7 @@ fn asks_judged(head: &CallHead<'_>) -> bool
     head.program == NFS_PROGRAM
         && head.version == NFS_VERSION
         && head.flavor != SEALED_FLAVOR
-        && matches!(
-            head.procedure,
-            1 | 2 | 3 | 5 | 6 | 7 | 8 | 9 | 10 | 12 | 13 | 14 | 16 | 17 | 21
-        )
+        && is_judged(head.procedure)
 }
 
 /// The head of a judged call.
