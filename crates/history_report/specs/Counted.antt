@@ -26,8 +26,8 @@ abbrev pub is_judged_call : RecordedCall → Bool
 is_judged_call call = places.is_judged call.meaning
 
 -- a judged call that was answered
-abbrev pub is_answered : RecordedCall → Bool
-is_answered call = is_judged_call call && is_some call.outcome
+abbrev pub is_answered_call : RecordedCall → Bool
+is_answered_call call = is_judged_call call && is_some call.outcome
 
 -- a judged call that was answered by an excused status
 abbrev pub is_excused : RecordedCall → Bool
@@ -38,7 +38,7 @@ abbrev pub report_of : ℕ → List RecordedCall → Report
 report_of eras calls = record {
   calls = length calls;
   judged = count_by is_judged_call calls;
-  answered = count_by is_answered calls;
+  answered = count_by is_answered_call calls;
   unjudged = count_by (λ call. not (is_judged_call call)) calls;
   excused = count_by is_excused calls;
   eras = eras;

@@ -1,7 +1,7 @@
 //! The calls of a history, counted.
 
 ghost use Rattle.std.specs.Prelude.{◌≡◌};
-ghost use Rattle.history_report.specs.Counted.{is_excused_status, failure_of, is_judged_call, is_answered, is_excused, report_of};
+ghost use Rattle.history_report.specs.Counted.{is_excused_status, failure_of, is_judged_call, is_answered_call, is_excused, report_of};
 ghost use Rattle.history_report.specs.Noting.{report_with, CanGrow};
 
 use nfs_history::{History, Meaning, RecordedCall};
@@ -59,8 +59,8 @@ fn is_judged_call(call: &RecordedCall) -> bool
     matches!(call.meaning, Meaning::Judged(_))
 }
 
-fn is_answered(call: &RecordedCall) -> bool
-    ensures { result ≡ is_answered call.now }
+fn is_answered_call(call: &RecordedCall) -> bool
+    ensures { result ≡ is_answered_call call.now }
 {
     is_judged_call(call) && call.outcome.is_some()
 }
@@ -81,7 +81,7 @@ fn note_call(report: &mut Report, call: &RecordedCall)
 {
     report.calls += 1;
     report.judged += u64::from(is_judged_call(call));
-    report.answered += u64::from(is_answered(call));
+    report.answered += u64::from(is_answered_call(call));
     report.unjudged += u64::from(!is_judged_call(call));
     report.excused += u64::from(is_excused(call));
 }
