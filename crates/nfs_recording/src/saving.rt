@@ -57,7 +57,7 @@ impl From<WriteFault> for SaveFault {
 }
 
 /// The bytes of a file ahead of its events.
-fn head_of(alloc: Global, root: &[u8], events: u32) -> Result<Vec<u8>, SaveFault>
+fn file_head(alloc: Global, root: &[u8], events: u32) -> Result<Vec<u8>, SaveFault>
     requires { length root.now < 2 ^ 32 }
     ensures { IfOk result (λ head. head.items ≡ magic ++ (opaque_text root.now ++ word_text events)) }
 {
@@ -128,7 +128,7 @@ pub(crate) fn write_log<W: Write>(
     if events.len() > EVENT_LIMIT as usize {
         return Err(SaveFault::CannotWrite);
     }
-    let head = head_of(alloc, log.root().as_slice(), events.len() as u32)?;
+    let head = file_head(alloc, log.root().as_slice(), events.len() as u32)?;
     write_pieces(writer, head.as_slice())?;
     write_events(alloc, events, head.len(), writer)?;
     Ok(())
