@@ -6,7 +6,7 @@ use crate::results::{push_result, push_status};
 use crate::text::Text;
 use byteorder::{BigEndian, ByteOrder};
 use nfs3_msgs::{Kind, MessageFault, read_args, read_result};
-use nfs3_types::HANDLE_LIMIT;
+use nfs3_types::{HANDLE_LIMIT, Procedure};
 use rpc_reader::{CallHead, ReplyBody};
 use std::alloc::{AllocError, Global};
 use xdr_records::Reader;
@@ -56,15 +56,24 @@ impl Asked {
 /// Appends which procedure a call is of.
 fn push_procedure(text: &mut Text, asked: &Asked) -> Result<(), AllocError> {
     if asked.is_of_nfs() {
-        if let Some(name) = procedure_name(asked.procedure) {
+        if let Some(procedure) = Procedure::from_number(asked.procedure) {
             text.push_words(" ")?;
-            return text.push_words(name);
+            return text.push_words(procedure_name(procedure));
         }
     } else {
         text.push_number(" program ", u64::from(asked.program))?;
         text.push_number(" version ", u64::from(asked.version))?;
     }
     text.push_number(" procedure ", u64::from(asked.procedure))
+}
+
+/// Whether it is the number of a procedure whose arguments begin with a handle and its results with a
+/// status: of each but NULL.
+fn has_handle_and_status(procedure: u32) -> bool {
+    match Procedure::from_number(procedure) {
+        None | Some(Procedure::Null) => false,
+        Some(_) => true,
+    }
 }
 
 /// Appends the arguments of a procedure whose messages aren't read: those that have any begin with a handle.
@@ -74,7 +83,7 @@ fn push_other_arguments(
     arguments: &[u8],
 ) -> Result<(), AllocError> {
     let mut reader = Reader::new(arguments);
-    if procedure != 0 && procedure_name(procedure).is_some() {
+    if has_handle_and_status(procedure) {
         if let Ok(handle) = reader.opaque(HANDLE_LIMIT as u32) {
             text.push_handle(" object ", handle)?;
         }
@@ -120,7 +129,7 @@ pub fn push_call(
 
 /// Appends a result of which only the status is read, where there is one.
 fn push_other_results(text: &mut Text, procedure: u32, results: &[u8]) -> Result<(), AllocError> {
-    if procedure == 0 || procedure_name(procedure).is_none() || results.len() < 4 {
+    if !has_handle_and_status(procedure) || results.len() < 4 {
         text.push_words(" SUCCESS")?;
         return text.push_any_bytes(" results ", results);
     }

@@ -1,70 +1,76 @@
 //! The names that the RFCs give procedures, statuses and the like.
 
-use nfs3_types::{FileType, StableHow};
+use nfs3_types::{Failure, FileType, Procedure, StableHow};
 
 /// A procedure of NFS version 3 (RFC 1813, section 3).
-pub fn procedure_name(number: u32) -> Option<&'static str> {
-    Some(match number {
-        0 => "NULL",
-        1 => "GETATTR",
-        2 => "SETATTR",
-        3 => "LOOKUP",
-        4 => "ACCESS",
-        5 => "READLINK",
-        6 => "READ",
-        7 => "WRITE",
-        8 => "CREATE",
-        9 => "MKDIR",
-        10 => "SYMLINK",
-        11 => "MKNOD",
-        12 => "REMOVE",
-        13 => "RMDIR",
-        14 => "RENAME",
-        15 => "LINK",
-        16 => "READDIR",
-        17 => "READDIRPLUS",
-        18 => "FSSTAT",
-        19 => "FSINFO",
-        20 => "PATHCONF",
-        21 => "COMMIT",
-        _ => return None,
-    })
+pub fn procedure_name(procedure: Procedure) -> &'static str {
+    match procedure {
+        Procedure::Null => "NULL",
+        Procedure::GetAttr => "GETATTR",
+        Procedure::SetAttr => "SETATTR",
+        Procedure::Lookup => "LOOKUP",
+        Procedure::Access => "ACCESS",
+        Procedure::ReadLink => "READLINK",
+        Procedure::Read => "READ",
+        Procedure::Write => "WRITE",
+        Procedure::Create => "CREATE",
+        Procedure::MkDir => "MKDIR",
+        Procedure::SymLink => "SYMLINK",
+        Procedure::MkNod => "MKNOD",
+        Procedure::Remove => "REMOVE",
+        Procedure::RmDir => "RMDIR",
+        Procedure::Rename => "RENAME",
+        Procedure::Link => "LINK",
+        Procedure::ReadDir => "READDIR",
+        Procedure::ReadDirPlus => "READDIRPLUS",
+        Procedure::FsStat => "FSSTAT",
+        Procedure::FsInfo => "FSINFO",
+        Procedure::PathConf => "PATHCONF",
+        Procedure::Commit => "COMMIT",
+    }
+}
+
+/// A status that is no success, of `nfsstat3` (RFC 1813, section 2.6).
+fn failure_name(failure: Failure) -> &'static str {
+    match failure {
+        Failure::NotOwner => "NFS3ERR_PERM",
+        Failure::NoEntry => "NFS3ERR_NOENT",
+        Failure::InputOutput => "NFS3ERR_IO",
+        Failure::NoDevice => "NFS3ERR_NXIO",
+        Failure::Access => "NFS3ERR_ACCES",
+        Failure::Exists => "NFS3ERR_EXIST",
+        Failure::CrossDevice => "NFS3ERR_XDEV",
+        Failure::NoSuchDevice => "NFS3ERR_NODEV",
+        Failure::NotDirectory => "NFS3ERR_NOTDIR",
+        Failure::IsDirectory => "NFS3ERR_ISDIR",
+        Failure::Invalid => "NFS3ERR_INVAL",
+        Failure::FileTooLarge => "NFS3ERR_FBIG",
+        Failure::NoSpace => "NFS3ERR_NOSPC",
+        Failure::ReadOnly => "NFS3ERR_ROFS",
+        Failure::TooManyLinks => "NFS3ERR_MLINK",
+        Failure::NameTooLong => "NFS3ERR_NAMETOOLONG",
+        Failure::NotEmpty => "NFS3ERR_NOTEMPTY",
+        Failure::Quota => "NFS3ERR_DQUOT",
+        Failure::Stale => "NFS3ERR_STALE",
+        Failure::Remote => "NFS3ERR_REMOTE",
+        Failure::BadHandle => "NFS3ERR_BADHANDLE",
+        Failure::NotSynchronized => "NFS3ERR_NOT_SYNC",
+        Failure::BadCookie => "NFS3ERR_BAD_COOKIE",
+        Failure::NotSupported => "NFS3ERR_NOTSUPP",
+        Failure::TooSmall => "NFS3ERR_TOOSMALL",
+        Failure::ServerFault => "NFS3ERR_SERVERFAULT",
+        Failure::BadType => "NFS3ERR_BADTYPE",
+        Failure::Jukebox => "NFS3ERR_JUKEBOX",
+    }
 }
 
 /// A status, `nfsstat3` (RFC 1813, section 2.6).
 pub fn status_name(number: u32) -> Option<&'static str> {
-    Some(match number {
-        0 => "NFS3_OK",
-        1 => "NFS3ERR_PERM",
-        2 => "NFS3ERR_NOENT",
-        5 => "NFS3ERR_IO",
-        6 => "NFS3ERR_NXIO",
-        13 => "NFS3ERR_ACCES",
-        17 => "NFS3ERR_EXIST",
-        18 => "NFS3ERR_XDEV",
-        19 => "NFS3ERR_NODEV",
-        20 => "NFS3ERR_NOTDIR",
-        21 => "NFS3ERR_ISDIR",
-        22 => "NFS3ERR_INVAL",
-        27 => "NFS3ERR_FBIG",
-        28 => "NFS3ERR_NOSPC",
-        30 => "NFS3ERR_ROFS",
-        31 => "NFS3ERR_MLINK",
-        63 => "NFS3ERR_NAMETOOLONG",
-        66 => "NFS3ERR_NOTEMPTY",
-        69 => "NFS3ERR_DQUOT",
-        70 => "NFS3ERR_STALE",
-        71 => "NFS3ERR_REMOTE",
-        10001 => "NFS3ERR_BADHANDLE",
-        10002 => "NFS3ERR_NOT_SYNC",
-        10003 => "NFS3ERR_BAD_COOKIE",
-        10004 => "NFS3ERR_NOTSUPP",
-        10005 => "NFS3ERR_TOOSMALL",
-        10006 => "NFS3ERR_SERVERFAULT",
-        10007 => "NFS3ERR_BADTYPE",
-        10008 => "NFS3ERR_JUKEBOX",
-        _ => return None,
-    })
+    if number == 0 {
+        return Some("NFS3_OK");
+    }
+    let failure = Failure::from_number(number)?;
+    Some(failure_name(failure))
 }
 
 /// Why a caller isn't believed, `auth_stat` (RFC 5531, section 9).

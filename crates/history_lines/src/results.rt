@@ -128,7 +128,7 @@ fn push_success(text: &mut Text, reply: &NfsReply) -> Result<(), AllocError> {
 /// Appends the status of a reply, and what it gives.
 pub fn push_result(text: &mut Text, reply: &NfsReply) -> Result<(), AllocError> {
     match reply.failure() {
-        Some(failure) => push_status(text, failure as u32),
+        Some(failure) => push_status(text, failure.number()),
         None => {
             push_status(text, 0)?;
             push_success(text, reply)
