@@ -1,5 +1,5 @@
--- names in a tree
-use Rattle.std.proofs.Common.{◌≡◌, ℕ, suc, Bool, true, false, cond, T, List, [], ◌∷◌, length, Some, Vec, Global, refl, sym, ap, subst, ◌∙◌}
+-- names in a tree, which are the bytes of its keys
+use Rattle.std.proofs.Common.{◌≡◌, ℕ, suc, ◌<◌, ◌≤◌, Bool, true, false, cond, T, List, [], ◌∷◌, length, Some, None, refl, sym, ap, subst, ◌∙◌, arith}
 use Rattle.std.specs.Prelude.{not}
 use Rattle.std.specs.declared.cmp.Ordering.{Ordering}
 use Rattle.std.specs.declared.cmp.Ordering.TheVariants.{Less, Equal, Greater}
@@ -8,31 +8,8 @@ use Rattle.std.specs.FinMap.Entries as es
 use Rattle.std.specs.Map.{lookup, remove_entry}
 use Rattle.std.specs.BTreeMap.{insert_entry, is_at}
 use Rattle.names.specs.Names.{name_cmp, entered}
-use Rattle.names.specs.Places.{without}
+use Rattle.names.specs.Places.{AreShort, without}
 use Rattle.names.proofs.Orders.{ties, first, second, less}
-
-abbrev pub Entries : Type 0
-Entries = List (Vec ℕ Global × ℕ)
-
-abbrev pub by_items : Vec ℕ Global → Vec ℕ Global → Ordering
-by_items a b = name_cmp a.items b.items
-
-abbrev pub query : List ℕ → Vec ℕ Global → Ordering
-query k key = name_cmp k key.items
-
-pub looked_up : (k : List ℕ) (many : Entries) → lookup (is_at (query k)) many ≡ es.find name_cmp k (entered many)
-looked_up k [] = refl
-looked_up k (e ∷ many) = ap (cond (is_eq (name_cmp k e.0.items)) (Some e.1)) (looked_up k many)
-
-pub put_entered : (k : Vec ℕ Global) (v : ℕ) (many : Entries) → entered (insert_entry by_items many k v) ≡ es.put name_cmp k.items v (entered many)
-put_entered k v [] = refl
-put_entered k v (e ∷ many) =
-    elim (name_cmp k.items e.0.items) as (λ o. entered (match_ordering o ((k, v) ∷ e ∷ many) ((e.0, v) ∷ many) (e ∷ insert_entry by_items many k v))
-    ≡ es.by_order o ((k.items, v) ∷ (e.0.items, e.1) ∷ entered many) ((e.0.items, v) ∷ entered many) ((e.0.items, e.1) ∷ es.put name_cmp k.items v (entered many))) [
-      | Less ↦ refl
-      | Equal ↦ refl
-      | Greater ↦ ap (λ (z : List (List ℕ × ℕ)). (e.0.items, e.1) ∷ z) (put_entered k v many)
-    ]
 
 -- names that are all above one stay without it
 all_stay : (k : List ℕ) (pairs : List (List ℕ × ℕ)) → T (es.below_all name_cmp k pairs) → pairs ≡ without k pairs
@@ -45,20 +22,80 @@ is_equal Less e = absurd (cc)
 is_equal Equal e = refl
 is_equal Greater e = absurd (cc)
 
-pub removed_entered : (k : List ℕ) (many : Entries) → T (es.is_sorted name_cmp (entered many)) → entered (remove_entry (is_at (query k)) many) ≡ without k (entered many)
-removed_entered k [] sorted = refl
-removed_entered k (e ∷ many) sorted = go (removed_entered k many (second _ _ sorted)) (is_eq (name_cmp k e.0.items)) refl where
-  go : entered (remove_entry (is_at (query k)) many) ≡ without k (entered many) → (b : Bool) → is_eq (name_cmp k e.0.items) ≡ b
-      → entered (cond (is_eq (name_cmp k e.0.items)) many (e ∷ remove_entry (is_at (query k)) many))
-      ≡ cond (not (is_eq (name_cmp k e.0.items))) ((e.0.items, e.1) ∷ without k (entered many)) (without k (entered many))
-  go rest true is =
-      ap (λ b. entered (cond b many (e ∷ remove_entry (is_at (query k)) many))) is
-      ∙ subst (λ (z : List ℕ). entered many ≡ without z (entered many)) (sym (ties k e.0.items (is_equal (name_cmp k e.0.items) is))) (all_stay e.0.items (entered many) (first _ _ sorted))
-      ∙ sym (ap (λ b. cond (not b) ((e.0.items, e.1) ∷ without k (entered many)) (without k (entered many))) is)
-  go rest false is =
-      ap (λ b. entered (cond b many (e ∷ remove_entry (is_at (query k)) many))) is ∙ ap (λ (z : List (List ℕ × ℕ)). (e.0.items, e.1) ∷ z) rest
-      ∙ sym (ap (λ b. cond (not b) ((e.0.items, e.1) ∷ without k (entered many)) (without k (entered many))) is)
+module _ {Key : Type 0} (bytes : Key → List ℕ) where
+  abbrev pub Entries : Type 0
+  Entries = List (Key × ℕ)
 
-pub length-entered : (many : Entries) → length (entered many) ≡ length many
-length-entered [] = refl
-length-entered (e ∷ many) = ap suc (length-entered many)
+  abbrev pub by_bytes : Key → Key → Ordering
+  by_bytes a b = name_cmp (bytes a) (bytes b)
+
+  abbrev pub query : List ℕ → Key → Ordering
+  query k key = name_cmp k (bytes key)
+
+  pub looked_up : (k : List ℕ) (many : Entries) → lookup (is_at (query k)) many ≡ es.find name_cmp k (entered bytes many)
+  looked_up k [] = refl
+  looked_up k (e ∷ many) = ap (cond (is_eq (name_cmp k (bytes e.0))) (Some e.1)) (looked_up k many)
+
+  pub put_entered : (k : Key) (v : ℕ) (many : Entries) → entered bytes (insert_entry by_bytes many k v) ≡ es.put name_cmp (bytes k) v (entered bytes many)
+  put_entered k v [] = refl
+  put_entered k v (e ∷ many) =
+      elim (name_cmp (bytes k) (bytes e.0)) as (λ o. entered bytes (match_ordering o ((k, v) ∷ e ∷ many) ((e.0, v) ∷ many) (e ∷ insert_entry by_bytes many k v))
+      ≡ es.by_order o ((bytes k, v) ∷ (bytes e.0, e.1) ∷ entered bytes many) ((bytes e.0, v) ∷ entered bytes many) ((bytes e.0, e.1) ∷ es.put name_cmp (bytes k) v (entered bytes many))) [
+        | Less ↦ refl
+        | Equal ↦ refl
+        | Greater ↦ ap (λ (z : List (List ℕ × ℕ)). (bytes e.0, e.1) ∷ z) (put_entered k v many)
+      ]
+
+  pub removed_entered : (k : List ℕ) (many : Entries) → T (es.is_sorted name_cmp (entered bytes many)) → entered bytes (remove_entry (is_at (query k)) many) ≡ without k (entered bytes many)
+  removed_entered k [] sorted = refl
+  removed_entered k (e ∷ many) sorted = go (removed_entered k many (second _ _ sorted)) (is_eq (name_cmp k (bytes e.0))) refl where
+    go : entered bytes (remove_entry (is_at (query k)) many) ≡ without k (entered bytes many) → (b : Bool) → is_eq (name_cmp k (bytes e.0)) ≡ b
+        → entered bytes (cond (is_eq (name_cmp k (bytes e.0))) many (e ∷ remove_entry (is_at (query k)) many))
+        ≡ cond (not (is_eq (name_cmp k (bytes e.0)))) ((bytes e.0, e.1) ∷ without k (entered bytes many)) (without k (entered bytes many))
+    go rest true is =
+        ap (λ b. entered bytes (cond b many (e ∷ remove_entry (is_at (query k)) many))) is
+        ∙ subst (λ (z : List ℕ). entered bytes many ≡ without z (entered bytes many)) (sym (ties k (bytes e.0) (is_equal (name_cmp k (bytes e.0)) is))) (all_stay (bytes e.0) (entered bytes many) (first _ _ sorted))
+        ∙ sym (ap (λ b. cond (not b) ((bytes e.0, e.1) ∷ without k (entered bytes many)) (without k (entered bytes many))) is)
+    go rest false is =
+        ap (λ b. entered bytes (cond b many (e ∷ remove_entry (is_at (query k)) many))) is ∙ ap (λ (z : List (List ℕ × ℕ)). (bytes e.0, e.1) ∷ z) rest
+        ∙ sym (ap (λ b. cond (not b) ((bytes e.0, e.1) ∷ without k (entered bytes many)) (without k (entered bytes many))) is)
+
+  pub length-entered : (many : Entries) → length (entered bytes many) ≡ length many
+  length-entered [] = refl
+  length-entered (e ∷ many) = ap suc (length-entered many)
+
+-- no long name is among short ones
+is_other : (k other : List ℕ) → length other ≤ 23 → 23 < length k → is_eq (name_cmp k other) ≡ false
+is_other k other short long = go (name_cmp k other) refl where
+  go : (o : Ordering) → name_cmp k other ≡ o → is_eq o ≡ false
+  go Less e = refl
+  go Equal e = let same : length k ≡ length other = ap length (ties k other e) in absurd (omega (arith, same, short, long))
+  go Greater e = refl
+
+module _ (k : List ℕ) (long : 23 < length k) where
+  pub long_none : (pairs : List (List ℕ × ℕ)) → AreShort pairs → None ≡ es.find name_cmp k pairs
+  long_none [] short = refl
+  long_none (e ∷ pairs) short = long_none pairs short.1 ∙ sym (ap (λ b. cond b (Some e.1) (es.find name_cmp k pairs)) (is_other k e.0 short.0 long))
+
+  pub long_stays : (pairs : List (List ℕ × ℕ)) → AreShort pairs → pairs ≡ without k pairs
+  long_stays [] short = refl
+  long_stays (e ∷ pairs) short =
+      ap (λ (z : List (List ℕ × ℕ)). e ∷ z) (long_stays pairs short.1) ∙ sym (ap (λ b. cond (not b) (e ∷ without k pairs) (without k pairs)) (is_other k e.0 short.0 long))
+
+-- short names stay short
+pub put_short : (k : List ℕ) (v : ℕ) (pairs : List (List ℕ × ℕ)) → length k ≤ 23 → AreShort pairs → AreShort (es.put name_cmp k v pairs)
+put_short k v [] room short = (room, tt)
+put_short k v (e ∷ pairs) room short =
+    elim (name_cmp k e.0) as (λ o. AreShort (es.by_order o ((k, v) ∷ e ∷ pairs) ((e.0, v) ∷ pairs) (e ∷ es.put name_cmp k v pairs))) [
+      | Less ↦ (room, short)
+      | Equal ↦ (short.0, short.1)
+      | Greater ↦ (short.0, put_short k v pairs room short.1)
+    ]
+
+pub without_short : (k : List ℕ) (pairs : List (List ℕ × ℕ)) → AreShort pairs → AreShort (without k pairs)
+without_short k [] short = tt
+without_short k (e ∷ pairs) short =
+    elim (not (is_eq (name_cmp k e.0))) as (λ b. AreShort (cond b (e ∷ without k pairs) (without k pairs))) [
+      | true ↦ (short.0, without_short k pairs short.1)
+      | false ↦ without_short k pairs short.1
+    ]

@@ -1,5 +1,5 @@
 -- sorted pairs as a map
-use Rattle.std.proofs.Common.{◌≡◌, ℕ, Bool, true, false, cond, T, List, [], length, None, refl, sym, ap, subst, ◌∙◌}
+use Rattle.std.proofs.Common.{◌≡◌, ℕ, Bool, true, false, cond, T, List, [], length, None, Result, OnOk, OnErr, refl, sym, ap, subst, ◌∙◌}
 use Rattle.std.specs.Prelude.{not}
 use Rattle.std.specs.Ordering.{eq_by_cmp}
 use Rattle.std.specs.Cmp.{eq_by_cmp_equiv}
@@ -7,7 +7,7 @@ use Rattle.std.specs.FinMap as map
 use Rattle.std.specs.FinMap.Entries as es
 use Rattle.names.specs.Names.{name_cmp, Objects}
 use Rattle.names.specs.Places.{IsInOrder, without}
-use Rattle.names.proofs.Orders.{total, ties, holds}
+use Rattle.names.proofs.Orders.{total, ties, holds, either_way}
 
 abbrev pub seen : List (List ℕ × ℕ) → Objects
 seen pairs = map.from_sorted pairs
@@ -38,6 +38,10 @@ module _ (pairs : List (List ℕ × ℕ)) (order : IsInOrder pairs) where
 
   pub put_order : (k : List ℕ) (v : ℕ) (now : List (List ℕ × ℕ)) → now ≡ es.put name_cmp k v pairs → IsInOrder now
   put_order k v now is = subst IsInOrder (sym is) (is_true _ (put_sorted k v))
+
+  -- names stay in their order, whether one was put or not
+  pub put_still : {A E : Type 0} (k : List ℕ) (v : ℕ) (now : List (List ℕ × ℕ)) (r : Result A E) → OnOk r (now ≡ es.put name_cmp k v pairs) → OnErr r (now ≡ pairs) → IsInOrder now
+  put_still k v now r ok err = either_way r ok err (put_order k v now) (λ is. subst IsInOrder (sym is) order)
 
   pub put_seen : (k : List ℕ) (v : ℕ) (now : List (List ℕ × ℕ)) → now ≡ es.put name_cmp k v pairs → seen now ≡ map.insert (seen pairs) k v
   put_seen k v now is =

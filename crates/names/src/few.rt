@@ -5,12 +5,13 @@ ghost use Rattle.std.specs.FinMap.Entries.{find, put};
 ghost use Rattle.names.specs.Names.{name_cmp, listed};
 ghost use Rattle.names.specs.Places.{IsInOrder, IsAt, IsGap, without};
 
+use nfs3_types::ShortBytes;
 use std::alloc::AllocError;
 
 /// A name with its object.
 #[derive(Drop)]
 pub(crate) struct Named {
-    pub(crate) name: Vec<u8>,
+    pub(crate) name: ShortBytes,
     pub(crate) object: u64,
 }
 
@@ -45,6 +46,7 @@ pub(crate) fn put(few: &mut Vec<Named>, name: Vec<u8>, object: u64) -> Result<()
         Ok(index) => few[index].object = object,
         Err(index) => {
             few.reserve_exact(1)?;
+            let name = ShortBytes::from_vec(name);
             few.insert(index, Named { name, object })?;
         }
     }

@@ -3,6 +3,7 @@
 ghost use Rattle.std.specs.Iterator.{YieldsFirstBy, item_count};
 
 use crate::few::Named;
+use crate::short_name::ShortName;
 use std::collections::btree_map;
 use std::marker::Model;
 
@@ -16,7 +17,8 @@ pub struct Iter<'a> {
 #[derive(Drop)]
 pub(crate) enum Walk<'a> {
     Few(&'a [Named]),
-    Many(btree_map::Iter<'a, Vec<u8>, u64>),
+    Short(btree_map::Iter<'a, ShortName, u64>),
+    Long(btree_map::Iter<'a, Vec<u8>, u64>),
 }
 
 impl<'a> Model for Iter<'a> {
@@ -42,7 +44,11 @@ impl<'a> Iterator for Iter<'a> {
                 *left = rest;
                 Some((named.name.as_slice(), named.object))
             }
-            Walk::Many(left) => {
+            Walk::Short(left) => {
+                let (name, object) = left.next()?;
+                Some((name.as_slice(), *object))
+            }
+            Walk::Long(left) => {
                 let (name, object) = left.next()?;
                 Some((name.as_slice(), *object))
             }

@@ -1,20 +1,22 @@
 //! The names in a directory, with the numbers of their objects.
 #![tactic(auto)]
 
-ghost use Rattle.std.specs.Prelude.{◌≡◌, ◌==◌, length, None, IfSome, IfOk, OnOk, OnErr};
+ghost use Rattle.std.specs.Prelude.{◌≡◌, ◌==◌, true, false, length, None, IfOk, OnOk, OnErr};
 ghost use Rattle.std.specs.FinMap as map;
 ghost use Rattle.std.specs.FinMap.Entries.{find, put};
-ghost use Rattle.names.specs.Names.{name_cmp, pairs_of, entered};
-ghost use Rattle.names.specs.Places.{IsInOrder, without};
-ghost use Rattle.names.specs.Walks.{left_of};
+ghost use Rattle.names.specs.Names.{name_cmp, pairs_of};
+ghost use Rattle.names.specs.Places.{IsKept, HasRoom, without};
 
 mod few;
 mod iter;
-mod many;
+mod long;
+mod short;
+mod short_name;
 
 use few::Named;
 pub use iter::Iter;
 use iter::Walk;
+use short_name::{SHORT_LIMIT, ShortName};
 use std::alloc::{AllocError, Global};
 use std::collections::BTreeMap;
 use std::marker::Model;
@@ -23,7 +25,8 @@ use std::marker::Model;
 const FEW: usize = 8;
 
 /// The objects of names. Up to eight stand in a vector, with no place to spare; from the ninth on they stand in a tree, and a
-/// look-up and a change take logarithmic time. A contract sees the map from names to objects.
+/// look-up and a change take logarithmic time. Names of up to 23 bytes stand in the vector and in the tree's nodes themselves,
+/// until a longer one comes to a tree. A contract sees the map from names to objects.
 pub struct Names {
     alloc: Global,
     store: Store,
@@ -33,7 +36,9 @@ pub struct Names {
 #[derive(Drop)]
 pub(crate) enum Store {
     Few(Vec<Named>),
-    Many(BTreeMap<Vec<u8>, u64>),
+    /// Many, none of which is long.
+    Short(BTreeMap<ShortName, u64>),
+    Long(BTreeMap<Vec<u8>, u64>),
 }
 
 impl Drop for Names {
@@ -48,7 +53,7 @@ impl Model for Names {
     ghost use Rattle.std.specs.Coded.{coded_ℕ, coded_list};
     ghost use Rattle.std.specs.FinMap as finite;
     ghost use Rattle.names.specs.Names.{Objects, pairs_of};
-    ghost use Rattle.names.specs.Places.{IsInOrder};
+    ghost use Rattle.names.specs.Places.{IsKept};
 
     ghost Value = { Objects };
 
@@ -56,17 +61,18 @@ impl Model for Names {
 
     ghost view = { λ n. finite.from_sorted (pairs_of n.store) };
 
-    ghost invariant = { λ n. IsInOrder (pairs_of n.store) };
+    ghost invariant = { λ n. IsKept n.store };
 }
 
 impl Store {
     fn object_of(&self, name: &[u8]) -> Option<u64>
-        requires { IsInOrder (pairs_of self.now) }
+        requires { IsKept self.now }
         ensures { result ≡ find name_cmp name.now (pairs_of self.now) }
     {
         match self {
             Store::Few(few) => few::object_of(few.as_slice(), name),
-            Store::Many(many) => many::object_of(many, name),
+            Store::Short(many) => short::object_of(many, name),
+            Store::Long(many) => long::object_of(many, name),
         }
     }
 
@@ -75,69 +81,88 @@ impl Store {
     {
         match self {
             Store::Few(few) => few.is_empty(),
-            Store::Many(many) => many.is_empty(),
+            Store::Short(many) => many.is_empty(),
+            Store::Long(many) => many.is_empty(),
         }
     }
 
-    fn walk(&self) -> Walk<'_>
-        ensures { left_of result ≡ pairs_of self.now }
+    fn iter(&self) -> Iter<'_>
+        ensures { result ≡ pairs_of self.now }
+    {
+        let walk = match self {
+            Store::Few(few) => Walk::Few(few.as_slice()),
+            Store::Short(many) => Walk::Short(many.iter()),
+            Store::Long(many) => Walk::Long(many.iter()),
+        };
+        Iter { walk }
+    }
+
+    /// Whether one more name has room in this form, or is there.
+    fn has_room(&self, name: &[u8]) -> bool
+        requires { IsKept self.now }
+        ensures room { result ≡ true → HasRoom self.now name.now }
+        ensures absent { result ≡ false → find name_cmp name.now (pairs_of self.now) ≡ None }
     {
         match self {
-            Store::Few(few) => Walk::Few(few.as_slice()),
-            Store::Many(many) => Walk::Many(many.iter()),
+            Store::Few(few) => few.len() < FEW || few::object_of(few.as_slice(), name).is_some(),
+            Store::Short(_) => name.len() <= SHORT_LIMIT,
+            Store::Long(_) => true,
         }
     }
 
-    /// A tree of the names, where the vector is full and a name isn't there.
-    fn overflow(
-        &self,
-        alloc: Global,
-        name: &[u8],
-    ) -> Result<Option<BTreeMap<Vec<u8>, u64>>, AllocError>
-        requires { IsInOrder (pairs_of self.now) }
-        ensures same { IfOk result (λ tree. IfSome tree (λ many. entered many.entries ≡ pairs_of self.now)) }
-        ensures absent { OnErr result (find name_cmp name.now (pairs_of self.now) ≡ None) }
+    /// The same names in a tree that has room for one more.
+    fn grown(&self, alloc: Global, name: &[u8]) -> Result<Store, AllocError>
+        requires { IsKept self.now }
+        ensures same { IfOk result (λ store. pairs_of store ≡ pairs_of self.now) }
+        ensures kept { IfOk result IsKept }
+        ensures room { IfOk result (λ store. HasRoom store name.now) }
     {
-        let Store::Few(few) = self else {
-            return Ok(None);
-        };
-        if few.len() < FEW || few::object_of(few.as_slice(), name).is_some() {
-            return Ok(None);
+        if name.len() <= SHORT_LIMIT {
+            if let Some(many) = short::copy_of(alloc, self.iter())? {
+                return Ok(Store::Short(many));
+            }
         }
-        Ok(Some(many::copy_of(alloc, few.as_slice())?))
+        Ok(Store::Long(long::copy_of(alloc, self.iter())?))
     }
 
-    /// Moves the names to a tree, where the vector is full and a name isn't there.
+    /// Moves the names to another form, where this one has no room for a name that isn't there.
     fn make_room(&mut self, alloc: Global, name: &[u8]) -> Result<(), AllocError>
-        requires { IsInOrder (pairs_of self.old) }
+        requires { IsKept self.old }
         ensures same { pairs_of self.new ≡ pairs_of self.old }
+        ensures kept { IsKept self.new }
+        ensures room { OnOk result (HasRoom self.new name.now) }
         ensures absent { OnErr result (find name_cmp name.now (pairs_of self.old) ≡ None) }
     {
-        if let Some(many) = self.overflow(alloc, name)? {
-            *self = Store::Many(many);
+        if !self.has_room(name) {
+            *self = self.grown(alloc, name)?;
         }
         Ok(())
     }
 
     fn put(&mut self, name: Vec<u8>, object: u64) -> Result<(), AllocError>
-        requires { IsInOrder (pairs_of self.old) }
+        requires kept { IsKept self.old }
+        requires room { HasRoom self.old name.items }
         ensures ok { OnOk result (pairs_of self.new ≡ put name_cmp name.items object (pairs_of self.old)) }
         ensures absent { OnErr result (find name_cmp name.items (pairs_of self.old) ≡ None) }
         ensures err { OnErr result (pairs_of self.new ≡ pairs_of self.old) }
+        ensures kept { IsKept self.new }
     {
         match self {
             Store::Few(few) => few::put(few, name, object),
-            Store::Many(many) => many::put(many, name, object),
+            Store::Short(many) => short::put(many, name.as_slice(), object),
+            Store::Long(many) => long::put(many, name, object),
         }
     }
 
     fn remove(&mut self, name: &[u8])
-        requires { IsInOrder (pairs_of self.old) }
-        ensures { pairs_of self.new ≡ without name.now (pairs_of self.old) }
+        requires { IsKept self.old }
+        ensures same { pairs_of self.new ≡ without name.now (pairs_of self.old) }
+        ensures kept { IsKept self.new }
     {
         match self {
             Store::Few(few) => few::remove(few, name),
-            Store::Many(many) => many::remove(many, name),
+            Store::Short(many) => short::remove(many, name),
+            Store::Long(many) => long::remove(many, name),
         }
     }
 }
@@ -164,9 +189,7 @@ impl Names {
     pub fn iter(&self) -> Iter<'_>
         ensures { result ≡ map.entries self.now }
     {
-        Iter {
-            walk: self.store.walk(),
-        }
+        self.store.iter()
     }
 
     /// The object of a name.

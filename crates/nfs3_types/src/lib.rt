@@ -30,4 +30,5 @@ pub use replies::{
     NfsReply, Outcome, ReadDirPlusSuccess, ReadDirSuccess, ReadLinkSuccess, ReadSuccess, RenameWcc,
     WriteSuccess,
 };
+pub use short::ShortBytes;
 pub use status::Failure;

@@ -1,6 +1,7 @@
 //! Byte strings of which the short ones stand in their value. A contract sees each as the list of its bytes.
 
-ghost use Rattle.std.specs.Prelude.{◌≡◌, IfOk};
+ghost use Rattle.std.specs.Prelude.{◌≡◌, ◌≤◌, IfOk, length};
+ghost use Rattle.nfs3_types.specs.Short.{bytes_of, IsStored};
 
 use std::alloc::{AllocError, Global};
 use std::marker::Model;
@@ -9,7 +10,7 @@ use std::marker::Model;
 const INLINE_LIMIT: usize = 23;
 
 /// A byte string. Up to 23 bytes stand in the value, more of them on the heap.
-pub(crate) struct ShortBytes {
+pub struct ShortBytes {
     store: Store,
 }
 
@@ -31,9 +32,22 @@ impl Model for ShortBytes {
     ghost invariant = { λ b. IsStored b.store };
 }
 
+impl Store {
+    /// Bytes that the value has room for.
+    fn inline(bytes: &[u8]) -> Store
+        requires { length bytes.now ≤ 23 }
+        ensures stored { IsStored result }
+        ensures same { bytes_of result ≡ bytes.now }
+    {
+        let mut inline = [0; INLINE_LIMIT];
+        inline[..bytes.len()].copy_from_slice(bytes);
+        Store::Inline(bytes.len() as u8, inline)
+    }
+}
+
 impl ShortBytes {
     /// These bytes.
-    pub(crate) fn from_slice(alloc: Global, bytes: &[u8]) -> Result<ShortBytes, AllocError>
+    pub fn from_slice(alloc: Global, bytes: &[u8]) -> Result<ShortBytes, AllocError>
         ensures { IfOk result (λ b. b ≡ bytes.now) }
     {
         if bytes.len() > INLINE_LIMIT {
@@ -41,15 +55,27 @@ impl ShortBytes {
                 store: Store::Heap(Vec::from_slice(alloc, bytes)?),
             });
         }
-        let mut inline = [0; INLINE_LIMIT];
-        inline[..bytes.len()].copy_from_slice(bytes);
         Ok(ShortBytes {
-            store: Store::Inline(bytes.len() as u8, inline),
+            store: Store::inline(bytes),
         })
     }
 
+    /// These bytes, which stay on the heap where the value has no room for them.
+    pub fn from_vec(bytes: Vec<u8>) -> ShortBytes
+        ensures { result ≡ bytes.items }
+    {
+        if bytes.len() > INLINE_LIMIT {
+            return ShortBytes {
+                store: Store::Heap(bytes),
+            };
+        }
+        ShortBytes {
+            store: Store::inline(bytes.as_slice()),
+        }
+    }
+
     /// The bytes.
-    pub(crate) fn as_slice(&self) -> &[u8]
+    pub fn as_slice(&self) -> &[u8]
         ensures { result.now ≡ self.now }
     {
         match &self.store {

@@ -7,14 +7,15 @@ ghost use Rattle.std.specs.Cmp.{partial_equiv_from_equiv, partial_order_from_agr
 ghost use Rattle.std.specs.Cmp.Lexicographic.{pointwise, slice_cmp, texts_ties, lists_ties};
 ghost use Rattle.std.proofs.lemmas.Cmp.{nat_list_eq_equiv, nat_list_cmp_total, lists_equiv, lists_total};
 
+use nfs3_types::ShortBytes;
 use std::alloc::{AllocError, Global};
 use std::cmp::Ordering;
 use std::marker::Model;
 
-/// Fewer than 2^32 bytes: a name, a file's content or a link's text.
+/// Fewer than 2^32 bytes: a name or a link's text. Up to 23 of them stand in the value.
 #[derive(Drop)]
 pub struct Bytes {
-    bytes: Vec<u8>,
+    text: ShortBytes,
 }
 
 impl Model for Bytes {
@@ -22,9 +23,9 @@ impl Model for Bytes {
 
     ghost Value = { List ℕ };
 
-    ghost view = { λ b. b.bytes.items };
+    ghost view = { λ b. b.text };
 
-    ghost invariant = { λ b. length b.bytes.items < 2 ^ 32 };
+    ghost invariant = { λ b. length b.text < 2 ^ 32 };
 }
 
 impl Bytes {
@@ -33,7 +34,9 @@ impl Bytes {
         requires { length bytes.items < 2 ^ 32 }
         ensures { result ≡ bytes.items }
     {
-        Bytes { bytes }
+        Bytes {
+            text: ShortBytes::from_vec(bytes),
+        }
     }
 
     /// A copy of these bytes.
@@ -42,7 +45,7 @@ impl Bytes {
         ensures { IfOk result (λ b. b ≡ bytes.now) }
     {
         Ok(Bytes {
-            bytes: Vec::from_slice(alloc, bytes)?,
+            text: ShortBytes::from_slice(alloc, bytes)?,
         })
     }
 
@@ -51,7 +54,7 @@ impl Bytes {
         ensures value { result.now ≡ self.now }
         ensures bound { length self.now < 2 ^ 32 }
     {
-        self.bytes.as_slice()
+        self.text.as_slice()
     }
 }
 

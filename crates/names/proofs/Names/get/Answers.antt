@@ -5,4 +5,4 @@ use Rattle.names.proofs.Maps.{got}
 use Rattle.names.proofs.Names.get.Goals as goal
 
 pub returns : goal.returns
-returns c = c.object_of.ensures ∙ sym (got (pairs_of c.self.inside.store) c.self.invariant c.args.name.now) ∙ ap (λ m. map.get m c.args.name.now) c.self.view_is
+returns c = c.object_of.ensures ∙ sym (got (pairs_of c.self.inside.store) c.self.invariant.0 c.args.name.now) ∙ ap (λ m. map.get m c.args.name.now) c.self.view_is

@@ -6,4 +6,4 @@ use Rattle.names.proofs.Maps.{counted}
 use Rattle.names.proofs.Names.is_empty.Goals as goal
 
 pub returns : goal.returns
-returns c = c.is_empty.ensures ∙ ap (λ n. n == 0) (sym (counted (pairs_of c.self.inside.store) c.self.invariant)) ∙ ap (λ m. map.len m == 0) c.self.view_is
+returns c = c.is_empty.ensures ∙ ap (λ n. n == 0) (sym (counted (pairs_of c.self.inside.store) c.self.invariant.0)) ∙ ap (λ m. map.len m == 0) c.self.view_is

@@ -5,4 +5,4 @@ use Rattle.names.proofs.Maps.{all_entries}
 use Rattle.names.proofs.Names.iter.Goals as goal
 
 pub returns : goal.returns
-returns c = c.walk.ensures ∙ sym (all_entries (pairs_of c.self.inside.store) c.self.invariant) ∙ ap map.entries c.self.view_is
+returns c = c.iter.ensures ∙ sym (all_entries (pairs_of c.self.inside.store) c.self.invariant.0) ∙ ap map.entries c.self.view_is

@@ -1,7 +1,9 @@
-use Rattle.std.proofs.Common.{ap, ◌∙◌}
+use Rattle.std.proofs.Common.{◌≡◌, ℕ, List, sym, ap, subst, ◌∙◌}
+use Rattle.std.specs.FinMap.Entries as es
 use Rattle.std.specs.List.{insert}
 use Rattle.names.specs.declared.few.Named.{Named}
-use Rattle.names.specs.Names.{listed}
+use Rattle.names.specs.Names.{name_cmp, listed}
+use Rattle.names.specs.Places.{IsGap}
 use Rattle.names.proofs.Orders.{holds, at_any_err}
 use Rattle.names.proofs.FewLemmas.{put_read, put_gap, find_none, gap_differs}
 use Rattle.names.proofs.few.put.Goals as goal
@@ -20,6 +22,9 @@ returns-in-Ok-clause-ok c =
 pub returns-in_ok-insert-in-Err-clause-ok : goal.returns-in_ok-insert-in-Err-clause-ok
 returns-in_ok-insert-in-Err-clause-ok c =
     let few = c.args.few.now.items in
+    let same = c.from_vec-name.ensures in
     let gap = rw (c.as_slice.ensures.value, c.as_slice-2.ensures.value) at c.in-Err.ensures.absent in
-    let named : Named = record { name = c.args.name; object = c.args.object } in
-    ap listed (c.in_ok-insert-in-Err.ensures.items ∙ ap (λ z. insert z c.in-Err.index named) c.reserve_exact.ensures.items) ∙ put_gap named few c.in-Err.index gap
+    let named : Named = record { name = c.from_vec-name.result; object = c.args.object } in
+    subst (λ (k : List ℕ). listed c.insert.new.self.items ≡ es.put name_cmp k c.args.object (listed few)) same
+    (ap listed (c.in_ok-insert-in-Err.ensures.items ∙ ap (λ z. insert z c.in-Err.index named) c.reserve_exact.ensures.items)
+    ∙ put_gap named few c.in-Err.index (subst (λ (k : List ℕ). IsGap few k c.in-Err.index) (sym same) gap))

@@ -7,11 +7,11 @@ use Rattle.names.proofs.few.search.Goals as goal
 pub returns-clause-found : goal.returns-clause-found
 returns-clause-found c =
     let facts = c.binary_search_by.ensures in
-    let by = facts.position (λ named. name_cmp named.name.items c.args.name.now) (always_returns_same _ _ _ (λ a r g called. search rules)) in
+    let by = facts.position (λ named. name_cmp named.name c.args.name.now) (always_returns_same _ _ _ (λ a r g called. search rules)) in
     found c.args.few.now c.args.name.now _ facts.bound by
 
 pub returns-clause-absent : goal.returns-clause-absent
 returns-clause-absent c =
     let facts = c.binary_search_by.ensures in
-    let by = facts.position (λ named. name_cmp named.name.items c.args.name.now) (always_returns_same _ _ _ (λ a r g called. search rules)) in
+    let by = facts.position (λ named. name_cmp named.name c.args.name.now) (always_returns_same _ _ _ (λ a r g called. search rules)) in
     absent c.args.few.now c.args.name.now _ c.requires facts.bound by
