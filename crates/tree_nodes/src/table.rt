@@ -35,14 +35,14 @@ pub(crate) struct Entry {
     pub(crate) body: Box<Body>,
 }
 
-/// What else there is of an object.
+/// What else there is of an object. What a look-up reads of a directory stands together, ahead of the name.
 #[derive(Drop)]
 pub(crate) struct Body {
-    /// Its name in its directory.
-    pub(crate) name: Bytes,
-    pub(crate) node: Node,
     /// The objects of the names in it.
     pub(crate) names: Names,
+    pub(crate) node: Node,
+    /// Its name in its directory.
+    pub(crate) name: Bytes,
 }
 
 /// The root alone, a directory, object 0.
