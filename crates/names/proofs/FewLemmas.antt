@@ -1,5 +1,5 @@
 -- sorted names in a vector
-use Rattle.std.proofs.Common.{add-one, drop-cons, ◌≡◌, ◌⊎◌, inl, inr, ℕ, zero, suc, ◌+◌, ◌<◌, ◌≤◌, false, cond, T, List, [], ◌∷◌, ◌++◌, length, get_or, set, drop, Some, None, Result, Ok, Err, IfOk, IfErr, refl, sym, ap, subst, ◌∙◌, arith}
+use Rattle.std.proofs.Common.{◌≡◌, ◌⊎◌, inl, inr, ℕ, zero, suc, ◌<◌, ◌≤◌, false, cond, T, List, [], ◌∷◌, length, get_or, set, Some, None, Result, Ok, Err, IfOk, IfErr, refl, sym, ap, subst, ◌∙◌, arith}
 use Rattle.std.specs.Prelude.{not}
 use Rattle.std.specs.List.{insert, remove}
 use Rattle.std.specs.List.Sorted.{IsSearchInRange, IsBinarySearchResult, IsNonDecreasingBy}
@@ -10,7 +10,7 @@ use Rattle.std.proofs.lemmas.Bool.{cases_lt}
 use Rattle.names.specs.declared.few.Named.{Named}
 use Rattle.names.specs.Names.{name_cmp, listed}
 use Rattle.names.specs.Places.{IsInOrder, IsAt, IsGap, without}
-use Rattle.names.proofs.Orders.{ties, holds, first, second, less, turned, below_tied, no_higher, copied_more}
+use Rattle.names.proofs.Orders.{ties, holds, first, second, less, turned, below_tied, no_higher}
 
 abbrev pub Sorted : List Named → Type 0
 Sorted few = T (es.is_sorted name_cmp (listed few))

@@ -18,7 +18,7 @@ loop-name-preserved c =
     let before = entered (λ key. key) c.loop-name.many.entries in
     let so_far = subst (λ (z : List (List ℕ × ℕ)). before ++ z ≡ c.args.names) c.in-Some.ensures.steps c.loop-name.invariant.0 in (
       ap (λ (z : List (List ℕ × ℕ)). z ++ c.next.new.self) c.in_ok-put.ensures.ok
-      ∙ copied_more c.args.names before c.next.new.self c.in-Some.name.now c.in-Some.object (holds _ c.requires) so_far,
+          ∙ copied_more c.args.names before c.next.new.self c.in-Some.name.now c.in-Some.object (holds _ c.requires) so_far,
       c.put.ensures.short,
     )
 

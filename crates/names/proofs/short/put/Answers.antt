@@ -20,5 +20,5 @@ pub returns-clause-short : goal.returns-clause-short
 returns-clause-short c =
     let many = c.args.many.now.entries in
     let put = subst (λ k. entered (λ key. key) c.insert.new.self.entries ≡ es.put name_cmp k c.args.object (entered (λ key. key) many)) c.from_slice.ensures
-        (ap (entered (λ key. key)) c.in-Ok.ensures.entries ∙ put_entered (λ key. key) c.from_slice.result c.args.object many) in
+    (ap (entered (λ key. key)) c.in-Ok.ensures.entries ∙ put_entered (λ key. key) c.from_slice.result c.args.object many) in
     subst AreShort (sym put) (put_short c.args.name.now c.args.object _ c.requires.room c.requires.short)

@@ -18,5 +18,5 @@ pub returns-clause-short : goal.returns-clause-short
 returns-clause-short c =
     let many = c.args.many.now.entries in
     let same = subst (λ k. entered (λ key. key) c.remove.new.self.entries ≡ without k (entered (λ key. key) many)) c.from_slice.ensures
-        (ap (entered (λ key. key)) c.remove.ensures.entries ∙ removed_entered (λ key. key) c.from_slice.result many (holds _ c.requires.order)) in
+    (ap (entered (λ key. key)) c.remove.ensures.entries ∙ removed_entered (λ key. key) c.from_slice.result many (holds _ c.requires.order)) in
     subst AreShort (sym same) (without_short c.args.name.now _ c.requires.short)
