@@ -1,12 +1,13 @@
 """What calls that leave the tree may tell of the sample tree: GETATTR, LOOKUP, READLINK, READ, READDIR, READDIRPLUS and COMMIT."""
-from cases.calls import commit, create, get_attributes, list_entries, list_names, look_up, read, read_link
+from cases.calls import commit, create, get_attributes, list_entries, list_names, look_up, read, read_link, remove
 from cases.sample import BINDS, D, E, F, G, L, NEVER_MADE, ROOT, SAMPLE, UNBOUND, V, allowed, illegal, run
-from cases.xdr import DIR, FIFO, LNK, REG
+from cases.xdr import DIR, FIFO, LNK, NOENT, REG
 
 
 def add_all(cases):
     attributes(cases)
     names(cases)
+    name_lengths(cases)
     handles(cases)
     handle_lengths(cases)
     texts(cases)
@@ -39,6 +40,25 @@ def names(cases):
     illegal(cases, "two-dots-lead-not-to-the-directory-itself", look_up(D, "..").gives(D))
     illegal(cases, "a-dot-leads-not-to-the-parent", look_up(D, ".").gives(ROOT))
     illegal(cases, "an-empty-name-leads-nowhere", look_up(D, "").gives(D))
+
+
+def name_lengths(cases):
+    """Each byte of a name counts, whatever its length: of a directory's first name, of one behind a few others and behind many."""
+    short = ["%02d" % number for number in range(12)]
+    for length in (22, 23, 24, 255):
+        long, other = "n" * length, "n" * (length - 1) + "m"
+        for ahead in (0, 5, 12):
+            entries = [*short[:ahead], long, *short[ahead:]]
+            binds = [(bytes([number]), number) for number, _ in enumerate(entries, 1)]
+            made = [create(ROOT, entry).gives(number) for number, entry in enumerate(entries, 1)]
+            found = [look_up(ROOT, entry).gives(number) for number, entry in enumerate(entries, 1)]
+            absent = [look_up(ROOT, entry).fails(NOENT) for entry in (other, long[:-1], long + "n")]
+            gone = [remove(ROOT, long).gives(), look_up(ROOT, long).fails(NOENT), list_names(ROOT).gives(short, True)]
+            case = "a-name-of-%d-bytes-behind-%d-others" % (length, ahead)
+            run(cases, case, "yes", *made, *found, *absent, list_names(ROOT).gives(entries, True), *gone, binds=binds)
+            run(cases, case + "-is-no-other-name", "no: Illegal 14", *made, look_up(ROOT, other).gives(ahead + 1), binds=binds)
+            run(cases, case + "-is-not-absent", "no: Illegal 14", *made, look_up(ROOT, long).fails(NOENT), binds=binds)
+            run(cases, case + "-is-not-left-out", "no: Illegal 14", *made, list_names(ROOT).gives(short, True), binds=binds)
 
 
 def handles(cases):
