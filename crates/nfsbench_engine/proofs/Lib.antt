@@ -1,5 +1,2 @@
-pub mod FirstLine
-pub mod Numbers
 pub mod ShownLines
-pub mod Told
 pub mod Yes

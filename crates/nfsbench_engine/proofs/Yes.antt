@@ -6,7 +6,7 @@ use Rattle.bench_streams.specs.Told.{Answer}
 use Rattle.nfs_running.specs.declared.fault.RunFault.{RunFault}
 use Rattle.nfs_running.specs.declared.recorded.Recorded.{Recorded}
 use Rattle.nfs_running.specs.Recording.{IsRecording}
-use Rattle.nfsbench_engine.specs.Report.{IsSaidOfFiles, line_of}
+use Rattle.nfs_judging.specs.Report.{IsSaidOfFiles, line_of}
 use Rattle.nfsbench_engine.specs.Ran.{IsSaidOfRan, IsSaidOfServed, IsYesBehind, run_lines}
 
 pub yes_said : (recorded : Recorded) → IsRecording recorded → IsSaidOfFiles recorded.history.items recorded.certificate.items 0 (line_of Yes)

@@ -10,8 +10,8 @@ use Rattle.nfs_running.specs.declared.recorded.Counts.{Counts}
 use Rattle.nfs_running.specs.declared.recorded.Recorded.{Recorded}
 use Rattle.nfs_running.specs.Recording.{IsRecording}
 use Rattle.nfs_running.specs.Told.{fault_status, fault_line}
-use Rattle.nfsbench_engine.specs.Report.{line_of, status_of}
-use Rattle.nfsbench_engine.specs.Reported.{number_line}
+use Rattle.nfs_judging.specs.Report.{line_of, status_of}
+use Rattle.nfs_judging.specs.Reported.{number_line}
 
 abbrev pub run_lines : Counts → List ℕ
 run_lines counts =

@@ -1,13 +1,12 @@
 //! Files, as they can be read.
 
 ghost use Rattle.std.specs.Prelude.{◌≡◌, ℕ, List, IfOk, Option};
-ghost use Rattle.nfsbench_engine.specs.Report.{IsSaidOfRead};
-ghost use Rattle.nfsbench_engine.specs.Reported.{IsReportedOfRead};
+ghost use Rattle.nfs_judging.specs.Report.{IsSaidOfRead};
+ghost use Rattle.nfs_judging.specs.Reported.{IsReportedOfRead};
 
-use crate::report::judge_read;
-use crate::reporting::report_read;
 use bench_streams::{InputFault, Report, Stream, read_all};
 use history_file::HISTORY_LIMIT;
+use nfs_judging::{judge_read, report_read};
 use std::alloc::AllocError;
 use std::fs::{File, OpenFile};
 use std::io::Read;

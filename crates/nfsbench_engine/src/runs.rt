@@ -7,9 +7,8 @@ ghost use Rattle.nfs_running.specs.Recording.{IsRecording};
 ghost use Rattle.nfsbench_engine.specs.Ran.{IsSaidOfRan, IsSaidOfRun, IsSaidOfServed, IsYesBehind, MayTellOf, run_lines};
 
 use crate::files::read_plan_file;
-use crate::report::judge_files;
-use crate::reporting::put_number;
 use bench_streams::{Output, Report, tell, tell_answer, tell_want_of_memory};
+use nfs_judging::{judge_files, put_number};
 use nfs_recording::Recorder;
 use nfs_running::{Counts, Recorded, RunFault, RunRequest, ServeRequest, fault_report, run, serve};
 use std::alloc::{AllocError, Global};

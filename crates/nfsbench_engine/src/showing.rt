@@ -10,11 +10,11 @@ ghost use Rattle.nfs_history.specs.History.{IsCallsFile};
 ghost use Rattle.nfsbench_engine.specs.Shown.{AreLines};
 ghost use Rattle.bench_streams.specs.Streams.{AppendsFront};
 
-use crate::report::verdict_report;
 use bench_streams::{Output, tell, tell_report};
 use history_file::FileFault;
 use history_lines::{EventLines, Selection};
 use nfs_history::{HistoryFault, read_calls};
+use nfs_judging::verdict_report;
 use std::alloc::{AllocError, Global};
 use witness_check::FileVerdict;
 

@@ -2,13 +2,12 @@
 
 ghost use Rattle.std.specs.Prelude.{◌≡◌, ◌⊎◌, ◌<◌, ◌≤◌, ℕ, List, length, IfSome, IfOk, IsOk, OnErr, Ok};
 ghost use Rattle.std.specs.Io.KnownBytes.{Appends};
-ghost use Rattle.nfsbench_engine.specs.Bundle.{IsAcceptedBundle, IsRefutedBundle};
-ghost use Rattle.nfsbench_engine.specs.Report.{IsSaid, MayTell, no_line};
+ghost use Rattle.nfs_judging.specs.Bundle.{IsAcceptedBundle, IsRefutedBundle};
+ghost use Rattle.nfs_judging.specs.Report.{IsSaid, MayTell, no_line};
 ghost use Rattle.bench_streams.specs.Streams.{AppendsFront, GivesAll, HasRoom};
 ghost use Rattle.bench_streams.specs.Told.{Tells, memory_line};
 ghost use Rattle.witness_check.specs.declared.fault.Fault.{Fault};
 
-use crate::engine::run_bundle;
 use crate::files::{check_paths, read_history_file, report_paths};
 use crate::runs::{run_path, serve_words};
 use crate::show_words::{ShowRequest, show_command, show_request};
@@ -16,6 +15,7 @@ use crate::showing::show_bytes;
 use bench_streams::{Input, Output, tell, tell_answer, tell_want_of_memory};
 use clap::error::ErrorKind;
 use clap::{Arg, Command};
+use nfs_judging::run_bundle;
 use nfs_recording::{Recorder, TapRequest, run_tap, tap_command, tap_request};
 use nfs_running::{
     RunRequest, ServeRequest, run_command, run_request, serve_command, serve_request,

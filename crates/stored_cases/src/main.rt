@@ -21,7 +21,7 @@ use built::words_of_built;
 use case::{Asked, Case, Kind};
 use cert_search::Host;
 use lines::tell_lines;
-use nfsbench_engine::judge;
+use nfs_judging::judge;
 use search::search;
 use std::alloc::{AllocError, Global};
 use std::io::{self, BufWriter, Write};

@@ -1,7 +1,7 @@
 use Rattle.std.proofs.Common.{◌≢◌, ◌⊎◌, inl, inr, rules}
 use Rattle.nfs_history.specs.declared.fault.HistoryFault.TheVariants.{NoMemory}
-use Rattle.nfsbench_engine.proofs.Numbers.{fault_reported, history_reported}
-use Rattle.nfsbench_engine.proofs.reporting.report_files.Goals as goal
+use Rattle.nfs_judging.proofs.Numbers.{fault_reported, history_reported}
+use Rattle.nfs_judging.proofs.reporting.report_files.Goals as goal
 
 -- of two, the one that is left
 left : {P Q : Type 0} → P ⊎ Q → (P → ⊥) → Q

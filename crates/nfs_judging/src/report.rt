@@ -2,7 +2,7 @@
 
 ghost use Rattle.std.specs.Prelude.{◌≡◌, ℕ, List, IfOk};
 ghost use Rattle.std.specs.Option.{option_copied};
-ghost use Rattle.nfsbench_engine.specs.Report.{IsSaid, IsSaidOfFiles, IsSaidOfRead, line_of, status_of};
+ghost use Rattle.nfs_judging.specs.Report.{IsSaid, IsSaidOfFiles, IsSaidOfRead, line_of, status_of};
 
 use crate::bundle::{BundleFault, read_bundle};
 use bench_streams::{Report, line_of};
@@ -10,7 +10,7 @@ use std::alloc::{AllocError, Global};
 use witness_check::{FileVerdict, check_files};
 
 /// What is said of a verdict.
-pub(crate) fn verdict_report(alloc: Global, verdict: FileVerdict) -> Result<Report, AllocError>
+pub fn verdict_report(alloc: Global, verdict: FileVerdict) -> Result<Report, AllocError>
     ensures status { IfOk result (λ report. report.status ≡ status_of verdict) }
     ensures line { IfOk result (λ report. report.line ≡ line_of verdict) }
 {

@@ -1,6 +1,6 @@
 use Rattle.std.proofs.Common.{inl, inr}
-use Rattle.nfsbench_engine.proofs.FirstLine.{one_bundle}
-use Rattle.nfsbench_engine.proofs.report.judge.Goals as goal
+use Rattle.nfs_judging.proofs.FirstLine.{one_bundle}
+use Rattle.nfs_judging.proofs.report.judge.Goals as goal
 
 pub returns-in-Ok-clause-only : goal.returns-in-Ok-clause-only
 returns-in-Ok-clause-only c =

@@ -2,8 +2,8 @@
 
 ghost use Rattle.std.specs.Prelude.{◌≡◌, ◌⊎◌, ◌<◌, ◌≤◌, ◌++◌, ◌∷◌, [], ℕ, List, codes, IfOk, IfSome, OnErr};
 ghost use Rattle.std.specs.Io.KnownBytes.{Appends};
-ghost use Rattle.nfsbench_engine.specs.Bundle.{IsAcceptedBundle, IsRefutedBundle};
-ghost use Rattle.nfsbench_engine.specs.Report.{IsSaid, MaySay, MayTell, no_line};
+ghost use Rattle.nfs_judging.specs.Bundle.{IsAcceptedBundle, IsRefutedBundle};
+ghost use Rattle.nfs_judging.specs.Report.{IsSaid, MaySay, MayTell, no_line};
 ghost use Rattle.bench_streams.specs.Streams.{AppendsFront, GivesAll, HasRoom};
 ghost use Rattle.bench_streams.specs.Told.{Tells, memory_line};
 ghost use Rattle.witness_check.specs.declared.fault.Fault.{Fault};

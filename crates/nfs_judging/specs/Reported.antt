@@ -13,7 +13,7 @@ use Rattle.witness_check.specs.declared.verdict.FileVerdict.{FileVerdict}
 use Rattle.witness_check.specs.declared.verdict.FileVerdict.TheVariants.{Yes, BadHistory}
 use Rattle.witness_check.specs.Verdict.{IsFileVerdict}
 use Rattle.bench_streams.specs.Told.{IsRefusal}
-use Rattle.nfsbench_engine.specs.Report.{line_of, status_of}
+use Rattle.nfs_judging.specs.Report.{line_of, status_of}
 
 -- a line of a word and a number
 abbrev pub number_line : List ℕ → ℕ → List ℕ

@@ -5,9 +5,9 @@ use Rattle.witness_check.specs.declared.fault.Fault.{Fault}
 use Rattle.witness_check.specs.declared.verdict.FileVerdict.{FileVerdict}
 use Rattle.witness_check.specs.declared.verdict.FileVerdict.TheVariants.{Yes, No, BadHistory, BadText}
 use Rattle.witness_check.specs.Verdict.{IsFileVerdict}
-use Rattle.nfsbench_engine.specs.Bundle.{IsBundle, IsRefutedBundle}
+use Rattle.nfs_judging.specs.Bundle.{IsBundle, IsRefutedBundle}
 use Rattle.bench_streams.specs.Told.{Tells}
-use Rattle.nfsbench_engine.specs.Report.{MaySay, line_of, status_of, no_line}
+use Rattle.nfs_judging.specs.Report.{MaySay, line_of, status_of, no_line}
 
 -- what is known of the input where this is the verdict
 abbrev IsVerdictOf : Option (List ℕ) → FileVerdict → Type 0

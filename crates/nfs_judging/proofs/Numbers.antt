@@ -11,8 +11,8 @@ use Rattle.witness_check.specs.declared.verdict.FileVerdict.{FileVerdict}
 use Rattle.witness_check.specs.declared.verdict.FileVerdict.TheVariants.{BadHistory}
 use Rattle.witness_check.specs.Verdict.{IsFileVerdict}
 use Rattle.bench_streams.specs.Told.{Answer}
-use Rattle.nfsbench_engine.specs.Report.{line_of, status_of}
-use Rattle.nfsbench_engine.specs.Reported.{IsLost, IsReported, count_lines, lost_lines}
+use Rattle.nfs_judging.specs.Report.{line_of, status_of}
+use Rattle.nfs_judging.specs.Reported.{IsLost, IsReported, count_lines, lost_lines}
 
 -- of a history, its numbers and what was found of it
 pub of_history : (file certificate line : List ℕ) (history : HistoryValue) (verdict : FileVerdict) (told : Option ℕ) (status : ℕ)

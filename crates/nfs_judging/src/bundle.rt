@@ -1,7 +1,7 @@
 //! A bundle: a history in lower case hex, a line feed, and a certificate's text.
 
 ghost use Rattle.std.specs.Prelude.{◌≡◌, ◌<◌, ◌==◌, IfOk, IfSome, position, length};
-ghost use Rattle.nfsbench_engine.specs.Bundle.{IsBundle, IsSomeBundle};
+ghost use Rattle.nfs_judging.specs.Bundle.{IsBundle, IsSomeBundle};
 
 use bench_streams::{DigitsFault, decode_digits};
 use memchr::memchr;

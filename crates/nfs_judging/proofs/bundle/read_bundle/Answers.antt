@@ -1,7 +1,7 @@
 use Rattle.std.proofs.Common.{◌+◌, length, sym, arith}
 use Rattle.std.proofs.lemmas.Slice.{between_to_end}
-use Rattle.nfsbench_engine.proofs.FirstLine.{IsBundle-from_line, no_bundle-other, no_bundle-without}
-use Rattle.nfsbench_engine.proofs.bundle.read_bundle.Goals as goal
+use Rattle.nfs_judging.proofs.FirstLine.{IsBundle-from_line, no_bundle-other, no_bundle-without}
+use Rattle.nfs_judging.proofs.bundle.read_bundle.Goals as goal
 
 pub returns-in_default-clause-malformed : goal.returns-in_default-clause-malformed
 returns-in_default-clause-malformed c = λ _ some. no_bundle-without c.args.bytes.now (sym c.in_default.ensures.first) some

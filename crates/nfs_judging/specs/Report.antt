@@ -8,7 +8,7 @@ use Rattle.witness_check.specs.declared.verdict.FileVerdict.{FileVerdict}
 use Rattle.witness_check.specs.declared.verdict.FileVerdict.TheVariants.{Yes, No, BadHistory, BadText}
 use Rattle.witness_check.specs.Verdict.{IsFileVerdict}
 use Rattle.bench_streams.specs.Told.{IsRefusal, memory_line, refused_line}
-use Rattle.nfsbench_engine.specs.Bundle.{IsBundle, IsSomeBundle}
+use Rattle.nfs_judging.specs.Bundle.{IsBundle, IsSomeBundle}
 
 -- the line that tells a fault of a plan
 abbrev pub no_line : Fault → List ℕ

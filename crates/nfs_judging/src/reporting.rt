@@ -4,8 +4,8 @@ ghost use Rattle.std.specs.Prelude.{◌≡◌, ◌++◌, ℕ, List, [], codes, I
 ghost use Rattle.std.specs.Option.{option_copied};
 ghost use Rattle.nfs_history.specs.History.{IsHistoryFile};
 ghost use Rattle.witness_check.specs.Verdict.{IsFileVerdict};
-ghost use Rattle.nfsbench_engine.specs.Report.{line_of, status_of};
-ghost use Rattle.nfsbench_engine.specs.Reported.{IsLost, IsReported, IsReportedOfRead, count_lines, lost_lines, number_line};
+ghost use Rattle.nfs_judging.specs.Report.{line_of, status_of};
+ghost use Rattle.nfs_judging.specs.Reported.{IsLost, IsReported, IsReportedOfRead, count_lines, lost_lines, number_line};
 
 use crate::report::verdict_report;
 use bench_streams::Report;
@@ -52,7 +52,7 @@ fn find(alloc: Global, history: &History, certificate: &[u8]) -> Result<Finding,
 }
 
 /// Writes a line of a word and a number behind a text.
-pub(crate) fn put_number(
+pub fn put_number(
     alloc: Global,
     text: &mut String,
     word: &str,

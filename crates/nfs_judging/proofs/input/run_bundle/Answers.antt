@@ -1,7 +1,7 @@
 use Rattle.std.proofs.Common.{inl}
 use Rattle.witness_check.specs.FaultText.{fault_words}
-use Rattle.nfsbench_engine.proofs.Told.{told_no}
-use Rattle.nfsbench_engine.proofs.engine.run_bundle.Goals as goal
+use Rattle.nfs_judging.proofs.Told.{told_no}
+use Rattle.nfs_judging.proofs.input.run_bundle.Goals as goal
 
 pub returns-in-Ok-clause-no : goal.returns-in-Ok-clause-no
 returns-in-Ok-clause-no g c =

@@ -13,7 +13,7 @@ use Rattle.hex.specs.Hex.{IsBytes, encode_lower, decode_of}
 use Rattle.hex.specs.declared.error.FromHexError.{FromHexError}
 use Rattle.hex.proofs.HexLemmas.{decode_of-encode_lower}
 use Rattle.bench_streams.specs.Digits.{is_lower_digit}
-use Rattle.nfsbench_engine.specs.Bundle.{IsBundle, IsSomeBundle}
+use Rattle.nfs_judging.specs.Bundle.{IsBundle, IsSomeBundle}
 use Rattle.bench_streams.proofs.LowerHex.{AllPass-encode_lower}
 
 abbrev is_line_feed : ℕ → Bool
