@@ -1,6 +1,5 @@
 //! A worker: it takes branches, one by one.
 
-ghost use Rattle.search_branches.specs.Reversible.{CanGoBack};
 ghost use Rattle.seen_states.specs.Handles.{IsOf};
 
 use crate::board::{Board, Branch, Tally};
@@ -106,10 +105,7 @@ fn walk_to<R: Wait, G>(
     team: &Team<'_, '_, G>,
     state: &mut State,
     branch: Branch,
-) -> Result<bool, AllocError>
-    requires { CanGoBack state.old }
-    ensures { CanGoBack state.new }
-{
+) -> Result<bool, AllocError> {
     let way = team.ways.to(rt, branch.parent, branch.depth)?;
     let common = common_depth(state, way.as_slice());
     state.back_to(team.problem, common)?;
@@ -127,10 +123,7 @@ fn go_to<R: Wait, G>(
     team: &Team<'_, '_, G>,
     state: &mut State,
     next: Next,
-) -> Result<Option<Branch>, AllocError>
-    requires { CanGoBack state.old }
-    ensures { CanGoBack state.new }
-{
+) -> Result<Option<Branch>, AllocError> {
     match next {
         Next::Own(branch) => {
             state.back_to(team.problem, branch.depth)?;
@@ -152,10 +145,7 @@ fn make_first(
     state: &mut State,
     moves: &[Move],
     rank: usize,
-) -> Result<Option<(usize, Move)>, AllocError>
-    requires { CanGoBack state.old }
-    ensures { CanGoBack state.new }
-{
+) -> Result<Option<(usize, Move)>, AllocError> {
     for (place, chosen) in moves.iter().enumerate().skip(rank) {
         if state.make(problem, *chosen)? {
             return Ok(Some((place, *chosen)));
@@ -241,9 +231,7 @@ fn take_branch<R: Wait, G: SearchGate>(
     next: Next,
 ) -> Result<(), AllocError>
     requires table { IsOf claimer.old table.now }
-    requires back { CanGoBack state.old }
     ensures table { IsOf claimer.new table.now }
-    ensures back { CanGoBack state.new }
 {
     let Some(branch) = go_to(rt, team, state, next)? else {
         return Ok(());
@@ -334,9 +322,7 @@ fn turn<R: Wait, G: SearchGate>(
     next: Next,
 ) -> bool
     requires table { IsOf claimer.old table.now }
-    requires back { CanGoBack state.old }
     ensures table { IsOf claimer.new table.now }
-    ensures back { CanGoBack state.new }
 {
     match take_branch(rt, team, table, claimer, seat, state, next) {
         Ok(()) => {
@@ -377,7 +363,6 @@ fn take_branches<R: Wait + Clock, G: SearchGate>(
     state: State,
 )
     requires table { IsOf claimer.old table.now }
-    requires back { CanGoBack state }
     ensures { IsOf claimer.new table.now }
 {
     let mut state = state;

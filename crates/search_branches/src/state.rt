@@ -1,8 +1,5 @@
 //! A branch with its tree.
 
-ghost use Rattle.std.specs.Prelude.{IfOk};
-ghost use Rattle.search_branches.specs.Reversible.{CanGoBack, HasBase};
-
 use crate::desk::{Desk, Front, Step};
 use crate::trial::Trial;
 use nfs3_types::FileHandle;
@@ -13,10 +10,17 @@ use tree_handles::Binds;
 use tree_nodes::Nodes;
 
 /// The branch that a worker is at. Where memory ran out in a step its tree is lost, and each later step fails.
-#[derive(Drop)]
 pub struct State {
     trial: Option<Trial>,
     pub(crate) desk: Desk,
+}
+
+impl Drop for State {
+    fn drop(self) {
+        let State { trial, desk } = self;
+        drop(trial);
+        drop(desk);
+    }
 }
 
 /// The digest of a tree: that of its text.
@@ -36,9 +40,7 @@ fn number_of(chosen: Move) -> u64 {
 
 impl State {
     /// At the branch without a move.
-    pub fn begin(alloc: Global, problem: &Problem<'_, '_>) -> Result<State, AllocError>
-        ensures { IfOk result CanGoBack }
-    {
+    pub fn begin(alloc: Global, problem: &Problem<'_, '_>) -> Result<State, AllocError> {
         let binds = Binds::of_root(alloc, problem.known().root().as_slice())?;
         let trial = Trial::begin(alloc, &binds)?;
         let digest = digest_of(alloc, &trial)?;
@@ -54,9 +56,7 @@ impl State {
         alloc: Global,
         problem: &Problem<'_, '_>,
         has_one_handle: bool,
-    ) -> Result<State, AllocError>
-        ensures { IfOk result CanGoBack }
-    {
+    ) -> Result<State, AllocError> {
         let binds = Binds::of_root(alloc, problem.known().root().as_slice())?;
         let trial = Trial::begin(alloc, &binds)?;
         let mut desk = Desk::new(alloc, problem, false, 0)?;
@@ -68,11 +68,7 @@ impl State {
     }
 
     /// Takes the tree out of the branch.
-    fn take_trial(&mut self) -> Result<Trial, AllocError>
-        requires { CanGoBack self.old }
-        ensures taken { IfOk result HasBase }
-        ensures left { CanGoBack self.new }
-    {
+    fn take_trial(&mut self) -> Result<Trial, AllocError> {
         match self.trial.take() {
             Some(trial) => Ok(trial),
             None => Err(AllocError),
@@ -85,10 +81,7 @@ impl State {
         problem: &Problem<'_, '_>,
         number: u64,
         found: &Found,
-    ) -> Result<bool, AllocError>
-        requires { CanGoBack self.old }
-        ensures { CanGoBack self.new }
-    {
+    ) -> Result<bool, AllocError> {
         let mut trial = self.take_trial()?;
         let before = self.desk.front;
         self.desk.bind_given(trial.nodes(), number, found)?;
@@ -102,10 +95,7 @@ impl State {
     }
 
     /// Places a call next, and says whether that is legal; else nothing changes.
-    fn place(&mut self, problem: &Problem<'_, '_>, chosen: Move) -> Result<bool, AllocError>
-        requires { CanGoBack self.old }
-        ensures { CanGoBack self.new }
-    {
+    fn place(&mut self, problem: &Problem<'_, '_>, chosen: Move) -> Result<bool, AllocError> {
         let before = self.desk.front;
         let Some(found) = find(self.desk.alloc, problem.known(), chosen)? else {
             return Ok(false);
@@ -121,10 +111,7 @@ impl State {
     }
 
     /// Ends the era, and keeps so many of its places.
-    fn cut(&mut self, problem: &Problem<'_, '_>, kept: usize) -> Result<(), AllocError>
-        requires { CanGoBack self.old }
-        ensures { CanGoBack self.new }
-    {
+    fn cut(&mut self, problem: &Problem<'_, '_>, kept: usize) -> Result<(), AllocError> {
         let places = self.places();
         let trial = self.take_trial()?.back(places.saturating_sub(kept))?;
         let before = self.desk.front;
@@ -143,10 +130,7 @@ impl State {
     }
 
     /// Makes a move, and says whether it is a legal one; else nothing changes.
-    pub fn make(&mut self, problem: &Problem<'_, '_>, chosen: Move) -> Result<bool, AllocError>
-        requires { CanGoBack self.old }
-        ensures { CanGoBack self.new }
-    {
+    pub fn make(&mut self, problem: &Problem<'_, '_>, chosen: Move) -> Result<bool, AllocError> {
         if let Move::Cut(kept) = chosen {
             self.cut(problem, kept)?;
             return Ok(true);
@@ -155,10 +139,7 @@ impl State {
     }
 
     /// Takes the step of a move again.
-    fn redo_once(&mut self, problem: &Problem<'_, '_>, chosen: Move) -> Result<(), AllocError>
-        requires { CanGoBack self.old }
-        ensures { CanGoBack self.new }
-    {
+    fn redo_once(&mut self, problem: &Problem<'_, '_>, chosen: Move) -> Result<(), AllocError> {
         if let Some(found) = find(self.desk.alloc, problem.known(), chosen)? {
             let number = number_of(chosen);
             let mut trial = self.take_trial()?;
@@ -177,10 +158,7 @@ impl State {
     }
 
     /// Takes the steps of the places past a cut again.
-    fn redo(&mut self, problem: &Problem<'_, '_>, kept: usize) -> Result<(), AllocError>
-        requires { CanGoBack self.old }
-        ensures { CanGoBack self.new }
-    {
+    fn redo(&mut self, problem: &Problem<'_, '_>, kept: usize) -> Result<(), AllocError> {
         let first = self.desk.front.era_start.saturating_add(kept);
         for place in first..self.desk.path.len() {
             if let Some(chosen) = self.move_at(place) {
@@ -196,20 +174,14 @@ impl State {
         problem: &Problem<'_, '_>,
         number: u64,
         before: Front,
-    ) -> Result<(), AllocError>
-        requires { CanGoBack self.old }
-        ensures { CanGoBack self.new }
-    {
+    ) -> Result<(), AllocError> {
         let trial = self.take_trial()?.back(1)?;
         self.trial = Some(trial);
         self.desk.unplace(problem, number, before)
     }
 
     /// Goes back to the branch ahead of the last move, where there is one.
-    fn back_once(&mut self, problem: &Problem<'_, '_>) -> Result<(), AllocError>
-        requires { CanGoBack self.old }
-        ensures { CanGoBack self.new }
-    {
+    fn back_once(&mut self, problem: &Problem<'_, '_>) -> Result<(), AllocError> {
         let Some(step) = self.desk.path.pop() else {
             return Ok(());
         };
@@ -225,10 +197,7 @@ impl State {
     }
 
     /// Goes back to where so many moves were made.
-    pub fn back_to(&mut self, problem: &Problem<'_, '_>, depth: usize) -> Result<(), AllocError>
-        requires { CanGoBack self.old }
-        ensures { CanGoBack self.new }
-    {
+    pub fn back_to(&mut self, problem: &Problem<'_, '_>, depth: usize) -> Result<(), AllocError> {
         for _ in depth..self.desk.path.len() {
             self.back_once(problem)?;
         }
@@ -330,18 +299,12 @@ impl State {
     }
 
     /// Goes on without a call, as if it were placed and did nothing. That isn't taken back.
-    pub fn give_up(&mut self, problem: &Problem<'_, '_>, number: u64) -> Result<(), AllocError>
-        requires { CanGoBack self.old }
-        ensures { CanGoBack self.new }
-    {
+    pub fn give_up(&mut self, problem: &Problem<'_, '_>, number: u64) -> Result<(), AllocError> {
         self.desk.give_up(problem, number)
     }
 
     /// Binds a handle to an object, unless it is bound. It is let go with the branch's last move.
-    pub fn bind(&mut self, handle: &FileHandle, object: u64) -> Result<(), AllocError>
-        requires { CanGoBack self.old }
-        ensures { CanGoBack self.new }
-    {
+    pub fn bind(&mut self, handle: &FileHandle, object: u64) -> Result<(), AllocError> {
         self.desk.bind(handle, object)
     }
 
@@ -351,19 +314,13 @@ impl State {
     }
 
     /// Lets go the handles that were bound past so many.
-    pub fn let_go(&mut self, bound: usize)
-        requires { CanGoBack self.old }
-        ensures { CanGoBack self.new }
-    {
+    pub fn let_go(&mut self, bound: usize) {
         self.desk.front.bound = self.desk.front.bound.min(bound);
         self.desk.unbind();
     }
 
     /// Lets go the handles of an object for good: they aren't bound again where the branch is left.
-    pub fn release(&mut self, object: u64)
-        requires { CanGoBack self.old }
-        ensures { CanGoBack self.new }
-    {
+    pub fn release(&mut self, object: u64) {
         self.desk.release(object);
     }
 

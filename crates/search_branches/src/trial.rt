@@ -1,27 +1,41 @@
 //! A tree that calls are tried on.
 
-ghost use Rattle.std.specs.Prelude.{IfOk};
-ghost use Rattle.search_branches.specs.Reversible.{HasBase};
-
 use file_tree::FileTree;
 use nfs3_types::{NfsCall, Outcome};
 use replay_law::{Replayable, StepFault};
 use std::alloc::{AllocError, Global};
+use std::marker::Model;
 use tree_handles::Binds;
 use tree_nodes::{Nodes, Undo};
 
-/// A tree behind steps, each of which can be taken back.
-#[derive(Drop)]
+/// A tree behind steps, each of which can be taken back. A contract sees how many there are.
 pub(crate) struct Trial {
     tree: FileTree,
     undos: Vec<Undo>,
 }
 
+impl Drop for Trial {
+    fn drop(self) {
+        let Trial { tree, undos } = self;
+        drop(tree);
+        drop(undos);
+    }
+}
+
+impl Model for Trial {
+    ghost use Rattle.std.specs.Prelude.{ℕ, length};
+    ghost use Rattle.search_branches.specs.Reversible.{HasBase};
+
+    ghost Value = { ℕ };
+
+    ghost view = { λ t. length t.undos.items };
+
+    ghost invariant = { λ t. HasBase t.undos.items t.tree };
+}
+
 impl Trial {
     /// Before any step.
-    pub(crate) fn begin(alloc: Global, binds: &Binds) -> Result<Trial, AllocError>
-        ensures { IfOk result HasBase }
-    {
+    pub(crate) fn begin(alloc: Global, binds: &Binds) -> Result<Trial, AllocError> {
         let tree = FileTree::opening(alloc, binds)?;
         Ok(Trial {
             tree,
@@ -41,10 +55,7 @@ impl Trial {
         number: u64,
         call: &NfsCall,
         outcome: &Outcome,
-    ) -> Result<bool, AllocError>
-        requires { HasBase self.old }
-        ensures { HasBase self.new }
-    {
+    ) -> Result<bool, AllocError> {
         self.undos.reserve(1)?;
         match self.tree.step(binds, number, call, outcome) {
             Ok(undo) => {
@@ -57,10 +68,7 @@ impl Trial {
     }
 
     /// Takes the last step back, where there is one.
-    fn back_once(self) -> Result<Trial, AllocError>
-        requires { HasBase self }
-        ensures { IfOk result HasBase }
-    {
+    fn back_once(self) -> Result<Trial, AllocError> {
         let Trial { tree, undos } = self;
         let mut undos = undos;
         match undos.pop() {
@@ -73,10 +81,7 @@ impl Trial {
     }
 
     /// Takes so many steps back.
-    pub(crate) fn back(self, count: usize) -> Result<Trial, AllocError>
-        requires { HasBase self }
-        ensures { IfOk result HasBase }
-    {
+    pub(crate) fn back(self, count: usize) -> Result<Trial, AllocError> {
         let mut trial = self;
         for _ in 0..count {
             trial = trial.back_once()?;

@@ -1,7 +1,5 @@
 //! A call that goes ahead of others that were placed before.
 
-ghost use Rattle.search_branches.specs.Reversible.{CanGoBack};
-
 use crate::pass::Pass;
 use search_lessons::precedes;
 use search_problem::{Move, Nature};
@@ -30,10 +28,7 @@ impl<'p, 's, 'a> Pass<'p, 's, 'a> {
 
     /// Places a call here, if it may be placed or, where help is taken, may be behind another one, and says whether it could be placed;
     /// else nothing changes.
-    fn place_here(&mut self, number: u64, with_help: bool) -> Result<bool, AllocError>
-        requires { CanGoBack self.old.state }
-        ensures { CanGoBack self.new.state }
-    {
+    fn place_here(&mut self, number: u64, with_help: bool) -> Result<bool, AllocError> {
         if self.place(number)? {
             return Ok(true);
         }
@@ -45,10 +40,7 @@ impl<'p, 's, 'a> Pass<'p, 's, 'a> {
 
     /// Places calls once more, the last of a list first, with others ahead of them where they need them, and says whether all could be
     /// placed.
-    fn place_again(&mut self, calls: &[u64]) -> Result<bool, AllocError>
-        requires { CanGoBack self.old.state }
-        ensures { CanGoBack self.new.state }
-    {
+    fn place_again(&mut self, calls: &[u64]) -> Result<bool, AllocError> {
         self.look()?;
         for number in calls.iter().rev() {
             if !self.state.is_open(self.problem, *number) {
@@ -63,10 +55,7 @@ impl<'p, 's, 'a> Pass<'p, 's, 'a> {
     }
 
     /// Places a call as it was.
-    fn restore_one(&mut self, number: u64) -> Result<(), AllocError>
-        requires { CanGoBack self.old.state }
-        ensures { CanGoBack self.new.state }
-    {
+    fn restore_one(&mut self, number: u64) -> Result<(), AllocError> {
         if self.place(number)? {
             return Ok(());
         }
@@ -75,10 +64,7 @@ impl<'p, 's, 'a> Pass<'p, 's, 'a> {
     }
 
     /// Places calls as they were, the last of a list first.
-    fn restore(&mut self, calls: &[u64]) -> Result<(), AllocError>
-        requires { CanGoBack self.old.state }
-        ensures { CanGoBack self.new.state }
-    {
+    fn restore(&mut self, calls: &[u64]) -> Result<(), AllocError> {
         for number in calls.iter().rev() {
             self.restore_one(*number)?;
         }
@@ -91,10 +77,7 @@ impl<'p, 's, 'a> Pass<'p, 's, 'a> {
         number: u64,
         taken: &[u64],
         with_help: bool,
-    ) -> Result<bool, AllocError>
-        requires { CanGoBack self.old.state }
-        ensures { CanGoBack self.new.state }
-    {
+    ) -> Result<bool, AllocError> {
         let depth = self.state.depth();
         if !self.place_here(number, with_help)? {
             return Ok(false);
@@ -108,10 +91,11 @@ impl<'p, 's, 'a> Pass<'p, 's, 'a> {
 
     /// Goes back until a call may be placed, places it there, and then the others once more. It says whether that could be done; else
     /// nothing changes.
-    pub(crate) fn place_earlier(&mut self, number: u64, with_help: bool) -> Result<bool, AllocError>
-        requires { CanGoBack self.old.state }
-        ensures { CanGoBack self.new.state }
-    {
+    pub(crate) fn place_earlier(
+        &mut self,
+        number: u64,
+        with_help: bool,
+    ) -> Result<bool, AllocError> {
         let mut taken = Vec::new(self.alloc);
         for _ in 0..self.state.places() {
             let Some(last) = self.last_beside(number) else {

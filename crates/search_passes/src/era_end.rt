@@ -1,7 +1,5 @@
 //! The end of an era: which of its places are kept.
 
-ghost use Rattle.search_branches.specs.Reversible.{CanGoBack};
-
 use crate::pass::Pass;
 use nfs3_types::{CommitArguments, NfsCall, WriteArguments};
 use search_lessons::{Kept, found_of, is_failed, is_stable};
@@ -28,10 +26,7 @@ fn end_of(offset: u64, count: u32) -> u64 {
 
 impl<'p, 's, 'a> Pass<'p, 's, 'a> {
     /// Places an unanswered call, if it is known to have taken effect.
-    fn place_if_kept(&mut self, number: u64) -> Result<(), AllocError>
-        requires { CanGoBack self.old.state }
-        ensures { CanGoBack self.new.state }
-    {
+    fn place_if_kept(&mut self, number: u64) -> Result<(), AllocError> {
         if !self.lessons.is_kept(number) {
             return Ok(());
         }
@@ -43,10 +38,7 @@ impl<'p, 's, 'a> Pass<'p, 's, 'a> {
     }
 
     /// Places the unanswered calls that are known to have taken effect.
-    fn place_kept(&mut self) -> Result<(), AllocError>
-        requires { CanGoBack self.old.state }
-        ensures { CanGoBack self.new.state }
-    {
+    fn place_kept(&mut self) -> Result<(), AllocError> {
         let waiting = self.state.waiting_calls()?;
         for number in waiting.iter() {
             self.place_if_kept(*number)?;
@@ -175,10 +167,7 @@ impl<'p, 's, 'a> Pass<'p, 's, 'a> {
     }
 
     /// Takes back that a crash took one of so many places, if that was said.
-    fn settle_needed(&mut self, needed: usize) -> Result<(), AllocError>
-        requires { CanGoBack self.old.state }
-        ensures { CanGoBack self.new.state }
-    {
+    fn settle_needed(&mut self, needed: usize) -> Result<(), AllocError> {
         if self.first_lost() >= needed {
             return Ok(());
         }
@@ -188,10 +177,7 @@ impl<'p, 's, 'a> Pass<'p, 's, 'a> {
     }
 
     /// Takes back that a crash took a place, or that one behind it was kept, if both was said; so many places are to be kept.
-    fn settle_kept(&mut self, cut: usize) -> Result<(), AllocError>
-        requires { CanGoBack self.old.state }
-        ensures { CanGoBack self.new.state }
-    {
+    fn settle_kept(&mut self, cut: usize) -> Result<(), AllocError> {
         let Some(kept) = self.last_kept(cut) else {
             return Ok(());
         };
@@ -202,10 +188,7 @@ impl<'p, 's, 'a> Pass<'p, 's, 'a> {
     }
 
     /// How many places are kept, by what was learned.
-    fn choose_cut(&mut self) -> Result<usize, AllocError>
-        requires { CanGoBack self.old.state }
-        ensures { CanGoBack self.new.state }
-    {
+    fn choose_cut(&mut self) -> Result<usize, AllocError> {
         let needed = self.state.least_cut(self.problem)?;
         let cut = self.first_lost().max(needed);
         self.settle_needed(needed)?;
@@ -230,10 +213,7 @@ impl<'p, 's, 'a> Pass<'p, 's, 'a> {
     }
 
     /// Ends the era, and says whether another one follows.
-    pub(crate) fn end_era(&mut self) -> Result<bool, AllocError>
-        requires { CanGoBack self.old.state }
-        ensures { CanGoBack self.new.state }
-    {
+    pub(crate) fn end_era(&mut self) -> Result<bool, AllocError> {
         self.place_kept()?;
         let era = self.state.era();
         if self.problem.is_last(era) {

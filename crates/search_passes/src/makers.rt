@@ -1,7 +1,5 @@
 //! Which unanswered call made what a handle names that no reply gave.
 
-ghost use Rattle.search_branches.specs.Reversible.{CanGoBack};
-
 use crate::pass::Pass;
 use nfs3_types::FileHandle;
 use search_lessons::{Lesson, found_of, given_by, handles_of, is_failed, made_by, shows_file};
@@ -51,10 +49,7 @@ impl<'p, 's, 'a> Pass<'p, 's, 'a> {
     }
 
     /// Has an object of an unanswered call stand, and its handle name it; it says whether that could be done.
-    fn place_maker(&mut self, maker: u64, handle: &FileHandle) -> Result<bool, AllocError>
-        requires { CanGoBack self.old.state }
-        ensures { CanGoBack self.new.state }
-    {
+    fn place_maker(&mut self, maker: u64, handle: &FileHandle) -> Result<bool, AllocError> {
         if self.state.stands(maker) {
             self.state.bind(handle, maker)?;
             return Ok(true);
@@ -77,10 +72,7 @@ impl<'p, 's, 'a> Pass<'p, 's, 'a> {
         handle: &FileHandle,
         number: u64,
         found: &Found,
-    ) -> Result<bool, AllocError>
-        requires { CanGoBack self.old.state }
-        ensures { CanGoBack self.new.state }
-    {
+    ) -> Result<bool, AllocError> {
         if !self.place_maker(maker, handle)? {
             return Ok(false);
         }
@@ -98,10 +90,7 @@ impl<'p, 's, 'a> Pass<'p, 's, 'a> {
         handle: &FileHandle,
         number: u64,
         found: &Found,
-    ) -> Result<bool, AllocError>
-        requires { CanGoBack self.old.state }
-        ensures { CanGoBack self.new.state }
-    {
+    ) -> Result<bool, AllocError> {
         let was_known = self.lessons.handle_of(maker).is_some();
         self.lessons.give_handle(maker, handle)?;
         let depth = self.state.depth();
@@ -122,10 +111,7 @@ impl<'p, 's, 'a> Pass<'p, 's, 'a> {
         handle: &FileHandle,
         number: u64,
         found: &Found,
-    ) -> Result<Option<u64>, AllocError>
-        requires { CanGoBack self.old.state }
-        ensures { CanGoBack self.new.state }
-    {
+    ) -> Result<Option<u64>, AllocError> {
         for maker in makers.iter().take(MOST_MAKERS) {
             if !self.lessons.may_make(*maker, handle) {
                 continue;
@@ -156,10 +142,7 @@ impl<'p, 's, 'a> Pass<'p, 's, 'a> {
         &mut self,
         number: u64,
         found: &Found,
-    ) -> Result<bool, AllocError>
-        requires { CanGoBack self.old.state }
-        ensures { CanGoBack self.new.state }
-    {
+    ) -> Result<bool, AllocError> {
         let unbound = self.unbound(found)?;
         for handle in unbound.iter() {
             let makers = self.makers_beside()?;
@@ -222,10 +205,7 @@ impl<'p, 's, 'a> Pass<'p, 's, 'a> {
     }
 
     /// Finds a maker for a handle of a call that names nothing, and says whether it did.
-    pub(crate) fn find_maker(&mut self, number: u64, found: &Found) -> Result<bool, AllocError>
-        requires { CanGoBack self.old.state }
-        ensures { CanGoBack self.new.state }
-    {
+    pub(crate) fn find_maker(&mut self, number: u64, found: &Found) -> Result<bool, AllocError> {
         let unbound = self.unbound(found)?;
         for handle in unbound.iter() {
             let makers = self.makers_of(handle)?;
@@ -256,10 +236,7 @@ impl<'p, 's, 'a> Pass<'p, 's, 'a> {
 
     /// Takes back that an unanswered call made what a call's handles name, or what stands at its names, and guesses another one. It says
     /// whether that was guessed.
-    pub(crate) fn refute_makers(&mut self, number: u64, found: &Found) -> Result<bool, AllocError>
-        requires { CanGoBack self.old.state }
-        ensures { CanGoBack self.new.state }
-    {
+    pub(crate) fn refute_makers(&mut self, number: u64, found: &Found) -> Result<bool, AllocError> {
         let (one, other) = handles_of(&found.call);
         let (from, to) = self.objects_named(found);
         let one = self.object_of(one);

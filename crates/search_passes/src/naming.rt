@@ -1,7 +1,5 @@
 //! What a call that can't be placed says of names, and of a file.
 
-ghost use Rattle.search_branches.specs.Reversible.{CanGoBack};
-
 use crate::pass::Pass;
 use nfs3_types::DirectoryName;
 use search_lessons::{Lesson, Mending, Seen, Step, overlap, places_of};
@@ -35,10 +33,7 @@ impl<'p, 's, 'a> Pass<'p, 's, 'a> {
     }
 
     /// Has an unanswered call of an earlier era take effect if a call can be placed then, and says whether it can; else nothing changes.
-    fn try_left_out(&mut self, number: u64, other: u64) -> Result<bool, AllocError>
-        requires { CanGoBack self.old.state }
-        ensures { CanGoBack self.new.state }
-    {
+    fn try_left_out(&mut self, number: u64, other: u64) -> Result<bool, AllocError> {
         if !self.lessons.may_be_kept(other) || self.notes.revived.contains_key(&other) {
             return Ok(false);
         }
@@ -56,10 +51,7 @@ impl<'p, 's, 'a> Pass<'p, 's, 'a> {
     }
 
     /// Has an unanswered call of an earlier era take effect without which a call can't be placed, and says whether there is one.
-    fn find_left_out(&mut self, number: u64, name: &[u8]) -> Result<bool, AllocError>
-        requires { CanGoBack self.old.state }
-        ensures { CanGoBack self.new.state }
-    {
+    fn find_left_out(&mut self, number: u64, name: &[u8]) -> Result<bool, AllocError> {
         let calls = Vec::from_slice(self.alloc, self.notes.left_out.of(name))?;
         for other in calls.iter().rev().take(MOST_LEFT_OUT) {
             if self.try_left_out(number, *other)? {
@@ -89,10 +81,7 @@ impl<'p, 's, 'a> Pass<'p, 's, 'a> {
         &mut self,
         number: u64,
         place: Option<&DirectoryName>,
-    ) -> Result<bool, AllocError>
-        requires { CanGoBack self.old.state }
-        ensures { CanGoBack self.new.state }
-    {
+    ) -> Result<bool, AllocError> {
         match place {
             Some(place) => self.find_left_out(number, place.name.as_slice()),
             None => Ok(false),
@@ -100,10 +89,7 @@ impl<'p, 's, 'a> Pass<'p, 's, 'a> {
     }
 
     /// Has changes of a name of a call that can't be placed be made in another order, and says whether there are such.
-    fn turn_at(&mut self, place: Option<&DirectoryName>) -> Result<bool, AllocError>
-        requires { CanGoBack self.old.state }
-        ensures { CanGoBack self.new.state }
-    {
+    fn turn_at(&mut self, place: Option<&DirectoryName>) -> Result<bool, AllocError> {
         match place {
             Some(place) => {
                 let pairs = self.overlapping_changes(place.name.as_slice())?;
@@ -114,10 +100,7 @@ impl<'p, 's, 'a> Pass<'p, 's, 'a> {
     }
 
     /// Learns which unanswered calls a call's handles and names need, and which changes of its names go first.
-    fn explain_names(&mut self, number: u64, found: &Found) -> Result<(), AllocError>
-        requires { CanGoBack self.old.state }
-        ensures { CanGoBack self.new.state }
-    {
+    fn explain_names(&mut self, number: u64, found: &Found) -> Result<(), AllocError> {
         let (from, to) = places_of(&found.call);
         if self.find_maker(number, found)? {
             return Ok(());
@@ -160,10 +143,7 @@ impl<'p, 's, 'a> Pass<'p, 's, 'a> {
     }
 
     /// Learns what a call's reply says that can't be placed now.
-    pub(crate) fn explain(&mut self, number: u64, found: &Found) -> Result<(), AllocError>
-        requires { CanGoBack self.old.state }
-        ensures { CanGoBack self.new.state }
-    {
+    pub(crate) fn explain(&mut self, number: u64, found: &Found) -> Result<(), AllocError> {
         let Some(steps) = self.lessons_of_file(number, found)? else {
             return self.explain_names(number, found);
         };

@@ -1,8 +1,5 @@
 //! A pass over a history.
 
-ghost use Rattle.std.specs.Prelude.{IfOk};
-ghost use Rattle.search_branches.specs.Reversible.{CanGoBack};
-
 use crate::notes::{Notes, Placed};
 use crate::watch::PassWatch;
 use search_branches::State;
@@ -35,9 +32,7 @@ impl<'p, 's, 'a> Pass<'p, 's, 'a> {
         names: &'p NamesGiven,
         lessons: Lessons,
         has_one_handle: bool,
-    ) -> Result<Pass<'p, 's, 'a>, AllocError>
-        ensures { IfOk result (λ pass. CanGoBack pass.state) }
-    {
+    ) -> Result<Pass<'p, 's, 'a>, AllocError> {
         let eras = problem.known().eras() as usize;
         Ok(Pass {
             alloc,
@@ -50,36 +45,24 @@ impl<'p, 's, 'a> Pass<'p, 's, 'a> {
     }
 
     /// Goes back to where so many moves were made.
-    pub(crate) fn back_to(&mut self, depth: usize) -> Result<(), AllocError>
-        requires { CanGoBack self.old.state }
-        ensures { CanGoBack self.new.state }
-    {
+    pub(crate) fn back_to(&mut self, depth: usize) -> Result<(), AllocError> {
         self.notes.back_to(depth);
         self.state.back_to(self.problem, depth)
     }
 
     /// Ends the era, and keeps so many of its places.
-    pub(crate) fn cut(&mut self, kept: usize) -> Result<(), AllocError>
-        requires { CanGoBack self.old.state }
-        ensures { CanGoBack self.new.state }
-    {
+    pub(crate) fn cut(&mut self, kept: usize) -> Result<(), AllocError> {
         self.state.make(self.problem, Move::Cut(kept))?;
         Ok(())
     }
 
     /// Makes a call's move, and says whether it is a legal one; else nothing changes.
-    fn make(&mut self, number: u64) -> Result<bool, AllocError>
-        requires { CanGoBack self.old.state }
-        ensures { CanGoBack self.new.state }
-    {
+    fn make(&mut self, number: u64) -> Result<bool, AllocError> {
         self.state.make(self.problem, move_of(self.problem, number))
     }
 
     /// Whether a call may be placed now.
-    pub(crate) fn is_legal(&mut self, number: u64) -> Result<bool, AllocError>
-        requires { CanGoBack self.old.state }
-        ensures { CanGoBack self.new.state }
-    {
+    pub(crate) fn is_legal(&mut self, number: u64) -> Result<bool, AllocError> {
         let depth = self.state.depth();
         let is_legal = self.make(number)?;
         self.state.back_to(self.problem, depth)?;
@@ -106,10 +89,7 @@ impl<'p, 's, 'a> Pass<'p, 's, 'a> {
     }
 
     /// Notes a call that was placed last, if it may change the tree.
-    fn note_placed(&mut self, number: u64) -> Result<(), AllocError>
-        requires { CanGoBack self.old.state }
-        ensures { CanGoBack self.new.state }
-    {
+    fn note_placed(&mut self, number: u64) -> Result<(), AllocError> {
         let Some(found) = self.found_changing(number)? else {
             return Ok(());
         };
@@ -118,10 +98,7 @@ impl<'p, 's, 'a> Pass<'p, 's, 'a> {
     }
 
     /// Places a call, and says whether that is legal; else nothing changes.
-    pub(crate) fn place(&mut self, number: u64) -> Result<bool, AllocError>
-        requires { CanGoBack self.old.state }
-        ensures { CanGoBack self.new.state }
-    {
+    pub(crate) fn place(&mut self, number: u64) -> Result<bool, AllocError> {
         if !self.make(number)? {
             return Ok(false);
         }
@@ -131,10 +108,7 @@ impl<'p, 's, 'a> Pass<'p, 's, 'a> {
     }
 
     /// Binds the handle that an unanswered call is known to have made.
-    fn bind_made(&mut self, number: u64) -> Result<(), AllocError>
-        requires { CanGoBack self.old.state }
-        ensures { CanGoBack self.new.state }
-    {
+    fn bind_made(&mut self, number: u64) -> Result<(), AllocError> {
         if self.problem.nature(number) != Nature::Unanswered || !self.state.stands(number) {
             return Ok(());
         }
@@ -145,10 +119,7 @@ impl<'p, 's, 'a> Pass<'p, 's, 'a> {
     }
 
     /// Places a call, if it leaves the tree and is legal now.
-    fn look_at(&mut self, number: u64) -> Result<(), AllocError>
-        requires { CanGoBack self.old.state }
-        ensures { CanGoBack self.new.state }
-    {
+    fn look_at(&mut self, number: u64) -> Result<(), AllocError> {
         if self.problem.nature(number) != Nature::Looking {
             return Ok(());
         }
@@ -157,10 +128,7 @@ impl<'p, 's, 'a> Pass<'p, 's, 'a> {
     }
 
     /// Places the calls that leave the tree and are legal now, of those with such a number and later ones.
-    fn look_from(&mut self, from: u64) -> Result<(), AllocError>
-        requires { CanGoBack self.old.state }
-        ensures { CanGoBack self.new.state }
-    {
+    fn look_from(&mut self, from: u64) -> Result<(), AllocError> {
         let calls = self.state.open_calls(from)?;
         for number in calls.iter() {
             self.look_at(*number)?;
@@ -169,10 +137,7 @@ impl<'p, 's, 'a> Pass<'p, 's, 'a> {
     }
 
     /// Places the calls that leave the tree and are legal now.
-    pub(crate) fn look(&mut self) -> Result<(), AllocError>
-        requires { CanGoBack self.old.state }
-        ensures { CanGoBack self.new.state }
-    {
+    pub(crate) fn look(&mut self) -> Result<(), AllocError> {
         let mut from = 0u64;
         for _ in 0..self.problem.known().count().saturating_add(1) {
             let frontier = self.state.frontier();
@@ -205,10 +170,7 @@ impl<'p, 's, 'a> Pass<'p, 's, 'a> {
     }
 
     /// Places a call, if it may come next and is legal.
-    fn place_if_open(&mut self, number: u64) -> Result<(), AllocError>
-        requires { CanGoBack self.old.state }
-        ensures { CanGoBack self.new.state }
-    {
+    fn place_if_open(&mut self, number: u64) -> Result<(), AllocError> {
         if !self.state.is_open(self.problem, number) {
             return Ok(());
         }
@@ -217,10 +179,7 @@ impl<'p, 's, 'a> Pass<'p, 's, 'a> {
     }
 
     /// Places a call if it is legal, and first those that are known to go ahead of it.
-    fn place_behind(&mut self, number: u64, deepest: u32) -> Result<(), AllocError>
-        requires { CanGoBack self.old.state }
-        ensures { CanGoBack self.new.state }
-    {
+    fn place_behind(&mut self, number: u64, deepest: u32) -> Result<(), AllocError> {
         if deepest == 0 {
             return self.place_if_open(number);
         }
@@ -243,10 +202,7 @@ impl<'p, 's, 'a> Pass<'p, 's, 'a> {
     }
 
     /// Places a call that no crash takes, as far as is known.
-    fn place_if_safe(&mut self, number: u64) -> Result<(), AllocError>
-        requires { CanGoBack self.old.state }
-        ensures { CanGoBack self.new.state }
-    {
+    fn place_if_safe(&mut self, number: u64) -> Result<(), AllocError> {
         if !self.is_safe(number)? {
             return Ok(());
         }
@@ -254,10 +210,7 @@ impl<'p, 's, 'a> Pass<'p, 's, 'a> {
     }
 
     /// Places what no crash takes ahead of a call, if one took that.
-    fn place_safe(&mut self, number: u64) -> Result<(), AllocError>
-        requires { CanGoBack self.old.state }
-        ensures { CanGoBack self.new.state }
-    {
+    fn place_safe(&mut self, number: u64) -> Result<(), AllocError> {
         if !self.lessons.is_lost(number) {
             return Ok(());
         }
@@ -269,10 +222,7 @@ impl<'p, 's, 'a> Pass<'p, 's, 'a> {
     }
 
     /// Places the call whose reply came first, or goes on without it.
-    fn place_due(&mut self, number: u64) -> Result<(), AllocError>
-        requires { CanGoBack self.old.state }
-        ensures { CanGoBack self.new.state }
-    {
+    fn place_due(&mut self, number: u64) -> Result<(), AllocError> {
         self.place_safe(number)?;
         self.place_behind(number, DEEPEST)?;
         self.unstick(number)?;
@@ -286,10 +236,7 @@ impl<'p, 's, 'a> Pass<'p, 's, 'a> {
     }
 
     /// Places the calls of the era, unless it is hopeless.
-    pub(crate) fn run_era<W: PassWatch>(&mut self, watch: &mut W) -> Result<(), AllocError>
-        requires { CanGoBack self.old.state }
-        ensures { CanGoBack self.new.state }
-    {
+    pub(crate) fn run_era<W: PassWatch>(&mut self, watch: &mut W) -> Result<(), AllocError> {
         self.look()?;
         for _ in 0..self.problem.known().count().saturating_add(1) {
             let Some(number) = self.state.due() else {

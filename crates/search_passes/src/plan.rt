@@ -1,7 +1,5 @@
 //! The plan that the passes come to.
 
-ghost use Rattle.search_branches.specs.Reversible.{CanGoBack};
-
 use crate::pass::Pass;
 use crate::watch::PassWatch;
 use certificate::Certificate;
@@ -14,10 +12,7 @@ const MOST_PASSES: u64 = 8;
 
 impl<'p, 's, 'a> Pass<'p, 's, 'a> {
     /// Places the calls of all eras, unless it is hopeless.
-    fn run<W: PassWatch>(&mut self, watch: &mut W) -> Result<(), AllocError>
-        requires { CanGoBack self.old.state }
-        ensures { CanGoBack self.new.state }
-    {
+    fn run<W: PassWatch>(&mut self, watch: &mut W) -> Result<(), AllocError> {
         for _ in 0..self.problem.known().eras() {
             self.run_era(watch)?;
             if self.is_hopeless() {

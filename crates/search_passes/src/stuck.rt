@@ -1,7 +1,5 @@
 //! A call that can't be placed where its reply came: others go ahead of it, it goes ahead of others, or the next pass knows better.
 
-ghost use Rattle.search_branches.specs.Reversible.{CanGoBack};
-
 use crate::pass::Pass;
 use search_lessons::found_of;
 use search_problem::{Found, Nature};
@@ -39,10 +37,7 @@ impl<'p, 's, 'a> Pass<'p, 's, 'a> {
         found: &Found,
         blind: u32,
         most: u32,
-    ) -> Result<bool, AllocError>
-        requires { CanGoBack self.old.state }
-        ensures { CanGoBack self.new.state }
-    {
+    ) -> Result<bool, AllocError> {
         if blind == 0 || most == 0 {
             return Ok(false);
         }
@@ -65,10 +60,7 @@ impl<'p, 's, 'a> Pass<'p, 's, 'a> {
     }
 
     /// Places a call behind others that may go ahead of it, and says whether it could be placed; else nothing changes.
-    pub(crate) fn place_helped(&mut self, number: u64, blind: u32) -> Result<bool, AllocError>
-        requires { CanGoBack self.old.state }
-        ensures { CanGoBack self.new.state }
-    {
+    pub(crate) fn place_helped(&mut self, number: u64, blind: u32) -> Result<bool, AllocError> {
         let Some(found) = found_of(self.alloc, self.problem, number)? else {
             return Ok(false);
         };
@@ -79,10 +71,7 @@ impl<'p, 's, 'a> Pass<'p, 's, 'a> {
     }
 
     /// Places a call that isn't legal now, by what stands beside it, and says whether it could be placed; else nothing changes.
-    fn place_beside(&mut self, number: u64, found: &Found) -> Result<bool, AllocError>
-        requires { CanGoBack self.old.state }
-        ensures { CanGoBack self.new.state }
-    {
+    fn place_beside(&mut self, number: u64, found: &Found) -> Result<bool, AllocError> {
         if self.place_helped(number, 1)? {
             return Ok(true);
         }
@@ -99,10 +88,7 @@ impl<'p, 's, 'a> Pass<'p, 's, 'a> {
     }
 
     /// Places a call that wasn't legal when it was due, if it is still to come, or learns why it isn't and goes on without it.
-    pub(crate) fn unstick(&mut self, number: u64) -> Result<(), AllocError>
-        requires { CanGoBack self.old.state }
-        ensures { CanGoBack self.new.state }
-    {
+    pub(crate) fn unstick(&mut self, number: u64) -> Result<(), AllocError> {
         if !self.state.is_open(self.problem, number) {
             return Ok(());
         }

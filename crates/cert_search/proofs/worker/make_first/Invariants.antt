@@ -1,8 +1,6 @@
-use Rattle.search_branches.specs.Reversible.{CanGoBack}
 use Rattle.cert_search.proofs.worker.make_first.Given as goal
 
 abbrev pub invariant-loop-place : goal.invariant-loop-place
 invariant-loop-place l =
-    CanGoBack l.state ×
     (goal.iterator-loop-place).can_next l.place-iterator ×
     (goal.iterator-loop-place).is_finite l.place-iterator

@@ -1,8 +1,6 @@
-use Rattle.search_branches.specs.Reversible.{CanGoBack}
 use Rattle.search_passes.proofs.pass.Pass.find_left_out.Given as goal
 
 abbrev pub invariant-loop-other : goal.invariant-loop-other
 invariant-loop-other l =
-    CanGoBack l.self.state ×
     (goal.iterator-loop-other).can_next l.other-iterator ×
     (goal.iterator-loop-other).is_finite l.other-iterator

@@ -1,5 +1,0 @@
-use Rattle.search_branches.specs.Reversible.{CanGoBack}
-use Rattle.search_passes.proofs.pass.Pass.place_with_maker.Given as goal
-
-abbrev pub invariant-loop-handle : goal.invariant-loop-handle
-invariant-loop-handle l = CanGoBack l.self.state
