@@ -1,0 +1,63 @@
+#!/usr/bin/env python3
+"""An optimized program without a proof, to measure a change ahead of proving it: build_unproved.py CRATE PROGRAM.
+
+`rt try` compiles a crate's program without optimization. This takes the module that it compiles, compiles it as a build does, and
+links it with the kit's C files: some five minutes of a processor for nfsbench. Each step is still checked (bounds, overflow), so it takes up to a
+fifth more time than the program that `rt run` proves and builds. CRATE is a folder, PROGRAM the file to write. The status is 1 where there is no program.
+"""
+import os
+import shutil
+import subprocess
+import sys
+import tempfile
+
+# What stands for clang: it keeps the last module that it is given, and compiles. It gets no environment.
+CLANG = """#!/bin/sh
+[ -f module.bc ] && cp module.bc '{module}'
+exec '{clang}' "$@"
+"""
+
+# rt, with another toolchain for the one tool that is looked on.
+RT = """
+import os, subprocess, sys
+class Popen(subprocess.Popen):
+    def __init__(self, words, *rest, **named):
+        words = [os.environ["OTHER_TOOLCHAIN"] if at and words[at - 1] == "--toolchain" else it for at, it in enumerate(words)]
+        super().__init__(words, *rest, **named)
+subprocess.Popen = Popen
+path = sys.argv[1]
+sys.argv = ["rt", "try", "--steps", "1", "--seconds", "1"]
+sys.path.insert(0, os.path.dirname(path))
+exec(compile(open(path).read(), path, "exec"), {"__name__": "__main__", "__file__": path})
+"""
+
+# What a build gives clang.
+FLAGS = """--target=x86_64-unknown-linux-gnu -march=x86-64-v2 -mllvm -no-trap-after-noreturn -ffunction-sections -fdata-sections
+-mllvm -trap-unreachable -no-canonical-prefixes -fPIE -O3 -c -x ir""".split()
+
+
+def main() -> int:
+    crate, program = (os.path.realpath(it) for it in sys.argv[1:3])
+    rt = os.path.realpath(shutil.which("rt"))
+    kit = os.path.dirname(os.path.dirname(rt))
+    with tempfile.TemporaryDirectory() as work:
+        other, module, compiled = f"{work}/toolchain", f"{work}/kept.bc", f"{work}/kept.o"
+        shutil.copytree(f"{kit}/toolchain", other, symlinks=True, ignore=lambda folder, names: ["clang"] if folder.endswith("/bin") else [])
+        for name in ("ld.lld", "llvm-ar"):
+            os.remove(f"{other}/bin/{name}")
+            os.symlink(f"{kit}/toolchain/bin/{name}", f"{other}/bin/{name}")
+        with open(f"{other}/bin/clang", "w") as file:
+            file.write(CLANG.format(module=module, clang=f"{kit}/toolchain/bin/clang"))
+        os.chmod(f"{other}/bin/clang", 0o755)
+        around = {**os.environ, "OTHER_TOOLCHAIN": other}
+        subprocess.run([sys.executable, "-c", RT, rt], cwd=crate, env=around, stdin=subprocess.DEVNULL, stdout=subprocess.DEVNULL)
+        if not os.path.isfile(module):
+            return 1
+        subprocess.run([f"{kit}/toolchain/bin/clang", f"--sysroot={kit}/toolchain", *FLAGS, module, "-o", compiled], check=True)
+        files = [f"{kit}/c/{it}" for it in ("libos_c.a", "liblibc_c.a")]
+        subprocess.run(["cc", compiled, *files, "-lpthread", "-Wl,--gc-sections", "-o", program], check=True)
+    return 0
+
+
+if __name__ == "__main__":
+    sys.exit(main())
