@@ -15,12 +15,12 @@ WANT = re.compile(r"\b(AllocError|AllocFailed|NoMemory|OutOfMemory|Memory)\b")
 
 # A growth was refused where the error has another name; a value is given up behind it; or what can't occur is answered so.
 KNOWN = {
-    "cert_search/src/searching.rt": 1, "cert_search/src/ways.rt": 2, "cert_search/src/worker.rt": 1,
+    "search_workers/src/running.rt": 1, "search_workers/src/ways.rt": 2, "search_workers/src/worker.rt": 1,
     "crash_harness/src/run.rt": 1, "cut_check/src/stability.rt": 1,
     "journal_server/src/crashing.rt": 1, "journal_server/src/desk.rt": 1, "journal_server/src/placing.rt": 1,
     "names/src/long.rt": 1, "names/src/short.rt": 1, "nfs_history/src/checking.rt": 1, "nfs_history/src/history.rt": 1,
     "nfs_relay/src/connection.rt": 1, "nfs_relay/src/relay.rt": 1, "nfs_searching/src/search.rt": 1,
-    "recorder/src/answering.rt": 2, "recorder/src/beginning.rt": 1, "recorder/src/book.rt": 1, "recorder/src/ledger.rt": 2,
+    "book_ledger/src/answering.rt": 2, "book_ledger/src/beginning.rt": 1, "recorder/src/book.rt": 1, "book_ledger/src/ledger.rt": 2,
     "search_branches/src/state.rt": 1, "tree_nodes/src/nodes.rt": 1, "tree_nodes/src/table.rt": 1,
 }
 

@@ -1,13 +1,9 @@
 //! A search for a certificate of a history: workers try serial orders, the likeliest first.
 #![tactic(auto)]
 
-mod board;
 mod end;
 mod searching;
-mod telling;
-mod watch;
-mod ways;
-mod worker;
 
-pub use end::{OpenSearch, Progress, SearchEnd, SearchGate};
-pub use searching::{Host, search, search_by_branches, search_calls};
+pub use end::SearchEnd;
+pub use search_workers::{Host, OpenSearch, Progress, SearchGate};
+pub use searching::{search, search_by_branches, search_calls};

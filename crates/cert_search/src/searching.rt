@@ -1,168 +1,21 @@
-//! A search by several workers.
+//! A search, and what is found judged.
 
 ghost use Rattle.std.specs.Prelude.{◌≡◌, ◌≤◌, IfOk, IfSome, IsSome};
-ghost use Rattle.std.specs.Thread.{IsSync};
 ghost use Rattle.certificate.specs.declared.plan.Certificate.{Certificate};
 ghost use Rattle.witness_check.specs.Witness.{IsWitness};
 ghost use Rattle.reply_order.specs.ReplyOrder.{IsReplyOrder};
-ghost use Rattle.seen_states.specs.Handles.{IsOf};
 ghost use Rattle.cert_search.specs.End.{IsFoundOnly, IsFoundOrNoMemory};
 
-use crate::board::{Board, Branch};
-use crate::end::{SearchEnd, SearchGate};
-use crate::telling::PassTeller;
-use crate::ways::Ways;
-use crate::worker::{Seat, Team, work};
+use crate::end::SearchEnd;
 use certificate::Certificate;
-use crossbeam_deque::{Stealer, Worker};
 use nfs_history::{History, KnownCalls};
 use reply_order::reply_order;
-use search_passes::plan_of;
-use search_problem::Problem;
-use seen_states::{Claimer, SeenTable};
+use search_workers::{Host, Lack, SearchGate, pass_over_calls, run_workers};
 use std::alloc::{AllocError, Global};
-use std::sync::Wait;
-use std::thread::{Threads, join};
-use std::time::Clock;
 use witness_check::{Verdict, check_calls};
-
-/// The table of seen states has at least 2^16 words, and at most 2^22.
-const FEWEST_BITS: u32 = 16;
-
-const MOST_BITS: u32 = 22;
 
 /// How many branches each worker takes ahead of the passes, at most.
 const FIRST_BRANCHES: u64 = 1_000;
-
-/// How many branches a worker's own list has room for at first.
-const FIRST_ROOM: usize = 256;
-
-/// What a search needs of the runtime.
-pub trait Host: Threads + Wait + Clock + AllocGlobal + Sync {}
-
-impl<R> Host for R
-where
-    R: Threads + Wait + Clock + AllocGlobal + Sync,
-{}
-
-/// The seats of so many workers, and for each worker what others steal its branches by.
-#[derive(Drop)]
-struct Seats {
-    seats: Vec<Seat>,
-    stealers: Vec<Stealer<Branch>>,
-}
-
-impl Seats {
-    /// For so many workers, of which the last has the first branch.
-    fn new(alloc: Global, workers: u32) -> Result<Seats, AllocError> {
-        let mut seats = Vec::new(alloc);
-        let mut stealers = Vec::new(alloc);
-        for number in 0..workers {
-            let own = Worker::new_lifo(alloc, FIRST_ROOM)?;
-            stealers.push(own.stealer()?)?;
-            seats.push(Seat::new(number, own))?;
-        }
-        if let Some(seat) = seats.last_mut() {
-            if seat.own.push(Branch::FIRST).is_err() {
-                return Err(AllocError);
-            }
-        }
-        Ok(Seats { seats, stealers })
-    }
-}
-
-/// Has the last seat's worker and so many more work, each in a thread of its own.
-fn work_all<R: Threads + Wait + Clock + Sync, G: SearchGate + Sync>(
-    rt: &R,
-    team: &Team<'_, '_, G>,
-    table: &SeenTable,
-    claimer: Claimer,
-    seats: Vec<Seat>,
-    more: u32,
-)
-    requires { IsOf claimer table.now }
-{
-    let mut seats = seats;
-    let Some(seat) = seats.pop() else {
-        return;
-    };
-    if more == 0 {
-        work(rt, team, table, claimer, seat);
-        return;
-    }
-    let fewer = more - 1;
-    let mut claimer = claimer;
-    let other = table.split(&mut claimer);
-    join(
-        rt,
-        move ||
-            requires { IsSync R.row × IsSync G.row × IsOf claimer table.now }
-        { work(rt, team, table, claimer, seat) },
-        move ||
-            requires { IsSync R.row × IsSync G.row × IsOf other table.now }
-        { work_all(rt, team, table, other, seats, fewer) },
-    );
-}
-
-/// What workers lacked that found nothing.
-#[derive(Clone, Copy)]
-enum Lack {
-    /// Branches.
-    Branches,
-    Turns,
-    Memory,
-}
-
-/// What the workers came to: the plan that they found, and what they lacked else.
-fn outcome_of<R: Wait>(rt: &R, board: &Board) -> (Option<Certificate>, Lack) {
-    let found = board.take_found(rt);
-    if board.lacked_memory() {
-        return (found, Lack::Memory);
-    }
-    if board.left_branches() {
-        return (found, Lack::Turns);
-    }
-    (found, Lack::Branches)
-}
-
-/// Of how many bits the number of a table's words is that has room for twice so many states.
-fn bits_for(states: u64) -> u32
-    ensures { result ≤ MOST_BITS }
-{
-    65u32
-        .saturating_sub(states.leading_zeros())
-        .max(FEWEST_BITS)
-        .min(MOST_BITS)
-}
-
-/// Has the workers search, and gives what they came to.
-fn run_workers<R: Host, G: SearchGate + Sync>(
-    rt: &R,
-    known: &KnownCalls<'_>,
-    workers: u32,
-    turns: u64,
-    gate: &G,
-) -> Result<(Option<Certificate>, Lack), AllocError> {
-    let alloc = rt.alloc();
-    let problem = Problem::new(alloc, known)?;
-    let Seats { seats, stealers } = Seats::new(alloc, workers)?;
-    let bits = bits_for(turns.saturating_mul(u64::from(workers)));
-    let (table, claimer) = SeenTable::new(alloc, bits)?;
-    let board = Board::new();
-    let ways = Ways::new(alloc, workers)?;
-    let team = Team {
-        alloc,
-        problem: &problem,
-        board: &board,
-        ways: &ways,
-        stealers: stealers.as_slice(),
-        gate,
-        turns,
-        room: (1u64 << bits) / 4 * 3,
-    };
-    work_all(rt, &team, &table, claimer, seats, workers.saturating_sub(1));
-    Ok(outcome_of(rt, &board))
-}
 
 /// A plan, if it is a witness.
 fn if_witness(
@@ -188,11 +41,8 @@ fn pass_over<R: Host, G: SearchGate>(
 ) -> Result<Option<Certificate>, AllocError>
     ensures { IfOk result (λ found. IfSome found (λ plan. IsWitness known.now plan)) }
 {
-    let alloc = rt.alloc();
-    let problem = Problem::new(alloc, known)?;
-    let mut teller = PassTeller::new(rt, gate, known.count());
-    match plan_of(alloc, &problem, turns, &mut teller)? {
-        Some(plan) => if_witness(alloc, known, plan),
+    match pass_over_calls(rt, known, turns, gate)? {
+        Some(plan) => if_witness(rt.alloc(), known, plan),
         None => Ok(None),
     }
 }

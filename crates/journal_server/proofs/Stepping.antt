@@ -7,17 +7,17 @@ use Rattle.book_machine.specs.Book.{Book, Condition}
 use Rattle.book_machine.specs.Book.Condition.{running, down, dead}
 use Rattle.book_machine.specs.Steps.{Steps, MayBecome, Begins, Places, Flushes, Answers, Closes, Crashes}
 use Rattle.book_machine.specs.Steps.Steps.{begins, places, flushes, answers, closes, crashes, refuses}
-use Rattle.recorder.specs.declared.token.Token.{Token}
-use Rattle.recorder.specs.declared.fault.BeginFault.{BeginFault}
-use Rattle.recorder.specs.declared.fault.PlaceFault.{PlaceFault}
-use Rattle.recorder.specs.declared.fault.PlaceFault.TheVariants as place
-use Rattle.recorder.specs.declared.fault.FlushFault.{FlushFault}
-use Rattle.recorder.specs.declared.fault.FlushFault.TheVariants as flush
-use Rattle.recorder.specs.declared.fault.AnswerFault.{AnswerFault}
-use Rattle.recorder.specs.declared.fault.CloseFault.{CloseFault}
-use Rattle.recorder.specs.declared.fault.CrashFault.{CrashFault}
-use Rattle.recorder.specs.declared.fault.CrashFault.TheVariants as crash
-use Rattle.recorder.specs.Refusals.{BeginRefused, PlaceRefused, FlushRefused, AnswerRefused, CloseRefused, CrashRefused}
+use Rattle.book_ledger.specs.declared.token.Token.{Token}
+use Rattle.book_ledger.specs.declared.fault.BeginFault.{BeginFault}
+use Rattle.book_ledger.specs.declared.fault.PlaceFault.{PlaceFault}
+use Rattle.book_ledger.specs.declared.fault.PlaceFault.TheVariants as place
+use Rattle.book_ledger.specs.declared.fault.FlushFault.{FlushFault}
+use Rattle.book_ledger.specs.declared.fault.FlushFault.TheVariants as flush
+use Rattle.book_ledger.specs.declared.fault.AnswerFault.{AnswerFault}
+use Rattle.book_ledger.specs.declared.fault.CloseFault.{CloseFault}
+use Rattle.book_ledger.specs.declared.fault.CrashFault.{CrashFault}
+use Rattle.book_ledger.specs.declared.fault.CrashFault.TheVariants as crash
+use Rattle.book_ledger.specs.Refusals.{BeginRefused, PlaceRefused, FlushRefused, AnswerRefused, CloseRefused, CrashRefused}
 use Rattle.journal_server.specs.Desks.{MaySteps}
 
 down_apart : down ≢ running

@@ -10,17 +10,17 @@ ghost use Rattle.book_machine.specs.Book.{Book, tree_of};
 ghost use Rattle.book_machine.specs.Plan.{plan_of};
 ghost use Rattle.book_machine.specs.Book.Condition.{running};
 ghost use Rattle.book_machine.specs.Steps.{opening_book, IsUnplaced, Begins, Places, Flushes, Answers, Closes, Crashes};
-ghost use Rattle.recorder.specs.PlaceSteps.{entry_put, IsReceived, IsLeft};
+ghost use Rattle.book_ledger.specs.PlaceSteps.{entry_put, IsReceived, IsLeft};
 ghost use Rattle.certificate.specs.CertificateText.{IsCertificate};
 ghost use Rattle.witness_check.specs.Witness.{IsWitness};
 ghost use Rattle.served_laws.specs.ServedPlan.{EachServed};
-ghost use Rattle.recorder.specs.Sending.{IsSent};
-ghost use Rattle.recorder.specs.Refusals.{IsNow, PlaceStops, BeginRefused, PlaceRefused, FlushRefused, AnswerRefused, CloseRefused, CrashRefused};
+ghost use Rattle.book_ledger.specs.Sending.{IsSent};
+ghost use Rattle.book_ledger.specs.Refusals.{IsNow, PlaceStops, BeginRefused, PlaceRefused, FlushRefused, AnswerRefused, CloseRefused, CrashRefused};
 
-use crate::fault::{AnswerFault, BeginFault, CloseFault, CrashFault, FlushFault, PlaceFault};
-use crate::ledger::Ledger;
-use crate::placed::Condition;
-use crate::token::Token;
+use book_ledger::{
+    AnswerFault, BeginFault, CloseFault, Condition, CrashFault, FlushFault, Ledger, PlaceFault,
+    Token,
+};
 use certificate::Certificate;
 use journal_device::{DevFault, JournalDevice};
 use nfs_history::History;
@@ -36,7 +36,7 @@ pub struct Book<D: JournalDevice> {
 
 impl<D: JournalDevice> Model for Book<D> {
     ghost use Rattle.book_machine.specs.Book as machine;
-    ghost use Rattle.recorder.specs.Inside.{book_of, AreTied};
+    ghost use Rattle.book_ledger.specs.Inside.{book_of, AreTied};
 
     ghost Value = { machine.Book };
 

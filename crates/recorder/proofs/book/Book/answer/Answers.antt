@@ -1,7 +1,7 @@
 use Rattle.std.proofs.Common.{◌≡◌, refl, sym}
 use Rattle.book_machine.specs.Steps.{Answers}
-use Rattle.recorder.specs.Refusals.{AnswerStops}
-use Rattle.recorder.proofs.Whole.{tied_at, on_ok_at, if_err_at, sent_whole}
+use Rattle.book_ledger.specs.Refusals.{AnswerStops}
+use Rattle.book_ledger.proofs.Whole.{tied_at, on_ok_at, if_err_at, sent_whole}
 use Rattle.recorder.proofs.book.Book.answer.Goals as goal
 
 pub answer-requires : goal.answer-requires

@@ -1,7 +1,7 @@
 use Rattle.std.proofs.Common.{◌≡◌, length, refl}
 use Rattle.book_machine.specs.Steps.{Begins}
-use Rattle.recorder.specs.Refusals.{BeginStops}
-use Rattle.recorder.proofs.Whole.{tied_if, if_ok_whole, if_err_whole}
+use Rattle.book_ledger.specs.Refusals.{BeginStops}
+use Rattle.book_ledger.proofs.Whole.{tied_if, if_ok_whole, if_err_whole}
 use Rattle.recorder.proofs.book.Book.begin.Goals as goal
 
 pub invariant_of-self : goal.invariant_of-self

@@ -1,5 +1,5 @@
 use Rattle.journal_device.specs.Device.{recovered}
-use Rattle.recorder.proofs.BookSteps.{crash_stopped}
+use Rattle.book_ledger.proofs.BookSteps.{crash_stopped}
 use Rattle.recorder.proofs.book.Book.crash.Goals as goal
 
 pub invariant_of-self-in-Err-recover : goal.invariant_of-self-in-Err-recover

@@ -1,4 +1,4 @@
-use Rattle.recorder.proofs.Flushed.{opened}
+use Rattle.book_ledger.proofs.Flushed.{opened}
 use Rattle.recorder.proofs.book.Book.new.Goals as goal
 
 pub invariant_of-result : goal.invariant_of-result

@@ -1,7 +1,7 @@
 use Rattle.std.proofs.Common.{ℕ, refl, ap, subst, ◌∙◌}
 use Rattle.book_machine.specs.Book.{Book}
 use Rattle.book_machine.specs.Book.Condition.{down}
-use Rattle.recorder.specs.Refusals.{PlaceStops}
+use Rattle.book_ledger.specs.Refusals.{PlaceStops}
 use Rattle.recorder.proofs.book.Book.place.Goals as goal
 
 pub returns-in-Err-clause-refused : goal.returns-in-Err-clause-refused

@@ -3,13 +3,13 @@ use Rattle.std.proofs.lemmas.Result.{err_from_is_err_and}
 use Rattle.book_machine.specs.Book.{Book}
 use Rattle.replay_law.specs.declared.replay.StepFault.{StepFault}
 use Rattle.book_machine.specs.Steps.{Places}
-use Rattle.recorder.specs.declared.fault.PlaceFault.{PlaceFault}
-use Rattle.recorder.specs.JoinedFaults.{of_step, of_device}
-use Rattle.recorder.specs.Inside.{book_of}
-use Rattle.recorder.specs.Refusals.{PlaceStops}
-use Rattle.recorder.specs.PlaceSteps.{IsLeft, entry_put}
-use Rattle.recorder.proofs.BookSteps.{turn_so, asked_so, asked_then, tied_then, free_then, early, stayed_then, step_refused}
-use Rattle.recorder.proofs.BookPlace.{within_so, placed_then, lost_then}
+use Rattle.book_ledger.specs.declared.fault.PlaceFault.{PlaceFault}
+use Rattle.book_ledger.specs.JoinedFaults.{of_step, of_device}
+use Rattle.book_ledger.specs.Inside.{book_of}
+use Rattle.book_ledger.specs.Refusals.{PlaceStops}
+use Rattle.book_ledger.specs.PlaceSteps.{IsLeft, entry_put}
+use Rattle.book_ledger.proofs.BookSteps.{turn_so, asked_so, asked_then, tied_then, free_then, early, stayed_then, step_refused}
+use Rattle.book_ledger.proofs.BookPlace.{within_so, placed_then, lost_then}
 use Rattle.recorder.proofs.book.Book.put_place.Goals as goal
 use Rattle.recorder.proofs.book.Book.put_place.Goals.{in-Some-3, in-None-3}
 

@@ -1,0 +1,128 @@
+//! Replies that go out.
+
+ghost use Rattle.std.specs.Prelude.{◌≡◌, ◌↔◌, ◌≤◌, Some, None, length, IfOk, OnOk, OnErr, IfErr, IsTrue};
+ghost use Rattle.history_file.specs.declared.event.Event.TheVariants as events;
+ghost use Rattle.nfs_history.specs.declared.history.RecordedCall.{RecordedCall};
+ghost use Rattle.nfs_history.specs.Appending.{Follows};
+ghost use Rattle.nfs_history.specs.Precedence.{call_at, end_of};
+ghost use Rattle.book_machine.specs.Book.Condition.{running};
+ghost use Rattle.book_machine.specs.Book.{records_kept};
+ghost use Rattle.book_machine.specs.Steps.{Answers};
+ghost use Rattle.book_ledger.specs.Inside.{IsTied, StandsAt, OnlyHistory, GoesAt, Holds};
+ghost use Rattle.book_ledger.specs.Refusals.{IsNow, AnswerStops};
+ghost use Rattle.book_ledger.specs.Sending.{IsSent};
+ghost use Rattle.book_ledger.specs.Turns.{IsDurableAt, IsAnswerAt};
+
+use crate::calls::promises;
+use crate::fault::AnswerFault;
+use crate::ledger::Ledger;
+use crate::lookups::call_asked;
+use crate::placing::reply_message;
+use nfs_history::{Event, Message};
+use nfs3_types::Outcome;
+use std::alloc::AllocError;
+
+impl Ledger {
+    /// Whether what the reply at this place promises is on stable storage, where so many records are.
+    fn is_durable(&self, number: u64, place: usize, mark: u64) -> bool
+        requires tied { IsTied self.now }
+        requires stands { StandsAt self.now number place }
+        ensures { Holds (λ book. IsTrue result ↔ IsDurableAt (records_kept book) mark book.placed place) self.now }
+    {
+        let placed = &self.placed[place];
+        if placed.records <= mark {
+            return true;
+        }
+        !promises(call_asked(&self.history, number), &placed.outcome)
+    }
+
+    /// The reply at this place, as a message.
+    fn answer_at(&self, number: u64, place: usize) -> Result<Vec<u8>, AllocError>
+        requires tied { IsTied self.now }
+        requires stands { StandsAt self.now number place }
+        ensures { IfOk result (λ answer. IsAnswerAt self.now number place answer.items) }
+    {
+        let placed = &self.placed[place];
+        let Outcome::Received(reply) = &placed.outcome else {
+            unreachable!();
+        };
+        reply_message(self.alloc, self.history.call(number).xid, reply)
+    }
+
+    /// Puts a reply behind the other events of the history.
+    fn put_answer(&mut self, number: u64, answer: Vec<u8>) -> Result<Vec<u8>, AnswerFault>
+        requires from_one { 1 ≤ number }
+        requires known { number ≤ length self.old.history.known.calls }
+        ensures only { OnlyHistory self.old self.new }
+        ensures as_far { self.new.calls.items ≡ self.old.calls.items }
+        ensures taken { OnOk result ((call : RecordedCall) → call_at self.old.history.known.calls number ≡ Some call
+            → Follows self.old.history (events.Reply call.lane answer.items) self.new.history) }
+        ensures sent { IfOk result (λ message. IsSent self.old.history message.items self.new.history) }
+        ensures kept { OnErr result (self.new.history ≡ self.old.history) }
+        ensures memory { IfErr result (λ fault. fault ≡ AnswerFault.NoMemory) }
+    {
+        let message = Message::from_slice(self.alloc, answer.as_slice())?;
+        let lane = self.history.call(number).lane;
+        match self.history.append(Event::Reply { lane, message }) {
+            Ok(()) => Ok(answer),
+            Err(_) => Err(AnswerFault::NoMemory),
+        }
+    }
+
+    /// Answers a call that stands at this place and has no reply, where what the reply promises is on stable storage.
+    fn answer_durable(
+        &mut self,
+        number: u64,
+        place: usize,
+        mark: u64,
+    ) -> Result<Vec<u8>, AnswerFault>
+        requires tied { IsTied self.old }
+        requires stands { StandsAt self.old number place }
+        requires ready { Holds (λ book. (book.condition ≡ running) × IsNow book number × (end_of book.history.known.calls number ≡ None)) self.old }
+        requires durable { Holds (λ book. IsDurableAt (records_kept book) mark book.placed place) self.old }
+        ensures answered { OnOk result (GoesAt mark (λ old new. Answers old number new) self.old self.new) }
+        ensures sent { IfOk result (λ message. IsSent self.old.history message.items self.new.history) }
+        ensures refused { IfErr result (λ fault. GoesAt mark (λ old new. AnswerStops old number fault × (new ≡ old)) self.old self.new) }
+    {
+        let _ = mark;
+        match self.answer_at(number, place) {
+            Ok(answer) => self.put_answer(number, answer),
+            Err(_) => Err(AnswerFault::NoMemory),
+        }
+    }
+
+    /// Answers a call that stands at this place and has no reply.
+    fn answer_placed(
+        &mut self,
+        number: u64,
+        place: usize,
+        mark: u64,
+    ) -> Result<Vec<u8>, AnswerFault>
+        requires tied { IsTied self.old }
+        requires stands { StandsAt self.old number place }
+        requires ready { Holds (λ book. (book.condition ≡ running) × IsNow book number × (end_of book.history.known.calls number ≡ None)) self.old }
+        ensures answered { OnOk result (GoesAt mark (λ old new. Answers old number new) self.old self.new) }
+        ensures sent { IfOk result (λ message. IsSent self.old.history message.items self.new.history) }
+        ensures refused { IfErr result (λ fault. GoesAt mark (λ old new. AnswerStops old number fault × (new ≡ old)) self.old self.new) }
+    {
+        let durable = self.is_durable(number, place, mark);
+        if durable {
+            self.answer_durable(number, place, mark)
+        } else {
+            Err(AnswerFault::NotDurable(mark))
+        }
+    }
+
+    /// Answers a call that was placed.
+    pub fn answer(&mut self, number: u64, mark: u64) -> Result<Vec<u8>, AnswerFault>
+        requires { IsTied self.old }
+        ensures answered { OnOk result (GoesAt mark (λ old new. Answers old number new) self.old self.new) }
+        ensures sent { IfOk result (λ message. IsSent self.old.history message.items self.new.history) }
+        ensures refused { IfErr result (λ fault. GoesAt mark (λ old new. AnswerStops old number fault × (new ≡ old)) self.old self.new) }
+    {
+        match self.check_placed(number) {
+            Ok(place) => self.answer_placed(number, place, mark),
+            Err(fault) => Err(AnswerFault::from(fault)),
+        }
+    }
+}

@@ -1,0 +1,207 @@
+//! What a call and its reply are to a book.
+
+ghost use Rattle.std.specs.Prelude.{◌≡◌, ◌↔◌, ◌⊎◌, not, true, None, IsTrue, option_map};
+ghost use Rattle.rpc_reader.specs.Views.{call_value};
+ghost use Rattle.nfs3_types.specs.Procedures.{is_judged};
+ghost use Rattle.cut_check.specs.Effect.{succeeded, effect_of, write_success, commit_success};
+ghost use Rattle.cut_check.specs.declared.effect.Effect.TheVariants.{Lasting};
+ghost use Rattle.cut_check.specs.Verifier.{verifier_of};
+ghost use Rattle.tree_laws.specs.Leaving.{only_looks};
+ghost use Rattle.tree_laws.specs.Outcomes.{count_written};
+ghost use Rattle.book_machine.specs.Placing.{is_recorded};
+ghost use Rattle.book_machine.specs.Steps.{commits};
+ghost use Rattle.journal_records.specs.Exactly.{ExactlySeen};
+ghost use Rattle.book_ledger.specs.Recordable.{asks_judged, may_make, step_so, AsksJudged, IsKeptInside, AreKeptArguments, IsKeptAsked};
+
+use crate::fault::BeginFault;
+use journal_records::is_inside;
+use nfs3_msgs::{MessageFault, read_args};
+use nfs3_types::{Answer, NfsCall, NfsReply, Outcome, Procedure, StableHow};
+use rpc_reader::{CallHead, read_call};
+use std::alloc::Global;
+use xdr_records::RECORD_LIMIT;
+
+/// The program number of NFS (RFC 1813, section 2.2).
+const NFS_PROGRAM: u32 = 100_003;
+/// The version that is judged.
+const NFS_VERSION: u32 = 3;
+/// The credential flavor of RPCSEC_GSS (RFC 2203).
+const SEALED_FLAVOR: u32 = 6;
+
+/// Whether the procedure of this number is judged.
+fn is_judged(number: u32) -> bool
+    ensures { result ≡ is_judged number }
+{
+    match Procedure::from_number(number) {
+        Some(procedure) => procedure.is_judged(),
+        None => false,
+    }
+}
+
+/// Whether a message is a call of a judged procedure whose arguments can be read.
+fn asks_judged(head: &CallHead<'_>) -> bool
+    ensures { result ≡ asks_judged (call_value head.now) }
+{
+    head.program == NFS_PROGRAM
+        && head.version == NFS_VERSION
+        && head.flavor != SEALED_FLAVOR
+        && is_judged(head.procedure)
+}
+
+/// The head of a judged call.
+fn judged_head(message: &[u8]) -> Option<CallHead<'_>>
+    ensures { ExactlySeen call_value (AsksJudged message.now) result }
+{
+    match read_call(message) {
+        Ok(head) => { if asks_judged(&head) { Some(head) } else { None } }
+        Err(_) => None,
+    }
+}
+
+/// Whether a call lies inside the model whatever its reply.
+fn check_inside(call: NfsCall) -> Result<(), BeginFault>
+    ensures { IsKeptInside call result }
+{
+    if is_inside(&call) {
+        Ok(())
+    } else {
+        Err(BeginFault::BadRecord)
+    }
+}
+
+/// Whether these are the arguments of a call that lies inside the model whatever its reply.
+fn check_arguments(alloc: Global, procedure: u32, bytes: &[u8]) -> Result<(), BeginFault>
+    ensures { AreKeptArguments procedure bytes.now result }
+{
+    match read_args(alloc, procedure, bytes) {
+        Ok(call) => check_inside(call),
+        Err(MessageFault::BadMessage { .. }) => Err(BeginFault::BadRecord),
+        Err(MessageFault::NoMemory) => Err(BeginFault::NoMemory),
+    }
+}
+
+/// Whether a history takes a message as a judged call whatever is answered.
+pub(crate) fn check_recordable(alloc: Global, message: &[u8]) -> Result<(), BeginFault>
+    ensures { IsKeptAsked message.now result }
+{
+    if message.len() > RECORD_LIMIT {
+        return Err(BeginFault::BadRecord);
+    }
+    let Some(head) = judged_head(message) else {
+        return Err(BeginFault::BadRecord);
+    };
+    check_arguments(alloc, head.procedure, head.args)
+}
+
+/// Whether a call changes the tree where it succeeds.
+fn may_change(call: &NfsCall) -> bool
+    ensures { result ≡ not (only_looks call.now) }
+{
+    matches!(
+        call,
+        NfsCall::SetAttr(_)
+            | NfsCall::Write(_)
+            | NfsCall::Create(_)
+            | NfsCall::MkDir(_)
+            | NfsCall::SymLink(_)
+            | NfsCall::Remove(_)
+            | NfsCall::RmDir(_)
+            | NfsCall::Rename(_)
+    )
+}
+
+/// Whether a call was answered by a success.
+fn succeeded(call: &NfsCall, outcome: &Outcome) -> bool
+    ensures { result ≡ succeeded call.now outcome.now }
+{
+    match outcome {
+        Outcome::Received(reply) => call.is_answered_by(reply) && reply.failure().is_none(),
+        Outcome::Taken(_) => false,
+    }
+}
+
+/// Whether a call that came out so has a record in the journal.
+pub(crate) fn is_recorded(call: &NfsCall, outcome: &Outcome) -> bool
+    ensures { result ≡ is_recorded (step_so call.now outcome.now) }
+{
+    may_change(call) && succeeded(call, outcome)
+}
+
+/// The level at which a WRITE was answered, with the bytes that it counts and the verifier, where it succeeded.
+fn write_answer(outcome: &Outcome) -> Option<(StableHow, u32, u64)>
+    ensures { result ≡ option_map (λ success. (success.level, success.count, success.verifier.value)) (write_success outcome.now) }
+{
+    let Outcome::Received(reply) = outcome else {
+        return None;
+    };
+    let NfsReply::Write(answer) = reply else {
+        return None;
+    };
+    match answer {
+        Answer::Done(success) => Some((success.level, success.count, success.verifier.value)),
+        Answer::Failed(..) => None,
+    }
+}
+
+/// The verifier of a COMMIT that succeeded.
+fn commit_verifier(outcome: &Outcome) -> Option<u64>
+    ensures { result ≡ option_map (λ success. success.verifier.value) (commit_success outcome.now) }
+{
+    let Outcome::Received(reply) = outcome else {
+        return None;
+    };
+    let NfsReply::Commit(answer) = reply else {
+        return None;
+    };
+    match answer {
+        Answer::Done(success) => Some(success.verifier.value),
+        Answer::Failed(..) => None,
+    }
+}
+
+/// Whether a reply promises that the call outlives a crash (RFC 1813, section 4.7), or, of a COMMIT, that what is placed ahead does.
+pub(crate) fn promises(call: &NfsCall, outcome: &Outcome) -> bool
+    ensures { IsTrue result ↔ ((effect_of None call.now outcome.now ≡ Lasting) ⊎ (commits (step_so call.now outcome.now) ≡ true)) }
+{
+    match call {
+        NfsCall::Write(_) => {
+            matches!(
+                write_answer(outcome),
+                Some((StableHow::DataSync | StableHow::FileSync, _, _))
+            )
+        }
+        NfsCall::Commit(_) => commit_verifier(outcome).is_some(),
+        _ => is_recorded(call, outcome),
+    }
+}
+
+/// The write verifier that a reply shows.
+pub(crate) fn verifier_of(call: &NfsCall, outcome: &Outcome) -> Option<u64>
+    ensures { result ≡ verifier_of call.now outcome.now }
+{
+    match call {
+        NfsCall::Write(_) => write_answer(outcome).map(|answer| answer.2),
+        NfsCall::Commit(_) => commit_verifier(outcome),
+        _ => None,
+    }
+}
+
+/// How many bytes a WRITE wrote, by its reply.
+pub(crate) fn count_written(outcome: &Outcome) -> Option<u32>
+    ensures { result ≡ count_written outcome.now }
+{
+    match outcome {
+        Outcome::Received(_) => write_answer(outcome).map(|answer| answer.1),
+        Outcome::Taken(count) => *count,
+    }
+}
+
+/// Whether a call makes an object where it succeeds.
+pub(crate) fn may_make(call: &NfsCall) -> bool
+    ensures { result ≡ may_make call.now }
+{
+    matches!(
+        call,
+        NfsCall::Create(_) | NfsCall::MkDir(_) | NfsCall::SymLink(_)
+    )
+}

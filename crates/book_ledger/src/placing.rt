@@ -1,0 +1,303 @@
+//! Calls that are placed in the serial order.
+
+ghost use Rattle.std.specs.Prelude.{◌≡◌, ◌≢◌, ◌+◌, ◌-◌, ◌<◌, ◌≤◌, length, slice_set, vec_len, vec_capacity, Some, None, Err, IfOk, IfErr, OnOk, OnErr, IsSome, MatchBool, is_some, true};
+ghost use Rattle.xdr_records.specs.Record.{record_limit};
+ghost use Rattle.rpc_reader.specs.Messages.{IsReply};
+ghost use Rattle.rpc_reader.specs.Values.Body.{success};
+ghost use Rattle.nfs3_types.specs.Procedures.{procedure_answered};
+ghost use Rattle.nfs3_msgs.specs.Messages.{IsResult, result_text};
+ghost use Rattle.nfs3_types.specs.declared.replies.Outcome.TheVariants.{Received};
+ghost use Rattle.tree_nodes.specs.Tree.{entry_of};
+ghost use Rattle.tree_handles.specs.Binding.{object_of};
+ghost use Rattle.file_tree.specs.Success.{next_tree};
+ghost use Rattle.book_machine.specs.Book.{handle_of};
+ghost use Rattle.book_machine.specs.Steps.{reply_message, journal_record};
+ghost use Rattle.book_ledger.specs.Inside.{IsAsked, IsTied, Goes, asked_by};
+ghost use Rattle.book_ledger.specs.Recordable.{may_make};
+ghost use Rattle.book_ledger.specs.PlaceSteps.{with_own, without_own, bound_if, HasRoom, IsSame, HasLost, NameAlike, TakesStep, HasStepped, HasNoStep, HasStayed, IsReceived, ShowsNow, MayGive, GivesAllowed, StopsWhere, IsShortAnswer, IsSayable, IsEntry, HasPlaced};
+
+use crate::calls::{is_recorded, may_make, verifier_of};
+use crate::fault::PlaceFault;
+use crate::ledger::Ledger;
+use crate::lookups::{call_asked, message_of};
+use crate::placed::{CallState, Condition, PlacedCall};
+use crate::served::is_served;
+use file_tree::{Binds, FileTree, Undo};
+use journal_records::put_record;
+use nfs3_msgs::put_result;
+use nfs3_types::{NfsCall, NfsReply, Outcome};
+use replay_law::{Replayable, StepFault};
+use rpc_reader::{ReplyBody, put_reply};
+use std::alloc::{AllocError, Global};
+use xdr_records::RECORD_LIMIT;
+
+/// A step that a call took in the tree.
+#[derive(Drop)]
+pub struct TreeStep {
+    /// What takes it back.
+    pub undo: Undo,
+    /// Whether the call's object is there.
+    pub made: bool,
+}
+
+/// The reply to a call, as a message.
+pub(crate) fn reply_message(
+    alloc: Global,
+    xid: u32,
+    reply: &NfsReply,
+) -> Result<Vec<u8>, AllocError>
+    ensures message { IfOk result (λ m. m.items ≡ reply_message xid reply.now) }
+    ensures spelled { IfOk result (λ m. IsReply m.items (record { xid = xid; body = success (result_text reply.now) }) × IsResult (procedure_answered reply.now) (result_text reply.now) reply.now) }
+{
+    let mut results = Vec::new(alloc);
+    put_result(&mut results, reply)?;
+    let mut message = Vec::new(alloc);
+    put_reply(&mut message, xid, &ReplyBody::Success(results.as_slice()))?;
+    Ok(message)
+}
+
+/// The journal's record of a call.
+fn record_of(
+    alloc: Global,
+    number: u64,
+    message: &[u8],
+    answer: &[u8],
+) -> Result<Vec<u8>, AllocError>
+    requires message { length message.now ≤ record_limit }
+    requires answer { length answer.now ≤ record_limit }
+    ensures { IfOk result (λ bytes. bytes.items ≡ journal_record number message.now answer.now) }
+{
+    let mut bytes = Vec::new(alloc);
+    put_record(&mut bytes, number, message, answer)?;
+    Ok(bytes)
+}
+
+/// Whether a node stands in the tree.
+fn stands(tree: &FileTree, object: u64) -> bool
+    ensures { result ≡ is_some (entry_of tree.now object) }
+{
+    tree.nodes().node(object).is_some()
+}
+
+/// Binds the handle of an object.
+fn bind_own(binds: &mut Binds, number: u64) -> Result<(), AllocError>
+    ensures ok { OnOk result (binds.new ≡ with_own number binds.old) }
+    ensures err { OnErr result (binds.new ≡ binds.old) }
+{
+    binds.push(number.to_be_bytes().as_slice(), number)
+}
+
+/// Lets the handle of an object go.
+fn forget_own(binds: &mut Binds, number: u64)
+    ensures { binds.new ≡ without_own number binds.old }
+{
+    binds.forget(number.to_be_bytes().as_slice());
+}
+
+/// Takes the step of a call, with its own handle bound where it may make an object. The handle stays bound where the object is
+/// there.
+fn step_with_handle(
+    tree: &mut FileTree,
+    binds: &mut Binds,
+    number: u64,
+    call: &NfsCall,
+    outcome: &Outcome,
+) -> Result<TreeStep, StepFault>
+    requires { object_of binds.old (handle_of number) ≡ None }
+    ensures taken { IfOk result (TakesStep true binds.old tree.old number call.now outcome.now binds.new tree.new) }
+    ensures refused { result ≡ Err StepFault.NotAllowed → next_tree (with_own number binds.old) tree.old number call.now outcome.now ≡ None }
+    ensures tree { OnErr result (tree.new ≡ tree.old) }
+    ensures binds { OnErr result (NameAlike binds.new binds.old) }
+{
+    bind_own(binds, number)?;
+    match tree.step(binds, number, call, outcome) {
+        Ok(undo) => {
+            let made = stands(tree, number);
+            if !made {
+                forget_own(binds, number);
+            }
+            Ok(TreeStep { undo, made })
+        }
+        Err(fault) => {
+            forget_own(binds, number);
+            Err(fault)
+        }
+    }
+}
+
+/// Takes the step of a call.
+fn take_step(
+    tree: &mut FileTree,
+    binds: &mut Binds,
+    number: u64,
+    call: &NfsCall,
+    outcome: &Outcome,
+) -> Result<TreeStep, StepFault>
+    requires { object_of binds.old (handle_of number) ≡ None }
+    ensures taken { IfOk result (TakesStep (may_make call.now) binds.old tree.old number call.now outcome.now binds.new tree.new) }
+    ensures refused { result ≡ Err StepFault.NotAllowed → next_tree (bound_if (may_make call.now) number binds.old) tree.old number call.now outcome.now ≡ None }
+    ensures tree { OnErr result (tree.new ≡ tree.old) }
+    ensures binds { OnErr result (NameAlike binds.new binds.old) }
+{
+    if may_make(call) {
+        return step_with_handle(tree, binds, number, call, outcome);
+    }
+    let undo = tree.step(binds, number, call, outcome)?;
+    Ok(TreeStep { undo, made: false })
+}
+
+/// Notes where a call was placed.
+fn note_state(calls: &mut [CallState], number: u64, place: usize, made: bool)
+    requires from_one { 1 ≤ number }
+    requires within { number ≤ length calls.old }
+    ensures { calls.new ≡ slice_set calls.old (number - 1) (record { place = Some place; made = made }) }
+{
+    calls[number as usize - 1] = CallState {
+        place: Some(place),
+        made,
+    };
+}
+
+impl Ledger {
+    /// Whether a reply shows no other write verifier than this era's.
+    fn shows_now(&self, number: u64, outcome: &Outcome) -> bool
+        requires { IsAsked self.now.history.known.calls number }
+        ensures { MatchBool result (ShowsNow self.now number outcome.now) (¬ ShowsNow self.now number outcome.now) }
+    {
+        match verifier_of(call_asked(&self.history, number), outcome) {
+            Some(verifier) => verifier == self.history.eras(),
+            None => true,
+        }
+    }
+
+    /// Whether the server may give this reply, where the tree allows it.
+    fn check_reply(&self, number: u64, outcome: &Outcome) -> Result<(), PlaceFault>
+        requires asked { IsAsked self.now.history.known.calls number }
+        requires received { IsReceived outcome.now }
+        requires stands { IsSome self.now.tree }
+        ensures fits { OnOk result (ShowsNow self.now number outcome.now × GivesAllowed self.now number outcome.now) }
+        ensures refused { IfErr result (StopsWhere (¬ (ShowsNow self.now number outcome.now × MayGive self.now number outcome.now))) }
+    {
+        if !self.shows_now(number, outcome) {
+            return Err(PlaceFault::NotLegal);
+        }
+        let call = call_asked(&self.history, number);
+        let (Some(tree), Outcome::Received(reply)) = (&self.tree, outcome) else {
+            unreachable!();
+        };
+        if is_served(&self.binds, tree, number, call, reply)? {
+            Ok(())
+        } else {
+            Err(PlaceFault::NotLegal)
+        }
+    }
+
+    /// The journal's record of a call with its reply, where it has one.
+    fn entry_of(&self, number: u64, outcome: &Outcome) -> Result<Option<Vec<u8>>, PlaceFault>
+        requires tied { IsTied self.now }
+        requires asked { IsAsked self.now.history.known.calls number }
+        requires received { IsReceived outcome.now }
+        ensures entry { IfOk result (IsEntry self.now number outcome.now) }
+        ensures fits { OnOk result (IsShortAnswer self.now number outcome.now) }
+        ensures said { OnOk result (IsSayable self.now number outcome.now) }
+        ensures refused { IfErr result (StopsWhere (¬ IsShortAnswer self.now number outcome.now)) }
+    {
+        let Outcome::Received(reply) = outcome else {
+            unreachable!();
+        };
+        let asked = self.history.call(number);
+        let answer = reply_message(self.alloc, asked.xid, reply)?;
+        if answer.len() > RECORD_LIMIT {
+            return Err(PlaceFault::NotLegal);
+        }
+        if !is_recorded(call_asked(&self.history, number), outcome) {
+            return Ok(None);
+        }
+        let message = message_of(&self.history, asked);
+        let bytes = record_of(self.alloc, number, message, answer.as_slice())?;
+        Ok(Some(bytes))
+    }
+
+    /// What a call with this outcome puts into the journal, where it may be placed and the tree allows it. Room is set aside for its
+    /// place.
+    pub fn prepare_place(
+        &mut self,
+        number: u64,
+        outcome: &Outcome,
+    ) -> Result<Option<Vec<u8>>, PlaceFault>
+        requires tied { IsTied self.old }
+        requires asked { IsAsked self.old.history.known.calls number }
+        requires received { IsReceived outcome.now }
+        requires stands { IsSome self.old.tree }
+        ensures same { IsSame self.old self.new }
+        ensures room { OnOk result (HasRoom self.new) }
+        ensures entry { IfOk result (IsEntry self.new number outcome.now) }
+        ensures fits { OnOk result (ShowsNow self.new number outcome.now × GivesAllowed self.new number outcome.now × IsShortAnswer self.new number outcome.now × IsSayable self.new number outcome.now) }
+        ensures refused { IfErr result (StopsWhere (¬ (ShowsNow self.new number outcome.now × MayGive self.new number outcome.now × IsShortAnswer self.new number outcome.now))) }
+    {
+        self.check_reply(number, outcome)?;
+        let entry = self.entry_of(number, outcome)?;
+        self.placed.reserve(1)?;
+        self.undos.reserve(1)?;
+        Ok(entry)
+    }
+
+    /// Takes the step of a call in the tree.
+    pub fn step(&mut self, number: u64, outcome: &Outcome) -> Result<TreeStep, StepFault>
+        requires asked { IsAsked self.old.history.known.calls number }
+        requires stands { IsSome self.old.tree }
+        requires free { object_of self.old.binds (handle_of number) ≡ None }
+        ensures taken { IfOk result (λ step. HasStepped self.old number outcome.now step self.new) }
+        ensures refused { result ≡ Err StepFault.NotAllowed → HasNoStep self.old number outcome.now }
+        ensures kept { OnErr result (HasStayed self.old self.new) }
+    {
+        let Some(tree) = &mut self.tree else {
+            unreachable!();
+        };
+        let call = call_asked(&self.history, number);
+        take_step(tree, &mut self.binds, number, call, outcome)
+    }
+
+    /// Places a call that took its step, behind which there are so many records. Room is set aside for it.
+    pub fn note_place(
+        &mut self,
+        number: u64,
+        outcome: Outcome,
+        step: TreeStep,
+        recorded: bool,
+        records: u64,
+    )
+        requires room { HasRoom self.old }
+        requires from_one { 1 ≤ number }
+        requires within { number ≤ length self.old.calls.items }
+        ensures { HasPlaced self.old number outcome step recorded records self.new }
+    {
+        let TreeStep { undo, made } = step;
+        if recorded {
+            self.undos.push(undo).unwrap();
+        } else {
+            drop(undo);
+        }
+        note_state(&mut self.calls, number, self.placed.len(), made);
+        let placed = PlacedCall {
+            number,
+            outcome,
+            records,
+        };
+        self.placed.push(placed).unwrap();
+    }
+
+    /// Lets the tree go that a call took its step in, which isn't placed. The book is down from then on.
+    pub fn lose_step(&mut self, number: u64, step: TreeStep)
+        ensures { HasLost self.old number step.made self.new }
+    {
+        let TreeStep { undo, made } = step;
+        drop(undo);
+        if made {
+            forget_own(&mut self.binds, number);
+        }
+        drop(self.tree.take());
+        self.undos.clear();
+        self.condition = Condition::Down;
+    }
+}

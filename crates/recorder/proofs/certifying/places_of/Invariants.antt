@@ -1,6 +1,0 @@
-use Rattle.std.proofs.Common.{◌≡◌, ◌++◌, drop}
-use Rattle.recorder.proofs.Plans.{places_in}
-use Rattle.recorder.proofs.certifying.places_of.Given as goal
-
-abbrev pub invariant-loop-next : goal.invariant-loop-next
-invariant-loop-next l = l.places.items ++ places_in l.history.known.calls (drop l.next-index l.placed) ≡ places_in l.history.known.calls l.placed

@@ -1,5 +1,0 @@
-use Rattle.std.proofs.Common.{refl}
-use Rattle.recorder.proofs.ledger.Ledger.begin.Goals as goal
-
-pub returns-in-Err-clause-refused : goal.returns-in-Err-clause-refused
-returns-in-Err-clause-refused c = λ device t. (t, (c.in-Err.ensures.refused device t, refl))

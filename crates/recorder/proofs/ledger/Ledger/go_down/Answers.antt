@@ -1,6 +1,0 @@
-use Rattle.std.proofs.Common.{refl}
-use Rattle.recorder.proofs.Conditions.{down_tied}
-use Rattle.recorder.proofs.ledger.Ledger.go_down.Goals as goal
-
-pub returns : goal.returns
-returns c = λ device t. (down_tied c.args.self.now device c.requires t, refl)

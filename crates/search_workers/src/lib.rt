@@ -1,0 +1,14 @@
+//! What a search for a certificate is done by: workers over branches, each in a thread, and passes over the history. A plan that they
+//! come to has to be judged by who calls them.
+#![tactic(auto)]
+
+mod board;
+mod gate;
+mod running;
+mod telling;
+mod watch;
+mod ways;
+mod worker;
+
+pub use gate::{OpenSearch, Progress, SearchGate};
+pub use running::{Host, Lack, pass_over_calls, run_workers};
