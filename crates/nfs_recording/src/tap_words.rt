@@ -29,42 +29,63 @@ pub fn number_option<'a>(alloc: Global, name: &'a str, most: u64) -> Arg<'a> {
         .value_parser(ValueParser::unsigned(1, most))
 }
 
-/// The grammar of the words behind `tap`.
-pub fn tap_command<'a>(alloc: Global) -> Result<Command<'a>, AllocError> {
-    let root = Arg::new(alloc, "root")
+fn root_option<'a>(alloc: Global) -> Arg<'a> {
+    Arg::new(alloc, "root")
         .long("root")
         .required(true)
         .value_name("HEX")
-        .help("The handle of the export's root");
-    let port = number_option(alloc, "port", 65_535)
+        .help("The handle of the export's root")
+}
+
+fn port_option<'a>(alloc: Global) -> Arg<'a> {
+    number_option(alloc, "port", 65_535)
         .required(true)
-        .help("Where clients connect, on 127.0.0.1");
-    let server = number_option(alloc, "server", 65_535)
+        .help("Where clients connect, on 127.0.0.1")
+}
+
+fn server_option<'a>(alloc: Global) -> Arg<'a> {
+    number_option(alloc, "server", 65_535)
         .required(true)
-        .help("The server's port");
-    let host = Arg::new(alloc, "host")
+        .help("The server's port")
+}
+
+fn host_option<'a>(alloc: Global) -> Arg<'a> {
+    Arg::new(alloc, "host")
         .long("host")
         .value_name("ADDRESS")
-        .help("The server's IP address, where it isn't 127.0.0.1");
-    let lanes = number_option(alloc, "lanes", 64).help(
+        .help("The server's IP address, where it isn't 127.0.0.1")
+}
+
+fn lanes_option<'a>(alloc: Global) -> Arg<'a> {
+    number_option(alloc, "lanes", 64).help(
         "Ends with so many connections; else with standard input",
-    );
-    let quiet = Arg::new(alloc, "quiet")
+    )
+}
+
+fn quiet_option<'a>(alloc: Global) -> Arg<'a> {
+    Arg::new(alloc, "quiet")
         .long("quiet")
         .action(ArgAction::SetTrue)
-        .help("Doesn't tell once a second how far it is");
-    let history = Arg::new(alloc, "HISTORY")
+        .help("Doesn't tell once a second how far it is")
+}
+
+fn history_path<'a>(alloc: Global) -> Arg<'a> {
+    Arg::new(alloc, "HISTORY")
         .required(true)
-        .help("The file to write");
+        .help("The file to write")
+}
+
+/// The grammar of the words behind `tap`.
+pub fn tap_command<'a>(alloc: Global) -> Result<Command<'a>, AllocError> {
     Command::new(alloc, "tap")
         .about("Records the calls between clients and a server into a history")
-        .arg(root)?
-        .arg(port)?
-        .arg(server)?
-        .arg(host)?
-        .arg(lanes)?
-        .arg(quiet)?
-        .arg(history)
+        .arg(root_option(alloc))?
+        .arg(port_option(alloc))?
+        .arg(server_option(alloc))?
+        .arg(host_option(alloc))?
+        .arg(lanes_option(alloc))?
+        .arg(quiet_option(alloc))?
+        .arg(history_path(alloc))
 }
 
 /// The server's address, where the words give one.

@@ -45,11 +45,60 @@ fn path<'a>(alloc: Global, name: &'a str, help: &'a str) -> Arg<'a> {
     Arg::new(alloc, name).required(true).help(help)
 }
 
+fn history_path<'a>(alloc: Global) -> Arg<'a> {
+    path(alloc, "HISTORY", "The file for what the clients saw")
+}
+
+fn certificate_path<'a>(alloc: Global) -> Arg<'a> {
+    path(alloc, "CERTIFICATE", "The file for the order of the calls")
+}
+
 /// A command that writes a history and a certificate behind the paths that it has.
 fn with_outputs<'a>(alloc: Global, command: Command<'a>) -> Result<Command<'a>, AllocError> {
-    let history = path(alloc, "HISTORY", "The file for what the clients saw");
-    let certificate = path(alloc, "CERTIFICATE", "The file for the order of the calls");
-    command.arg(history)?.arg(certificate)
+    command
+        .arg(history_path(alloc))?
+        .arg(certificate_path(alloc))
+}
+
+/// A number that has to be said, from 1 on.
+fn number<'a>(alloc: Global, name: &'a str, most: u64, help: &'a str) -> Arg<'a> {
+    number_option(alloc, name, most).required(true).help(help)
+}
+
+fn port_option<'a>(alloc: Global) -> Arg<'a> {
+    number(
+        alloc,
+        "port",
+        MOST_PORT,
+        "Where clients connect, on 127.0.0.1",
+    )
+}
+
+fn lanes_option<'a>(alloc: Global) -> Arg<'a> {
+    number(
+        alloc,
+        "lanes",
+        MOST_LANES,
+        "How many connections are served",
+    )
+}
+
+fn calls_option<'a>(alloc: Global) -> Arg<'a> {
+    number(
+        alloc,
+        "calls",
+        MOST_CALLS,
+        "How many calls of each are answered at most",
+    )
+}
+
+fn mountable_option<'a>(alloc: Global) -> Arg<'a> {
+    Arg::new(alloc, "mountable")
+        .long("mountable")
+        .action(ArgAction::SetTrue)
+        .help(
+            "Lets stock clients mount the server: answers MOUNT, ACCESS, FSSTAT, FSINFO and PATHCONF too",
+        )
 }
 
 /// The grammar of the words behind `run`.
@@ -76,27 +125,12 @@ pub fn run_request<'a>(run: &ArgMatches<'a>) -> RunRequest<'a> {
 
 /// The grammar of the words behind `serve`.
 pub fn serve_command<'a>(alloc: Global) -> Result<Command<'a>, AllocError> {
-    let port = number_option(alloc, "port", MOST_PORT)
-        .required(true)
-        .help("Where clients connect, on 127.0.0.1");
-    let lanes = number_option(alloc, "lanes", MOST_LANES)
-        .required(true)
-        .help("How many connections are served");
-    let calls = number_option(alloc, "calls", MOST_CALLS)
-        .required(true)
-        .help("How many calls of each are answered at most");
-    let mountable = Arg::new(alloc, "mountable")
-        .long("mountable")
-        .action(ArgAction::SetTrue)
-        .help(
-            "Lets stock clients mount the server: answers MOUNT, ACCESS, FSSTAT, FSINFO and PATHCONF too",
-        );
     let command = Command::new(alloc, "serve")
         .about("Serves connections by the bundled server, and judges its history")
-        .arg(port)?
-        .arg(lanes)?
-        .arg(calls)?
-        .arg(mountable)?;
+        .arg(port_option(alloc))?
+        .arg(lanes_option(alloc))?
+        .arg(calls_option(alloc))?
+        .arg(mountable_option(alloc))?;
     with_outputs(alloc, command)
 }
 

@@ -25,29 +25,41 @@ const MOST_TURNS: u64 = 10_000_000;
 /// How many workers there are where the words don't say.
 const WORKERS: u32 = 4;
 
-/// The grammar of the words behind `search`.
-pub fn search_command<'a>(alloc: Global) -> Result<Command<'a>, AllocError> {
-    let history = Arg::new(alloc, "HISTORY")
+fn history_path<'a>(alloc: Global) -> Arg<'a> {
+    Arg::new(alloc, "HISTORY")
         .required(true)
-        .help("What the clients of a server saw");
-    let workers = Arg::new(alloc, "workers")
+        .help("What the clients of a server saw")
+}
+
+fn workers_option<'a>(alloc: Global) -> Arg<'a> {
+    Arg::new(alloc, "workers")
         .long("workers")
         .value_parser(ValueParser::unsigned(1, u64::from(MOST_WORKERS)))
-        .help("How many threads search, 4 if not said");
-    let turns = Arg::new(alloc, "turns")
+        .help("How many threads search, 4 if not said")
+}
+
+fn turns_option<'a>(alloc: Global) -> Arg<'a> {
+    Arg::new(alloc, "turns")
         .long("turns")
         .value_parser(ValueParser::unsigned(1, MOST_TURNS))
-        .help("How many branches each tries at most, 10000000 if not said");
-    let quiet = Arg::new(alloc, "quiet")
+        .help("How many branches each tries at most, 10000000 if not said")
+}
+
+fn quiet_option<'a>(alloc: Global) -> Arg<'a> {
+    Arg::new(alloc, "quiet")
         .long("quiet")
         .action(ArgAction::SetTrue)
-        .help("Doesn't tell once a second how far it is");
+        .help("Doesn't tell once a second how far it is")
+}
+
+/// The grammar of the words behind `search`.
+pub fn search_command<'a>(alloc: Global) -> Result<Command<'a>, AllocError> {
     Command::new(alloc, "search")
         .about("Searches a certificate of a history, and prints it")
-        .arg(workers)?
-        .arg(turns)?
-        .arg(quiet)?
-        .arg(history)
+        .arg(workers_option(alloc))?
+        .arg(turns_option(alloc))?
+        .arg(quiet_option(alloc))?
+        .arg(history_path(alloc))
 }
 
 /// What the words behind `search` ask for.

@@ -13,20 +13,25 @@ pub(crate) struct ShowRequest<'a> {
     pub(crate) selection: Selection,
 }
 
+fn history_path<'a>(alloc: Global) -> Arg<'a> {
+    Arg::new(alloc, "HISTORY")
+        .required(true)
+        .help("What the clients of a server saw")
+}
+
+/// An option with the number of an event or a call.
+fn option<'a>(alloc: Global, name: &'a str, help: &'a str) -> Arg<'a> {
+    number_option(alloc, name, u64::MAX).help(help)
+}
+
 /// The grammar of the words behind `show`.
 pub(crate) fn show_command<'a>(alloc: Global) -> Result<Command<'a>, AllocError> {
-    let history = Arg::new(alloc, "HISTORY")
-        .required(true)
-        .help("What the clients of a server saw");
-    let from = number_option(alloc, "from", u64::MAX).help("The first event that is shown");
-    let to = number_option(alloc, "to", u64::MAX).help("The last event that is shown");
-    let call = number_option(alloc, "call", u64::MAX).help("Only this call and the reply to it");
     Command::new(alloc, "show")
         .about("Prints a line for each event of a history")
-        .arg(from)?
-        .arg(to)?
-        .arg(call)?
-        .arg(history)
+        .arg(option(alloc, "from", "The first event that is shown"))?
+        .arg(option(alloc, "to", "The last event that is shown"))?
+        .arg(option(alloc, "call", "Only this call and the reply to it"))?
+        .arg(history_path(alloc))
 }
 
 /// What the words behind `show` ask for.

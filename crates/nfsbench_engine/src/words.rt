@@ -61,36 +61,41 @@ pub(crate) enum Waiting<'a> {
     Serve(ServeRequest<'a>),
 }
 
+/// A path that has to be said.
+fn path<'a>(alloc: Global, name: &'a str, help: &'a str) -> Arg<'a> {
+    Arg::new(alloc, name).required(true).help(help)
+}
+
 /// A command that takes the paths of a history and a certificate.
 fn of_two_files<'a>(
     alloc: Global,
     name: &'a str,
     about: &'a str,
 ) -> Result<Command<'a>, AllocError> {
-    let history = Arg::new(alloc, "HISTORY")
-        .required(true)
-        .help("What the clients of a server saw");
-    let certificate = Arg::new(alloc, "CERTIFICATE")
-        .required(true)
-        .help("A serial order of their calls");
     Command::new(alloc, name)
         .about(about)
-        .arg(history)?
-        .arg(certificate)
+        .arg(path(alloc, "HISTORY", "What the clients of a server saw"))?
+        .arg(path(alloc, "CERTIFICATE", "A serial order of their calls"))
+}
+
+fn check_command<'a>(alloc: Global) -> Result<Command<'a>, AllocError> {
+    of_two_files(
+        alloc,
+        "check",
+        "Judges the history and the certificate in two files",
+    )
+}
+
+fn report_command<'a>(alloc: Global) -> Result<Command<'a>, AllocError> {
+    of_two_files(
+        alloc,
+        "report",
+        "Counts the calls of a history, and judges it as check does",
+    )
 }
 
 /// The command line's grammar.
 fn command<'a>(alloc: Global) -> Result<Command<'a>, AllocError> {
-    let check = of_two_files(
-        alloc,
-        "check",
-        "Judges the history and the certificate in two files",
-    )?;
-    let report = of_two_files(
-        alloc,
-        "report",
-        "Counts the calls of a history, and judges it as check does",
-    )?;
     Command::new(alloc, "nfsbench")
         .bin_name("nfsbench")?
         .version("0.1.0")
@@ -98,8 +103,8 @@ fn command<'a>(alloc: Global) -> Result<Command<'a>, AllocError> {
             "Judges histories of NFS version 3 servers. Without a command, reads a bundle from standard input.",
         )
         .disable_help_subcommand(true)
-        .subcommand(check)?
-        .subcommand(report)?
+        .subcommand(check_command(alloc)?)?
+        .subcommand(report_command(alloc)?)?
         .subcommand(show_command(alloc)?)?
         .subcommand(search_command(alloc)?)?
         .subcommand(run_command(alloc)?)?
