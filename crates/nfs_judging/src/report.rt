@@ -14,13 +14,14 @@ pub fn verdict_report(alloc: Global, verdict: FileVerdict) -> Result<Report, All
     ensures status { IfOk result (λ report. report.status ≡ status_of verdict) }
     ensures line { IfOk result (λ report. report.line ≡ line_of verdict) }
 {
-    let (status, line) = match verdict {
-        FileVerdict::Yes => (0, String::from_str(alloc, "yes\n")?),
-        FileVerdict::No(fault) => (1, line_of(alloc, "no: ", &fault)?),
-        FileVerdict::BadHistory(fault) => (2, line_of(alloc, "refused: ", &fault)?),
-        FileVerdict::BadText(fault) => (2, line_of(alloc, "refused: ", &fault)?),
-    };
-    Ok(Report::new(status, line))
+    match verdict {
+        FileVerdict::Yes => Ok(Report::new(0, String::from_str(alloc, "yes\n")?)),
+        FileVerdict::No(fault) => Ok(Report::new(1, line_of(alloc, "no: ", &fault)?)),
+        FileVerdict::BadHistory(fault) => {
+            Ok(Report::new(2, line_of(alloc, "refused: ", &fault)?))
+        }
+        FileVerdict::BadText(fault) => Ok(Report::new(2, line_of(alloc, "refused: ", &fault)?)),
+    }
 }
 
 /// What is said of a history file and a certificate's text; that memory runs out is no answer.

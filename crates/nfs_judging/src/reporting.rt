@@ -1,6 +1,6 @@
 //! What a history comes to in numbers, and the verdict on it and a certificate.
 
-ghost use Rattle.std.specs.Prelude.{◌≡◌, ◌++◌, ℕ, List, [], codes, IfOk, Option, Some, None, option_map, string_bytes};
+ghost use Rattle.std.specs.Prelude.{◌≡◌, ◌++◌, ℕ, List, [], codes, IfOk, OnErr, Option, Some, None, option_map, string_bytes};
 ghost use Rattle.std.specs.Option.{option_copied};
 ghost use Rattle.nfs_history.specs.History.{IsHistoryFile};
 ghost use Rattle.witness_check.specs.Verdict.{IsFileVerdict};
@@ -58,7 +58,8 @@ pub fn put_number(
     word: &str,
     number: u64,
 ) -> Result<(), AllocError>
-    ensures { IfOk result (λ _. string_bytes text.new ≡ string_bytes text.old ++ number_line word.now number) }
+    ensures ok { IfOk result (λ _. string_bytes text.new ≡ string_bytes text.old ++ number_line word.now number) }
+    ensures err { OnErr result (string_bytes text.new ≡ string_bytes text.old) }
 {
     let line = format!(in alloc; "{word} {number}\n")?;
     text.push_str(line.as_str())
