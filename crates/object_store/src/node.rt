@@ -31,6 +31,21 @@ impl Drop for Content {
     }
 }
 
+impl Content {
+    /// The names of a directory, to be changed.
+    pub(crate) fn names_mut(&mut self) -> Option<&mut Names> {
+        match self {
+            Content::Directory(names) => Some(names),
+            Content::File(_) | Content::Link(_) => None,
+        }
+    }
+
+    /// Whether it is a directory's.
+    pub(crate) fn is_directory(&self) -> bool {
+        matches!(self, Content::Directory(_))
+    }
+}
+
 /// An object with its number.
 pub struct Node {
     /// The object's number.
@@ -63,10 +78,7 @@ impl Node {
 
     /// The same, to be changed.
     pub fn names_mut(&mut self) -> Option<&mut Names> {
-        match &mut self.content {
-            Content::Directory(names) => Some(names),
-            _ => None,
-        }
+        self.content.names_mut()
     }
 
     /// A file, to be changed.
@@ -79,6 +91,6 @@ impl Node {
 
     /// Whether it is a directory.
     pub fn is_directory(&self) -> bool {
-        matches!(&self.content, Content::Directory(_))
+        self.content.is_directory()
     }
 }

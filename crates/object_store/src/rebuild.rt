@@ -40,37 +40,84 @@ impl From<XdrFault> for TreeFault {
     }
 }
 
+/// The number at the front.
+fn read_number(reader: &mut Reader<'_>) -> Result<u64, TreeFault> {
+    Ok(reader.u64()?)
+}
+
+/// The count, or the number of a kind, at the front.
+fn read_count(reader: &mut Reader<'_>) -> Result<u32, TreeFault> {
+    Ok(reader.u32()?)
+}
+
+/// The bytes at the front.
+fn read_bytes<'a>(reader: &mut Reader<'a>) -> Result<&'a [u8], TreeFault> {
+    Ok(reader.opaque(NO_BOUND)?)
+}
+
 /// The names of the path at the front: how many there are, and the last.
 fn read_path<'a>(reader: &mut Reader<'a>) -> Result<(u32, &'a [u8]), TreeFault> {
-    let count = reader.u32()?;
+    let count = read_count(reader)?;
     let mut last: &[u8] = &[];
     for _ in 0..count {
-        last = reader.opaque(NO_BOUND)?;
+        last = read_bytes(reader)?;
     }
     Ok((count, last))
 }
 
 /// The verifier at the front, if there is one.
 fn read_verifier(reader: &mut Reader<'_>) -> Result<Option<u64>, TreeFault> {
-    if reader.flag()? {
-        Ok(Some(reader.u64()?))
-    } else {
-        Ok(None)
+    match reader.flag() {
+        Ok(true) => Ok(Some(read_number(reader)?)),
+        Ok(false) => Ok(None),
+        Err(_) => Err(TreeFault::NoTree),
     }
+}
+
+/// The file at the front.
+fn read_file(alloc: Global, reader: &mut Reader<'_>) -> Result<File, TreeFault> {
+    let bytes = read_bytes(reader)?;
+    let verifier = read_verifier(reader)?;
+    Ok(File {
+        bytes: Vec::from_slice(alloc, bytes)?,
+        verifier,
+    })
+}
+
+/// The text at the front.
+fn read_text(alloc: Global, reader: &mut Reader<'_>) -> Result<Vec<u8>, TreeFault> {
+    let text = read_bytes(reader)?;
+    Ok(Vec::from_slice(alloc, text)?)
 }
 
 /// What the object at the front holds.
 fn read_content(alloc: Global, reader: &mut Reader<'_>) -> Result<Content, TreeFault> {
-    match reader.u32()? {
-        FILE => {
-            let bytes = Vec::from_slice(alloc, reader.opaque(NO_BOUND)?)?;
-            let verifier = read_verifier(reader)?;
-            Ok(Content::File(File { bytes, verifier }))
-        }
+    match read_count(reader)? {
+        FILE => Ok(Content::File(read_file(alloc, reader)?)),
         DIRECTORY => Ok(Content::Directory(Names::new(alloc))),
-        LINK => Ok(Content::Link(Vec::from_slice(alloc, reader.opaque(NO_BOUND)?)?)),
+        LINK => Ok(Content::Link(read_text(alloc, reader)?)),
         _ => Err(TreeFault::NoTree),
     }
+}
+
+/// Puts an object below the last of those on the way to it.
+fn enter_below(
+    alloc: Global,
+    table: &mut ObjectTable,
+    above: &[u64],
+    name: &[u8],
+    object: u64,
+    is_directory: bool,
+) -> Result<(), AllocError> {
+    let Some(parent) = above.last() else {
+        return Ok(());
+    };
+    let name = Vec::from_slice(alloc, name)?;
+    table.enter(*parent, name, object)?;
+    if is_directory {
+        table.put_parent(object, *parent)?;
+    }
+    Ok(())
 }
 
 /// Reads one object into the table. The objects on the way to it stand in `above`, the root first.
@@ -81,17 +128,12 @@ fn read_object(
     above: &mut Vec<u64>,
 ) -> Result<(), TreeFault> {
     let (depth, name) = read_path(reader)?;
-    let object = reader.u64()?;
+    let object = read_number(reader)?;
     let content = read_content(alloc, reader)?;
-    let is_directory = matches!(&content, Content::Directory(_));
+    let is_directory = content.is_directory();
     table.insert(object, content)?;
     above.truncate(depth as usize);
-    if let Some(parent) = above.as_slice().last().copied() {
-        table.enter(parent, Vec::from_slice(alloc, name)?, object)?;
-        if is_directory {
-            table.put_parent(object, parent)?;
-        }
-    }
+    enter_below(alloc, table, above.as_slice(), name, object, is_directory)?;
     above.reserve(1)?;
     above.push(object).unwrap();
     Ok(())
@@ -100,7 +142,7 @@ fn read_object(
 /// The objects of a printed tree.
 pub fn read_objects(alloc: Global, text: &[u8]) -> Result<ObjectTable, TreeFault> {
     let mut reader = Reader::new(text);
-    let count = reader.u32()?;
+    let count = read_count(&mut reader)?;
     let mut table = ObjectTable::new(alloc)?;
     let mut above = Vec::new(alloc);
     for _ in 0..count {

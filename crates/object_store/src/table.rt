@@ -5,7 +5,7 @@ ghost use Rattle.std.specs.Prelude.{◌≡◌, IfOk, vec_len};
 use crate::held::Held;
 use crate::node::{Content, Node};
 use crate::parents::Parents;
-use crate::wanted::{Targets, put_in_order};
+use crate::wanted::Targets;
 use names::Names;
 use std::alloc::{AllocError, Global};
 use std::collections::BTreeMap;
@@ -63,6 +63,33 @@ fn put_back(slots: &mut BTreeMap<u64, Slot>, number: u64, content: Content) {
     match slots.get_mut(&number) {
         Some(slot) => *slot = Slot::Free(content),
         None => drop(content),
+    }
+}
+
+/// The names of a directory that can be taken.
+fn names_in(slots: &mut BTreeMap<u64, Slot>, directory: u64) -> Option<&mut Names> {
+    match slots.get_mut(&directory)? {
+        Slot::Free(content) => content.names_mut(),
+        Slot::Taken | Slot::Promised => None,
+    }
+}
+
+/// Those of these numbers that aren't among the others.
+fn without(alloc: Global, numbers: &[u64], others: &[u64]) -> Result<Vec<u64>, AllocError> {
+    let mut rest = Vec::with_capacity(alloc, 2)?;
+    for number in numbers {
+        if !others.contains(number) {
+            rest.push(*number)?;
+        }
+    }
+    Ok(rest)
+}
+
+/// Whether the first of numbers that rise comes ahead of the last of others that do.
+fn is_ahead(numbers: &[u64], others: &[u64]) -> bool {
+    match (numbers.first(), others.last()) {
+        (Some(least), Some(last)) => least <= last,
+        _ => false,
     }
 }
 
@@ -185,9 +212,9 @@ impl ObjectTable {
         object: u64,
     ) -> Result<(), AllocError> {
         let shard = &mut self.shards[(directory % SHARDS as u64) as usize];
-        match shard.slots.get_mut().get_mut(&directory) {
-            Some(Slot::Free(Content::Directory(names))) => names.insert(name, object),
-            _ => Ok(()),
+        match names_in(shard.slots.get_mut(), directory) {
+            Some(names) => names.insert(name, object),
+            None => Ok(()),
         }
     }
 
@@ -251,27 +278,12 @@ impl ObjectTable {
         }
         self.take_all(rt, held, wanted)?;
         let leads = targets.leads(alloc, held)?;
-        let mut missing = Vec::with_capacity(alloc, 2)?;
-        for number in leads.as_slice() {
-            if !wanted.contains(number) {
-                missing.push(*number)?;
-            }
+        let missing = without(alloc, leads.as_slice(), wanted)?;
+        if is_ahead(missing.as_slice(), wanted) {
+            return Ok(Some(targets.handles_with(alloc, leads.as_slice())?));
         }
-        let last = wanted.last().copied().unwrap_or(0);
-        match missing.as_slice().first() {
-            None => Ok(None),
-            Some(least) if last < *least => {
-                self.take_all(rt, held, missing.as_slice())?;
-                Ok(None)
-            }
-            Some(_) => {
-                let mut next = targets.handles(alloc)?;
-                for number in leads.as_slice() {
-                    put_in_order(&mut next, *number)?;
-                }
-                Ok(Some(next))
-            }
-        }
+        self.take_all(rt, held, missing.as_slice())?;
+        Ok(None)
     }
 
     /// Takes the objects of a call in rising order: those of its handles, and those that its names lead to. Where a name leads to one

@@ -40,10 +40,12 @@ impl<'a> Target<'a> {
         let directory = self.object?;
         let name = self.name?;
         let names = held.get(directory)?.names()?;
-        match (name, held.parents()) {
-            (b"..", Some(parents)) if looks_up => Some(parents.parent(directory)),
-            _ => names.get(name),
+        if looks_up && name == b"..".as_slice() {
+            if let Some(parents) = held.parents() {
+                return Some(parents.parent(directory));
+            }
         }
+        names.get(name)
     }
 }
 
@@ -114,6 +116,19 @@ impl<'a> Targets<'a> {
         Ok(numbers)
     }
 
+    /// The objects of the handles and these, in rising order.
+    pub(crate) fn handles_with(
+        &self,
+        alloc: Global,
+        others: &[u64],
+    ) -> Result<Vec<u64>, AllocError> {
+        let mut numbers = self.handles(alloc)?;
+        for number in others {
+            put_in_order(&mut numbers, *number)?;
+        }
+        Ok(numbers)
+    }
+
     /// The objects that the names lead to, in rising order.
     pub(crate) fn leads(&self, alloc: Global, held: &Held) -> Result<Vec<u64>, AllocError> {
         let mut numbers = Vec::with_capacity(alloc, MOST_HELD)?;
@@ -130,7 +145,7 @@ impl<'a> Targets<'a> {
 }
 
 /// Puts a number among others that rise, if it isn't there.
-pub(crate) fn put_in_order(numbers: &mut Vec<u64>, number: u64) -> Result<(), AllocError> {
+fn put_in_order(numbers: &mut Vec<u64>, number: u64) -> Result<(), AllocError> {
     match numbers.as_slice().binary_search(&number) {
         Ok(_) => Ok(()),
         Err(place) => {
