@@ -11,4 +11,6 @@ mod printing;
 #[cfg(test)]
 mod register;
 #[cfg(test)]
+mod requests;
+#[cfg(test)]
 mod runs;

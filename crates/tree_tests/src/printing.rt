@@ -3,25 +3,13 @@
 ghost use Rattle.std.specs.Prelude.{IfOk};
 ghost use Rattle.tree_nodes.specs.Undo.{TakesBack};
 
+use crate::requests::{Request, call, success};
 use file_tree::FileTree;
-use nfs3_types::{
-    Answer, CreateArguments, CreateMode, CreateSuccess, Data, DirectoryName, FileHandle, Held,
-    MkDirArguments, Name, NfsCall, NfsReply, Optional, Outcome, RenameArguments, RenameWcc,
-    SetAttributes, SetTime, StableHow, Verifier, WccData, WriteArguments, WriteSuccess,
-};
 use replay_law::{Replayable, StepFault};
 use std::alloc::{AllocError, Global};
 use std::test::Fail;
 use tree_handles::Binds;
 use tree_nodes::Undo;
-
-/// Attributes neither before nor after.
-fn no_changes() -> WccData {
-    WccData {
-        before: Optional::none(),
-        after: Optional::none(),
-    }
-}
 
 /// The tree of one file `abc` at the name `a`.
 const ONE_FILE: [u8; 56] = [
@@ -29,108 +17,25 @@ const ONE_FILE: [u8; 56] = [
     0, 0, 0, 0, 0, 0, 0, 0, 1, 0, 0, 0, 1, 0, 0, 0, 3, 97, 98, 99, 0, 0, 0, 0, 0,
 ];
 
-/// The handle of one byte.
-fn handle(alloc: Global, byte: u8) -> Result<FileHandle, AllocError> {
-    FileHandle::from_slice(alloc, &[byte])
-}
+/// CREATE of `a` in the root, whose file has the handle aa.
+const CREATE_A: Request = Request::Create {
+    directory: 0,
+    name: b'a',
+    file: Some(0xaa),
+};
 
-/// A name in the directory of this handle.
-fn place(alloc: Global, directory: u8, name: &[u8]) -> Result<DirectoryName, AllocError> {
-    Ok(DirectoryName {
-        directory: handle(alloc, directory)?,
-        name: Name::from_slice(alloc, &name[..name.len().min(8)])?,
-    })
-}
-
-/// CREATE of a name in the directory of this handle, unchecked.
-fn create(alloc: Global, directory: u8, name: &[u8]) -> Result<NfsCall, AllocError> {
-    let place = place(alloc, directory, name)?;
-    let mode = CreateMode::Unchecked(SetAttributes {
-        mode: None,
-        user: None,
-        group: None,
-        size: None,
-        access_time: SetTime::Keep,
-        modify_time: SetTime::Keep,
-    });
-    Ok(NfsCall::Create(Held::new(alloc, CreateArguments { place, mode })?))
-}
-
-/// The success of CREATE with this handle, or with none.
-fn created_with(alloc: Global, object: Option<FileHandle>) -> Result<Outcome, AllocError> {
-    let success = CreateSuccess {
-        object,
-        attributes: Optional::none(),
-        wcc: no_changes(),
-    };
-    Ok(Outcome::Received(NfsReply::Create(Answer::Done(Held::new(alloc, success)?))))
-}
-
-/// The success of CREATE with the handle of this byte.
-fn created(alloc: Global, byte: u8) -> Result<Outcome, AllocError> {
-    created_with(alloc, Some(handle(alloc, byte)?))
-}
-
-/// WRITE of `abc` to the file of handle aa, FILE_SYNC.
-fn write(alloc: Global) -> Result<NfsCall, AllocError> {
-    Ok(NfsCall::Write(WriteArguments {
-        file: handle(alloc, 0xaa)?,
-        offset: 0,
-        count: 3,
-        level: StableHow::FileSync,
-        bytes: Data::from_slice(alloc, b"abc")?,
-    }))
-}
-
-/// Its success.
-fn wrote(count: u32, level: StableHow) -> Outcome {
-    Outcome::Received(NfsReply::Write(Answer::Done(WriteSuccess {
-        wcc: no_changes(),
-        count,
-        level,
-        verifier: Verifier { value: 1 },
-    })))
-}
-
-/// RENAME of `a` in the root to `b`.
-fn rename(alloc: Global) -> Result<NfsCall, AllocError> {
-    let from = place(alloc, 0, b"a")?;
-    let to = place(alloc, 0, b"b")?;
-    Ok(NfsCall::Rename(Held::new(alloc, RenameArguments { from, to })?))
-}
-
-/// Its success.
-fn renamed(alloc: Global) -> Result<Outcome, AllocError> {
-    let wcc = RenameWcc {
-        from: no_changes(),
-        to: no_changes(),
-    };
-    Ok(Outcome::Received(NfsReply::Rename(Answer::Done(Held::new(alloc, wcc)?))))
-}
+/// CREATE of `b` in the root, whose file has the handle bb.
+const CREATE_B: Request = Request::Create {
+    directory: 0,
+    name: b'b',
+    file: Some(0xbb),
+};
 
 /// MKDIR of `a` in the root.
-fn make_directory(alloc: Global) -> Result<NfsCall, AllocError> {
-    let place = place(alloc, 0, b"a")?;
-    let attributes = SetAttributes {
-        mode: None,
-        user: None,
-        group: None,
-        size: None,
-        access_time: SetTime::Keep,
-        modify_time: SetTime::Keep,
-    };
-    Ok(NfsCall::MkDir(Held::new(alloc, MkDirArguments { place, attributes })?))
-}
-
-/// The success of MKDIR with the handle aa.
-fn made(alloc: Global) -> Result<Outcome, AllocError> {
-    let success = CreateSuccess {
-        object: Some(handle(alloc, 0xaa)?),
-        attributes: Optional::none(),
-        wcc: no_changes(),
-    };
-    Ok(Outcome::Received(NfsReply::MkDir(Answer::Done(Held::new(alloc, success)?))))
-}
+const MAKE_A: Request = Request::MakeDirectory {
+    directory: 0,
+    name: b'a',
+};
 
 /// The root's handle 00, aa for object 1 and bb for object 3.
 fn binds(alloc: Global) -> Result<Binds, AllocError> {
@@ -140,92 +45,127 @@ fn binds(alloc: Global) -> Result<Binds, AllocError> {
     Ok(binds)
 }
 
-/// One step.
+/// The step of a request that is done.
 fn step(
+    alloc: Global,
     tree: &mut FileTree,
     binds: &Binds,
     number: u64,
-    call: NfsCall,
-    outcome: Outcome,
+    request: Request,
 ) -> Result<Undo, StepFault>
     ensures { IfOk result (λ undo. TakesBack undo tree.new tree.old) }
 {
+    let call = call(alloc, request)?;
+    let outcome = success(alloc, request)?;
     tree.step(binds, number, &call, &outcome)
+}
+
+/// The tree after these requests, each with its number.
+fn tree_after(
+    alloc: Global,
+    binds: &Binds,
+    requests: &[(u64, Request)],
+) -> Result<FileTree, StepFault> {
+    let mut tree = FileTree::opening(alloc, binds)?;
+    for (number, request) in requests {
+        drop(step(alloc, &mut tree, binds, *number, *request)?);
+    }
+    Ok(tree)
+}
+
+/// Prints a tree behind the step of a request, and once it is taken back. The number is that of the nodes which stood aside meanwhile.
+fn print_both(
+    alloc: Global,
+    mut tree: FileTree,
+    binds: &Binds,
+    number: u64,
+    request: Request,
+    after: &mut Vec<u8>,
+    back: &mut Vec<u8>,
+) -> Result<u64, StepFault> {
+    let undo = step(alloc, &mut tree, binds, number, request)?;
+    let nodes = FileTree::undo_nodes(&undo);
+    tree.print_state(after)?;
+    let before = tree.undo(undo)?;
+    before.print_state(back)?;
+    Ok(nodes)
+}
+
+/// Whether a file that is written is printed so, and is empty again once that is taken back.
+fn is_written_and_taken_back(alloc: Global) -> Result<bool, StepFault> {
+    let binds = binds(alloc)?;
+    let tree = tree_after(alloc, &binds, &[(1, CREATE_A)])?;
+    let mut after = Vec::new(alloc);
+    let mut back = Vec::new(alloc);
+    let _nodes = print_both(
+        alloc,
+        tree,
+        &binds,
+        2,
+        Request::Write,
+        &mut after,
+        &mut back,
+    )?;
+    Ok(after.as_slice() == ONE_FILE.as_slice() && back.len() == 52)
 }
 
 #[test]
 fn one_file_is_printed_and_taken_back(rt: HostRuntime) -> Result<(), Fail> {
-    let alloc = rt.alloc();
-    let binds = binds(alloc)?;
-    let mut tree = FileTree::opening(alloc, &binds)?;
-    let _made = step(
-        &mut tree,
-        &binds,
-        1,
-        create(alloc, 0, b"a")?,
-        created(alloc, 0xaa)?,
-    )?;
-    let done = wrote(3, StableHow::FileSync);
-    let undo = step(&mut tree, &binds, 2, write(alloc)?, done)?;
-    let mut out = Vec::new(alloc);
-    tree.print_state(&mut out)?;
-    assert_eq!(rt; out.as_slice(), ONE_FILE.as_slice());
-    let before = tree.undo(undo)?;
-    out.clear();
-    before.print_state(&mut out)?;
-    assert_eq!(rt; out.len(), 52);
+    assert!(rt; is_written_and_taken_back(rt.alloc())?);
     Ok(())
 }
 
-/// The tree of the file `abc` at `a` and an empty one at `b`.
-fn two_files(alloc: Global, binds: &Binds) -> Result<FileTree, StepFault> {
-    let mut tree = FileTree::opening(alloc, binds)?;
-    let create_a = create(alloc, 0, b"a")?;
-    let _ = step(&mut tree, binds, 1, create_a, created(alloc, 0xaa)?)?;
-    let done = wrote(3, StableHow::FileSync);
-    let _ = step(&mut tree, binds, 2, write(alloc)?, done)?;
-    let create_b = create(alloc, 0, b"b")?;
-    let _ = step(&mut tree, binds, 3, create_b, created(alloc, 0xbb)?)?;
-    Ok(tree)
+/// Whether a file that is renamed over another one stands aside meanwhile, and the tree is as before once that is taken back.
+fn is_renamed_and_taken_back(alloc: Global) -> Result<bool, StepFault> {
+    let binds = binds(alloc)?;
+    let requests = [(1, CREATE_A), (2, Request::Write), (3, CREATE_B)];
+    let tree = tree_after(alloc, &binds, &requests)?;
+    let mut before = Vec::new(alloc);
+    tree.print_state(&mut before)?;
+    let mut after = Vec::new(alloc);
+    let mut back = Vec::new(alloc);
+    let nodes = print_both(
+        alloc,
+        tree,
+        &binds,
+        4,
+        Request::Rename,
+        &mut after,
+        &mut back,
+    )?;
+    Ok(nodes == 1 && after.len() == ONE_FILE.len() && back.as_slice() == before.as_slice())
 }
 
 #[test]
 fn a_rename_over_a_file_is_taken_back(rt: HostRuntime) -> Result<(), Fail> {
-    let alloc = rt.alloc();
-    let binds = binds(alloc)?;
-    let mut tree = two_files(alloc, &binds)?;
-    let mut before = Vec::new(alloc);
-    tree.print_state(&mut before)?;
-    let undo = step(&mut tree, &binds, 4, rename(alloc)?, renamed(alloc)?)?;
-    assert_eq!(rt; FileTree::undo_nodes(&undo), 1);
-    let mut after = Vec::new(alloc);
-    tree.print_state(&mut after)?;
-    assert_eq!(rt; after.as_slice().len(), ONE_FILE.len());
-    let tree = tree.undo(undo)?;
-    after.clear();
-    tree.print_state(&mut after)?;
-    assert_eq!(rt; after.as_slice(), before.as_slice());
+    assert!(rt; is_renamed_and_taken_back(rt.alloc())?);
     Ok(())
 }
 
 /// The tree of a directory at `a` with a hundred empty files.
 fn full_directory(alloc: Global, binds: &Binds) -> Result<FileTree, StepFault> {
-    let mut tree = FileTree::opening(alloc, binds)?;
-    let _ = step(&mut tree, binds, 1, make_directory(alloc)?, made(alloc)?)?;
+    let mut tree = tree_after(alloc, binds, &[(1, MAKE_A)])?;
     for name in 100..200u8 {
-        let call = create(alloc, 0xaa, &[name])?;
-        let number = u64::from(name);
-        let _ = step(&mut tree, binds, number, call, created_with(alloc, None)?)?;
+        let request = Request::Create {
+            directory: 0xaa,
+            name,
+            file: None,
+        };
+        drop(step(alloc, &mut tree, binds, u64::from(name), request)?);
     }
     Ok(tree)
 }
 
-#[test]
-fn a_renamed_directory_is_not_copied(rt: HostRuntime) -> Result<(), Fail> {
-    let alloc = rt.alloc();
+/// How many nodes stand aside while such a directory is renamed.
+fn nodes_of_a_rename(alloc: Global) -> Result<u64, StepFault> {
     let binds = binds(alloc)?;
     let mut tree = full_directory(alloc, &binds)?;
-    let undo = step(&mut tree, &binds, 200, rename(alloc)?, renamed(alloc)?)?;
-    assert_eq!(rt; FileTree::undo_nodes(&undo), 0);
+    let undo = step(alloc, &mut tree, &binds, 200, Request::Rename)?;
+    Ok(FileTree::undo_nodes(&undo))
+}
+
+#[test]
+fn a_renamed_directory_is_not_copied(rt: HostRuntime) -> Result<(), Fail> {
+    assert!(rt; nodes_of_a_rename(rt.alloc())? == 0);
     Ok(())
 }

@@ -1,110 +1,174 @@
 //! Runs over a register, in one era and over a crash.
 
-ghost use Rattle.std.specs.Prelude.{◌≤◌, length};
-
 use replay_law::register::{Call, Outcome};
 use replay_law::{EraRun, Register, Replayable, RunFault, Step, StepFault, run_eras};
 use std::alloc::{AllocError, Global};
 use std::test::Fail;
 
-fn step(number: u64, call: Call, outcome: Outcome) -> Step<Call, Outcome> {
+type RegisterStep = Step<Call, Outcome>;
+
+/// The steps of an era, and how many of them are kept.
+type EraSteps = (&'static [RegisterStep], usize);
+
+/// Step 1 writes 3.
+const WRITE_3: RegisterStep = Step {
+    number: 1,
+    call: Call::Write(3),
+    outcome: Outcome::Done,
+};
+
+/// Step 2 writes 4, or reads 3.
+const WRITE_4: RegisterStep = Step {
+    number: 2,
+    call: Call::Write(4),
+    outcome: Outcome::Done,
+};
+
+const READ_3: RegisterStep = Step {
+    number: 2,
+    call: Call::Read,
+    outcome: Outcome::Value(3),
+};
+
+/// Step 3, an era of its own, reads one of these.
+const THEN_0: EraSteps = (
+    &[Step {
+        number: 3,
+        call: Call::Read,
+        outcome: Outcome::Value(0),
+    }],
+    0,
+);
+
+const THEN_3: EraSteps = (
+    &[Step {
+        number: 3,
+        call: Call::Read,
+        outcome: Outcome::Value(3),
+    }],
+    0,
+);
+
+const THEN_4: EraSteps = (
+    &[Step {
+        number: 3,
+        call: Call::Read,
+        outcome: Outcome::Value(4),
+    }],
+    0,
+);
+
+/// Two illegal steps.
+const ILLEGAL: &[RegisterStep] = &[
     Step {
-        number,
-        call,
-        outcome,
-    }
-}
+        number: 7,
+        call: Call::Read,
+        outcome: Outcome::Value(3),
+    },
+    Step {
+        number: 8,
+        call: Call::Read,
+        outcome: Outcome::Done,
+    },
+];
 
-/// An era of these steps.
-fn era(
+/// Puts an era behind others.
+fn push_era(
     alloc: Global,
-    steps: &[Step<Call, Outcome>],
-    kept: usize,
-) -> Result<EraRun<Call, Outcome>, AllocError>
-    requires { kept ≤ length steps.now }
-{
-    Ok(EraRun::new(Vec::from_slice(alloc, steps)?, kept))
+    eras: &mut Vec<EraRun<Call, Outcome>>,
+    (steps, kept): EraSteps,
+) -> Result<(), AllocError> {
+    let steps = Vec::from_slice(alloc, steps)?;
+    let kept = kept.min(steps.len());
+    Ok(eras.push(EraRun::new(steps, kept))?)
 }
 
-/// The run of these steps in one era.
-fn run(alloc: Global, steps: &[Step<Call, Outcome>]) -> Result<Result<(), RunFault>, AllocError> {
-    let eras = [era(alloc, steps, 0)?];
-    Ok(run_eras::<Register>(alloc, &(), &eras))
+/// Whether a run of these eras ends so.
+fn ends(alloc: Global, run: &[EraSteps], want: Result<(), RunFault>) -> Result<bool, AllocError> {
+    let mut eras = Vec::new(alloc);
+    for era in run {
+        push_era(alloc, &mut eras, *era)?;
+    }
+    Ok(run_eras::<Register>(alloc, &(), eras.as_slice()) == want)
 }
 
-#[test]
-fn a_written_number_is_read(rt: HostRuntime) -> Result<(), Fail> {
-    let steps = [
-        step(1, Call::Write(3), Outcome::Done),
-        step(2, Call::Read, Outcome::Value(3)),
-    ];
-    assert_eq!(rt; run(rt.alloc(), &steps)?, Ok(()));
-    Ok(())
+/// Whether all of these runs end so.
+fn all_end(
+    alloc: Global,
+    runs: &[(&[EraSteps], Result<(), RunFault>)],
+) -> Result<bool, AllocError> {
+    for (run, want) in runs {
+        if !ends(alloc, run, *want)? {
+            return Ok(false);
+        }
+    }
+    Ok(true)
 }
 
 #[test]
 fn the_first_illegal_step_is_named(rt: HostRuntime) -> Result<(), Fail> {
-    let steps = [
-        step(7, Call::Read, Outcome::Value(3)),
-        step(8, Call::Read, Outcome::Done),
-    ];
-    assert_eq!(rt; run(rt.alloc(), &steps)?, Err(RunFault::Illegal(7)));
+    let named = all_end(
+        rt.alloc(),
+        &[
+            (&[(&[WRITE_3, READ_3], 0)], Ok(())),
+            (&[(ILLEGAL, 0)], Err(RunFault::Illegal(7))),
+        ],
+    )?;
+    assert!(rt; named);
     Ok(())
 }
 
-/// The run of an era that writes 3 and then 4, of which so many steps are kept, and of one that reads this number.
-fn run_over_crash(alloc: Global, kept: usize, read: u64) -> Result<Result<(), RunFault>, AllocError>
-    requires { kept ≤ 2 }
-{
-    let written = [
-        step(1, Call::Write(3), Outcome::Done),
-        step(2, Call::Write(4), Outcome::Done),
-    ];
-    let lost = era(alloc, &written, kept)?;
-    let last = era(alloc, &[step(3, Call::Read, Outcome::Value(read))], 0)?;
-    Ok(run_eras::<Register>(alloc, &(), &[lost, last]))
-}
+/// Runs over a crash: of two writes so many are kept, and of a write and a read none.
+const OVER_A_CRASH: &[(&[EraSteps], Result<(), RunFault>)] = &[
+    (&[(&[WRITE_3, WRITE_4], 0), THEN_0], Ok(())),
+    (
+        &[(&[WRITE_3, WRITE_4], 0), THEN_3],
+        Err(RunFault::Illegal(3)),
+    ),
+    (&[(&[WRITE_3, WRITE_4], 1), THEN_3], Ok(())),
+    (
+        &[(&[WRITE_3, WRITE_4], 1), THEN_4],
+        Err(RunFault::Illegal(3)),
+    ),
+    (&[(&[WRITE_3, WRITE_4], 2), THEN_4], Ok(())),
+    (&[(&[WRITE_3, READ_3], 0), THEN_0], Ok(())),
+    (
+        &[(&[WRITE_3, READ_3], 0), THEN_3],
+        Err(RunFault::Illegal(3)),
+    ),
+];
 
 #[test]
 fn a_crash_loses_what_is_not_kept(rt: HostRuntime) -> Result<(), Fail> {
-    let alloc = rt.alloc();
-    assert_eq!(rt; run_over_crash(alloc, 0, 0)?, Ok(()));
-    assert_eq!(rt; run_over_crash(alloc, 0, 3)?, Err(RunFault::Illegal(3)));
-    assert_eq!(rt; run_over_crash(alloc, 1, 3)?, Ok(()));
-    assert_eq!(rt; run_over_crash(alloc, 1, 4)?, Err(RunFault::Illegal(3)));
-    assert_eq!(rt; run_over_crash(alloc, 2, 4)?, Ok(()));
+    assert!(rt; all_end(rt.alloc(), OVER_A_CRASH)?);
     Ok(())
 }
 
-/// The run of an era that writes 3 and reads it, of which nothing is kept, and of one that reads this number.
-fn run_lost(alloc: Global, read: u64) -> Result<Result<(), RunFault>, AllocError> {
-    let written = [
-        step(1, Call::Write(3), Outcome::Done),
-        step(2, Call::Read, Outcome::Value(3)),
-    ];
-    let lost = era(alloc, &written, 0)?;
-    let last = era(alloc, &[step(3, Call::Read, Outcome::Value(read))], 0)?;
-    Ok(run_eras::<Register>(alloc, &(), &[lost, last]))
+/// Whether a register is printed so.
+fn is_printed(alloc: Global, register: &Register, want: &[u8]) -> Result<bool, AllocError> {
+    let mut out = Vec::new(alloc);
+    register.print_state(&mut out)?;
+    Ok(out.as_slice() == want)
 }
 
-#[test]
-fn a_lost_number_is_not_read(rt: HostRuntime) -> Result<(), Fail> {
-    let alloc = rt.alloc();
-    assert_eq!(rt; run_lost(alloc, 0)?, Ok(()));
-    assert_eq!(rt; run_lost(alloc, 3)?, Err(RunFault::Illegal(3)));
-    Ok(())
+/// Whether a register that is set to 258 is printed so, and holds 0 once that is taken back.
+fn is_taken_back(alloc: Global) -> Result<bool, StepFault> {
+    let mut register = Register::opening(alloc, &())?;
+    let undo = register.step(&(), 1, &Call::Write(258), &Outcome::Done)?;
+    let printed = is_printed(alloc, &register, &[0, 0, 0, 0, 0, 0, 1, 2])?;
+    Ok(printed && register.undo(undo)?.value == 0)
 }
 
 #[test]
 fn a_step_is_taken_back(rt: HostRuntime) -> Result<(), Fail> {
+    assert!(rt; is_taken_back(rt.alloc())?);
+    Ok(())
+}
+
+#[test]
+fn another_number_is_not_read(rt: HostRuntime) -> Result<(), Fail> {
     let mut register = Register::opening(rt.alloc(), &())?;
-    let undo = register.step(&(), 1, &Call::Write(258), &Outcome::Done)?;
-    let mut out = Vec::new(rt.alloc());
-    register.print_state(&mut out)?;
-    assert_eq!(rt; out.as_slice(), [0, 0, 0, 0, 0, 0, 1, 2].as_slice());
-    assert_eq!(rt; register.undo(undo)?.value, 0);
-    let mut other = Register::opening(rt.alloc(), &())?;
-    let refused = other.step(&(), 1, &Call::Read, &Outcome::Value(1));
-    assert_eq!(rt; refused, Err(StepFault::NotAllowed));
+    let refused = register.step(&(), 1, &Call::Read, &Outcome::Value(1));
+    assert!(rt; refused == Err(StepFault::NotAllowed));
     Ok(())
 }
