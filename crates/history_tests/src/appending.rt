@@ -1,44 +1,11 @@
 //! What becomes of a history where events are put behind the others, one by one. Each fault is a case of `stored_cases`.
 
+use crate::events::{call, create, created, reply, write};
 use crate::reading::EXAMPLE;
-use nfs_history::{Event, History, HistoryFault, Meaning, Message, RecordedCall, read_history};
+use nfs_history::{Event, History, HistoryFault, Meaning, RecordedCall, read_history};
 use nfs3_types::FileHandle;
 use std::alloc::{AllocError, Global};
 use std::test::Fail;
-
-/// The example's CREATE.
-fn create() -> &'static [u8] {
-    &EXAMPLE[32..116]
-}
-
-/// The reply to it.
-fn created() -> &'static [u8] {
-    &EXAMPLE[128..180]
-}
-
-/// The example's WRITE.
-fn write() -> &'static [u8] {
-    &EXAMPLE[192..264]
-}
-
-fn call(alloc: Global, lane: u32, bytes: &[u8]) -> Result<Event, AllocError> {
-    let message = Message::from_slice(alloc, bytes)?;
-    Ok(Event::Call { lane, message })
-}
-
-fn reply(alloc: Global, lane: u32, bytes: &[u8]) -> Result<Event, AllocError> {
-    let message = Message::from_slice(alloc, bytes)?;
-    Ok(Event::Reply { lane, message })
-}
-
-/// These bytes with one of them changed.
-fn changed(alloc: Global, bytes: &[u8], place: usize, byte: u8) -> Result<Vec<u8>, AllocError> {
-    let mut bytes = Vec::from_slice(alloc, bytes)?;
-    if let Some(changed) = bytes.get_mut(place) {
-        *changed = byte;
-    }
-    Ok(bytes)
-}
 
 /// A history of no events.
 fn empty(alloc: Global) -> Result<History, HistoryFault> {
@@ -89,21 +56,38 @@ fn refusal(history: &mut History, event: Event) -> Option<HistoryFault> {
     }
 }
 
+/// What the example's events give, one by one.
+fn appended_example(alloc: Global) -> Result<History, HistoryFault> {
+    let read = read_history(alloc, EXAMPLE)?;
+    appended(alloc, &read)
+}
+
+/// Whether that is what is read.
+fn is_as_read(alloc: Global) -> Result<bool, HistoryFault> {
+    let history = appended_example(alloc)?;
+    let read = read_history(alloc, EXAMPLE)?;
+    Ok(are_same(&history, &read))
+}
+
 #[test]
 fn events_one_by_one_give_what_is_read(rt: HostRuntime) -> Result<(), Fail> {
-    let alloc = rt.alloc();
-    let read = read_history(alloc, EXAMPLE)?;
-    let mut history = appended(alloc, &read)?;
-    assert!(rt; are_same(&history, &read));
-    let other = changed(alloc, created(), 3, 9)?;
-    let unasked = reply(alloc, 1, other.as_slice())?;
-    assert_eq!(rt;
-        refusal(&mut history, unasked),
-        Some(HistoryFault::NoSuchCall(7))
-    );
+    assert!(rt; is_as_read(rt.alloc())?);
+    Ok(())
+}
+
+/// Whether a crash is put behind the example, once a reply to no call was refused.
+fn goes_on(alloc: Global) -> Result<bool, HistoryFault> {
+    let mut history = appended_example(alloc)?;
+    let unasked = reply(alloc, 1, created(), 9)?;
+    let refused = refusal(&mut history, unasked) == Some(HistoryFault::NoSuchCall(7));
     history.reserve()?;
     history.append(Event::Crash)?;
-    assert_eq!(rt; history.eras(), 2);
+    Ok(refused && history.eras() == 2)
+}
+
+#[test]
+fn a_history_goes_on_behind_a_refusal(rt: HostRuntime) -> Result<(), Fail> {
+    assert!(rt; goes_on(rt.alloc())?);
     Ok(())
 }
 
@@ -112,13 +96,9 @@ fn long_event(alloc: Global, number: u8) -> Result<Event, AllocError> {
     let round = number / 4;
     let lane = u32::from(round / 10) + 1;
     match number % 4 {
-        0 => call(alloc, lane, changed(alloc, create(), 3, number)?.as_slice()),
-        1 => call(alloc, lane, changed(alloc, write(), 3, number)?.as_slice()),
-        2 => reply(
-            alloc,
-            lane,
-            changed(alloc, created(), 3, number - 2)?.as_slice(),
-        ),
+        0 => call(alloc, lane, create(), number),
+        1 => call(alloc, lane, write(), number),
+        2 => reply(alloc, lane, created(), number - 2),
         _ if round % 10 == 9 => Ok(Event::Crash),
         _ => Ok(Event::Close {
             lane: 100 + u32::from(round),
@@ -126,20 +106,34 @@ fn long_event(alloc: Global, number: u8) -> Result<Event, AllocError> {
     }
 }
 
-#[test]
-fn many_events_give_what_is_built_of_them(rt: HostRuntime) -> Result<(), Fail> {
-    let alloc = rt.alloc();
+/// The long history, of events one by one.
+fn long_appended(alloc: Global) -> Result<History, HistoryFault> {
     let mut history = empty(alloc)?;
-    let mut events = Vec::new(alloc);
     for number in 0..200u8 {
         history.append(long_event(alloc, number)?)?;
+    }
+    Ok(history)
+}
+
+/// The same, built of its events.
+fn long_built(alloc: Global) -> Result<History, HistoryFault> {
+    let mut events = Vec::new(alloc);
+    for number in 0..200u8 {
         events.push(long_event(alloc, number)?)?;
     }
-    let built = History::build(alloc, FileHandle::from_slice(alloc, &[0])?, events)?;
-    assert_eq!(rt;
-        (built.events().len(), built.calls(), built.eras()),
-        (200, 100, 6)
-    );
-    assert!(rt; are_same(&history, &built));
+    History::build(alloc, FileHandle::from_slice(alloc, &[0])?, events)
+}
+
+/// Whether both are the same, of so many events, calls and eras.
+fn are_both(alloc: Global, events: usize, calls: u64, eras: u64) -> Result<bool, HistoryFault> {
+    let built = long_built(alloc)?;
+    let appended = long_appended(alloc)?;
+    let counted = built.events().len() == events && built.calls() == calls && built.eras() == eras;
+    Ok(counted && are_same(&appended, &built))
+}
+
+#[test]
+fn many_events_give_what_is_built_of_them(rt: HostRuntime) -> Result<(), Fail> {
+    assert!(rt; are_both(rt.alloc(), 200, 100, 6)?);
     Ok(())
 }

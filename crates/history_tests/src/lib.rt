@@ -6,6 +6,8 @@ mod appending;
 #[cfg(test)]
 mod eras;
 #[cfg(test)]
+mod events;
+#[cfg(test)]
 mod log;
 #[cfg(test)]
 mod messages;

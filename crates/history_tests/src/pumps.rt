@@ -1,125 +1,177 @@
 //! How pumps end, and what they have noted and written by then.
 
 use crate::log::new_log;
-use crate::messages::{CALL, CALL_FRAME, REPLY_FRAME};
-use crate::streams::{Broken, Endless, Failing, Slow};
+use crate::messages::{CALL, CALL_FRAME, LONG_FRAME, PART_FRAME, REPLY_FRAME};
+use crate::streams::{Broken, Stream, Then};
 use nfs_history::Event;
 use nfs_tap::{NoteFault, PumpEnd, TapLog, pump_calls, pump_replies};
-use std::alloc::AllocError;
-use std::io::Read;
-use std::process::Abort;
+use std::alloc::{AllocError, Global};
 use std::sync::{Mutex, Wait};
 use std::test::Fail;
 
 /// A log of no event behind a lock.
-fn shared_log(rt: &impl AllocGlobal) -> Result<Mutex<TapLog>, AllocError> {
-    Ok(Mutex::new(new_log(rt.alloc())?))
+fn shared_log(alloc: Global) -> Result<Mutex<TapLog>, AllocError> {
+    Ok(Mutex::new(new_log(alloc)?))
 }
 
-fn assert_noted(rt: &(impl Abort + Wait), log: &Mutex<TapLog>, events: usize) {
-    let count = log.lock(rt).events().len();
-    assert_eq!(rt; count, events);
+/// How many events are noted.
+fn noted(rt: &impl Wait, log: &Mutex<TapLog>) -> usize {
+    log.lock(rt).events().len()
 }
 
-/// What a pump of calls on lane 1 ends with, and how many calls are noted and what is written by then.
-fn assert_calls<I: Read>(
-    rt: &(impl Abort + Wait + AllocGlobal),
-    reader: &mut I,
+/// What a client sends, how a pump of it ends, and how many events are noted and what is written by then.
+struct Pumped {
+    stream: Stream,
     end: PumpEnd,
     events: usize,
-    written: &[u8],
-) -> Result<(), Fail> {
-    let log = shared_log(rt)?;
-    let mut out = Vec::new(rt.alloc());
-    assert_eq!(rt; pump_calls(rt, rt.alloc(), reader, &mut out, 1, &log), end);
-    assert_eq!(rt; out.as_slice(), written);
-    assert_noted(rt, &log, events);
+    written: &'static [u8],
+}
+
+/// Whether a pump of calls on a lane ends so.
+fn ends(rt: &impl Wait, alloc: Global, lane: u32, log: &Mutex<TapLog>, want: &Pumped) -> bool {
+    let mut stream = want.stream;
+    let mut out = Vec::new(alloc);
+    let end = pump_calls(rt, alloc, &mut stream, &mut out, lane, log);
+    end == want.end && out.as_slice() == want.written && noted(rt, log) == want.events
+}
+
+/// A whole record, at once and a byte at a time; a record that is no call; a part of one; a stream without end; and what stands ahead
+/// of a failed read and of a record that is too long.
+const PUMPED: &[Pumped] = &[
+    Pumped {
+        stream: Stream {
+            bytes: CALL_FRAME,
+            at_once: 4096,
+            then: Then::End,
+        },
+        end: PumpEnd::End,
+        events: 1,
+        written: CALL_FRAME,
+    },
+    Pumped {
+        stream: Stream {
+            bytes: CALL_FRAME,
+            at_once: 1,
+            then: Then::End,
+        },
+        end: PumpEnd::End,
+        events: 1,
+        written: CALL_FRAME,
+    },
+    Pumped {
+        stream: Stream {
+            bytes: REPLY_FRAME,
+            at_once: 4096,
+            then: Then::End,
+        },
+        end: PumpEnd::LogFault(NoteFault::BadRpc),
+        events: 0,
+        written: b"",
+    },
+    Pumped {
+        stream: Stream {
+            bytes: PART_FRAME,
+            at_once: 4096,
+            then: Then::End,
+        },
+        end: PumpEnd::End,
+        events: 0,
+        written: b"",
+    },
+    Pumped {
+        stream: Stream {
+            bytes: b"",
+            at_once: 4096,
+            then: Then::Zeros,
+        },
+        end: PumpEnd::Bound,
+        events: 0,
+        written: b"",
+    },
+    Pumped {
+        stream: Stream {
+            bytes: CALL_FRAME,
+            at_once: 4096,
+            then: Then::Fault,
+        },
+        end: PumpEnd::ReadFault,
+        events: 1,
+        written: CALL_FRAME,
+    },
+    Pumped {
+        stream: Stream {
+            bytes: LONG_FRAME,
+            at_once: 4096,
+            then: Then::End,
+        },
+        end: PumpEnd::RecordTooLong,
+        events: 1,
+        written: CALL_FRAME,
+    },
+];
+
+#[test]
+fn what_is_noted_is_forwarded(rt: HostRuntime) -> Result<(), Fail> {
+    for want in PUMPED {
+        let log = shared_log(rt.alloc())?;
+        assert!(rt; ends(&rt, rt.alloc(), 1, &log, want));
+    }
     Ok(())
-}
-
-#[test]
-fn a_call_is_noted_and_forwarded(rt: HostRuntime) -> Result<(), Fail> {
-    let mut frame = CALL_FRAME;
-    assert_calls(&rt, &mut frame, PumpEnd::End, 1, CALL_FRAME)?;
-    assert_calls(&rt, &mut Slow(CALL_FRAME), PumpEnd::End, 1, CALL_FRAME)
-}
-
-#[test]
-fn what_the_log_refuses_is_not_forwarded(rt: HostRuntime) -> Result<(), Fail> {
-    let mut frame = REPLY_FRAME;
-    let end = PumpEnd::LogFault(NoteFault::BadRpc);
-    assert_calls(&rt, &mut frame, end, 0, b"")
-}
-
-#[test]
-fn a_part_of_a_record_is_dropped(rt: HostRuntime) -> Result<(), Fail> {
-    let mut part = &CALL_FRAME[..50];
-    assert_calls(&rt, &mut part, PumpEnd::End, 0, b"")
-}
-
-#[test]
-fn a_stream_without_end_is_bounded(rt: HostRuntime) -> Result<(), Fail> {
-    assert_calls(&rt, &mut Endless, PumpEnd::Bound, 0, b"")
-}
-
-#[test]
-fn what_came_ahead_of_a_failed_read_is_forwarded(rt: HostRuntime) -> Result<(), Fail> {
-    assert_calls(
-        &rt,
-        &mut Failing(CALL_FRAME),
-        PumpEnd::ReadFault,
-        1,
-        CALL_FRAME,
-    )
-}
-
-#[test]
-fn what_came_ahead_of_a_long_record_is_forwarded(rt: HostRuntime) -> Result<(), Fail> {
-    let mut bytes = Vec::from_slice(rt.alloc(), CALL_FRAME)?;
-    bytes.extend_from_slice(b"\xff\xff\xff\xff")?;
-    let mut stream = bytes.as_slice();
-    assert_calls(&rt, &mut stream, PumpEnd::RecordTooLong, 1, CALL_FRAME)
 }
 
 #[test]
 fn a_record_of_a_failed_write_is_noted(rt: HostRuntime) -> Result<(), Fail> {
-    let log = shared_log(&rt)?;
+    let log = shared_log(rt.alloc())?;
     let mut frame = CALL_FRAME;
     let end = pump_calls(&rt, rt.alloc(), &mut frame, &mut Broken, 1, &log);
-    assert_eq!(rt; end, PumpEnd::WriteFault);
-    assert_noted(&rt, &log, 1);
+    assert!(rt; end == PumpEnd::WriteFault && noted(&rt, &log) == 1);
     Ok(())
+}
+
+/// Whether the last event is a reply on lane 1.
+fn ends_with_a_reply(rt: &impl Wait, log: &Mutex<TapLog>) -> bool {
+    matches!(
+        log.lock(rt).events().last(),
+        Some(Event::Reply { lane: 1, .. })
+    )
 }
 
 #[test]
 fn a_reply_is_noted_as_one(rt: HostRuntime) -> Result<(), Fail> {
-    let log = shared_log(&rt)?;
+    let log = shared_log(rt.alloc())?;
     log.lock(&rt).note_call(1, CALL)?;
     let mut frame = REPLY_FRAME;
     let mut out = Vec::new(rt.alloc());
     let end = pump_replies(&rt, rt.alloc(), &mut frame, &mut out, 1, &log);
-    assert_eq!(rt; end, PumpEnd::End);
-    assert_eq!(rt; out.as_slice(), REPLY_FRAME);
-    let is_reply = matches!(
-        log.lock(&rt).events().last(),
-        Some(Event::Reply { lane: 1, .. })
-    );
-    assert!(rt; is_reply);
+    assert!(rt; end == PumpEnd::End && out.as_slice() == REPLY_FRAME);
+    assert!(rt; ends_with_a_reply(&rt, &log));
     Ok(())
 }
 
-#[test]
-fn a_full_log_ends_a_pump(rt: HostRuntime) -> Result<(), Fail> {
-    let mut log = new_log(rt.alloc())?;
+/// A log with no room for a call: so many closes leave none.
+fn full_log(alloc: Global) -> Result<TapLog, NoteFault> {
+    let mut log = new_log(alloc)?;
     for lane in 0..995_904 {
         log.note_close(lane)?;
     }
-    let log = Mutex::new(log);
-    let mut frame = CALL_FRAME;
-    let mut out = Vec::new(rt.alloc());
-    let end = pump_calls(&rt, rt.alloc(), &mut frame, &mut out, 2_000_000, &log);
-    assert_eq!(rt; end, PumpEnd::LogFull);
-    assert!(rt; out.is_empty());
-    assert_noted(&rt, &log, 995_904);
+    Ok(log)
+}
+
+/// The end of a pump of a call into such a log.
+const FULL: Pumped = Pumped {
+    stream: Stream {
+        bytes: CALL_FRAME,
+        at_once: 4096,
+        then: Then::End,
+    },
+    end: PumpEnd::LogFull,
+    events: 995_904,
+    written: b"",
+};
+
+#[test]
+fn a_full_log_ends_a_pump(rt: HostRuntime) -> Result<(), Fail> {
+    let log = Mutex::new(full_log(rt.alloc())?);
+    assert!(rt; ends(&rt, rt.alloc(), 2_000_000, &log, &FULL));
     Ok(())
 }

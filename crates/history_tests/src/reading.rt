@@ -1,8 +1,9 @@
 //! What a history shows of a file and of events. Each fault of a file is a case of `stored_cases`.
 
-use nfs_history::{Event, History, HistoryFault, Message, read_history};
+use crate::events::{call, create, created, reply, write};
+use nfs_history::{Event, History, HistoryFault, read_history};
 use nfs3_types::FileHandle;
-use std::alloc::{AllocError, Global};
+use std::alloc::Global;
 use std::test::Fail;
 
 /// CREATE of "a" and WRITE of "abc" on lane 1, then READ on lane 2, each with its reply.
@@ -32,26 +33,6 @@ pub(crate) const EXAMPLE: &[u8] = b"\
     \x00\x00\x00\x00\x00\x00\x00\x03\x00\x00\x00\x01\x00\x00\x00\x03\x61\x62\x63\x00\
 ";
 
-/// The example's call and reply with numbers from `at` on, as an event of lane 1.
-fn call_event(alloc: Global, bytes: &[u8]) -> Result<Event, AllocError> {
-    let message = Message::from_slice(alloc, bytes)?;
-    Ok(Event::Call { lane: 1, message })
-}
-
-fn reply_event(alloc: Global, bytes: &[u8]) -> Result<Event, AllocError> {
-    let message = Message::from_slice(alloc, bytes)?;
-    Ok(Event::Reply { lane: 1, message })
-}
-
-/// What is built of the example's CREATE and its reply, and one more event.
-fn built_with(alloc: Global, last: Event) -> Result<History, HistoryFault> {
-    let mut events = Vec::new(alloc);
-    events.push(call_event(alloc, &EXAMPLE[32..116])?)?;
-    events.push(reply_event(alloc, &EXAMPLE[128..180])?)?;
-    events.push(last)?;
-    History::build(alloc, FileHandle::from_slice(alloc, &[0])?, events)
-}
-
 fn message_of(event: &Event) -> &[u8] {
     match event {
         Event::Call { message, .. } | Event::Reply { message, .. } => message.as_slice(),
@@ -59,23 +40,27 @@ fn message_of(event: &Event) -> &[u8] {
     }
 }
 
+/// Whether these are six events, of which the first three have the example's messages.
+fn are_shown(events: &[Event]) -> bool {
+    let [first, second, third, _, _, _] = events else {
+        return false;
+    };
+    message_of(first) == create() && message_of(second) == created() && message_of(third) == write()
+}
+
+/// Whether a history has the example's three calls.
+fn has_calls(history: &History) -> bool {
+    if history.calls() != 3 || history.find_call(0).is_some() || history.find_call(4).is_some() {
+        return false;
+    }
+    let third = history.call(3).lane == 2 && history.begin(3) == 5 && history.end(3) == Some(6);
+    third && history.era(2) == 1 && history.outcome(1).is_some()
+}
+
 #[test]
 fn a_history_shows_its_events_and_calls(rt: HostRuntime) -> Result<(), Fail> {
     let history = read_history(rt.alloc(), EXAMPLE)?;
-    assert_eq!(rt; history.events().len(), 6);
-    for (event, place) in history.events().iter().zip([32..116, 128..180, 192..264]) {
-        assert_eq!(rt; message_of(event), &EXAMPLE[place]);
-    }
-    assert!(rt; history.find_call(0).is_none());
-    assert!(rt; history.find_call(4).is_none());
-    assert_eq!(rt; history.calls(), 3);
-    if history.calls() == 3 {
-        assert_eq!(rt; history.call(3).lane, 2);
-        assert_eq!(rt; history.begin(3), 5);
-        assert_eq!(rt; history.end(3), Some(6));
-        assert_eq!(rt; history.era(2), 1);
-        assert!(rt; history.outcome(1).is_some());
-    }
+    assert!(rt; are_shown(history.events()) && has_calls(&history));
     Ok(())
 }
 
@@ -87,14 +72,26 @@ fn ends(history: &History) -> (u64, Option<u64>) {
     }
 }
 
+/// What is built of the example's CREATE and its reply, and one more event.
+fn built_with(alloc: Global, last: Event) -> Result<History, HistoryFault> {
+    let mut events = Vec::new(alloc);
+    events.push(call(alloc, 1, create(), 1)?)?;
+    events.push(reply(alloc, 1, created(), 1)?)?;
+    events.push(last)?;
+    History::build(alloc, FileHandle::from_slice(alloc, &[0])?, events)
+}
+
+/// Whether a history of these three events has its root, and a last call with this begin and end.
+fn is_built(alloc: Global, last: Event, want: (u64, Option<u64>)) -> Result<bool, HistoryFault> {
+    let history = built_with(alloc, last)?;
+    let whole = history.events().len() == 3 && history.root().as_slice() == [0].as_slice();
+    Ok(whole && ends(&history) == want)
+}
+
 #[test]
 fn a_history_is_built_of_events(rt: HostRuntime) -> Result<(), Fail> {
-    let history = built_with(rt.alloc(), Event::Close { lane: 1 })?;
-    assert_eq!(rt; history.events().len(), 3);
-    assert_eq!(rt; ends(&history), (1, Some(2)));
-    assert_eq!(rt; history.root().as_slice(), [0].as_slice());
-    let again = call_event(rt.alloc(), &EXAMPLE[192..264])?;
-    let history = built_with(rt.alloc(), again)?;
-    assert_eq!(rt; ends(&history), (3, None));
+    assert!(rt; is_built(rt.alloc(), Event::Close { lane: 1 }, (1, Some(2)))?);
+    let again = call(rt.alloc(), 1, write(), 2)?;
+    assert!(rt; is_built(rt.alloc(), again, (3, None))?);
     Ok(())
 }

@@ -1,44 +1,39 @@
-//! Readers and writers that fail, or don't end.
+//! A reader that gives pieces, fails or doesn't end, and a writer that fails.
 
 use std::io::{self, ErrorKind, Read, Write};
 
-/// Gives one byte of zero at each read, without end.
-#[derive(Drop)]
-pub(crate) struct Endless;
-
-impl Read for Endless {
-    fn read(&mut self, buf: &mut [u8]) -> io::Result<usize> {
-        if buf.is_empty() {
-            return Ok(0);
-        }
-        buf[0] = 0;
-        Ok(1)
-    }
+/// What a stream gives behind its bytes.
+#[derive(Clone, Copy)]
+pub(crate) enum Then {
+    End,
+    /// The reads fail.
+    Fault,
+    /// One byte of zero at each read, without end.
+    Zeros,
 }
 
-/// Gives its bytes one at a time.
-#[derive(Drop)]
-pub(crate) struct Slow<'a>(pub(crate) &'a [u8]);
-
-impl Read for Slow<'_> {
-    fn read(&mut self, buf: &mut [u8]) -> io::Result<usize> {
-        if buf.is_empty() {
-            return Ok(0);
-        }
-        self.0.read(&mut buf[..1])
-    }
+/// Gives some bytes, at most so many at a time.
+#[derive(Clone, Copy)]
+pub(crate) struct Stream {
+    pub(crate) bytes: &'static [u8],
+    pub(crate) at_once: usize,
+    pub(crate) then: Then,
 }
 
-/// Gives some bytes, and then fails.
-#[derive(Drop)]
-pub(crate) struct Failing<'a>(pub(crate) &'a [u8]);
-
-impl Read for Failing<'_> {
+impl Read for Stream {
     fn read(&mut self, buf: &mut [u8]) -> io::Result<usize> {
-        if self.0.is_empty() {
-            return Err(io::Error::from(ErrorKind::ConnectionReset));
+        if !self.bytes.is_empty() {
+            let most = self.at_once.min(buf.len());
+            return self.bytes.read(&mut buf[..most]);
         }
-        self.0.read(buf)
+        match self.then {
+            Then::Fault => Err(io::Error::from(ErrorKind::ConnectionReset)),
+            Then::Zeros if !buf.is_empty() => {
+                buf[0] = 0;
+                Ok(1)
+            }
+            _ => Ok(0),
+        }
     }
 }
 

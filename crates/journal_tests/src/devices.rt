@@ -1,32 +1,42 @@
 //! A device that fails once at a call of each kind.
 
 use journal_device::{DevFault, JournalDevice, SimDevice};
-use std::alloc::Global;
 use std::test::Fail;
 
-/// How many records a device has, how many are safe, and how often it failed.
-fn numbers(device: &SimDevice) -> (u64, u64, u64) {
-    (device.len(), device.mark(), device.faults())
+/// A call of a device.
+#[derive(Clone, Copy)]
+enum DeviceCall {
+    Append(&'static [u8]),
+    Barrier,
+    /// Goes on with so many records.
+    Recover(u64),
 }
 
-/// Appends these bytes: how that ended, with the numbers behind it.
-fn append(device: &mut SimDevice, bytes: &[u8]) -> (Result<(), DevFault>, (u64, u64, u64)) {
-    let result = device.append(bytes);
-    (result, numbers(device))
-}
+/// A call, how it ends, and behind it how many records the device has, how many are safe, and how often it failed.
+type Step = (DeviceCall, Result<(), DevFault>, [u64; 3]);
 
-/// A barrier, in the same way.
-fn barrier(device: &mut SimDevice) -> (Result<(), DevFault>, (u64, u64, u64)) {
-    let result = device.barrier();
-    (result, numbers(device))
-}
-
-/// Goes on with the first `keep` records, where so many are there and no safe one is lost.
-fn recover(device: &mut SimDevice, keep: u64) -> Option<Result<(), DevFault>> {
-    if keep < device.mark() || device.len() < keep {
-        return None;
+/// Whether a call ends so. None goes on with more records than are there, or with fewer than are safe.
+fn ends(device: &mut SimDevice, call: DeviceCall, want: Result<(), DevFault>) -> bool {
+    match call {
+        DeviceCall::Append(bytes) => device.append(bytes) == want,
+        DeviceCall::Barrier => device.barrier() == want,
+        DeviceCall::Recover(keep) => {
+            device.mark() <= keep && keep <= device.len() && device.recover(keep) == want
+        }
     }
-    Some(device.recover(keep))
+}
+
+/// Whether calls one after the other end so.
+fn all_end(device: &mut SimDevice, steps: &[Step]) -> bool {
+    for (call, want, numbers) in steps {
+        if !ends(device, *call, *want) {
+            return false;
+        }
+        if [device.len(), device.mark(), device.faults()] != *numbers {
+            return false;
+        }
+    }
+    true
 }
 
 /// Whether a record has these bytes.
@@ -37,39 +47,38 @@ fn has(device: &SimDevice, index: usize, bytes: &[u8]) -> bool {
     }
 }
 
+/// An append that fails, between two that don't.
+const SECOND_FAILS: &[Step] = &[
+    (DeviceCall::Append(b"one"), Ok(()), [1, 0, 0]),
+    (DeviceCall::Append(b"two"), Err(DevFault::Failed), [1, 0, 1]),
+    (DeviceCall::Append(b"three"), Ok(()), [2, 0, 1]),
+    (DeviceCall::Barrier, Ok(()), [2, 2, 1]),
+    (DeviceCall::Recover(2), Ok(()), [2, 2, 1]),
+];
+
 #[test]
 fn a_failed_append_adds_nothing(rt: HostRuntime) -> Result<(), Fail> {
     let mut device = SimDevice::new(rt.alloc(), Some(2), None, None);
-    assert_eq!(rt; append(&mut device, b"one".as_slice()), (Ok(()), (1, 0, 0)));
-    assert_eq!(rt;
-        append(&mut device, b"two".as_slice()),
-        (Err(DevFault::Failed), (1, 0, 1))
-    );
-    assert_eq!(rt;
-        append(&mut device, b"three".as_slice()),
-        (Ok(()), (2, 0, 1))
-    );
-    assert_eq!(rt; barrier(&mut device), (Ok(()), (2, 2, 1)));
-    assert_eq!(rt; recover(&mut device, 2), Some(Ok(())));
-    assert!(rt; has(&device, 0, b"one".as_slice()) && has(&device, 1, b"three".as_slice()));
+    assert!(rt; all_end(&mut device, SECOND_FAILS));
+    assert!(rt; has(&device, 0, b"one") && has(&device, 1, b"three"));
     Ok(())
 }
+
+/// A barrier and a recovery that fail, and one that goes on with two of three records.
+const TWO_ARE_KEPT: &[Step] = &[
+    (DeviceCall::Append(b"one"), Ok(()), [1, 0, 0]),
+    (DeviceCall::Barrier, Ok(()), [1, 1, 0]),
+    (DeviceCall::Append(b"two"), Ok(()), [2, 1, 0]),
+    (DeviceCall::Barrier, Err(DevFault::Failed), [2, 1, 1]),
+    (DeviceCall::Append(b"three"), Ok(()), [3, 1, 1]),
+    (DeviceCall::Recover(2), Err(DevFault::Failed), [3, 1, 2]),
+    (DeviceCall::Recover(2), Ok(()), [2, 2, 2]),
+];
 
 #[test]
 fn a_crash_loses_what_is_not_kept(rt: HostRuntime) -> Result<(), Fail> {
     let mut device = SimDevice::new(rt.alloc(), Some(0), Some(2), Some(1));
-    assert_eq!(rt; append(&mut device, b"one".as_slice()), (Ok(()), (1, 0, 0)));
-    assert_eq!(rt; barrier(&mut device), (Ok(()), (1, 1, 0)));
-    assert_eq!(rt; append(&mut device, b"two".as_slice()), (Ok(()), (2, 1, 0)));
-    assert_eq!(rt; barrier(&mut device), (Err(DevFault::Failed), (2, 1, 1)));
-    assert_eq!(rt;
-        append(&mut device, b"three".as_slice()),
-        (Ok(()), (3, 1, 1))
-    );
-    assert_eq!(rt; recover(&mut device, 2), Some(Err(DevFault::Failed)));
-    assert_eq!(rt; numbers(&device), (3, 1, 2));
-    assert_eq!(rt; recover(&mut device, 2), Some(Ok(())));
-    assert_eq!(rt; numbers(&device), (2, 2, 2));
-    assert!(rt; has(&device, 1, b"two".as_slice()) && !has(&device, 2, b"three".as_slice()));
+    assert!(rt; all_end(&mut device, TWO_ARE_KEPT));
+    assert!(rt; has(&device, 1, b"two") && !has(&device, 2, b"three"));
     Ok(())
 }

@@ -4,7 +4,7 @@ use journal_device::{JournalDevice, Record, SimDevice};
 use journal_rebuild::{RebuildFault, rebuild};
 use journal_records::put_record;
 use replay_law::Replayable;
-use std::alloc::Global;
+use std::alloc::{AllocError, Global};
 use std::test::Fail;
 
 /// A CREATE of `a` in the root, whose handle is eight zeros, of transaction 1, in hex.
@@ -37,6 +37,9 @@ const ONE_FILE: [u8; 56] = [
     0, 0, 0, 0, 0, 0, 0, 0, 1, 0, 0, 0, 1, 0, 0, 0, 3, 97, 98, 99, 0, 0, 0, 0, 0,
 ];
 
+/// A call and its reply, in hex, with the call's number, and how many bytes of their record are kept at most.
+type Entry = (u64, &'static str, &'static str, usize);
+
 /// The record of these messages, in hex, as that of this call. Messages here are short.
 fn record(alloc: Global, number: u64, call: &str, reply: &str) -> Result<Vec<u8>, Fail> {
     let call = hex::decode(alloc, call)?;
@@ -48,8 +51,19 @@ fn record(alloc: Global, number: u64, call: &str, reply: &str) -> Result<Vec<u8>
     Ok(out)
 }
 
+/// A journal of these records.
+fn journal(alloc: Global, entries: &[Entry]) -> Result<SimDevice, Fail> {
+    let mut device = SimDevice::new(alloc, None, None, None);
+    for (number, call, reply, length) in entries {
+        let record = record(alloc, *number, call, reply)?;
+        let bytes = record.as_slice();
+        device.append(bytes.get(..*length).unwrap_or(bytes))?;
+    }
+    Ok(device)
+}
+
 /// The records of the journal, made of their bytes again, as of one that was kept in a file.
-fn read_again(alloc: Global, device: &SimDevice) -> Result<Vec<Record>, Fail> {
+fn read_again(alloc: Global, device: &SimDevice) -> Result<Vec<Record>, AllocError> {
     let mut records = Vec::new(alloc);
     for record in device.records() {
         records.push(Record::from_slice(alloc, record.as_slice())?)?;
@@ -57,59 +71,57 @@ fn read_again(alloc: Global, device: &SimDevice) -> Result<Vec<Record>, Fail> {
     Ok(records)
 }
 
-/// Whether the tree of the journal is printed so.
-fn is_printed(alloc: Global, device: &SimDevice, want: &[u8]) -> Result<bool, Fail> {
-    let records = read_again(alloc, device)?;
-    let tree = rebuild(alloc, records.as_slice())?;
+/// Whether the tree of the records is printed so.
+fn is_printed(alloc: Global, records: &[Record], want: &[u8]) -> Result<bool, RebuildFault> {
+    let tree = rebuild(alloc, records)?;
     let mut out = Vec::new(alloc);
     tree.print_state(&mut out)?;
     Ok(out.as_slice() == want)
 }
 
-/// Why the journal gives no tree.
-fn fault_of(alloc: Global, device: &SimDevice) -> Option<RebuildFault> {
+/// Whether the journal of these records gives a tree that is printed so, once it is read again.
+fn gives(alloc: Global, entries: &[Entry], want: &[u8]) -> Result<bool, Fail> {
+    let device = journal(alloc, entries)?;
+    let records = read_again(alloc, &device)?;
+    Ok(is_printed(alloc, records.as_slice(), want)?)
+}
+
+/// Whether the journal of these records gives no tree, for this reason.
+fn is_refused(alloc: Global, entries: &[Entry], want: RebuildFault) -> Result<bool, Fail> {
+    let device = journal(alloc, entries)?;
     match rebuild(alloc, device.records()) {
-        Ok(tree) => {
-            drop(tree);
-            None
-        }
-        Err(fault) => Some(fault),
+        Ok(_) => Ok(false),
+        Err(fault) => Ok(fault == want),
     }
 }
 
+/// The records of both.
+const MADE_AND_WRITTEN: &[Entry] = &[(1, CREATE, MADE, 1000), (2, WRITE, WROTE, 1000)];
+
 #[test]
 fn an_empty_journal_gives_the_root(rt: HostRuntime) -> Result<(), Fail> {
-    let device = SimDevice::new(rt.alloc(), None, None, None);
-    assert!(rt; is_printed(rt.alloc(), &device, NO_FILE.as_slice())?);
+    assert!(rt; gives(rt.alloc(), &[], &NO_FILE)?);
     Ok(())
 }
 
 #[test]
 fn a_create_and_a_write_give_their_file(rt: HostRuntime) -> Result<(), Fail> {
-    let mut device = SimDevice::new(rt.alloc(), None, None, None);
-    device.append(record(rt.alloc(), 1, CREATE, MADE)?.as_slice())?;
-    device.append(record(rt.alloc(), 2, WRITE, WROTE)?.as_slice())?;
-    assert!(rt; is_printed(rt.alloc(), &device, ONE_FILE.as_slice())?);
+    assert!(rt; gives(rt.alloc(), MADE_AND_WRITTEN, &ONE_FILE)?);
     Ok(())
 }
 
+/// A record that is cut short, between two that aren't.
+const CUT_SHORT: &[Entry] = &[
+    (1, CREATE, MADE, 1000),
+    (2, WRITE, WROTE, 40),
+    (2, WRITE, WROTE, 1000),
+];
+
 #[test]
 fn the_first_record_at_fault_is_named(rt: HostRuntime) -> Result<(), Fail> {
-    let mut device = SimDevice::new(rt.alloc(), None, None, None);
-    device.append(record(rt.alloc(), 1, CREATE, MADE)?.as_slice())?;
-    let write = record(rt.alloc(), 2, WRITE, WROTE)?;
-    device.append(write.as_slice().get(..40).unwrap_or(b""))?;
-    device.append(write.as_slice())?;
-    assert_eq!(rt;
-        fault_of(rt.alloc(), &device),
-        Some(RebuildFault::NoRecord(2))
-    );
+    assert!(rt; is_refused(rt.alloc(), CUT_SHORT, RebuildFault::NoRecord(2))?);
     // The file of a WRITE that comes first isn't there.
-    let mut other = SimDevice::new(rt.alloc(), None, None, None);
-    other.append(write.as_slice())?;
-    assert_eq!(rt;
-        fault_of(rt.alloc(), &other),
-        Some(RebuildFault::NotLegal(1))
-    );
+    let no_file = [(2, WRITE, WROTE, 1000)];
+    assert!(rt; is_refused(rt.alloc(), &no_file, RebuildFault::NotLegal(1))?);
     Ok(())
 }
