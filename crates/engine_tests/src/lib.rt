@@ -19,7 +19,3 @@ mod recordings;
 mod samples;
 #[cfg(test)]
 mod served;
-#[cfg(test)]
-mod streams;
-#[cfg(test)]
-mod words;

@@ -1,6 +1,5 @@
-//! A server and a client.
+//! Listeners and connections of 127.0.0.1.
 
-use crate::frames::{CALL, REPLY};
 use nfs_relay::Host;
 use std::io::{self, ErrorKind, Read, Write};
 use std::net::{IpAddr, Ipv4Addr, Net, SocketAddr, TcpListener, TcpStream};
@@ -22,6 +21,11 @@ pub(crate) fn port_of(listener: &TcpListener) -> io::Result<u16> {
     Ok(listener.local_addr()?.port())
 }
 
+/// A port that is free.
+pub(crate) fn free_port<R: Host>(rt: &R) -> io::Result<u16> {
+    port_of(&listen(rt)?)
+}
+
 /// A connection to a port, to which someone may listen soon.
 pub(crate) fn connect<R: Host>(rt: &R, port: u16) -> io::Result<TcpStream> {
     for _try in 0..10_000 {
@@ -31,6 +35,11 @@ pub(crate) fn connect<R: Host>(rt: &R, port: u16) -> io::Result<TcpStream> {
         thread::sleep(rt, Duration::from_millis(1));
     }
     Err(io::Error::from(ErrorKind::TimedOut))
+}
+
+/// Whether the record goes out.
+pub(crate) fn sends(stream: &mut TcpStream, record: &[u8]) -> bool {
+    stream.write_all(record).is_ok()
 }
 
 /// Whether just this record comes next.
@@ -46,27 +55,4 @@ pub(crate) fn comes(stream: &mut TcpStream, record: &[u8]) -> bool {
 /// Whether the stream ends.
 pub(crate) fn ends(stream: &mut TcpStream) -> bool {
     matches!(stream.read(&mut [0; 64]), Ok(0))
-}
-
-/// Answers a connection's call so often, and then sees it end.
-pub(crate) fn answer(listener: &TcpListener, calls: u32) -> bool {
-    let Ok((mut stream, _)) = listener.accept() else {
-        return false;
-    };
-    for _ in 0..calls {
-        if !comes(&mut stream, CALL) || stream.write_all(REPLY).is_err() {
-            return false;
-        }
-    }
-    ends(&mut stream)
-}
-
-/// Calls so often, and gets each answer.
-pub(crate) fn call(stream: &mut TcpStream, calls: u32) -> bool {
-    for _ in 0..calls {
-        if stream.write_all(CALL).is_err() || !comes(stream, REPLY) {
-            return false;
-        }
-    }
-    true
 }

@@ -1,15 +1,23 @@
-//! Readers that give a bundle in pieces or break off, and writers with little room.
+//! Readers that give a bundle in pieces, break off or never end, and writers with little room.
 
-use crate::samples::{CERTIFICATE, HISTORY};
+use crate::samples::{CERTIFICATE, EMPTY, HISTORY};
 use bench_streams::{Sink, Stream};
 use nfsbench_engine::run_bundle;
-use std::alloc::Global;
+use std::alloc::{AllocError, Global};
 use std::io::{self, ErrorKind, Read, Write};
 use std::test::Fail;
 
 const YES: &[u8] = b"yes\n";
 
 const BAD_BUNDLE: &[u8] = b"refused: bad bundle\n";
+
+/// A certificate of no call.
+const NO_CALL: &str = "witness 1\nend\n";
+
+/// A bundle of a history in hex and a certificate.
+fn bundle_of(alloc: Global, history: &str, certificate: &str) -> Result<String, AllocError> {
+    format!(in alloc; "{history}\n{certificate}")
+}
 
 /// Gives what it has, some bytes at a time, and then fails or ends.
 #[derive(Drop)]
@@ -27,48 +35,6 @@ impl Read for Slow<'_> {
         let room = self.piece.min(buf.len());
         self.rest.read(&mut buf[..room])
     }
-}
-
-/// Whether a reader of these bytes gets this line and this status.
-fn is_told(alloc: Global, reader: &mut Slow<'_>, line: &[u8], status: u8) -> bool {
-    let mut told = Vec::new(alloc);
-    run_bundle(alloc, &mut Stream::new(reader), &mut told) == status && told.as_slice() == line
-}
-
-/// Whether no bundle is found where the reader fails behind so many bytes.
-fn is_torn(alloc: Global, bundle: &[u8], end: usize, piece: usize) -> bool {
-    let Some(rest) = bundle.get(..end) else {
-        return false;
-    };
-    let ends = false;
-    is_told(alloc, &mut Slow { rest, piece, ends }, BAD_BUNDLE, 2)
-}
-
-#[test]
-fn a_reader_that_fails_anywhere_gives_no_bundle(rt: HostRuntime) -> Result<(), Fail> {
-    let bundle = format!(in rt.alloc(); "{HISTORY}\n{CERTIFICATE}")?;
-    for end in 0..=bundle.len() {
-        let whole = is_torn(rt.alloc(), bundle.as_bytes(), end, 65_536);
-        let pieces = is_torn(rt.alloc(), bundle.as_bytes(), end, 7);
-        assert!(rt; whole && pieces, "behind {end}");
-    }
-    Ok(())
-}
-
-/// Whether the bundle is accepted where the reader gives at most so many bytes at a time.
-fn is_put_together(alloc: Global, rest: &[u8], piece: usize) -> bool {
-    let ends = true;
-    is_told(alloc, &mut Slow { rest, piece, ends }, YES, 0)
-}
-
-#[test]
-fn a_bundle_may_come_in_any_pieces(rt: HostRuntime) -> Result<(), Fail> {
-    let bundle = format!(in rt.alloc(); "{HISTORY}\n{CERTIFICATE}")?;
-    for piece in 1..=bundle.len() {
-        let accepted = is_put_together(rt.alloc(), bundle.as_bytes(), piece);
-        assert!(rt; accepted, "pieces of {piece}");
-    }
-    Ok(())
 }
 
 /// Is interrupted ahead of each read that gives something.
@@ -89,44 +55,129 @@ impl Read for Interrupted<'_> {
     }
 }
 
-#[test]
-fn an_interrupted_read_is_tried_again(rt: HostRuntime) -> Result<(), Fail> {
-    let bundle = format!(in rt.alloc(); "{HISTORY}\n{CERTIFICATE}")?;
-    let reader = Interrupted {
-        rest: bundle.as_bytes(),
-        gives: true,
+/// Gives one digit a read, without end.
+#[derive(Drop)]
+struct Endless;
+
+impl Read for Endless {
+    fn read(&mut self, buf: &mut [u8]) -> io::Result<usize> {
+        match buf.first_mut() {
+            Some(byte) => {
+                *byte = b'0';
+                Ok(1)
+            }
+            None => Ok(0),
+        }
+    }
+}
+
+/// Whether a reader of a bundle gets this line and this status.
+fn is_told<I: Read>(alloc: Global, reader: &mut I, line: &[u8], status: u8) -> bool {
+    let mut told = Vec::new(alloc);
+    run_bundle(alloc, &mut Stream::new(reader), &mut told) == status && told.as_slice() == line
+}
+
+/// Whether no bundle is found where the reader fails behind so many bytes, given whole or in pieces.
+fn is_torn(alloc: Global, bundle: &[u8], end: usize) -> bool {
+    let Some(rest) = bundle.get(..end) else {
+        return false;
     };
-    let mut told = Vec::new(rt.alloc());
-    assert_eq!(rt;
-        run_bundle(rt.alloc(), &mut Stream::new(reader), &mut told),
-        0
-    );
-    assert_eq!(rt; told.as_slice(), YES);
+    let mut whole = Slow {
+        rest,
+        piece: 65_536,
+        ends: false,
+    };
+    let mut pieces = Slow {
+        rest,
+        piece: 7,
+        ends: false,
+    };
+    is_told(alloc, &mut whole, BAD_BUNDLE, 2) && is_told(alloc, &mut pieces, BAD_BUNDLE, 2)
+}
+
+#[test]
+fn a_reader_that_fails_anywhere_gives_no_bundle(rt: HostRuntime) -> Result<(), Fail> {
+    let bundle = bundle_of(rt.alloc(), HISTORY, CERTIFICATE)?;
+    for end in 0..=bundle.len() {
+        assert!(rt; is_torn(rt.alloc(), bundle.as_bytes(), end), "behind {end}");
+    }
     Ok(())
 }
 
-/// Has room for so many bytes, takes some at a time, and may fail to hand them on.
+/// Whether the bundle is accepted where the reader gives at most so many bytes at a time.
+fn is_put_together(alloc: Global, rest: &[u8], piece: usize) -> bool {
+    let ends = true;
+    is_told(alloc, &mut Slow { rest, piece, ends }, YES, 0)
+}
+
+#[test]
+fn a_bundle_may_come_in_any_pieces(rt: HostRuntime) -> Result<(), Fail> {
+    let bundle = bundle_of(rt.alloc(), HISTORY, CERTIFICATE)?;
+    for piece in 1..=bundle.len() {
+        assert!(rt;
+            is_put_together(rt.alloc(), bundle.as_bytes(), piece),
+            "pieces of {piece}"
+        );
+    }
+    Ok(())
+}
+
+/// Whether the bundle is accepted where the reader is interrupted.
+fn is_read_on(alloc: Global, rest: &[u8]) -> bool {
+    let gives = true;
+    is_told(alloc, &mut Interrupted { rest, gives }, YES, 0)
+}
+
+#[test]
+fn an_interrupted_read_is_tried_again(rt: HostRuntime) -> Result<(), Fail> {
+    let bundle = bundle_of(rt.alloc(), HISTORY, CERTIFICATE)?;
+    assert!(rt; is_read_on(rt.alloc(), bundle.as_bytes()));
+    Ok(())
+}
+
+#[test]
+fn a_reader_that_never_ends_gives_no_bundle(rt: HostRuntime) -> Result<(), Fail> {
+    assert!(rt; is_told(rt.alloc(), &mut Endless, BAD_BUNDLE, 2));
+    Ok(())
+}
+
+/// How a writer behaves.
+#[derive(Clone, Copy)]
+struct Manner {
+    /// Is interrupted at its first write.
+    interrupted: bool,
+    /// Has room for so many bytes.
+    room: usize,
+    /// Takes so many at a time.
+    piece: usize,
+    /// Hands on what it took.
+    flushes: bool,
+}
+
+/// A writer that behaves so.
 #[derive(Drop)]
 struct Narrow {
     told: Vec<u8>,
-    room: usize,
-    piece: usize,
-    flushes: bool,
+    manner: Manner,
 }
 
 impl Write for Narrow {
     fn write(&mut self, buf: &[u8]) -> io::Result<usize> {
-        let count = self.piece.min(self.room).min(buf.len());
+        if self.manner.interrupted {
+            self.manner.interrupted = false;
+            return Err(io::Error::from(ErrorKind::Interrupted));
+        }
+        let count = self.manner.piece.min(self.manner.room).min(buf.len());
         if count == 0 {
             return Err(io::Error::from(ErrorKind::StorageFull));
         }
         self.told.extend_from_slice(&buf[..count])?;
-        self.room -= count;
+        self.manner.room -= count;
         Ok(count)
     }
 
     fn flush(&mut self) -> io::Result<()> {
-        if self.flushes {
+        if self.manner.flushes {
             Ok(())
         } else {
             Err(io::Error::from(ErrorKind::BrokenPipe))
@@ -134,66 +185,80 @@ impl Write for Narrow {
     }
 }
 
-/// Whether the status is this, and just the front of the line that fits is written.
-fn is_written(
-    alloc: Global,
-    mut bundle: &[u8],
-    line: &[u8],
-    room: usize,
-    piece: usize,
-    status: u8,
-) -> bool {
-    let mut writer = Narrow {
-        told: Vec::new(alloc),
-        room,
-        piece,
-        flushes: true,
-    };
+/// Has room for all, and takes it at once.
+const WIDE: Manner = Manner {
+    interrupted: false,
+    room: 65_536,
+    piece: 65_536,
+    flushes: true,
+};
+
+/// Whether just this is written to such a writer, with this status.
+fn is_written(alloc: Global, mut bundle: &[u8], manner: Manner, line: &[u8], status: u8) -> bool {
+    let told = Vec::new(alloc);
+    let mut writer = Narrow { told, manner };
     let given = run_bundle(alloc, &mut bundle, &mut Sink::new(&mut writer));
-    match line.get(..room) {
-        Some(front) => given == status && writer.told.as_slice() == front,
-        None => false,
-    }
+    given == status && writer.told.as_slice() == line
+}
+
+/// Whether just the front of the line that fits is written with this status, at once and a byte at a time.
+fn is_front_written(alloc: Global, bundle: &[u8], line: &[u8], room: usize, status: u8) -> bool {
+    let Some(front) = line.get(..room) else {
+        return false;
+    };
+    let whole = Manner { room, ..WIDE };
+    let bytes = Manner { piece: 1, ..whole };
+    is_written(alloc, bundle, whole, front, status)
+        && is_written(alloc, bundle, bytes, front, status)
 }
 
 /// Whether the line comes out whole with its status where there is room for it, and cut off with status 2 where not.
 fn is_cut_off(alloc: Global, bundle: &[u8], line: &[u8], status: u8) -> bool {
     for room in 0..line.len() {
-        if !is_written(alloc, bundle, line, room, 65_536, 2)
-            || !is_written(alloc, bundle, line, room, 1, 2)
-        {
+        if !is_front_written(alloc, bundle, line, room, 2) {
             return false;
         }
     }
-    is_written(alloc, bundle, line, line.len(), 65_536, status)
-        && is_written(alloc, bundle, line, line.len(), 1, status)
+    is_front_written(alloc, bundle, line, line.len(), status)
+}
+
+/// Whether the line on the sample's history and a certificate is cut off so.
+fn is_verdict_cut_off(alloc: Global, certificate: &str, line: &[u8], status: u8) -> bool {
+    match bundle_of(alloc, HISTORY, certificate) {
+        Ok(bundle) => is_cut_off(alloc, bundle.as_bytes(), line, status),
+        Err(AllocError) => false,
+    }
 }
 
 #[test]
 fn a_line_that_breaks_off_has_the_status_of_no_verdict(rt: HostRuntime) -> Result<(), Fail> {
-    let yes = format!(in rt.alloc(); "{HISTORY}\n{CERTIFICATE}")?;
-    assert!(rt; is_cut_off(rt.alloc(), yes.as_bytes(), YES, 0));
-    let no = format!(in rt.alloc(); "{HISTORY}\nwitness 1\nend\n")?;
-    assert!(rt; is_cut_off(rt.alloc(), no.as_bytes(), b"no: Missing 1\n", 1));
-    let bad = format!(in rt.alloc(); "{HISTORY}\nwitness 2\nend\n")?;
-    assert!(rt; is_cut_off(rt.alloc(), bad.as_bytes(), b"refused: BadLine 1\n", 2));
-    assert!(rt; is_cut_off(rt.alloc(), b"", BAD_BUNDLE, 2));
+    let alloc = rt.alloc();
+    assert!(rt; is_verdict_cut_off(alloc, CERTIFICATE, YES, 0));
+    assert!(rt; is_verdict_cut_off(alloc, NO_CALL, b"no: Missing 1\n", 1));
+    assert!(rt; is_verdict_cut_off(alloc, "witness 2\nend\n", b"refused: BadLine 1\n", 2));
+    assert!(rt; is_cut_off(alloc, b"", BAD_BUNDLE, 2));
     Ok(())
 }
 
 #[test]
 fn a_line_that_is_not_handed_on_has_the_status_of_no_verdict(rt: HostRuntime) -> Result<(), Fail> {
-    let bundle = format!(in rt.alloc(); "{HISTORY}\n{CERTIFICATE}")?;
-    let mut input = bundle.as_bytes();
-    let mut writer = Narrow {
-        told: Vec::new(rt.alloc()),
-        room: 65_536,
-        piece: 65_536,
+    let bundle = bundle_of(rt.alloc(), HISTORY, CERTIFICATE)?;
+    let manner = Manner {
         flushes: false,
+        ..WIDE
     };
-    assert_eq!(rt;
-        run_bundle(rt.alloc(), &mut input, &mut Sink::new(&mut writer)),
-        2
-    );
+    assert!(rt; is_written(rt.alloc(), bundle.as_bytes(), manner, YES, 2));
+    Ok(())
+}
+
+#[test]
+fn a_writer_that_is_interrupted_gets_the_whole_line(rt: HostRuntime) -> Result<(), Fail> {
+    let bundle = bundle_of(rt.alloc(), EMPTY, NO_CALL)?;
+    let manner = Manner {
+        interrupted: true,
+        piece: 1,
+        ..WIDE
+    };
+    assert!(rt; is_written(rt.alloc(), bundle.as_bytes(), manner, YES, 0));
     Ok(())
 }

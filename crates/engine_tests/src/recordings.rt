@@ -1,154 +1,194 @@
 //! What is recorded.
 
-use crate::frames::{ONE_LANE, TWO_ERAS};
-use crate::peers::{answer, call, connect, ends, listen, port_of};
+use crate::frames::{CALL, ONE_LANE, REPLY, TWO_ERAS};
+use crate::peers::{comes, connect, ends, free_port, listen, port_of, sends};
 use bench_streams::{Input, Stream};
 use nfs_recording::Recorder;
 use nfs_relay::Host;
 use nfsbench_engine::run_words;
-use std::alloc::AllocError;
-use std::fs;
-use std::io::{self, Write};
+use std::alloc::{AllocError, Global};
 use std::net::{TcpListener, TcpStream};
 use std::test::Fail;
 use std::thread::{self, JoinHandle, Scope};
+use std::{fs, io};
 
-/// The path of a recording on this port.
-fn path_of<R: Recorder>(rt: &R, port: u16) -> Result<String, AllocError> {
-    format!(in rt.alloc(); "/tmp/nfsbench_{port}.hist")
-}
-
-/// Whether the words of a line are told this, and end well.
-pub(crate) fn says<R: Recorder, I: Input>(rt: &R, line: &str, input: &mut I, text: &[u8]) -> bool {
+/// Whether the words of a line are told this, with this status.
+fn is_told<R: Recorder, I: Input>(
+    rt: &R,
+    line: &str,
+    input: &mut I,
+    text: &[u8],
+    status: u8,
+) -> bool {
     let Ok(words) = line.split(' ').collect::<Vec<&str>>(rt.alloc()) else {
         return false;
     };
     let mut told = Vec::new(rt.alloc());
-    run_words(rt, words.as_slice(), input, &mut told) == 0 && told.as_slice() == text
+    run_words(rt, words.as_slice(), input, &mut told) == status && told.as_slice() == text
 }
 
-/// Whether a client that comes to this port is answered twice.
-fn calls_twice<R: Host>(rt: &R, port: u16) -> bool {
-    match connect(rt, port) {
-        Ok(mut stream) => call(&mut stream, 2),
-        Err(_) => false,
-    }
-}
-
-/// Begins a client that calls twice, in a thread of its own.
-fn begin_client<'s, E, R: Host>(
-    scope: &Scope<'s, E>,
-    rt: &'s R,
-    port: u16,
-) -> Option<JoinHandle<bool>> {
-    scope.spawn(move || calls_twice(rt, port)).ok()
-}
-
-/// Whether a client's two calls are recorded. The program runs on this thread, which has the files.
-fn records_a_lane<R: Recorder>(rt: &R, server: &TcpListener, port: u16, line: &str) -> bool {
-    thread::scope(thread::scope_env(), rt, |scope| {
-        let answered = scope.spawn(move || answer(server, 2));
-        let called = begin_client(scope, rt, port);
-        let tapped = says(rt, line, &mut b"".as_slice(), b"calls 2\n");
-        let (Ok(answered), Some(called)) = (answered, called) else {
-            return false;
-        };
-        tapped && answered.join(rt) && called.join(rt)
-    })
-}
-
-/// Whether a client is served by a server, then ended by a crash, and served anew.
-fn calls_over_a_crash<R: Host>(rt: &R, ports: (u16, u16)) -> io::Result<bool> {
-    let mut orders = connect(rt, ports.1)?;
-    let mut first = connect(rt, ports.0)?;
-    if !call(&mut first, 1) {
-        return Ok(false);
-    }
-    orders.write_all(b"crash\n")?;
-    if !ends(&mut first) {
-        return Ok(false);
-    }
-    Ok(call(&mut connect(rt, ports.0)?, 1))
-}
-
-/// Begins two clients with a crash between them, in a thread of its own.
-fn begin_clients<'s, E, R: Host>(
-    scope: &Scope<'s, E>,
-    rt: &'s R,
-    ports: (u16, u16),
-) -> Option<JoinHandle<bool>> {
-    scope
-        .spawn(move || calls_over_a_crash(rt, ports).unwrap_or(false))
-        .ok()
-}
-
-/// Whether what two clients say is recorded, with a crash between them that is told on a stream.
-fn records_a_crash<R: Recorder>(
+/// Whether the words of a line that was made are told this, with this status.
+pub(crate) fn says<R: Recorder, I: Input>(
     rt: &R,
-    server: &TcpListener,
+    line: Result<String, AllocError>,
+    input: &mut I,
+    text: &[u8],
+    status: u8,
+) -> bool {
+    match line {
+        Ok(line) => is_told(rt, line.as_str(), input, text, status),
+        Err(AllocError) => false,
+    }
+}
+
+/// The line that records what comes to a port, and goes on to a server's.
+pub(crate) fn tap_line(
+    alloc: Global,
+    root: &str,
+    port: u16,
+    server: u16,
+    lanes: &str,
+) -> Result<String, AllocError> {
+    format!(in alloc;
+        "nfsbench tap --root {root} --port {port} --server {server}{lanes} --quiet /tmp/nfsbench_{port}.tapped"
+    )
+}
+
+/// The ports of a recording, of the server behind it, and of the stream that tells it of crashes.
+#[derive(Clone, Copy)]
+struct Ports {
+    tap: u16,
+    server: u16,
+    control: u16,
+}
+
+/// Whether a call that one end sends comes to the other, and its reply comes back.
+fn exchange(client: &mut TcpStream, server: &mut TcpStream) -> bool {
+    sends(client, CALL) && comes(server, CALL) && sends(server, REPLY) && comes(client, REPLY)
+}
+
+/// Whether a client is answered so often by the server behind the recording, which then sees it hang up.
+fn calls<R: Host>(rt: &R, port: u16, listener: &TcpListener, often: u32) -> bool {
+    let Ok(mut client) = connect(rt, port) else {
+        return false;
+    };
+    let Ok((mut server, _)) = listener.accept() else {
+        return false;
+    };
+    for _ in 0..often {
+        if !exchange(&mut client, &mut server) {
+            return false;
+        }
+    }
+    drop(client);
+    ends(&mut server)
+}
+
+/// Whether a client is answered, and a crash that is told then ends both connections.
+fn calls_ahead_of_a_crash<R: Host>(
+    rt: &R,
+    port: u16,
+    listener: &TcpListener,
+    control: &mut TcpStream,
+) -> bool {
+    let Ok(mut client) = connect(rt, port) else {
+        return false;
+    };
+    let Ok((mut server, _)) = listener.accept() else {
+        return false;
+    };
+    exchange(&mut client, &mut server)
+        && sends(control, b"crash\n")
+        && ends(&mut client)
+        && ends(&mut server)
+}
+
+/// Whether one client calls twice, or two call once each with a crash between them.
+fn come<R: Host>(rt: &R, ports: Ports, listener: &TcpListener, crashes: bool) -> bool {
+    let Ok(mut control) = connect(rt, ports.control) else {
+        return false;
+    };
+    if crashes {
+        return calls_ahead_of_a_crash(rt, ports.tap, listener, &mut control)
+            && calls(rt, ports.tap, listener, 1);
+    }
+    drop(control);
+    calls(rt, ports.tap, listener, 2)
+}
+
+/// Begins the clients and the server in a thread of their own.
+fn begin<'s, E, R: Host>(
+    scope: &Scope<'s, E>,
+    rt: &'s R,
+    ports: Ports,
+    listener: &'s TcpListener,
+    crashes: bool,
+) -> Option<JoinHandle<bool>> {
+    scope.spawn(move || come(rt, ports, listener, crashes)).ok()
+}
+
+/// Whether two calls are recorded, of which a recording is told on a stream; with crashes until that ends, else one connection.
+fn taps<R: Recorder>(rt: &R, ports: Ports, control: &TcpListener, crashes: bool) -> bool {
+    let lanes = if crashes { "" } else { " --lanes 1" };
+    let Ok((orders, _)) = control.accept() else {
+        return false;
+    };
+    let line = tap_line(rt.alloc(), "00", ports.tap, ports.server, lanes);
+    says(rt, line, &mut Stream::new(orders), b"calls 2\n", 0)
+}
+
+/// Whether what is said is recorded. The program runs on this thread, which has the files.
+fn records<R: Recorder>(
+    rt: &R,
+    ports: Ports,
+    listener: &TcpListener,
     control: &TcpListener,
-    ports: (u16, u16),
-    line: &str,
+    crashes: bool,
 ) -> bool {
     thread::scope(thread::scope_env(), rt, |scope| {
-        let answered = scope.spawn(move || answer(server, 1) && answer(server, 1));
-        let called = begin_clients(scope, rt, ports);
-        let tapped = match control.accept() {
-            Ok((orders, _)) => says(rt, line, &mut Stream::new(orders), b"calls 2\n"),
-            Err(_) => false,
-        };
-        let (Ok(answered), Some(called)) = (answered, called) else {
-            return false;
-        };
-        tapped && answered.join(rt) && called.join(rt)
+        let came = begin(scope, rt, ports, listener, crashes);
+        let tapped = taps(rt, ports, control, crashes);
+        match came {
+            Some(came) => tapped && came.join(rt),
+            None => false,
+        }
     })
+}
+
+/// Whether a recording holds these bytes. It is taken away.
+fn holds<R: Recorder>(rt: &R, port: u16, history: &[u8]) -> io::Result<bool> {
+    let path = format!(in rt.alloc(); "/tmp/nfsbench_{port}.tapped")?;
+    let is_held = fs::read(rt, path.as_str())?.as_slice() == history;
+    fs::remove_file(rt, path.as_str())?;
+    Ok(is_held)
+}
+
+/// Whether just this history is recorded, with a crash or without.
+fn is_recorded<R: Recorder>(rt: &R, crashes: bool, history: &[u8]) -> io::Result<bool> {
+    let listener = listen(rt)?;
+    let control = listen(rt)?;
+    let ports = Ports {
+        tap: free_port(rt)?,
+        server: port_of(&listener)?,
+        control: port_of(&control)?,
+    };
+    Ok(records(rt, ports, &listener, &control, crashes) && holds(rt, ports.tap, history)?)
 }
 
 #[test]
 fn a_crash_is_recorded(rt: HostRuntime) -> Result<(), Fail> {
     // The prover knows the types that a function names.
+    let _listener: Option<TcpListener> = None;
     let _stream: Option<TcpStream> = None;
-    let server = listen(&rt)?;
-    let control = listen(&rt)?;
-    let behind = port_of(&server)?;
-    let ports = (port_of(&listen(&rt)?)?, port_of(&control)?);
-    let port = ports.0;
-    let path = path_of(&rt, port)?;
-    let line = format!(in rt.alloc();
-        "nfsbench tap --root 00 --port {port} --server {behind} --quiet {path}"
-    )?;
-    assert!(rt; records_a_crash(&rt, &server, &control, ports, line.as_str()));
-    assert_eq!(rt; fs::read(&rt, path.as_str())?.as_slice(), TWO_ERAS);
-    Ok(fs::remove_file(&rt, path.as_str())?)
+    assert!(rt; is_recorded(&rt, true, TWO_ERAS)?);
+    Ok(())
 }
 
 #[test]
 fn what_a_client_says_is_recorded(rt: HostRuntime) -> Result<(), Fail> {
     // The prover knows the types that a function names.
-    let _stream: Option<TcpStream> = None;
-    let server = listen(&rt)?;
-    let behind = port_of(&server)?;
-    let port = port_of(&listen(&rt)?)?;
-    let path = path_of(&rt, port)?;
-    let line = format!(in rt.alloc();
-        "nfsbench tap --root 00 --port {port} --server {behind} --lanes 1 --quiet {path}"
-    )?;
-    assert!(rt; records_a_lane(&rt, &server, port, line.as_str()));
-    assert_eq!(rt; fs::read(&rt, path.as_str())?.as_slice(), ONE_LANE);
-    Ok(fs::remove_file(&rt, path.as_str())?)
-}
-
-#[test]
-fn a_port_has_its_bounds(rt: HostRuntime) -> Result<(), Fail> {
-    // The prover knows the types that a function names.
     let _listener: Option<TcpListener> = None;
     let _stream: Option<TcpStream> = None;
-    let line = "nfsbench tap --root 00 --port 65536 --server 2049 history";
-    let words: Vec<&str> = line.split(' ').collect(rt.alloc())?;
-    let mut told = Vec::new(rt.alloc());
-    let status = run_words(&rt, words.as_slice(), &mut b"".as_slice(), &mut told);
-    let text = b"error: invalid value '65536' for '--port <port>': 65536 is not in 1..=65535\n";
-    assert_eq!(rt; status, 2);
-    assert!(rt; told.as_slice().starts_with(text));
+    assert!(rt; is_recorded(&rt, false, ONE_LANE)?);
     Ok(())
 }

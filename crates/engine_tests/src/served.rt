@@ -1,19 +1,17 @@
 //! The bundled server, with a recorder in front of it.
 
-use crate::peers::{comes, connect, ends, listen, port_of};
-use crate::recordings::says;
+use crate::peers::{comes, connect, ends, free_port, listen, port_of, sends};
+use crate::recordings::{says, tap_line};
 use journal_server::{CloseFault, CrashFault};
 use nfs_history::read_history;
 use nfs_recording::Recorder;
 use nfs_relay::Host;
 use nfs_running::{RunFault, fault_report};
-use nfsbench_engine::run_words;
-use std::alloc::AllocError;
-use std::fs;
-use std::io::Write;
+use std::alloc::Global;
 use std::net::{TcpListener, TcpStream};
 use std::test::Fail;
 use std::thread::{self, JoinHandle, Scope};
+use std::{fs, io};
 
 /// A CREATE of the name `a` in the root, a WRITE of three bytes to the file, and a READ of it, each as one fragment, to the bundled
 /// server's handles; and the replies (RFC 1813, sections 3.3.8, 3.3.7 and 3.3.6).
@@ -55,7 +53,7 @@ const MOUNTING: (&[u8], &[u8]) = (
 
 /// Whether a call gets its reply.
 fn is_answered(stream: &mut TcpStream, exchange: (&[u8], &[u8])) -> bool {
-    stream.write_all(exchange.0).is_ok() && comes(stream, exchange.1)
+    sends(stream, exchange.0) && comes(stream, exchange.1)
 }
 
 /// Whether a client that comes to this port gets these replies.
@@ -74,7 +72,7 @@ fn exchanges<R: Host>(rt: &R, port: u16) -> bool {
 /// Whether a client that comes to this port can say a part of a record. It hangs up then.
 fn hangs_up<R: Host>(rt: &R, port: u16) -> bool {
     match connect(rt, port) {
-        Ok(mut stream) => stream.write_all(b"\x80\0\0\x58\0\0\0\x01").is_ok(),
+        Ok(mut stream) => sends(&mut stream, b"\x80\0\0\x58\0\0\0\x01"),
         Err(_) => false,
     }
 }
@@ -103,12 +101,49 @@ fn begin_clients<'s, E, R: Host>(
     scope.spawn(move || come(rt, server, recorder)).ok()
 }
 
-/// How many calls the history at a path has.
-fn calls_at<R: Recorder>(rt: &R, path: &str) -> Option<u64> {
-    let bytes = fs::read(rt, path).ok()?;
-    let history = read_history(rt.alloc(), bytes.as_slice()).ok()?;
-    fs::remove_file(rt, path).ok()?;
-    Some(history.calls())
+/// Whether the bundled server at a port serves three connections, and says that it explains what it did.
+fn serves<R: Recorder>(rt: &R, port: u16) -> bool {
+    let line = format!(in rt.alloc();
+        "nfsbench serve --port {port} --lanes 3 --calls 3 --mountable /tmp/nfsbench_{port}.served /tmp/nfsbench_{port}.certificate"
+    );
+    says(rt, line, &mut b"".as_slice(), b"yes\n", 0)
+}
+
+/// Whether the recorder at a port has three calls to a server.
+fn taps<R: Recorder>(rt: &R, port: u16, server: u16) -> bool {
+    let line = tap_line(rt.alloc(), "0000000000000000", port, server, " --lanes 1");
+    says(rt, line, &mut b"".as_slice(), b"calls 3\n", 0)
+}
+
+/// How many calls a history has.
+fn count_calls(alloc: Global, bytes: &[u8]) -> Option<u64> {
+    Some(read_history(alloc, bytes).ok()?.calls())
+}
+
+/// What a file has. It is taken away.
+fn take_file<R: Recorder>(rt: &R, port: u16, kind: &str) -> io::Result<Vec<u8>> {
+    let path = format!(in rt.alloc(); "/tmp/nfsbench_{port}.{kind}")?;
+    let bytes = fs::read(rt, path.as_str())?;
+    fs::remove_file(rt, path.as_str())?;
+    Ok(bytes)
+}
+
+/// Whether the history of this kind that was written at a port has three calls.
+fn has_three_calls<R: Recorder>(rt: &R, port: u16, kind: &str) -> io::Result<bool> {
+    let bytes = take_file(rt, port, kind)?;
+    Ok(count_calls(rt.alloc(), bytes.as_slice()) == Some(3))
+}
+
+/// The certificate of the clients' calls.
+const CERTIFICATE: &[u8] = b"witness 1\nbind 0000000000000001 1\nplace 1\nplace 2\nplace 3\nend\n";
+
+/// Whether server and recorder wrote what the clients said, and the server a certificate of it.
+fn are_written<R: Recorder>(rt: &R, server: u16, recorder: u16) -> io::Result<bool> {
+    Ok(
+        has_three_calls(rt, server, "served")?
+            && has_three_calls(rt, recorder, "tapped")?
+            && take_file(rt, server, "certificate")?.as_slice() == CERTIFICATE,
+    )
 }
 
 #[test]
@@ -116,14 +151,7 @@ fn clients_are_served_side_by_side_and_recorded(rt: HostRuntime) -> Result<(), F
     // The prover knows the types that a function names.
     let _listener: Option<TcpListener> = None;
     let _stream: Option<TcpStream> = None;
-    let (port, behind) = (port_of(&listen(&rt)?)?, port_of(&listen(&rt)?)?);
-    let base = format!(in rt.alloc(); "/tmp/nfsbench_{port}")?;
-    let serve = format!(in rt.alloc();
-        "nfsbench serve --port {behind} --lanes 3 --calls 3 --mountable {base}.served {base}.certificate"
-    )?;
-    let tap = format!(in rt.alloc();
-        "nfsbench tap --root 0000000000000000 --port {port} --server {behind} --lanes 1 --quiet {base}.tapped"
-    )?;
+    let (recorder, server) = (free_port(&rt)?, free_port(&rt)?);
     let all = thread::scope(thread::scope_env(), &rt, |scope| {
         // The prover knows the types that a function names.
         let _listener: Option<TcpListener> = None;
@@ -131,54 +159,44 @@ fn clients_are_served_side_by_side_and_recorded(rt: HostRuntime) -> Result<(), F
         let served = scope.spawn(|| {
             let _listener: Option<TcpListener> = None;
             let _stream: Option<TcpStream> = None;
-            says(&rt, serve.as_str(), &mut b"".as_slice(), b"yes\n")
+            serves(&rt, server)
         });
-        let called = begin_clients(scope, &rt, behind, port);
-        let tapped = says(&rt, tap.as_str(), &mut b"".as_slice(), b"calls 3\n");
+        let called = begin_clients(scope, &rt, server, recorder);
+        let tapped = taps(&rt, recorder, server);
         let (Ok(served), Some(called)) = (served, called) else {
             return false;
         };
         tapped && served.join(&rt) && called.join(&rt)
     });
     assert!(rt; all);
-    let served = format!(in rt.alloc(); "{base}.served")?;
-    let tapped = format!(in rt.alloc(); "{base}.tapped")?;
-    assert_eq!(rt; calls_at(&rt, served.as_str()), Some(3));
-    assert_eq!(rt; calls_at(&rt, tapped.as_str()), Some(3));
-    let certificate = format!(in rt.alloc(); "{base}.certificate")?;
-    let text = fs::read(&rt, certificate.as_str())?;
-    assert_eq!(rt;
-        text.as_slice(),
-        b"witness 1\nbind 0000000000000001 1\nplace 1\nplace 2\nplace 3\nend\n".as_slice()
-    );
-    Ok(fs::remove_file(&rt, certificate.as_str())?)
+    assert!(rt; are_written(&rt, server, recorder)?);
+    Ok(())
 }
 
-/// What these words are told, and with which status.
-fn told<R: Recorder>(rt: &R, line: &str) -> Result<(u8, Vec<u8>), AllocError> {
-    let words: Vec<&str> = line.split(' ').collect(rt.alloc())?;
-    let mut told = Vec::new(rt.alloc());
-    let status = run_words(rt, words.as_slice(), &mut b"".as_slice(), &mut told);
-    Ok((status, told))
+/// Whether the bundled server refuses to serve, with this line.
+fn refuses<R: Recorder>(rt: &R, port: u16, lanes: u32, files: &str, text: &[u8]) -> bool {
+    let line = format!(in rt.alloc();
+        "nfsbench serve --port {port} --lanes {lanes} --calls 1 {files}"
+    );
+    says(rt, line, &mut b"".as_slice(), text, 2)
+}
+
+/// Whether a port at which someone listens is refused, and at one that is free, files which can't be made.
+fn refuses_ports_and_files<R: Recorder>(rt: &R) -> io::Result<bool> {
+    let taken = listen(rt)?;
+    let port = port_of(&taken)?;
+    let is_refused = refuses(rt, port, 1, "h c", b"refused: cannot listen\n");
+    drop(taken);
+    let files = "/missing/history /missing/certificate";
+    Ok(is_refused && refuses(rt, port, 2, files, b"refused: cannot write\n"))
 }
 
 #[test]
 fn what_serve_cannot_have_is_refused(rt: HostRuntime) -> Result<(), Fail> {
     // The prover knows the types that a function names.
+    let _listener: Option<TcpListener> = None;
     let _stream: Option<TcpStream> = None;
-    let taken = listen(&rt)?;
-    let port = port_of(&taken)?;
-    let line = format!(in rt.alloc(); "nfsbench serve --port {port} --lanes 1 --calls 1 h c")?;
-    let (status, text) = told(&rt, line.as_str())?;
-    assert_eq!(rt; status, 2);
-    assert_eq!(rt; text.as_slice(), b"refused: cannot listen\n".as_slice());
-    drop(taken);
-    let line = format!(in rt.alloc();
-        "nfsbench serve --port {port} --lanes 2 --calls 1 /missing/history /missing/certificate"
-    )?;
-    let (status, text) = told(&rt, line.as_str())?;
-    assert_eq!(rt; status, 2);
-    assert_eq!(rt; text.as_slice(), b"refused: cannot write\n".as_slice());
+    assert!(rt; refuses_ports_and_files(&rt)?);
     Ok(())
 }
 
