@@ -5,10 +5,12 @@ use Rattle.std.specs.List.{list_any}
 use Rattle.std.specs.Option.{option_map_or}
 use Rattle.std.specs.Cmp.Lexicographic.{bytes_decides}
 use Rattle.std.specs.Map.{lookup}
+use Rattle.std.specs.Int.{w64, to_be_bytes}
 use Rattle.std.proofs.lemmas.Bool.{eqb-true, eq-eqb}
 use Rattle.tree_handles.specs.Binding.{Bindings, same_bytes, object_of, is_bound, is_named}
 use Rattle.tree_handles.specs.declared.objects.Objects.{Objects}
-use Rattle.tree_handles.specs.Finding.{found, GivesFirst}
+use Rattle.tree_handles.specs.Finding.{own_object, tabled, found, first_of, GivesFirst}
+use Rattle.tree_handles.proofs.OwnNumbers.{own_is}
 
 either_of : (a b : Bool) → (a || b) ≡ true → (a ≡ true) ⊎ (b ≡ true)
 either_of true b e = inl refl
@@ -80,25 +82,34 @@ module _ (binds : Bindings) (handle : List ℕ) (object : ℕ) (bound : is_bound
       let zero : object ≡ 0 = cc in
       eq-eqb object 0 zero
 
-  -- in the maps it is found too
+  -- so it is found, as its number or in the maps
   pub in_maps : (objects : Objects) → GivesFirst objects binds.pairs
-      → ((object == 0) ≡ true) ⊎ ((list_any (λ e. is_bound binds e.0 object) objects.short.entries ≡ true) ⊎ (list_any (λ e. is_bound binds e.0.items object) objects.long.entries ≡ true))
+      → ((object == 0) ≡ true) ⊎ ((handle ≡ to_be_bytes w64 object) ⊎ ((list_any (λ e. is_bound binds e.0 object) objects.others.short.entries ≡ true) ⊎ (list_any (λ e. is_bound binds e.0.items object) objects.others.long.entries ≡ true)))
   in_maps objects gives = go root_or_pair where
-    by_length : (b : Bool) → nat_le (length handle) 31 ≡ b → found objects handle ≡ Some object
-        → (list_any (λ e. is_bound binds e.0 object) objects.short.entries ≡ true) ⊎ (list_any (λ e. is_bound binds e.0.items object) objects.long.entries ≡ true)
+    short_one : Option ℕ
+    short_one = lookup (same_bytes handle) objects.others.short.entries
+
+    long_one : Option ℕ
+    long_one = lookup (λ key. same_bytes handle key.items) objects.others.long.entries
+
+    by_length : (b : Bool) → nat_le (length handle) 31 ≡ b → tabled objects.others handle ≡ Some object
+        → (list_any (λ e. is_bound binds e.0 object) objects.others.short.entries ≡ true) ⊎ (list_any (λ e. is_bound binds e.0.items object) objects.others.long.entries ≡ true)
     by_length true short is =
-        let there : lookup (same_bytes handle) objects.short.entries ≡ Some object =
-        ap (λ b. cond b (lookup (same_bytes handle) objects.short.entries) (lookup (λ key. same_bytes handle key.items) objects.long.entries)) (sym short) ∙ is in
-        inl (found_any (λ (h : List ℕ). h) (λ h. is_bound binds h object) handle object objects.short.entries there bound)
+        let there : short_one ≡ Some object = ap (λ b. cond b short_one long_one) (sym short) ∙ is in
+        inl (found_any (λ (h : List ℕ). h) (λ h. is_bound binds h object) handle object objects.others.short.entries there bound)
     by_length false long is =
-        let there : lookup (λ key. same_bytes handle key.items) objects.long.entries ≡ Some object =
-        ap (λ b. cond b (lookup (same_bytes handle) objects.short.entries) (lookup (λ key. same_bytes handle key.items) objects.long.entries)) (sym long) ∙ is in
-        inr (found_any (λ key. key.items) (λ h. is_bound binds h object) handle object objects.long.entries there bound)
+        let there : long_one ≡ Some object = ap (λ b. cond b short_one long_one) (sym long) ∙ is in
+        inr (found_any (λ key. key.items) (λ h. is_bound binds h object) handle object objects.others.long.entries there bound)
+
+    by_kind : (own : Option ℕ) → own_object objects.own handle ≡ own → found objects handle ≡ Some object
+        → (handle ≡ to_be_bytes w64 object) ⊎ ((list_any (λ e. is_bound binds e.0 object) objects.others.short.entries ≡ true) ⊎ (list_any (λ e. is_bound binds e.0.items object) objects.others.long.entries ≡ true))
+    by_kind None none is = inr (by_length (nat_le (length handle) 31) refl (ap (λ o. first_of o (tabled objects.others handle)) (sym none) ∙ is))
+    by_kind (Some n) its is = inl (own_is objects.own handle object (its ∙ ap (λ o. first_of o (tabled objects.others handle)) (sym its) ∙ is))
 
     go : (same_bytes handle binds.root ≡ true) ⊎ (lookup (same_bytes handle) binds.pairs ≡ Some object)
-        → ((object == 0) ≡ true) ⊎ ((list_any (λ e. is_bound binds e.0 object) objects.short.entries ≡ true) ⊎ (list_any (λ e. is_bound binds e.0.items object) objects.long.entries ≡ true))
+        → ((object == 0) ≡ true) ⊎ ((handle ≡ to_be_bytes w64 object) ⊎ ((list_any (λ e. is_bound binds e.0 object) objects.others.short.entries ≡ true) ⊎ (list_any (λ e. is_bound binds e.0.items object) objects.others.long.entries ≡ true)))
     go (inl same) = inl (root_is_first same)
-    go (inr pair) = inr (by_length (nat_le (length handle) 31) refl (gives handle ∙ pair))
+    go (inr pair) = inr (by_kind (own_object objects.own handle) refl (gives handle ∙ pair))
 
 same_bools : (a b : Bool) → (a ≡ true → b ≡ true) → (b ≡ true → a ≡ true) → a ≡ b
 same_bools true b f g = sym (f refl)
@@ -111,19 +122,19 @@ zero_is_named binds object e = is_among_names binds binds.root object (object_is
   at : object_of binds binds.root ≡ Some object
   at = ap (λ b. cond b (Some 0) (lookup (same_bytes binds.root) binds.pairs)) ((bytes_decides binds.root binds.root).1 refl) ∙ ap Some (sym (eqb-true object 0 e))
 
--- another object is named by a short handle or by a long one
-module _ (binds : Bindings) (objects : Objects) (gives : GivesFirst objects binds.pairs) (object : ℕ) (other : (object == 0) ≡ false) where
+-- another object that isn't named by its number is named by a short handle or by a long one
+module _ (binds : Bindings) (objects : Objects) (gives : GivesFirst objects binds.pairs) (object : ℕ) (other : (object == 0) ≡ false) (unlike : is_bound binds (to_be_bytes w64 object) object ≡ false) where
   abbrev pub any_short : Bool
-  any_short = list_any (λ e. is_bound binds e.0 object) objects.short.entries
+  any_short = list_any (λ e. is_bound binds e.0 object) objects.others.short.entries
 
   abbrev pub any_long : Bool
-  any_long = list_any (λ e. is_bound binds e.0.items object) objects.long.entries
+  any_long = list_any (λ e. is_bound binds e.0.items object) objects.others.long.entries
 
   yes : (any_short || any_long) ≡ true → is_named binds object ≡ true
   yes e = go (either_of any_short any_long e) where
     go : (any_short ≡ true) ⊎ (any_long ≡ true) → is_named binds object ≡ true
-    go (inl short) = let it = any_item (λ e. is_bound binds e.0 object) objects.short.entries short in is_among_names binds it.0.0 object it.1
-    go (inr long) = let it = any_item (λ e. is_bound binds e.0.items object) objects.long.entries long in is_among_names binds it.0.0.items object it.1
+    go (inl short) = let it = any_item (λ e. is_bound binds e.0 object) objects.others.short.entries short in is_among_names binds it.0.0 object it.1
+    go (inr long) = let it = any_item (λ e. is_bound binds e.0.items object) objects.others.long.entries long in is_among_names binds it.0.0.items object it.1
 
   no : is_named binds object ≡ true → (any_short || any_long) ≡ true
   no e = go (in_maps binds it.0 object it.1 objects gives) where
@@ -134,10 +145,11 @@ module _ (binds : Bindings) (objects : Objects) (gives : GivesFirst objects bind
     clash true e f = absurd (cc)
     clash false e f = absurd (cc)
 
-    go : ((object == 0) ≡ true) ⊎ ((any_short ≡ true) ⊎ (any_long ≡ true)) → (any_short || any_long) ≡ true
+    go : ((object == 0) ≡ true) ⊎ ((it.0 ≡ to_be_bytes w64 object) ⊎ ((any_short ≡ true) ⊎ (any_long ≡ true))) → (any_short || any_long) ≡ true
     go (inl zero) = absurd (clash (object == 0) zero other)
-    go (inr (inl short)) = first_holds any_short any_long short
-    go (inr (inr long)) = second_holds any_short any_long long
+    go (inr (inl own)) = absurd (clash (is_bound binds (to_be_bytes w64 object) object) (ap (λ (h : List ℕ). is_bound binds h object) (sym own) ∙ it.1) unlike)
+    go (inr (inr (inl short))) = first_holds any_short any_long short
+    go (inr (inr (inr long))) = second_holds any_short any_long long
 
   pub other_is_named : (any_short || any_long) ≡ is_named binds object
   other_is_named = same_bools (any_short || any_long) (is_named binds object) yes no

@@ -1,5 +1,6 @@
 pub mod Lookups
 pub mod Losing
+pub mod OwnNumbers
 pub mod Standing
 pub mod Paths
 pub mod Walks

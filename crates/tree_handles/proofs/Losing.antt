@@ -1,15 +1,16 @@
 -- maps that lose a handle
 use Rattle.std.proofs.Common.{◌≡◌, ◌⊎◌, inl, inr, ℕ, Bool, true, false, cond, List, [], ◌∷◌, length, Option, Some, None, refl, sym, ap, ◌∙◌, true≢false, if◌then◌else◌}
-use Rattle.std.specs.Prelude.{filter, not, nat_le}
+use Rattle.std.specs.Prelude.{not, nat_le}
 use Rattle.std.specs.Cmp.Lexicographic.{bytes_decides}
 use Rattle.std.specs.Map.{lookup, KeepsOthers}
 use Rattle.tree_handles.specs.Binding.{same_bytes, pairs_without}
+use Rattle.tree_handles.specs.declared.handle_table.HandleTable.{HandleTable}
 use Rattle.tree_handles.specs.declared.objects.Objects.{Objects}
-use Rattle.tree_handles.specs.Finding.{found, GivesFirst, Loses}
+use Rattle.tree_handles.specs.Finding.{own_object, tabled, found, first_of, GivesFirst, Lacks, Loses}
 use Rattle.tree_handles.proofs.Lookups.{same_is, true_or_false}
 
 -- what is the same as itself
-same_self : (x : List ℕ) → same_bytes x x ≡ true
+pub same_self : (x : List ℕ) → same_bytes x x ≡ true
 same_self x = (bytes_decides x x).1 refl
 
 -- a query of a key finds that key and those that are equal to it
@@ -69,13 +70,9 @@ without-lookup handle other (p ∷ pairs) = go (without-lookup handle other pair
       ∙ ap (cond (same_bytes other p.0) (Some p.1)) (rest ∙ ap (λ (b : Bool). if b then None else lookup (same_bytes other) pairs) differs)
       ∙ sym (ap (λ b. wanted b (same_bytes other p.0)) differs)
 
-module _ (before after : Objects) (pairs : List (List ℕ × ℕ)) (handle : List ℕ) (gives : GivesFirst before pairs) where
+module _ (before after : HandleTable) (handle : List ℕ) where
   abbrev is_short : List ℕ → Bool
   is_short other = nat_le (length other) 31
-
-  lost_all : ((other : List ℕ) → found after other ≡ (if same_bytes other handle then None else found before other)) → GivesFirst after (pairs_without handle pairs)
-  lost_all less other =
-      less other ∙ ap (λ (o : Option ℕ). if same_bytes other handle then None else o) (gives other) ∙ sym (without-lookup handle other pairs)
 
   -- a handle of another length is another handle
   other_length : (other : List ℕ) → (is_short other ≡ is_short handle → ⊥) → same_bytes other handle ≡ false
@@ -85,25 +82,35 @@ module _ (before after : Objects) (pairs : List (List ℕ × ℕ)) (handle : Lis
     go (inr differs) = differs
 
   -- it stays as it was
-  stays : (other : List ℕ) → (is_short other ≡ is_short handle → ⊥) → found after other ≡ found before other → found after other ≡ (if same_bytes other handle then None else found before other)
-  stays other apart same = same ∙ sym (ap (λ (b : Bool). if b then None else found before other) (other_length other apart))
+  stays : (other : List ℕ) → (is_short other ≡ is_short handle → ⊥) → tabled after other ≡ tabled before other → tabled after other ≡ (if same_bytes other handle then None else tabled before other)
+  stays other apart same = same ∙ sym (ap (λ (b : Bool). if b then None else tabled before other) (other_length other apart))
 
-  pub short_lost : is_short handle ≡ true → Loses (λ key. key) before.short.entries after.short.entries handle → after.long ≡ before.long → GivesFirst after (pairs_without handle pairs)
-  short_lost short loses same = lost_all (λ other. go other (true_or_false (is_short other))) where
-    go : (other : List ℕ) → (is_short other ≡ true) ⊎ (is_short other ≡ false) → found after other ≡ (if same_bytes other handle then None else found before other)
-    go other (inl here) =
-        let at : (o : Objects) → found o other ≡ lookup (same_bytes other) o.short.entries = λ o. ap (λ (b : Bool). cond b (lookup (same_bytes other) o.short.entries) (lookup (λ key. same_bytes other key.items) o.long.entries)) here in
+  pub short_lost : is_short handle ≡ true → Loses (λ key. key) before.short.entries after.short.entries handle → after.long ≡ before.long → Lacks (tabled before) (tabled after) handle
+  short_lost short loses same other = go (true_or_false (is_short other)) where
+    go : (is_short other ≡ true) ⊎ (is_short other ≡ false) → tabled after other ≡ (if same_bytes other handle then None else tabled before other)
+    go (inl here) =
+        let at : (o : HandleTable) → tabled o other ≡ lookup (same_bytes other) o.short.entries = λ o. ap (λ (b : Bool). cond b (lookup (same_bytes other) o.short.entries) (lookup (λ key. same_bytes other key.items) o.long.entries)) here in
         at after ∙ loses other ∙ ap (λ (o : Option ℕ). if same_bytes other handle then None else o) (sym (at before))
-    go other (inr there) =
-        let at : (o : Objects) → found o other ≡ lookup (λ key. same_bytes other key.items) o.long.entries = λ o. ap (λ (b : Bool). cond b (lookup (same_bytes other) o.short.entries) (lookup (λ key. same_bytes other key.items) o.long.entries)) there in
+    go (inr there) =
+        let at : (o : HandleTable) → tabled o other ≡ lookup (λ key. same_bytes other key.items) o.long.entries = λ o. ap (λ (b : Bool). cond b (lookup (same_bytes other) o.short.entries) (lookup (λ key. same_bytes other key.items) o.long.entries)) there in
         stays other (λ e. true≢false (sym (sym there ∙ e ∙ short))) (at after ∙ ap (λ l. lookup (λ key. same_bytes other key.items) l.entries) same ∙ sym (at before))
 
-  pub long_lost : is_short handle ≡ false → Loses (λ key. key.items) before.long.entries after.long.entries handle → after.short ≡ before.short → GivesFirst after (pairs_without handle pairs)
-  long_lost long loses same = lost_all (λ other. go other (true_or_false (is_short other))) where
-    go : (other : List ℕ) → (is_short other ≡ true) ⊎ (is_short other ≡ false) → found after other ≡ (if same_bytes other handle then None else found before other)
-    go other (inr there) =
-        let at : (o : Objects) → found o other ≡ lookup (λ key. same_bytes other key.items) o.long.entries = λ o. ap (λ (b : Bool). cond b (lookup (same_bytes other) o.short.entries) (lookup (λ key. same_bytes other key.items) o.long.entries)) there in
+  pub long_lost : is_short handle ≡ false → Loses (λ key. key.items) before.long.entries after.long.entries handle → after.short ≡ before.short → Lacks (tabled before) (tabled after) handle
+  long_lost long loses same other = go (true_or_false (is_short other)) where
+    go : (is_short other ≡ true) ⊎ (is_short other ≡ false) → tabled after other ≡ (if same_bytes other handle then None else tabled before other)
+    go (inr there) =
+        let at : (o : HandleTable) → tabled o other ≡ lookup (λ key. same_bytes other key.items) o.long.entries = λ o. ap (λ (b : Bool). cond b (lookup (same_bytes other) o.short.entries) (lookup (λ key. same_bytes other key.items) o.long.entries)) there in
         at after ∙ loses other ∙ ap (λ (o : Option ℕ). if same_bytes other handle then None else o) (sym (at before))
-    go other (inl here) =
-        let at : (o : Objects) → found o other ≡ lookup (same_bytes other) o.short.entries = λ o. ap (λ (b : Bool). cond b (lookup (same_bytes other) o.short.entries) (lookup (λ key. same_bytes other key.items) o.long.entries)) here in
+    go (inl here) =
+        let at : (o : HandleTable) → tabled o other ≡ lookup (same_bytes other) o.short.entries = λ o. ap (λ (b : Bool). cond b (lookup (same_bytes other) o.short.entries) (lookup (λ key. same_bytes other key.items) o.long.entries)) here in
         stays other (λ e. true≢false (sym here ∙ e ∙ long)) (at after ∙ ap (λ l. lookup (same_bytes other) l.entries) same ∙ sym (at before))
+
+-- both have lost it
+pub both_lack : (before after : Objects) (pairs : List (List ℕ × ℕ)) (handle : List ℕ) → GivesFirst before pairs
+    → Lacks (own_object before.own) (own_object after.own) handle → Lacks (tabled before.others) (tabled after.others) handle → GivesFirst after (pairs_without handle pairs)
+both_lack before after pairs handle gives own others other =
+    ap (λ o. first_of o (tabled after.others other)) (own other) ∙ ap (first_of (if same_bytes other handle then None else own_object before.own other)) (others other)
+    ∙ go (same_bytes other handle) ∙ ap (λ (o : Option ℕ). if same_bytes other handle then None else o) (gives other) ∙ sym (without-lookup handle other pairs) where
+      go : (b : Bool) → first_of (if b then None else own_object before.own other) (if b then None else tabled before.others other) ≡ (if b then None else found before other)
+      go true = refl
+      go false = refl

@@ -4,6 +4,7 @@ ghost use Rattle.std.specs.Prelude.{◌≡◌, ◌||◌, [], ◌∷◌, ◌++◌
 ghost use Rattle.std.specs.List.{list_any};
 ghost use Rattle.tree_handles.specs.Binding.{object_of, is_bound, is_named, pairs_without};
 
+use crate::handle_table::HandleTable;
 use crate::objects::Objects;
 use crate::pairs::Pairs;
 use crate::short_handle::ShortHandle;
@@ -135,12 +136,11 @@ fn any_long_names_it(binds: &Binds, long: &IndexMap<Vec<u8>, u64>, object: u64) 
 }
 
 /// Whether one of these handles names the object.
-fn any_names_it(binds: &Binds, objects: &Objects, object: u64) -> bool
-    ensures { result ≡ (list_any (λ e. is_bound binds.now e.0 object) objects.now.short.entries
-        || list_any (λ e. is_bound binds.now e.0.items object) objects.now.long.entries) }
+fn any_names_it(binds: &Binds, table: &HandleTable, object: u64) -> bool
+    ensures { result ≡ (list_any (λ e. is_bound binds.now e.0 object) table.now.short.entries
+        || list_any (λ e. is_bound binds.now e.0.items object) table.now.long.entries) }
 {
-    any_short_names_it(binds, &objects.short, object)
-        || any_long_names_it(binds, &objects.long, object)
+    any_short_names_it(binds, &table.short, object) || any_long_names_it(binds, &table.long, object)
 }
 
 impl Binds {
@@ -155,6 +155,6 @@ impl Binds {
         if names_it(self, object.to_be_bytes().as_slice(), object) {
             return true;
         }
-        any_names_it(self, &self.objects, object)
+        any_names_it(self, &self.objects.others, object)
     }
 }

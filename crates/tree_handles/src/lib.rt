@@ -3,9 +3,11 @@
 
 mod binds;
 mod entry;
+mod handle_table;
 mod kind;
 mod live;
 mod objects;
+mod own_numbers;
 mod pairs;
 mod short_handle;
 

@@ -1,75 +1,18 @@
 //! The objects of handles.
 
-ghost use Rattle.std.specs.Prelude.{◌≡◌, ◌≤◌, ℕ, List, [], ◌∷◌, ◌++◌, length, OnOk, OnErr};
-ghost use Rattle.tree_handles.specs.Finding.{found, GivesFirst, Loses, Notes};
+ghost use Rattle.std.specs.Prelude.{◌≡◌, ℕ, List, [], ◌∷◌, ◌++◌, OnOk, OnErr};
+ghost use Rattle.tree_handles.specs.Finding.{found, GivesFirst};
 ghost use Rattle.tree_handles.specs.Binding.{pairs_without};
 
-use crate::short_handle::{SHORT_LIMIT, ShortHandle};
-use indexmap::IndexMap;
+use crate::handle_table::HandleTable;
+use crate::own_numbers::OwnNumbers;
 use std::alloc::{AllocError, Global};
 
-/// The objects of handles. A short handle, as most are, stands in the index itself, so that to find it takes no step to the heap.
+/// The objects of handles. Where a handle stands in both, it was given its own number first.
+#[derive(Drop)]
 pub(crate) struct Objects {
-    pub(crate) short: IndexMap<ShortHandle, u64>,
-    pub(crate) long: IndexMap<Vec<u8>, u64>,
-}
-
-impl Drop for Objects {
-    fn drop(self) {
-        let Objects { short, long } = self;
-        drop(short);
-        drop(long);
-    }
-}
-
-/// Gives a short handle its object, unless it has one.
-fn note_short(
-    short: &mut IndexMap<ShortHandle, u64>,
-    handle: &[u8],
-    object: u64,
-) -> Result<(), AllocError>
-    requires { length handle.now ≤ 31 }
-    ensures ok { OnOk result (Notes (λ key. key) short.old.entries short.new.entries handle.now object) }
-    ensures err { OnErr result (short.new.entries ≡ short.old.entries) }
-{
-    let key = ShortHandle::from_slice(handle);
-    if !short.contains_key(&key) {
-        short.insert(key, object)?;
-    }
-    Ok(())
-}
-
-/// Gives a long handle its object, unless it has one.
-fn note_long(
-    alloc: Global,
-    long: &mut IndexMap<Vec<u8>, u64>,
-    handle: &[u8],
-    object: u64,
-) -> Result<(), AllocError>
-    ensures ok { OnOk result (Notes (λ key. key.items) long.old.entries long.new.entries handle.now object) }
-    ensures err { OnErr result (long.new.entries ≡ long.old.entries) }
-{
-    if long.contains_key(handle) {
-        return Ok(());
-    }
-    let key = Vec::from_slice(alloc, handle)?;
-    long.insert(key, object)?;
-    Ok(())
-}
-
-/// Takes a short handle away, where it is there.
-fn lose_short(short: &mut IndexMap<ShortHandle, u64>, handle: &[u8])
-    requires { length handle.now ≤ 31 }
-    ensures { Loses (λ key. key) short.old.entries short.new.entries handle.now }
-{
-    let _object = short.swap_remove(&ShortHandle::from_slice(handle));
-}
-
-/// Takes a long handle away, where it is there.
-fn lose_long(long: &mut IndexMap<Vec<u8>, u64>, handle: &[u8])
-    ensures { Loses (λ key. key.items) long.old.entries long.new.entries handle.now }
-{
-    let _object = long.swap_remove(handle);
+    pub(crate) own: OwnNumbers,
+    pub(crate) others: HandleTable,
 }
 
 impl Objects {
@@ -78,8 +21,8 @@ impl Objects {
         ensures { GivesFirst result [] }
     {
         Objects {
-            short: IndexMap::new(alloc),
-            long: IndexMap::new(alloc),
+            own: OwnNumbers::new(alloc),
+            others: HandleTable::new(alloc),
         }
     }
 
@@ -93,10 +36,10 @@ impl Objects {
         ensures ok { OnOk result ((pairs : List (List ℕ × ℕ)) → GivesFirst self.old pairs → GivesFirst self.new (pairs ++ (handle.now, object) ∷ [])) }
         ensures err { OnErr result ((handle : List ℕ) → found self.new handle ≡ found self.old handle) }
     {
-        if handle.len() <= SHORT_LIMIT {
-            note_short(&mut self.short, handle, object)
+        if self.own.takes(handle, object) && self.others.get(handle).is_none() {
+            self.own.note(object)
         } else {
-            note_long(alloc, &mut self.long, handle, object)
+            self.others.note(alloc, handle, object)
         }
     }
 
@@ -104,21 +47,17 @@ impl Objects {
     pub(crate) fn lose(&mut self, handle: &[u8])
         ensures { (pairs : List (List ℕ × ℕ)) → GivesFirst self.old pairs → GivesFirst self.new (pairs_without handle.now pairs) }
     {
-        if handle.len() <= SHORT_LIMIT {
-            lose_short(&mut self.short, handle);
-        } else {
-            lose_long(&mut self.long, handle);
-        }
+        self.own.lose(handle);
+        self.others.lose(handle);
     }
 
     /// The object that a handle was given first.
     pub(crate) fn get(&self, handle: &[u8]) -> Option<u64>
         ensures { result ≡ found self.now handle.now }
     {
-        if handle.len() <= SHORT_LIMIT {
-            self.short.get(&ShortHandle::from_slice(handle)).copied()
-        } else {
-            self.long.get(handle).copied()
+        match self.own.get(handle) {
+            Some(object) => Some(object),
+            None => self.others.get(handle),
         }
     }
 }

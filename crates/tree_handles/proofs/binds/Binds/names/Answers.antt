@@ -1,7 +1,8 @@
-use Rattle.std.proofs.Common.{◌≡◌, false, sym, ◌∙◌, subst, rules}
+use Rattle.std.proofs.Common.{◌≡◌, ℕ, List, false, sym, ap, ◌∙◌, subst, rules}
 use Rattle.std.specs.Prelude.{◌==◌}
 use Rattle.std.proofs.lemmas.Bool.{eq-eqb}
-use Rattle.tree_handles.specs.Binding.{Bindings}
+use Rattle.std.specs.Int.{w64, to_be_bytes}
+use Rattle.tree_handles.specs.Binding.{Bindings, is_bound}
 use Rattle.tree_handles.specs.Finding.{GivesFirst}
 use Rattle.tree_handles.proofs.HandleOf.{zero_is_named, is_among_names, other_is_named}
 use Rattle.tree_handles.proofs.binds.Binds.names.Goals as goal
@@ -17,4 +18,6 @@ returns c =
     let objects = c.self.inside.objects in
     let other : (c.args.object == 0) ≡ false = search rules in
     let gives = subst (λ (b : Bindings). GivesFirst objects b.pairs) c.self.view_is c.self.invariant in
-    c.any_names_it.ensures ∙ other_is_named c.args.self.now objects gives c.args.object other
+    let unlike : is_bound c.args.self.now (to_be_bytes w64 c.args.object) c.args.object ≡ false =
+    ap (λ (h : List ℕ). is_bound c.args.self.now h c.args.object) (sym (c.as_slice.ensures ∙ c.to_be_bytes.ensures)) ∙ sym c.names_it.ensures ∙ c.if-names_it.false in
+    c.any_names_it.ensures ∙ other_is_named c.args.self.now objects gives c.args.object other unlike

@@ -4,7 +4,7 @@ use Rattle.std.specs.Map.{lookup}
 use Rattle.indexmap.proofs.CallerLemmas.{insert_entry-new}
 use Rattle.tree_handles.specs.Binding.{same_bytes}
 use Rattle.tree_handles.proofs.Lookups.{noted_there, noted_new, absent}
-use Rattle.tree_handles.proofs.objects.note_long.Goals as goal
+use Rattle.tree_handles.proofs.handle_table.note_long.Goals as goal
 
 pub returns-then-contains_key-clause-ok : goal.returns-then-contains_key-clause-ok
 returns-then-contains_key-clause-ok c =

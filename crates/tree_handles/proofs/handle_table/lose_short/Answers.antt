@@ -1,9 +1,7 @@
-use Rattle.std.proofs.Common.{ℕ, List, None, ◌≡◌, ap, sym, subst}
-use Rattle.std.specs.Map.{lookup, KeepsOthers}
-use Rattle.tree_handles.specs.Binding.{same_bytes}
+use Rattle.std.proofs.Common.{ℕ, List, subst}
 use Rattle.tree_handles.specs.Finding.{Loses}
 use Rattle.tree_handles.proofs.Losing.{lost}
-use Rattle.tree_handles.proofs.objects.lose_short.Goals as goal
+use Rattle.tree_handles.proofs.handle_table.lose_short.Goals as goal
 
 pub returns : goal.returns
 returns c =

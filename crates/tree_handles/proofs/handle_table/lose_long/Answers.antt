@@ -1,6 +1,6 @@
 use Rattle.std.proofs.Common.{Vec, Global, ℕ, List}
 use Rattle.tree_handles.proofs.Losing.{lost}
-use Rattle.tree_handles.proofs.objects.lose_long.Goals as goal
+use Rattle.tree_handles.proofs.handle_table.lose_long.Goals as goal
 
 pub returns : goal.returns
 returns c =

@@ -4,7 +4,7 @@ use Rattle.std.specs.Map.{lookup}
 use Rattle.indexmap.proofs.CallerLemmas.{insert_entry-new}
 use Rattle.tree_handles.specs.Binding.{same_bytes}
 use Rattle.tree_handles.proofs.Lookups.{noted_new, absent}
-use Rattle.tree_handles.proofs.objects.note_short.Goals as goal
+use Rattle.tree_handles.proofs.handle_table.note_short.Goals as goal
 
 pub returns-in_ok-insert-clause-ok : goal.returns-in_ok-insert-clause-ok
 returns-in_ok-insert-clause-ok c =

@@ -1,0 +1,81 @@
+//! Handles that are the numbers of their objects.
+
+ghost use Rattle.std.specs.Prelude.{true, ◌≡◌, ℕ, List, None, OnOk, OnErr};
+ghost use Rattle.std.specs.Int.{w64, to_be_bytes};
+ghost use Rattle.tree_handles.specs.Finding.{number_of, own_object, Gains, Lacks};
+
+use slots::Slots;
+use std::alloc::{AllocError, Global};
+
+/// How far apart numbers may lie: as many bytes as a handle takes that is found by a hash.
+const SPREAD: u64 = 64;
+
+/// How many handles more than there are may lie so far apart.
+const ROOM: u64 = 1024;
+
+/// The number that a handle is in eight bytes, the first byte the greatest.
+fn number_of(handle: &[u8]) -> Option<u64>
+    ensures { result ≡ number_of handle.now }
+{
+    match handle.try_into() {
+        Ok(bytes) => Some(u64::from_be_bytes(bytes)),
+        Err(_) => None,
+    }
+}
+
+/// The objects whose handles are their numbers in eight bytes, as those of the bundled server are. Such a handle is found
+/// without a hash, in one place of memory.
+#[derive(Drop)]
+pub(crate) struct OwnNumbers {
+    pub(crate) objects: Slots<()>,
+}
+
+impl OwnNumbers {
+    /// No handles.
+    pub(crate) fn new(alloc: Global) -> OwnNumbers
+        ensures { (handle : List ℕ) → own_object result handle ≡ None }
+    {
+        OwnNumbers {
+            objects: Slots::new(alloc),
+        }
+    }
+
+    /// Whether a handle is its object's number, and that isn't far above the number of handles. A number takes a byte, and so
+    /// does each lower one.
+    pub(crate) fn takes(&self, handle: &[u8], object: u64) -> bool
+        ensures { result ≡ true → handle.now ≡ to_be_bytes w64 object }
+    {
+        (object / SPREAD).saturating_sub(ROOM) <= self.objects.len() as u64
+            && handle == object.to_be_bytes().as_slice()
+    }
+
+    /// Gives an object its number as a handle.
+    pub(crate) fn note(&mut self, object: u64) -> Result<(), AllocError>
+        ensures ok { OnOk result (Gains (own_object self.old) (own_object self.new) (to_be_bytes w64 object) object) }
+        ensures err { OnErr result (self.new ≡ self.old) }
+    {
+        self.objects.insert(object, ())?;
+        Ok(())
+    }
+
+    /// Takes the object of a handle away, where it has one.
+    pub(crate) fn lose(&mut self, handle: &[u8])
+        ensures { Lacks (own_object self.old) (own_object self.new) handle.now }
+    {
+        if let Some(number) = number_of(handle) {
+            self.objects.remove(number);
+        }
+    }
+
+    /// The object of a handle.
+    pub(crate) fn get(&self, handle: &[u8]) -> Option<u64>
+        ensures { result ≡ own_object self.now handle.now }
+    {
+        let number = number_of(handle)?;
+        if self.objects.get(number).is_some() {
+            Some(number)
+        } else {
+            None
+        }
+    }
+}
