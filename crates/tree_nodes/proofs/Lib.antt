@@ -17,6 +17,7 @@ pub mod MovedLaw
 pub mod Undoing
 pub mod Counting
 pub mod Renaming
+pub mod Ranking
 pub mod Displacing
 pub mod Ops
 pub mod RenameOps

@@ -10,6 +10,7 @@ pub mod Numbered
 pub mod Codes
 pub mod Undo
 pub mod Renames
+pub mod Ranks
 pub mod Results
 pub mod Walk
 pub mod Table

@@ -11,6 +11,8 @@ use Rattle.tree_nodes.specs.Codes.{node_code}
 use Rattle.tree_nodes.specs.Files.{node_limit}
 use Rattle.tree_nodes.specs.Walk.{seen, IsTree}
 use Rattle.tree_nodes.specs.Table.{Table, child, held}
+use Rattle.tree_nodes.specs.declared.ranks.Ranks.{Ranks}
+use Rattle.tree_nodes.specs.Ranks.{rank_of, IsRanked}
 
 -- paths are in a total order, and only equal ones tie
 pub path_total : IsTotalOrder path_cmp
@@ -36,6 +38,11 @@ Shown-prop entries a b = Σ_prop_path {A = Tree} {B = λ tree. Agrees entries tr
 pub record IsTable (entries : Table) : Type 0 where
   pub tree : IsTree (child entries) (held entries)
   pub few : map.len entries ≤ node_limit
+
+-- what stands with the ranks of its objects
+pub record IsKept (entries : Table) (ranks : Ranks) : Type 0 where
+  pub table : IsTable entries
+  pub ranked : IsRanked (held entries) (rank_of ranks)
 
 -- a table that shows a tree
 pub record IsTableOf (entries : Table) (tree : Tree) : Type 0 where

@@ -3,9 +3,11 @@
 
 mod bytes;
 mod content;
+mod lift;
 mod node;
 mod nodes;
 mod print;
+mod ranks;
 mod table;
 mod undo;
 

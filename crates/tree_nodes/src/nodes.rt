@@ -22,8 +22,10 @@ ghost use Rattle.std.specs.BTreeMap.{get, IsOrdered};
 ghost use Rattle.tree_nodes.specs.Undo.{TakesBack};
 
 use crate::bytes::{Bytes, Path};
+use crate::lift::lift;
 use crate::node::Node;
 use crate::print::{put_entry, put_word};
+use crate::ranks::{Ranks, TOP};
 use crate::table::{
     Edit, Entry, cut, entry_in, is_bare, lists_all, look_below, node_at, parent_of, place_of,
     root_alone,
@@ -41,14 +43,20 @@ const FEW: u32 = 32;
 pub struct Nodes {
     alloc: Global,
     entries: Slots<Entry>,
+    ranks: Ranks,
     /// The tree, with that it is the one that the names lead through.
     ghost shown: { Shown entries } by { Shown-prop entries },
 }
 
 impl Drop for Nodes {
     fn drop(self) {
-        let Nodes { alloc: _, entries } = self;
+        let Nodes {
+            alloc: _,
+            entries,
+            ranks,
+        } = self;
         drop(entries);
+        drop(ranks);
     }
 }
 
@@ -58,7 +66,7 @@ impl Model for Nodes {
     ghost use Rattle.std.specs.FinMap as finite;
     ghost use Rattle.tree_nodes.specs.Tree.{Tree};
     ghost use Rattle.tree_nodes.specs.Codes.{node_code};
-    ghost use Rattle.tree_nodes.specs.Shown.{IsTable};
+    ghost use Rattle.tree_nodes.specs.Shown.{IsKept};
 
     ghost Value = { Tree };
 
@@ -66,7 +74,7 @@ impl Model for Nodes {
 
     ghost view = { λ n. n.shown.0 };
 
-    ghost invariant = { λ n. IsTable n.entries };
+    ghost invariant = { λ n. IsKept n.entries n.ranks };
 }
 
 impl Nodes {
@@ -77,6 +85,7 @@ impl Nodes {
         Ok(Nodes {
             alloc,
             entries: root_alone(alloc)?,
+            ranks: Ranks::new(alloc),
         })
     }
 
@@ -139,14 +148,23 @@ impl Nodes {
         }
     }
 
-    /// Whether few objects lie from the front on, and an object isn't one of them.
+    /// Whether the front has no rank of its own, few objects lie from it on, and an object isn't one of them.
     fn is_beyond(&self, object: u64, front: u64) -> bool
         ensures { result ≡ true → (e f : Names × Node) → entry_of self.now object ≡ Some e → entry_of self.now front ≡ Some f → is_from e.0 f.0 ≡ false }
     {
-        look_below(&self.entries, object, front, FEW).is_some()
+        self.ranks.get(front) == TOP && look_below(&self.entries, object, front, FEW).is_some()
     }
 
-    /// Whether an object is the one in front, or lies below it. Where few objects lie below the front, it takes no walk to the root.
+    /// Whether an object has as high a rank as the front, so that it doesn't lie below it.
+    fn is_outranked(&self, object: u64, front: u64) -> bool
+        ensures { result ≡ true → (object ≡ front → ⊥) → (e f : Names × Node) → entry_of self.now object ≡ Some e → entry_of self.now front ≡ Some f → is_from e.0 f.0 ≡ false }
+    {
+        let rank = self.ranks.get(front);
+        rank < TOP && rank <= self.ranks.get(object)
+    }
+
+    /// Whether an object is the one in front, or lies below it. It takes a walk to the root, which ends early where an object on the way
+    /// has as high a rank as the front, and is left out where the front has no rank of its own and few objects lie below it.
     pub fn is_from(&self, object: u64, front: u64) -> bool
         ensures { (e f : Names × Node) → entry_of self.now object ≡ Some e → entry_of self.now front ≡ Some f → result ≡ is_from e.0 f.0 }
     {
@@ -155,6 +173,9 @@ impl Nodes {
         }
         let mut at = object;
         while at != front {
+            if self.is_outranked(at, front) {
+                return false;
+            }
             let Some(above) = self.above(at) else {
                 return false;
             };
@@ -184,7 +205,12 @@ impl Nodes {
         ensures undo { IfOk result (λ undo. TakesBack undo self.new self.old) }
         ensures err { OnErr result (self.new ≡ self.old) }
     {
-        make(&mut self.entries, self.alloc, directory, name, node)
+        let object = node.object;
+        self.ranks.begin(object);
+        let made = make(&mut self.entries, self.alloc, directory, name, node);
+        let least = self.ranks.get(object).saturating_add(1);
+        lift(&self.entries, &mut self.ranks, directory, least);
+        made
     }
 
     /// Takes an object with nothing below it away, unless it is the root.
@@ -236,7 +262,10 @@ impl Nodes {
         ensures undo { IfOk result (λ undo. TakesBack undo self.new self.old) }
         ensures err { OnErr result (self.new ≡ self.old) }
     {
-        rename(&mut self.entries, self.alloc, object, directory, name)
+        let moved = rename(&mut self.entries, self.alloc, object, directory, name);
+        let least = self.ranks.get(object).saturating_add(1);
+        lift(&self.entries, &mut self.ranks, directory, least);
+        moved
     }
 
     /// Takes a change back.
@@ -244,6 +273,7 @@ impl Nodes {
         requires { (before : Tree) × TakesBack undo self.old before }
         ensures ok { OnOk result ((before : Tree) → TakesBack undo self.old before → self.new ≡ before) }
     {
+        self.ranks.forget();
         take_back(&mut self.entries, self.alloc, undo.step)
     }
 

@@ -6,5 +6,5 @@ use Rattle.tree_nodes.proofs.nodes.Nodes.node.Goals as goal
 
 pub returns : goal.returns
 returns c =
-    let good = good_at c.self.inside.entries c.self.inside.shown c.args.self.now c.self.view_is c.self.invariant in
+    let good = good_at c.self.inside.entries c.self.inside.shown c.args.self.now c.self.view_is c.self.invariant.table in
     c.node_at.ensures ∙ node_is c.args.self.now (child c.self.inside.entries) (held c.self.inside.entries) good.table.tree good.agrees c.args.object

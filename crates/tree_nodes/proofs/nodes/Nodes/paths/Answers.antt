@@ -11,7 +11,7 @@ use Rattle.tree_nodes.proofs.nodes.Nodes.paths.Goals as goal
 pub loop-object-init : goal.loop-object-init
 loop-object-init c =
     let m = c.self.inside.entries in
-    let good = good_at m c.self.inside.shown c.args.self.now c.self.view_is c.self.invariant in
+    let good = good_at m c.self.inside.shown c.args.self.now c.self.view_is c.self.invariant.table in
     let is : c.into_iter-object-iterator.result ≡ map.entries m = search rules in
     subst (λ (z : List (ℕ × Entry)). Collects c.args.self.now c.new-paths.result z) (sym is)
     (collect_none m c.args.self.now c.new-paths.result good.table.tree good.agrees c.new-paths.ensures.empty c.new-paths.ensures.ordered)
@@ -19,14 +19,14 @@ loop-object-init c =
 pub path-requires-clause-numbered : goal.path-requires-clause-numbered
 path-requires-clause-numbered c =
     let m = c.self.inside.entries in
-    let good = good_at m c.self.inside.shown c.args.self.now c.self.view_is c.self.invariant in
+    let good = good_at m c.self.inside.shown c.args.self.now c.self.view_is c.self.invariant.table in
     is_numbered c.args.self.now (child m) (held m) good.table.tree good.agrees
 
 pub loop-object-preserved : goal.loop-object-preserved
 loop-object-preserved c =
     let m = c.self.inside.entries in
     let t = c.args.self.now in
-    let good = good_at m c.self.inside.shown t c.self.view_is c.self.invariant in
+    let good = good_at m c.self.inside.shown t c.self.view_is c.self.invariant.table in
     let object = c.in-Some.object in
     let entry = c.in-Some.field-0-1.now in
     let collects = subst (λ (z : List (ℕ × Entry)). Collects t c.loop-object.paths z) c.in-Some.ensures.steps c.loop-object.invariant in

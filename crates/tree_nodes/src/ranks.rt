@@ -1,0 +1,91 @@
+//! Ranks of objects, by which most questions whether one lies below another end early.
+
+ghost use Rattle.std.specs.Prelude.{◌≡◌, ◌≤◌, ℕ};
+ghost use Rattle.tree_nodes.specs.Ranks.{rank_of};
+
+use std::alloc::Global;
+
+/// The rank of an object that has none of its own.
+pub(crate) const TOP: u32 = u32::MAX;
+
+/// The ranks of objects, by their numbers. A rank is more than that of each object that lies in its object, or `TOP`: so no
+/// object of a rank below `TOP` lies above one of the same rank or a higher one.
+#[derive(Drop)]
+pub(crate) struct Ranks {
+    /// The lowest number that has a rank here.
+    pub(crate) first: u64,
+    pub(crate) ranks: Vec<u32>,
+}
+
+impl Ranks {
+    /// No ranks.
+    pub(crate) fn new(alloc: Global) -> Ranks
+        ensures { (object : ℕ) → rank_of result object ≡ TOP }
+    {
+        Ranks {
+            first: 0,
+            ranks: Vec::new(alloc),
+        }
+    }
+
+    /// The rank of an object.
+    pub(crate) fn get(&self, object: u64) -> u32
+        ensures { result ≡ rank_of self.now object }
+    {
+        if object < self.first {
+            return TOP;
+        }
+        let index = (object - self.first) as usize;
+        match self.ranks.get(index) {
+            Some(rank) => *rank,
+            None => TOP,
+        }
+    }
+
+    /// Gives an object a rank. One that has no place here keeps `TOP`.
+    pub(crate) fn set(&mut self, object: u64, rank: u32)
+        ensures here { rank ≤ rank_of self.new object }
+        ensures others { (other : ℕ) → (other ≡ object → ⊥) → rank_of self.new other ≡ rank_of self.old other }
+    {
+        if object < self.first {
+            return;
+        }
+        let index = (object - self.first) as usize;
+        if index < self.ranks.len() {
+            self.ranks[index] = rank;
+        }
+    }
+
+    /// Makes a place for an object, where memory suffices.
+    fn make_place(&mut self, object: u64)
+        ensures { (other : ℕ) → rank_of self.new other ≡ rank_of self.old other }
+    {
+        if self.ranks.is_empty() {
+            self.first = object;
+        }
+        if object < self.first {
+            return;
+        }
+        let index = (object - self.first) as usize;
+        while self.ranks.len() <= index {
+            let Ok(()) = self.ranks.push(TOP) else {
+                return;
+            };
+        }
+    }
+
+    /// Gives an object that nothing lies in the lowest rank.
+    pub(crate) fn begin(&mut self, object: u64)
+        ensures { (other : ℕ) → (other ≡ object → ⊥) → rank_of self.new other ≡ rank_of self.old other }
+    {
+        self.make_place(object);
+        self.set(object, 0);
+    }
+
+    /// Takes all ranks away.
+    pub(crate) fn forget(&mut self)
+        ensures { (object : ℕ) → rank_of self.new object ≡ TOP }
+    {
+        self.ranks.clear();
+    }
+}
