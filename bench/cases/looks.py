@@ -1,5 +1,5 @@
 """What calls that leave the tree may tell of the sample tree: GETATTR, LOOKUP, READLINK, READ, READDIR, READDIRPLUS and COMMIT."""
-from cases.calls import commit, create, get_attributes, list_entries, list_names, look_up, read, read_link, remove
+from cases.calls import commit, create, get_attributes, list_entries, list_names, look_up, make_directory, read, read_link, remove
 from cases.sample import BINDS, D, E, F, G, L, NEVER_MADE, ROOT, SAMPLE, UNBOUND, V, allowed, illegal, run
 from cases.xdr import DIR, FIFO, LNK, NOENT, REG
 
@@ -10,6 +10,7 @@ def add_all(cases):
     name_lengths(cases)
     handles(cases)
     handle_lengths(cases)
+    handle_numbers(cases)
     texts(cases)
     bytes_read(cases)
     ends(cases)
@@ -79,6 +80,24 @@ def handle_lengths(cases):
         run(cases, "a-made-file-with-a-handle-of-%d-bytes" % length, "yes", *calls, binds=[(handle, 1)])
         run(cases, "a-made-file-with-a-handle-of-%d-bytes-bound-to-another-object" % length, "no: Illegal 1", *calls, binds=[(handle, 2)])
         run(cases, "a-made-file-with-a-handle-of-%d-bytes-of-which-the-last-is-another" % length, "no: Illegal 1", *calls, binds=[(other, 1)])
+
+
+def handle_numbers(cases):
+    """A handle that is a number in eight bytes names what it is bound to, whether that is the object of this number or another one."""
+    for number in (1, 2, 255, 256, 65_599, 65_600, 2**62, 2**64 - 1):
+        handle = number.to_bytes(8, "big")
+        calls = create(ROOT, "h").gives(handle), get_attributes(handle).gives(REG, 0)
+        run(cases, "a-made-file-with-the-handle-%d" % number, "yes", *calls, binds=[(handle, 1)])
+        if handle != handle[::-1]:
+            run(cases, "a-made-file-with-the-handle-%d-of-which-the-bytes-are-bound-backwards" % number, "no: Illegal 1", *calls, binds=[(handle[::-1], 1)])
+        if number > 1:
+            run(cases, "a-made-file-with-the-handle-%d-bound-to-that-number" % number, "no: Illegal 1", *calls, binds=[(handle, number)])
+    one, two = ((number).to_bytes(8, "big") for number in (1, 2))
+    made = create(ROOT, "a").gives(one), make_directory(ROOT, "b").gives(two), get_attributes(one).gives(REG, 0), get_attributes(two).gives(DIR, 0)
+    run(cases, "two-made-objects-whose-handles-are-their-numbers", "yes", *made, binds=[(one, 1), (two, 2)])
+    run(cases, "two-made-objects-whose-handles-are-each-other's-numbers", "yes", create(ROOT, "a").gives(two), make_directory(ROOT, "b").gives(one),
+        get_attributes(two).gives(REG, 0), get_attributes(one).gives(DIR, 0), binds=[(one, 2), (two, 1)])
+    run(cases, "two-made-objects-whose-handles-are-bound-to-each-other's-numbers", "no: Illegal 1", *made, binds=[(one, 2), (two, 1)])
 
 
 def texts(cases):

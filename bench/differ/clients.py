@@ -31,6 +31,7 @@ class World:
         self.root, self.tree, self.handles = root, tree, {0: [root]}
         self.names = dice.choice(NAME_POOLS)
         self.right_share, self.hit_share, self.odd_share, self.alias_share = 86, 0, 0.06, dice.choice([0.05, 0.05, 0.4])
+        self.own_share = dice.choice([0, 0.5, 0.9])
         self.writes = []
 
     def known(self) -> set:
@@ -40,10 +41,11 @@ class World:
         return [handle for node in self.tree.values() if node.kind in kinds for handle in self.handles.get(node.object, [])]
 
     def handle_for(self, dice: Dice, number: int) -> bytes:
-        """A handle of an object; now and then another one than before."""
+        """A handle of an object, in some histories its number; now and then another one than before."""
         handles = self.handles.setdefault(number, [])
         if not handles or dice.chance(self.alias_share):
-            handles.append(draws.fresh_handle(dice, self.known()))
+            own = number.to_bytes(8, "big")
+            handles.append(own if dice.chance(self.own_share) and own not in self.known() else draws.fresh_handle(dice, self.known()))
         return dice.choice(handles)
 
 

@@ -23,10 +23,10 @@ class Dice(random.Random):
 
 
 def fresh_handle(dice: Dice, known) -> bytes:
-    """A handle that isn't known. Some are the beginning of a known one or go on behind it."""
+    """A handle that isn't known. Some are the beginning of a known one or go on behind it, some a small number in eight bytes."""
     while True:
         size = dice.choice([1, 1, 2, 3, 4, 4, 8, 16, 32, 63, 64])
-        handle = dice.randbytes(size)
+        handle = dice.randrange(100).to_bytes(8, "big") if dice.chance(0.15) else dice.randbytes(size)
         if known and dice.chance(0.2):
             handle = dice.choice(sorted(known))[:size - 1] + handle[:1]
         if handle not in known:
