@@ -10,6 +10,9 @@ use std::marker::Model;
 /// The most bytes of a page.
 pub(crate) const PAGE: u64 = 512;
 
+/// A page takes memory in steps of so many bytes: what one leaves is mostly as large as what the next one needs.
+const ROOM: usize = 128;
+
 /// The bytes of a page up to some place; those behind it are zeros.
 #[derive(Drop)]
 pub(crate) struct Page {
@@ -60,7 +63,8 @@ impl Page {
         ensures { IfOk result (λ page. page ≡ written stored.now at added.now) }
     {
         let end = at + added.len();
-        let mut bytes = Vec::with_capacity(alloc, end.max(stored.len()))?;
+        let room = end.max(stored.len()).div_ceil(ROOM) * ROOM;
+        let mut bytes = Vec::with_capacity(alloc, room)?;
         bytes.extend_from_slice(&stored[..at.min(stored.len())])?;
         bytes.resize(at, 0)?;
         bytes.extend_from_slice(added)?;

@@ -80,8 +80,8 @@ impl FileTree {
 
 impl FileTree {
     /// Whether call number `number` may succeed: some success of its procedure has a next tree. For a LOOKUP of an
-    /// object whose handle isn't its number in eight bytes it goes over all handles; what else it takes doesn't grow
-    /// with them.
+    /// object whose handle isn't its number in eight bytes it goes over all handles that are found by a hash; what else
+    /// it takes doesn't grow with them.
     pub fn allows(&self, binds: &Binds, number: u64, call: &NfsCall) -> Result<bool, AllocError>
         ensures { IfOk result (λ allowed. IsTrue allowed ↔ AllowsSuccess binds.now self.now number call.now) }
     {

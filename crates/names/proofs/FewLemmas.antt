@@ -1,6 +1,7 @@
 -- sorted names in a vector
-use Rattle.std.proofs.Common.{◌≡◌, ◌⊎◌, inl, inr, ℕ, zero, suc, ◌<◌, ◌≤◌, false, cond, T, List, [], ◌∷◌, length, get_or, set, Some, None, Result, Ok, Err, IfOk, IfErr, refl, sym, ap, subst, ◌∙◌, arith}
-use Rattle.std.specs.Prelude.{not}
+use Rattle.std.proofs.Common.{◌≡◌, ◌⊎◌, inl, inr, ℕ, zero, suc, ◌<◌, ◌≤◌, ◌+◌, false, cond, T, List, [], ◌∷◌, length, get_or, set, Some, None, Result, Ok, Err, IfOk, IfErr, refl, sym, ap, subst, ◌∙◌, arith}
+use Rattle.std.specs.Prelude.{not, nat_eq, drop}
+use Rattle.std.specs.Cmp.Lexicographic.{pointwise, texts_ties}
 use Rattle.std.specs.List.{insert, remove}
 use Rattle.std.specs.List.Sorted.{IsSearchInRange, IsBinarySearchResult, IsNonDecreasingBy}
 use Rattle.std.specs.declared.cmp.Ordering.TheVariants.{Less, Equal, Greater}
@@ -72,6 +73,21 @@ module _ (d : Named) (k : List ℕ) where
       let inside : i < length few = omega arith in
       ap (λ (z : List (List ℕ × ℕ)). (e.name, e.object) ∷ z) (put_at few i v (second _ _ sorted) inside tied)
       ∙ sym (ap (λ o. es.by_order o ((k, v) ∷ (e.name, e.object) ∷ listed few) ((e.name, v) ∷ listed few) ((e.name, e.object) ∷ es.put name_cmp k v (listed few))) (passed e few i d k (first _ _ sorted) inside tied))
+
+-- a search from one name on looks at that name, and then goes on behind it
+found_at : (few : List Named) (i : ℕ) (d : Named) (k : List ℕ) → i < length few → d ≡ get_or few i d
+    → es.find name_cmp k (listed (drop i few)) ≡ cond (pointwise nat_eq k d.name) (Some d.object) (es.find name_cmp k (listed (drop (suc i) few)))
+found_at [] i d k lt is = absurd (omega arith)
+found_at (e ∷ few) zero d k lt is =
+    sym (ap (λ (z : Named). cond (pointwise nat_eq k z.name) (Some z.object) (es.find name_cmp k (listed few))) is
+    ∙ ap (λ b. cond b (Some e.object) (es.find name_cmp k (listed few))) (texts_ties k e.name))
+found_at (e ∷ few) (suc i) d k lt is = found_at few i d k (omega arith) is
+
+pub found_from : (few : List Named) (i : ℕ) (d : Named) (k : List ℕ) → i < length few → d ≡ get_or few i d
+    → es.find name_cmp k (listed (drop i few)) ≡ cond (pointwise nat_eq k d.name) (Some d.object) (es.find name_cmp k (listed (drop (i + 1) few)))
+found_from few i d k lt is =
+    let next : suc i ≡ i + 1 = omega arith in
+    found_at few i d k lt is ∙ ap (λ n. cond (pointwise nat_eq k d.name) (Some d.object) (es.find name_cmp k (listed (drop n few)))) next
 
 -- names that all differ from one
 module _ (k : List ℕ) where

@@ -180,7 +180,7 @@ fn reach<V: Drop>(slots: &mut Vec<Slot<V>>, index: usize) -> Result<(), AllocErr
     ensures ok { OnOk result (index < vec_len slots.new) }
     ensures same { map_of slots.new.items ≡ map_of slots.old.items }
 {
-    slots.reserve(index.saturating_sub(slots.len()))?;
+    slots.reserve(index.saturating_add(1).saturating_sub(slots.len()))?;
     while slots.len() <= index {
         slots.push(Slot::Empty)?;
     }

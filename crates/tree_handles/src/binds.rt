@@ -145,7 +145,8 @@ fn any_names_it(binds: &Binds, table: &HandleTable, object: u64) -> bool
 
 impl Binds {
     /// Whether some handle names the object. It takes one look-up where the object's number in eight bytes, the
-    /// first byte the greatest, is a handle of it, and none for the root; else it goes over all handles.
+    /// first byte the greatest, is a handle of it, and none for the root; else it goes over all handles that are found
+    /// by a hash.
     pub fn names(&self, object: u64) -> bool
         ensures { result ≡ is_named self.now object }
     {

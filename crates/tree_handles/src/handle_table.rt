@@ -82,6 +82,11 @@ impl HandleTable {
         }
     }
 
+    /// How many handles have an object.
+    pub(crate) fn len(&self) -> usize {
+        self.short.len().saturating_add(self.long.len())
+    }
+
     /// Gives a handle its object, unless it has one.
     pub(crate) fn note(
         &mut self,

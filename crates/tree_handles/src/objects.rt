@@ -36,7 +36,7 @@ impl Objects {
         ensures ok { OnOk result ((pairs : List (List ℕ × ℕ)) → GivesFirst self.old pairs → GivesFirst self.new (pairs ++ (handle.now, object) ∷ [])) }
         ensures err { OnErr result ((handle : List ℕ) → found self.new handle ≡ found self.old handle) }
     {
-        if self.own.takes(handle, object) && self.others.get(handle).is_none() {
+        if self.own.takes(handle, object, self.others.len()) && self.others.get(handle).is_none() {
             self.own.note(object)
         } else {
             self.others.note(alloc, handle, object)

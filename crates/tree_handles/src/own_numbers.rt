@@ -7,10 +7,11 @@ ghost use Rattle.tree_handles.specs.Finding.{number_of, own_object, Gains, Lacks
 use slots::Slots;
 use std::alloc::{AllocError, Global};
 
-/// How far apart numbers may lie: as many bytes as a handle takes that is found by a hash.
+/// How far above the number of handles a number may lie, as a multiple: its bytes take no more than that many handles do that are
+/// found by a hash.
 const SPREAD: u64 = 64;
 
-/// How many handles more than there are may lie so far apart.
+/// How many handles there are taken to be where there are none, so that the first numbers have room.
 const ROOM: u64 = 1024;
 
 /// The number that a handle is in eight bytes, the first byte the greatest.
@@ -40,12 +41,13 @@ impl OwnNumbers {
         }
     }
 
-    /// Whether a handle is its object's number, and that isn't far above the number of handles. A number takes a byte, and so
-    /// does each lower one.
-    pub(crate) fn takes(&self, handle: &[u8], object: u64) -> bool
+    /// Whether a handle is its object's number, and that isn't far above the number of handles, with the others that there are. A number
+    /// takes a byte, and so does each lower one.
+    pub(crate) fn takes(&self, handle: &[u8], object: u64, others: usize) -> bool
         ensures { result ≡ true → handle.now ≡ to_be_bytes w64 object }
     {
-        (object / SPREAD).saturating_sub(ROOM) <= self.objects.len() as u64
+        let handles = self.objects.len().saturating_add(others) as u64;
+        (object / SPREAD).saturating_sub(ROOM) <= handles
             && handle == object.to_be_bytes().as_slice()
     }
 

@@ -79,6 +79,17 @@ module _ (t : Tree) (c : Steps) (v : Holds) (tree : IsTree c v) (agrees : (path 
         ap (option_and_then (node_of v)) (sym (walk_last c 0 at.0 name o at.1)) ∙ sym (agrees (at.0 ++ name ∷ []))
         ∙ sym (ap (option_and_then {T = Names × Node} (λ x. map.get t (x.0 ++ name ∷ []))) at.2)
 
+  -- the object that a name leads to is that of its node
+  pub object_in_is : (o : ℕ) (name : List ℕ) → c o name ≡ option_map {T = Node} (λ n. n.object) (node_in t o name)
+  object_in_is o name = go (c o name) refl where
+    go : (s : Option ℕ) → c o name ≡ s → c o name ≡ option_map {T = Node} (λ n. n.object) (node_in t o name)
+    go None e = e ∙ ap (option_map {T = Node} (λ n. n.object)) (sym (ap (option_and_then (node_of v)) e) ∙ node_in_is o name)
+    go (Some next) e =
+        let h = tree.down o name next e in
+        let node : node_of v next ≡ Some h.0.2 = ap (option_map {T = Held} (λ x. x.2)) h.1 in
+        e ∙ ap Some (sym (tree.numbered next h.0 h.1))
+        ∙ ap (option_map {T = Node} (λ n. n.object)) (sym node ∙ sym (ap (option_and_then (node_of v)) e) ∙ node_in_is o name)
+
   -- the place of a name's node
   pub place_is : (o : ℕ) (name : List ℕ) → option_and_then (λ n. entry_of t n.object) (node_in t o name)
       ≡ option_and_then {T = Names × Node} (λ e. option_map {T = Node} (λ n. (e.0 ++ name ∷ [], n)) (map.get t (e.0 ++ name ∷ []))) (entry_of t o)

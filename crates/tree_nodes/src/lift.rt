@@ -7,7 +7,7 @@ use crate::ranks::Ranks;
 use crate::table::{Entry, parent_of};
 use slots::Slots;
 
-/// How many ranks are raised for one change, at most.
+/// How many ranks are raised for one change. Where that many are, all ranks are taken away.
 const FAR: u32 = 2048;
 
 /// Raises the rank of a directory to what something in it needs, and those of the directories above as far as that takes it. Where

@@ -27,8 +27,8 @@ use crate::node::Node;
 use crate::print::{put_entry, put_word};
 use crate::ranks::{Ranks, TOP};
 use crate::table::{
-    Edit, Entry, cut, entry_in, is_bare, lists_all, look_below, node_at, parent_of, place_of,
-    root_alone,
+    Edit, Entry, child, cut, entry_in, is_bare, lists_all, look_below, node_at, parent_of,
+    place_of, root_alone,
 };
 use crate::undo::{Step, Undo, edit, make, rename, take_back};
 use slots::Slots;
@@ -36,7 +36,8 @@ use std::alloc::{AllocError, Global};
 use std::collections::{BTreeMap, BTreeSet};
 use std::marker::Model;
 
-/// How many objects below one that moves are looked at, before its new directory's way to the root is walked.
+/// How many objects below one that moves are looked at: ahead of the walk from its new directory to the root where it has no rank of its
+/// own, and once more behind as many steps of that walk.
 const FEW: u32 = 32;
 
 /// The nodes of a tree. A contract sees the finite map from paths to nodes.
@@ -116,6 +117,13 @@ impl Nodes {
         entry_in(&self.entries, directory, name)
     }
 
+    /// The object of a name in a directory, by the directory's object. It doesn't go to the object itself.
+    pub fn object(&self, directory: u64, name: &[u8]) -> Option<u64>
+        ensures { result ≡ option_map (λ n. n.object) (node_in self.now directory name.now) }
+    {
+        child(&self.entries, directory, name)
+    }
+
     /// The object of the directory that an object lies in. The root lies in itself (RFC 1813, section 3.3.3).
     pub fn parent(&self, object: u64) -> Option<u64>
         ensures { result ≡ object_above self.now object }
@@ -148,15 +156,15 @@ impl Nodes {
         }
     }
 
-    /// Whether the front has no rank of its own, few objects lie from it on, and an object isn't one of them.
+    /// Whether few objects lie from the front on, and an object isn't one of them.
     fn is_beyond(&self, object: u64, front: u64) -> bool
         ensures { result ≡ true → (e f : Names × Node) → entry_of self.now object ≡ Some e → entry_of self.now front ≡ Some f → is_from e.0 f.0 ≡ false }
     {
-        self.ranks.get(front) == TOP && look_below(&self.entries, object, front, FEW).is_some()
+        look_below(&self.entries, object, front, FEW).is_some()
     }
 
-    /// Whether an object has as high a rank as the front, so that it doesn't lie below it.
-    fn is_outranked(&self, object: u64, front: u64) -> bool
+    /// Whether an object ranks as high as the front, so that it doesn't lie below it.
+    fn ranks_as_high(&self, object: u64, front: u64) -> bool
         ensures { result ≡ true → (object ≡ front → ⊥) → (e f : Names × Node) → entry_of self.now object ≡ Some e → entry_of self.now front ≡ Some f → is_from e.0 f.0 ≡ false }
     {
         let rank = self.ranks.get(front);
@@ -164,16 +172,18 @@ impl Nodes {
     }
 
     /// Whether an object is the one in front, or lies below it. It takes a walk to the root, which ends early where an object on the way
-    /// has as high a rank as the front, and is left out where the front has no rank of its own and few objects lie below it.
+    /// ranks as high as the front, or, behind some steps, where few objects lie below the front. Where the front has no rank of its own,
+    /// those are looked at first.
     pub fn is_from(&self, object: u64, front: u64) -> bool
         ensures { (e f : Names × Node) → entry_of self.now object ≡ Some e → entry_of self.now front ≡ Some f → result ≡ is_from e.0 f.0 }
     {
-        if self.is_beyond(object, front) {
+        if self.ranks.get(front) == TOP && self.is_beyond(object, front) {
             return false;
         }
         let mut at = object;
+        let mut steps: u32 = 0;
         while at != front {
-            if self.is_outranked(at, front) {
+            if self.ranks_as_high(at, front) || (steps == FEW && self.is_beyond(at, front)) {
                 return false;
             }
             let Some(above) = self.above(at) else {
@@ -183,6 +193,7 @@ impl Nodes {
                 return false;
             }
             at = above;
+            steps = steps.saturating_add(1);
         }
         true
     }

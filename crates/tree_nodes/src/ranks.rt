@@ -12,7 +12,7 @@ pub(crate) const TOP: u32 = u32::MAX;
 /// object of a rank below `TOP` lies above one of the same rank or a higher one.
 #[derive(Drop)]
 pub(crate) struct Ranks {
-    /// The lowest number that has a rank here.
+    /// The lowest number that can have a rank here.
     pub(crate) first: u64,
     pub(crate) ranks: Vec<u32>,
 }
@@ -32,11 +32,10 @@ impl Ranks {
     pub(crate) fn get(&self, object: u64) -> u32
         ensures { result ≡ rank_of self.now object }
     {
-        if object < self.first {
+        let Some(index) = object.checked_sub(self.first) else {
             return TOP;
-        }
-        let index = (object - self.first) as usize;
-        match self.ranks.get(index) {
+        };
+        match self.ranks.get(index as usize) {
             Some(rank) => *rank,
             None => TOP,
         }
@@ -47,12 +46,11 @@ impl Ranks {
         ensures here { rank ≤ rank_of self.new object }
         ensures others { (other : ℕ) → (other ≡ object → ⊥) → rank_of self.new other ≡ rank_of self.old other }
     {
-        if object < self.first {
+        let Some(index) = object.checked_sub(self.first) else {
             return;
-        }
-        let index = (object - self.first) as usize;
-        if index < self.ranks.len() {
-            self.ranks[index] = rank;
+        };
+        if let Some(place) = self.ranks.get_mut(index as usize) {
+            *place = rank;
         }
     }
 
@@ -60,14 +58,13 @@ impl Ranks {
     fn make_place(&mut self, object: u64)
         ensures { (other : ℕ) → rank_of self.new other ≡ rank_of self.old other }
     {
-        if self.ranks.is_empty() {
+        if self.ranks.is_empty() && object > self.first {
             self.first = object;
         }
-        if object < self.first {
+        let Some(index) = object.checked_sub(self.first) else {
             return;
-        }
-        let index = (object - self.first) as usize;
-        while self.ranks.len() <= index {
+        };
+        while self.ranks.len() as u64 <= index {
             let Ok(()) = self.ranks.push(TOP) else {
                 return;
             };
@@ -82,10 +79,11 @@ impl Ranks {
         self.set(object, 0);
     }
 
-    /// Takes all ranks away.
+    /// Takes all ranks away. The numbers that had one get none again: so to forget ranks often costs no more than to give them.
     pub(crate) fn forget(&mut self)
         ensures { (object : ℕ) → rank_of self.new object ≡ TOP }
     {
+        self.first = self.first.saturating_add(self.ranks.len() as u64);
         self.ranks.clear();
     }
 }

@@ -3,11 +3,12 @@
 ghost use Rattle.std.specs.Prelude.{◌≡◌, option_and_then};
 ghost use Rattle.std.specs.Option.{option_copied};
 ghost use Rattle.tree_nodes.specs.Place.{path_of};
+ghost use Rattle.tree_handles.specs.Entry.{entry_at};
 ghost use Rattle.tree_reads.specs.Look.{shows, getattr_is_legal, object_at, object_named, lookup_is_legal, has_text, readlink_is_legal, commit_is_legal};
 
 use nfs3_types::{Answer, DirectoryName, FileAttributes, FileHandle, FileType, NfsReply};
 use tree_handles::{
-    View, directory_of, entry_at, file_of, is_bound, is_dot, is_two_dots, live_entry,
+    View, directory_of, file_of, is_bound, is_dot, is_plain, is_two_dots, live_entry,
 };
 use tree_nodes::{Content, Node, Nodes};
 
@@ -49,6 +50,17 @@ fn object_at(node: Option<&Node>) -> Option<u64>
     }
 }
 
+/// The object of an entry of a directory. It doesn't go to the object itself.
+fn entry_object(nodes: &Nodes, directory: u64, name: &[u8]) -> Option<u64>
+    ensures { result ≡ option_and_then (λ path. object_at (entry_at nodes.now path name.now)) (path_of nodes.now directory) }
+{
+    if is_plain(name) {
+        nodes.object(directory, name)
+    } else {
+        None
+    }
+}
+
 /// The object that a name leads to from a directory: `.` is the directory itself, `..` the one that it lies in.
 pub fn object_named(nodes: &Nodes, directory: u64, name: &[u8]) -> Option<u64>
     ensures { result ≡ option_and_then (λ path. object_named nodes.now path name.now) (path_of nodes.now directory) }
@@ -59,7 +71,7 @@ pub fn object_named(nodes: &Nodes, directory: u64, name: &[u8]) -> Option<u64>
     if is_two_dots(name) {
         return nodes.parent(directory);
     }
-    object_at(entry_at(nodes, directory, name))
+    entry_object(nodes, directory, name)
 }
 
 /// A LOOKUP succeeds with a handle of the object.

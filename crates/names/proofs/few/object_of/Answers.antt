@@ -1,12 +1,18 @@
-use Rattle.std.proofs.Common.{sym}
-use Rattle.names.proofs.Orders.{holds}
-use Rattle.names.proofs.FewLemmas.{find_at, find_none, gap_differs}
+use Rattle.std.proofs.Common.{◌+◌, cond, sym, ap, ◌∙◌, Some}
+use Rattle.std.specs.Prelude.{drop}
+use Rattle.std.specs.FinMap.Entries as es
+use Rattle.names.specs.Names.{name_cmp, listed}
+use Rattle.names.proofs.FewLemmas.{found_from}
 use Rattle.names.proofs.few.object_of.Goals as goal
 
-pub returns-in-Ok : goal.returns-in-Ok
-returns-in-Ok c =
-    let at = c.in-Ok.ensures.found in
-    sym (find_at c.index-few-index.result c.args.name.now c.args.few.now c.in-Ok.index (holds _ c.requires) at.within (at.same c.index-few-index.result))
+pub returns-then-eq : goal.returns-then-eq
+returns-then-eq c =
+    let d = c.named-item.result in
+    sym (c.loop-named.invariant ∙ found_from c.args.few.now c.loop-named.named-index d c.args.name.now c.loop-named-test.true c.named-item.is
+    ∙ ap (λ b. cond b (Some d.object) (es.find name_cmp c.args.name.now (listed (drop (c.loop-named.named-index + 1) c.args.few.now)))) (rw c.as_slice.ensures at (sym c.eq.ensures ∙ c.if-eq.true)))
 
-pub returns-in-Err : goal.returns-in-Err
-returns-in-Err c = sym (find_none c.args.name.now c.args.few.now (gap_differs c.args.name.now c.args.few.now c.in-Err.field-0 c.in-Err.ensures.absent))
+pub loop-named-preserved : goal.loop-named-preserved
+loop-named-preserved c =
+    let d = c.named-item.result in
+    c.loop-named.invariant ∙ found_from c.args.few.now c.loop-named.named-index d c.args.name.now c.loop-named-test.true c.named-item.is
+    ∙ ap (λ b. cond b (Some d.object) (es.find name_cmp c.args.name.now (listed (drop (c.loop-named.named-index + 1) c.args.few.now)))) (rw c.as_slice.ensures at (sym c.eq.ensures ∙ c.if-eq.false))

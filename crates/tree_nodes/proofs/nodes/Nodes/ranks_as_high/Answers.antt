@@ -4,7 +4,7 @@ use Rattle.tree_nodes.specs.declared.ranks.TheConstants.{TOP}
 use Rattle.tree_nodes.specs.Ranks.{rank_of}
 use Rattle.tree_nodes.proofs.Methods.{good_at}
 use Rattle.tree_nodes.proofs.Ranking.{outranked}
-use Rattle.tree_nodes.proofs.nodes.Nodes.is_outranked.Goals as goal
+use Rattle.tree_nodes.proofs.nodes.Nodes.ranks_as_high.Goals as goal
 
 pub returns-then-rank-lt-TOP : goal.returns-then-rank-lt-TOP
 returns-then-rank-lt-TOP c = λ high apart e f is there.
