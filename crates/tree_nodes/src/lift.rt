@@ -3,22 +3,22 @@
 ghost use Rattle.tree_nodes.specs.Table.{held};
 ghost use Rattle.tree_nodes.specs.Ranks.{rank_of, IsRanked, IsRankedBut};
 
-use crate::ranks::Ranks;
+use crate::ranks::{Ranks, TOP};
 use crate::table::{Entry, parent_of};
 use slots::Slots;
 
-/// How many ranks are raised for one change. Where that many are, all ranks are taken away.
-const FAR: u32 = 2048;
+/// How many ranks are raised for one change by one more than what lies below. Further up an object loses its rank.
+const FAR: usize = 1024;
 
 /// Raises the rank of a directory to what something in it needs, and those of the directories above as far as that takes it. Where
-/// it takes it far up, all ranks are taken away.
+/// it takes it far up, the directories there have no ranks from then on.
 pub(crate) fn lift(entries: &Slots<Entry>, ranks: &mut Ranks, directory: u64, least: u32)
     requires { IsRankedBut (held entries.now) (rank_of ranks.old) directory least }
     ensures { IsRanked (held entries.now) (rank_of ranks.new) }
 {
     let mut at = directory;
     let mut least = least;
-    for _ in 0..FAR {
+    for step in 0..entries.len() {
         if ranks.get(at) >= least {
             return;
         }
@@ -29,7 +29,11 @@ pub(crate) fn lift(entries: &Slots<Entry>, ranks: &mut Ranks, directory: u64, le
         if above == at {
             return;
         }
-        least = ranks.get(at).saturating_add(1);
+        least = if step < FAR {
+            ranks.get(at).saturating_add(1)
+        } else {
+            TOP
+        };
         at = above;
     }
     ranks.forget();

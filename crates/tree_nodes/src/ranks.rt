@@ -8,6 +8,9 @@ use std::alloc::Global;
 /// The rank of an object that has none of its own.
 pub(crate) const TOP: u32 = u32::MAX;
 
+/// How far below the first object that is given a rank another one can have one.
+const BEHIND: u64 = 65_536;
+
 /// The ranks of objects, by their numbers. A rank is more than that of each object that lies in its object, or `TOP`: so no
 /// object of a rank below `TOP` lies above one of the same rank or a higher one.
 #[derive(Drop)]
@@ -58,8 +61,8 @@ impl Ranks {
     fn make_place(&mut self, object: u64)
         ensures { (other : ℕ) → rank_of self.new other ≡ rank_of self.old other }
     {
-        if self.ranks.is_empty() && object > self.first {
-            self.first = object;
+        if self.ranks.is_empty() {
+            self.first = self.first.max(object.saturating_sub(BEHIND));
         }
         let Some(index) = object.checked_sub(self.first) else {
             return;
