@@ -25,6 +25,13 @@ impl<R: Replayable> Replay<R> {
         })
     }
 
+    /// The state.
+    pub fn state(&self) -> &R
+        ensures { result.now ≡ self.now.state }
+    {
+        &self.state
+    }
+
     /// Takes a step ahead of the cut.
     pub fn step_kept(
         &mut self,
