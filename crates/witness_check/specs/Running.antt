@@ -1,9 +1,9 @@
 -- What the functions that run a plan say to the prover.
-use Rattle.std.specs.Prelude.{◌≡◌, ℕ, List, [], ◌∷◌, ◌++◌, Option, Some, None}
+use Rattle.std.specs.Prelude.{◌≡◌, ℕ, List, [], ◌∷◌, ◌++◌, Option, Some, None, option_map}
+use Rattle.std.specs.List.{filter_map}
 use Rattle.nfs3_types.specs.declared.calls.NfsCall.{NfsCall}
 use Rattle.nfs3_types.specs.declared.replies.Outcome.{Outcome}
 use Rattle.nfs3_types.specs.declared.replies.Outcome.TheVariants as outcomes
-use Rattle.nfs_history.specs.declared.history.RecordedCall.{RecordedCall}
 use Rattle.certificate.specs.declared.plan.Place.{Place}
 use Rattle.certificate.specs.declared.plan.Place.TheVariants.{Answered, Taken}
 use Rattle.replay_law.specs.declared.stepping.Replay.{Replay}
@@ -16,7 +16,6 @@ use Rattle.tree_nodes.specs.declared.undo.Undo.{Undo}
 use Rattle.tree_nodes.specs.Undo.{TakesBack}
 use Rattle.file_tree.specs.Success.{next_tree}
 use Rattle.witness_check.specs.declared.run.Found.{Found}
-use Rattle.witness_check.specs.Run.{step_at}
 
 -- how a call came out at a place, of one that is taken as the place says
 abbrev pub outcome_at : Place → Option Outcome → Option Outcome
@@ -26,6 +25,10 @@ outcome_at (Taken n count) received = Some (outcomes.Taken count)
 -- a call that was found at a place, as a step
 abbrev pub found_step : Found → run.TakenStep NfsCall Outcome
 found_step found = record { number = found.number; call = found.call; outcome = found.outcome }
+
+-- the steps of what was found at places
+abbrev pub found_steps : List (Option Found) → List (run.TakenStep NfsCall Outcome)
+found_steps found = filter_map (option_map found_step) found
 
 -- a run that stands after these steps, those behind the cut last
 abbrev pub Stands : Bindings → Replay Tree Bindings NfsCall Outcome Undo → List (run.TakenStep NfsCall Outcome) → List (run.TakenStep NfsCall Outcome) → Type 0

@@ -2,6 +2,7 @@
 //! keep, and what write verifiers show.
 #![tactic(auto)]
 
+mod ahead;
 mod fault;
 mod laws;
 mod run;

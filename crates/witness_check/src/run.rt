@@ -10,8 +10,9 @@ ghost use Rattle.nfs3_types.specs.declared.replies.Outcome.{Outcome};
 ghost use Rattle.tree_nodes.specs.Tree.{opening};
 ghost use Rattle.file_tree.specs.Success.{next_tree};
 ghost use Rattle.witness_check.specs.Run.{step_of_call, step_at, steps_of, era_of, eras_of, next_of, Runs};
-ghost use Rattle.witness_check.specs.Running.{outcome_at, found_step, Stands, tree_after, IsStuckAt, IsIllegalBehind};
+ghost use Rattle.witness_check.specs.Running.{outcome_at, found_step, found_steps, Stands, tree_after, IsStuckAt, IsIllegalBehind};
 
+use crate::ahead::{BLOCK, look_ahead};
 use certificate::{Certificate, EraPlan, Place};
 use cut_check::bindings_of_plan;
 use file_tree::FileTree;
@@ -107,24 +108,67 @@ fn run_kept_step(
     }
 }
 
-/// Takes the step of a place ahead of the cut.
-fn run_kept_place(
+/// Takes steps ahead of the cut.
+fn run_kept_steps(
+    replay: &mut Replay<FileTree>,
+    binds: &Binds,
+    steps: &[Option<Found>],
+) -> Result<(), RunFault>
+    ensures ok { OnOk result ((kept : List (run.TakenStep NfsCall Outcome)) → Stands binds.now replay.old kept []
+        → Stands binds.now replay.new (kept ++ found_steps steps.now) []) }
+    ensures illegal { (number : ℕ) → result ≡ Err (RunFault.Illegal number)
+        → (kept : List (run.TakenStep NfsCall Outcome)) → Stands binds.now replay.old kept []
+        → IsIllegalBehind binds.now kept (found_steps steps.now) number }
+{
+    for step in steps {
+        run_kept_step(replay, binds, step)?;
+    }
+    Ok(())
+}
+
+/// The calls at some places with their outcomes.
+fn find_steps(
+    alloc: Global,
+    history: &KnownCalls<'_>,
+    places: &[Place],
+    steps: &mut Vec<Option<Found>>,
+) -> Result<(), AllocError>
+    ensures { OnOk result (found_steps steps.new.items ≡ steps_of history.now.calls places.now) }
+{
+    steps.clear();
+    for place in places {
+        let found = find_step(alloc, history, *place)?;
+        steps.push(found)?;
+    }
+    Ok(())
+}
+
+/// Steps that are found together, and what was seen ahead of them.
+#[derive(Drop)]
+struct Block {
+    steps: Vec<Option<Found>>,
+    seen: Vec<u64>,
+}
+
+/// Takes the steps of a block of places ahead of the cut.
+fn run_kept_block(
     alloc: Global,
     replay: &mut Replay<FileTree>,
     binds: &Binds,
     history: &KnownCalls<'_>,
-    place: Place,
+    places: &[Place],
+    block: &mut Block,
 ) -> Result<(), RunFault>
     ensures ok { OnOk result ((kept : List (run.TakenStep NfsCall Outcome)) → Stands binds.now replay.old kept []
-        → Stands binds.now replay.new (kept ++ option_to_list (step_at history.now.calls place)) []) }
+        → Stands binds.now replay.new (kept ++ steps_of history.now.calls places.now) []) }
     ensures illegal { (number : ℕ) → result ≡ Err (RunFault.Illegal number)
         → (kept : List (run.TakenStep NfsCall Outcome)) → Stands binds.now replay.old kept []
-        → IsStuckAt binds.now kept (step_at history.now.calls place) number }
+        → IsIllegalBehind binds.now kept (steps_of history.now.calls places.now) number }
 {
-    let found = find_step(alloc, history, place)?;
-    let step = run_kept_step(replay, binds, &found);
-    put_away(found);
-    step
+    find_steps(alloc, history, places, &mut block.steps)?;
+    let steps = block.steps.as_slice();
+    look_ahead(replay.state().nodes(), binds, steps, &mut block.seen)?;
+    run_kept_steps(replay, binds, steps)
 }
 
 /// Takes a step past the cut, where there is one.
@@ -176,6 +220,7 @@ fn run_kept(
     binds: &Binds,
     history: &KnownCalls<'_>,
     places: &[Place],
+    block: &mut Block,
 ) -> Result<(), RunFault>
     ensures ok { OnOk result ((kept : List (run.TakenStep NfsCall Outcome)) → Stands binds.now replay.old kept []
         → Stands binds.now replay.new (kept ++ steps_of history.now.calls places.now) []) }
@@ -183,8 +228,11 @@ fn run_kept(
         → (kept : List (run.TakenStep NfsCall Outcome)) → Stands binds.now replay.old kept []
         → IsIllegalBehind binds.now kept (steps_of history.now.calls places.now) number }
 {
-    for place in places {
-        run_kept_place(alloc, replay, binds, history, *place)?;
+    let mut rest = places;
+    while !rest.is_empty() {
+        let (next, behind) = rest.split_at(rest.len().min(BLOCK));
+        run_kept_block(alloc, replay, binds, history, next, block)?;
+        rest = behind;
     }
     Ok(())
 }
@@ -228,6 +276,7 @@ fn run_era(
     binds: &Binds,
     history: &KnownCalls<'_>,
     era: &EraPlan,
+    block: &mut Block,
 ) -> Result<Replay<FileTree>, RunFault>
     requires { (kept : List (run.TakenStep NfsCall Outcome)) × Stands binds.now replay kept [] }
     ensures runs { OnOk result ((kept : List (run.TakenStep NfsCall Outcome)) → Stands binds.now replay kept []
@@ -240,7 +289,7 @@ fn run_era(
 {
     let (kept, lost) = split_at_cut(era);
     let mut replay = replay;
-    run_kept(alloc, &mut replay, binds, history, kept)?;
+    run_kept(alloc, &mut replay, binds, history, kept, block)?;
     run_lost(alloc, &mut replay, binds, history, lost)?;
     let after = replay.crash()?;
     Ok(after)
@@ -257,9 +306,13 @@ fn run_plans(
     ensures illegal { (number : ℕ) → result ≡ Err (RunFault.Illegal number)
         → IsFirstIllegalInEras (next_tree binds.now) opening (map (era_of history.now.calls) eras.now) number }
 {
+    let mut block = Block {
+        steps: Vec::new(alloc),
+        seen: Vec::new(alloc),
+    };
     let mut replay = Replay::<FileTree>::begin(alloc, binds)?;
     for era in eras {
-        replay = run_era(alloc, replay, binds, history, era)?;
+        replay = run_era(alloc, replay, binds, history, era, &mut block)?;
     }
     Ok(())
 }
