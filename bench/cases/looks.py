@@ -1,5 +1,5 @@
 """What calls that leave the tree may tell of the sample tree: GETATTR, LOOKUP, READLINK, READ, READDIR, READDIRPLUS and COMMIT."""
-from cases.calls import commit, create, get_attributes, list_entries, list_names, look_up, make_directory, read, read_link, remove
+from cases.calls import commit, create, create_guarded, get_attributes, list_entries, list_names, look_up, make_directory, read, read_link, remove
 from cases.sample import BINDS, D, E, F, G, L, NEVER_MADE, ROOT, SAMPLE, UNBOUND, V, allowed, illegal, run
 from cases.xdr import DIR, FIFO, LNK, NOENT, REG
 
@@ -11,6 +11,7 @@ def add_all(cases):
     handles(cases)
     handle_lengths(cases)
     handle_numbers(cases)
+    many_calls(cases)
     texts(cases)
     bytes_read(cases)
     ends(cases)
@@ -98,6 +99,19 @@ def handle_numbers(cases):
     run(cases, "two-made-objects-whose-handles-are-each-other's-numbers", "yes", create(ROOT, "a").gives(two), make_directory(ROOT, "b").gives(one),
         get_attributes(two).gives(REG, 0), get_attributes(one).gives(DIR, 0), binds=[(one, 2), (two, 1)])
     run(cases, "two-made-objects-whose-handles-are-bound-to-each-other's-numbers", "no: Illegal 1", *made, binds=[(one, 2), (two, 1)])
+
+
+def many_calls(cases):
+    """Each call is judged at its place and on what those ahead of it made, however many there are, and the first that can't have come out so is named."""
+    for count in (31, 32, 33, 64, 65, 97):
+        binds = [(number.to_bytes(8, "big"), number) for number in range(1, count + 1)]
+        made = [create(ROOT, "%02d" % number).gives(handle) for handle, number in binds]
+        case = "the-last-of-%d-calls" % count
+        run(cases, case, "yes", *made, list_names(ROOT).gives(["%02d" % number for _, number in binds], True), binds=binds)
+        run(cases, case + "-makes-no-name-that-is-there", "no: Illegal %d" % count, *made[:-1], create_guarded(ROOT, "01").gives(binds[0][0]), made[-1], binds=binds)
+        run(cases, case + "-finds-what-the-one-ahead-of-it-made", "yes", *made[:-1], look_up(ROOT, "%02d" % (count - 1)).gives(binds[-2][0]), binds=binds)
+        run(cases, case + "-finds-nothing-that-is-made-behind-it", "no: Illegal %d" % count, *made[:-1], look_up(ROOT, "%02d" % count).gives(binds[-1][0]),
+            made[-1], binds=binds)
 
 
 def texts(cases):
