@@ -1,0 +1,3 @@
+pub mod KeySteps
+pub mod Growing
+pub mod JudgeSteps
