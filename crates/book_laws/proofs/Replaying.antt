@@ -24,7 +24,7 @@ use Rattle.tree_nodes.proofs.Chains.{chained, mapped, passed, same_some, both_pa
 use Rattle.tree_nodes.proofs.Found.{some_found}
 use Rattle.tree_handles.specs.Binding.{Bindings, object_of, is_bound}
 use Rattle.tree_handles.specs.Live.{live_entry, as_directory, directory_of}
-use Rattle.tree_handles.specs.Entry.{is_plain}
+use Rattle.tree_starts.specs.Names.{is_plain}
 use Rattle.file_tree.specs.Change.{Change}
 use Rattle.file_tree.specs.Change.Change.{Put}
 use Rattle.file_tree.specs.Made.{create_at, make_entry}

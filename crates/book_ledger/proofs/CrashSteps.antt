@@ -285,7 +285,7 @@ history_crashed old new g is =
     let crashed = genuine_crash (record old { spare = 0 }) g in
     let same : all_happened (old.events ++ owns.Crash ∷ []) ≡ all_happened old.events ++ crash ∷ [] = map-append happened old.events (owns.Crash ∷ []) in
     known_once (with_event old owns.Crash) new.known (record old.known { eras = old.known.eras + 1 }) is.known
-    (subst (λ (events : List Event). AreCallsOf (record { root = old.known.root; events = events }) (record old.known { eras = old.known.eras + 1 })) same crashed.is_history.known)
+    (subst (λ (events : List Event). AreCallsOf (record { head = old.known.head; events = events }) (record old.known { eras = old.known.eras + 1 })) same crashed.is_history.known)
 
 pub alive_book : (c : code.Condition) → (c ≡ codes.Dead → ⊥) → condition_of c ≡ is_dead → ⊥
 alive_book codes.Running alive e = cc

@@ -44,11 +44,11 @@ follow_last before [] e all = subst (λ (b : List Event). MayFollow b e) (sym (a
 follow_last before (f ∷ events) e all = subst (λ (b : List Event). MayFollow b e) (append_assoc before (f ∷ []) events) (follow_last (before ++ f ∷ []) events e all.1)
 
 -- a history of the same events is the one that stands there
-pub history_is : (old new target : HistoryValue) (event : owned.Event) → Follows old event new → target.events ≡ old.events ++ event ∷ [] → target.known.root ≡ old.known.root → target.spare ≡ 0
+pub history_is : (old new target : HistoryValue) (event : owned.Event) → Follows old event new → target.events ≡ old.events ++ event ∷ [] → target.known.head ≡ old.known.head → target.spare ≡ 0
     → IsHistory (recording_of target) target → record new { spare = 0 } ≡ target
-history_is old new target event follows events root spare is =
+history_is old new target event follows events head spare is =
     let happened_is : all_happened target.events ≡ all_happened old.events ++ happened event ∷ [] = ap all_happened events ∙ happened_push old.events event in
-    let seen : recording_of target ≡ with_event old event = λ i. record { root = root i; events = happened_is i } in
+    let seen : recording_of target ≡ with_event old event = λ i. record { head = head i; events = happened_is i } in
     let known : new.known ≡ target.known = known_once (with_event old event) new.known target.known follows.history.known (subst (λ (r : Recording). AreCallsOf r target.known) seen is.known) in
     let same : new.events ≡ target.events = follows.events ∙ sym events in
     λ i. record { known = known i; events = same i; spare = sym spare i }

@@ -7,6 +7,7 @@ use Rattle.xdr_records.specs.Texts.{long_text}
 use Rattle.history_file.specs.declared.event.Event as owned
 use Rattle.history_file.specs.Event.{Recording}
 use Rattle.history_file.specs.Owning.{all_happened}
+use Rattle.tree_starts.specs.Head.{plain_head}
 use Rattle.nfs_history.specs.HistoryValue.{HistoryValue}
 use Rattle.nfs_history.specs.History.{IsHistory}
 use Rattle.nfs_history.proofs.OneHistory.{known_once}
@@ -37,10 +38,10 @@ none_happened : (events : List owned.Event) → all_happened events ≡ [] → e
 none_happened [] e = refl
 none_happened (x ∷ events) e = absurd (cc)
 
-pub empty_is : (root : List ℕ) (history : HistoryValue) → root ≡ handle_of 0 → IsHistory (record { root = root; events = [] }) history → history.spare ≡ 0 → history ≡ (opening_book 0).history
+pub empty_is : (root : List ℕ) (history : HistoryValue) → root ≡ handle_of 0 → IsHistory (record { head = plain_head root; events = [] }) history → history.spare ≡ 0 → history ≡ (opening_book 0).history
 empty_is root history is built spare =
-    let seen : Recording = record { root = handle_of 0; events = [] } in
-    let here : IsHistory seen history = subst (λ (r : List ℕ). IsHistory (record { root = r; events = [] }) history) is built in
+    let seen : Recording = record { head = plain_head (handle_of 0); events = [] } in
+    let here : IsHistory seen history = subst (λ (r : List ℕ). IsHistory (record { head = plain_head r; events = [] }) history) is built in
     let known = known_once seen history.known (opening_book 0).history.known here.known (opening_holds 0).genuine.is_history.known in
     let events = none_happened history.events here.events in
     λ i. record { known = known i; events = events i; spare = spare i }

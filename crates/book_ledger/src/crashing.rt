@@ -15,7 +15,7 @@ ghost use Rattle.book_ledger.specs.Undoing.{tree_after, steps_kept, CanRun, CanR
 use crate::ledger::Ledger;
 use crate::lookups::call_asked;
 use crate::placed::{Condition, EraOver, PlacedCall};
-use file_tree::{Binds, FileTree, Undo};
+use file_tree::{Binds, FileTree, Profile, Undo};
 use nfs_history::{Event, History};
 use replay_law::{Replayable, StepFault};
 use std::alloc::AllocError;
@@ -33,7 +33,8 @@ fn run_step(
     ensures { OnOk result (next_tree binds.now tree.old placed.now.number (asked_by history.now.known.calls placed.now.number) placed.now.outcome ≡ Some tree.new) }
 {
     let number = placed.number;
-    match tree.step(binds, number, call_asked(history, number), &placed.outcome) {
+    let call = call_asked(history, number);
+    match tree.step_under(Profile::Plain, binds, number, call, &placed.outcome) {
         Ok(undo) => {
             drop(undo);
             Ok(())
@@ -107,7 +108,7 @@ impl Ledger {
         requires { CanRunAgain self.now count }
         ensures { IfOk result (λ tree. state_after (next_tree self.now.binds) opening (steps_kept self.now count) ≡ Some tree) }
     {
-        let mut tree = FileTree::opening(self.alloc, &self.binds)?;
+        let mut tree = FileTree::empty(self.alloc)?;
         for era in self.over.iter() {
             let kept = &era.placed[..era.kept];
             run_steps(&mut tree, &self.binds, &self.history, kept)?;

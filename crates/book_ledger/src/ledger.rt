@@ -11,7 +11,6 @@ use crate::placed::{CallState, Condition, EraOver, PlacedCall};
 use file_tree::{Binds, FileTree, Undo};
 use nfs_history::{Event, History, LaneState};
 use nfs3_types::FileHandle;
-use replay_law::Replayable;
 use std::alloc::{AllocError, Global};
 
 /// The history that was recorded, and its serial order.
@@ -79,7 +78,7 @@ impl Ledger {
         ensures { IfOk result (λ ledger. (faults : ℕ) → AreTied ledger (opening_book faults).device × (book_of ledger (opening_book faults).device ≡ opening_book faults)) }
     {
         let binds = Binds::of_root(alloc, 0u64.to_be_bytes().as_slice())?;
-        let tree = FileTree::opening(alloc, &binds)?;
+        let tree = FileTree::empty(alloc)?;
         Ok(Ledger {
             alloc,
             history: empty_history(alloc)?,

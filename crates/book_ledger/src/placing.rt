@@ -22,11 +22,11 @@ use crate::ledger::Ledger;
 use crate::lookups::{call_asked, message_of};
 use crate::placed::{CallState, Condition, PlacedCall};
 use crate::served::is_served;
-use file_tree::{Binds, FileTree, Undo};
+use file_tree::{Binds, FileTree, Profile, Undo};
 use journal_records::put_record;
 use nfs3_msgs::put_result;
 use nfs3_types::{NfsCall, NfsReply, Outcome};
-use replay_law::{Replayable, StepFault};
+use replay_law::StepFault;
 use rpc_reader::{ReplyBody, put_reply};
 use std::alloc::{AllocError, Global};
 use xdr_records::RECORD_LIMIT;
@@ -110,7 +110,7 @@ fn step_with_handle(
     ensures binds { OnErr result (NameAlike binds.new binds.old) }
 {
     bind_own(binds, number)?;
-    match tree.step(binds, number, call, outcome) {
+    match tree.step_under(Profile::Plain, binds, number, call, outcome) {
         Ok(undo) => {
             let made = stands(tree, number);
             if !made {
@@ -142,7 +142,7 @@ fn take_step(
     if may_make(call) {
         return step_with_handle(tree, binds, number, call, outcome);
     }
-    let undo = tree.step(binds, number, call, outcome)?;
+    let undo = tree.step_under(Profile::Plain, binds, number, call, outcome)?;
     Ok(TreeStep { undo, made: false })
 }
 

@@ -26,7 +26,7 @@ explained book i = record {
     shape = has_shape book i;
     order = respects_order book i;
     runs = plan_runs book i;
-    cuts = cuts_keep_stable book (bindings_of book.history.known.root (plan_of book).binds) i;
+    cuts = cuts_keep_stable book (bindings_of book.history.known.head.root (plan_of book).binds) i;
     verifiers = verifiers_show book i;
   };
   tree = tree_stands (bindings book) book.over book.placed opening i.runs;
@@ -34,8 +34,8 @@ explained book i = record {
 
 pub opening_holds : (faults : ℕ) → IsInvariant (opening_book faults)
 opening_holds faults = record {
-  genuine = record { is_history = record { known = record { follow = tt; root = refl; eras = refl; calls = tt }; events = refl }; waiting = λ lane xid. record { place = None; waits = tt; within = λ p e. absurd (nothing_waits p e) } };
-  root = refl;
+  genuine = record { is_history = record { known = record { follow = tt; head = refl; eras = refl; calls = tt }; events = refl }; waiting = λ lane xid. record { place = None; waits = tt; within = λ p e. absurd (nothing_waits p e) } };
+  head = refl;
   eras = refl;
   known = tt;
   distinct = tt;

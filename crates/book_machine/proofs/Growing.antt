@@ -63,17 +63,17 @@ happened_push [] e = refl
 happened_push (x ∷ events) e = ap (λ xs. happened x ∷ xs) (happened_push events e)
 
 -- what is known of a history, of which the event is the last
-grown : (h : HistoryValue) (e : owned.Event) (known : CallsValue) → IsGenuine h → MayFollow (all_happened h.events) (happened e) → known.root ≡ h.known.root
+grown : (h : HistoryValue) (e : owned.Event) (known : CallsValue) → IsGenuine h → MayFollow (all_happened h.events) (happened e) → known.head ≡ h.known.head
     → known.eras ≡ eras_from 1 (all_happened h.events ++ happened e ∷ []) → AreRecorded (calls_of (all_happened h.events ++ happened e ∷ [])) known.calls
     → ((lane xid : ℕ) → IsWaiting lane xid (calls_of (all_happened h.events ++ happened e ∷ [])))
     → IsGenuine (record { known = known; events = h.events ++ e ∷ []; spare = 0 })
-grown h e known g may root eras calls waiting =
+grown h e known g may head eras calls waiting =
     let same = sym (happened_push h.events e) in
     record {
       is_history = record {
         known = record {
           follow = subst (EachMayFollow []) same (follow_push [] (all_happened h.events) (happened e) g.is_history.known.follow may);
-          root = refl;
+          head = refl;
           eras = eras ∙ ap (eras_from 1) same;
           calls = subst (λ (es : List Event). AreRecorded (calls_of es) known.calls) same calls;
         };
@@ -154,10 +154,10 @@ genuine_call h lane message asked g is_open free r =
 -- ---- a close and a crash
 
 quiet : (h : HistoryValue) (e : owned.Event) (eras : ℕ) → IsGenuine h → MayFollow (all_happened h.events) (happened e) → IsQuiet (happened e) → eras ≡ eras_from 1 (all_happened h.events ++ happened e ∷ [])
-    → IsGenuine (record { known = record { root = h.known.root; eras = eras; calls = h.known.calls }; events = h.events ++ e ∷ []; spare = 0 })
+    → IsGenuine (record { known = record { head = h.known.head; eras = eras; calls = h.known.calls }; events = h.events ++ e ∷ []; spare = 0 })
 quiet h e eras g may still eras_are =
     let calls_are = sym (calls_from-quiet 1 1 (all_happened h.events) (happened e) still) in
-    grown h e (record { root = h.known.root; eras = eras; calls = h.known.calls }) g may refl eras_are (subst (λ cs. AreRecorded cs h.known.calls) calls_are g.is_history.known.calls)
+    grown h e (record { head = h.known.head; eras = eras; calls = h.known.calls }) g may refl eras_are (subst (λ cs. AreRecorded cs h.known.calls) calls_are g.is_history.known.calls)
     (λ l x. subst (IsWaiting l x) calls_are (g.waiting l x))
 
 pub genuine_close : (h : HistoryValue) (lane : ℕ) → IsGenuine h → ¬ IsClosed lane (all_happened h.events) → IsGenuine (with_close h lane)

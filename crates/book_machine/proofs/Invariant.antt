@@ -5,6 +5,7 @@ use Rattle.nfs3_types.specs.declared.calls.NfsCall.{NfsCall}
 use Rattle.nfs3_types.specs.declared.replies.NfsReply.{NfsReply}
 use Rattle.nfs3_types.specs.declared.replies.Outcome.{Outcome}
 use Rattle.nfs3_types.specs.declared.replies.Outcome.TheVariants as outcomes
+use Rattle.tree_starts.specs.Head.{plain_head}
 use Rattle.nfs_history.specs.declared.history.Meaning.TheVariants as meanings
 use Rattle.nfs_history.specs.declared.history.RecordedCall.{RecordedCall}
 use Rattle.nfs_history.specs.Precedence.{call_at, begin_of, end_of}
@@ -101,7 +102,7 @@ pub record IsCutSafely (calls : List RecordedCall) (era : Over) : Type 0 where
 
 pub record IsInvariant (book : Book) : Type 0 where
   pub genuine : IsGenuine book.history
-  pub root : book.history.known.root ≡ handle_of 0
+  pub head : book.history.known.head ≡ plain_head (handle_of 0)
   pub eras : book.history.known.eras ≡ length book.over + 1
   pub known : AllKnown book.history.known.calls 1 book.over book.placed
   pub distinct : EachDistinct book.over book.placed

@@ -79,7 +79,7 @@ module _ (book : Book) (i : IsInvariant book) (lane : ℕ) (message : List ℕ) 
   pub after_begin : IsInvariant (record book { history = with_call book.history lane message call })
   after_begin = record {
     genuine = genuine;
-    root = i.root;
+    head = i.head;
     eras = i.eras;
     known = all_known_same calls begun_calls 1 book.over book.placed book.placed (all_same 1 book.over book.placed i.known)
         (λ k. are_known_same calls begun_calls (1 + length book.over) book.placed (same_now 1 book.over book.placed i.known) k) i.known;
@@ -236,7 +236,7 @@ module _ (book : Book) (i : IsInvariant book) (number : ℕ) (reply : NfsReply) 
   pub after_place : IsInvariant new
   after_place = subst IsInvariant (sym p.done) (record {
     genuine = i.genuine;
-    root = i.root;
+    head = i.head;
     eras = i.eras;
     known = all_known_same old_calls old_calls 1 book.over book.placed (book.placed ++ this ∷ []) (all_refl book.over) (λ k. all_append _ book.placed (this ∷ []) k (known_step, tt)) i.known;
     distinct = each_distinct_by book.over book.placed (book.placed ++ this ∷ []) (λ d. distinct_more book.placed this d p.unplaced) i.distinct;
@@ -436,7 +436,7 @@ module _ (book : Book) (i : IsInvariant book) (number : ℕ) (new : Book) (a : A
   pub after_answer : IsInvariant new
   after_answer = subst IsInvariant (sym a.done) (record {
     genuine = genuine_now;
-    root = i.root;
+    head = i.head;
     eras = i.eras;
     known = all_known_same said_calls told_calls 1 book.over book.placed book.placed sames (known_now (1 + length book.over)) i.known;
     distinct = i.distinct;
@@ -457,7 +457,7 @@ module _ (book : Book) (i : IsInvariant book) (number : ℕ) (new : Book) (a : A
 after_flush : (book : Book) → IsInvariant book → IsInvariant (record book { device = record book.device { mark = length book.device.records } })
 after_flush book i = record {
   genuine = i.genuine;
-  root = i.root;
+  head = i.head;
   eras = i.eras;
   known = i.known;
   distinct = i.distinct;
@@ -478,7 +478,7 @@ after_flush book i = record {
 after_close : (book : Book) → IsInvariant book → (lane : ℕ) → IsOpen book lane → IsInvariant (record book { history = with_close book.history lane })
 after_close book i lane is_open = record {
   genuine = genuine_close book.history lane i.genuine is_open;
-  root = i.root;
+  head = i.head;
   eras = i.eras;
   known = i.known;
   distinct = i.distinct;
@@ -533,7 +533,7 @@ module _ (book : Book) (i : IsInvariant book) (keep : ℕ) (new : Book) (c : Cra
   pub after_crash : IsInvariant new
   after_crash = subst IsInvariant (sym c.done) (record {
     genuine = genuine_crash book.history i.genuine;
-    root = i.root;
+    head = i.head;
     eras = (let longer = length-append book.over (ended ∷ []) in omega (arith, i.eras, longer));
     known = known_over book.history.known.calls 1 book.over book.placed ended.kept i.known;
     distinct = each_distinct_over book.over book.placed ended.kept i.distinct;
@@ -564,7 +564,7 @@ module _ (book : Book) (i : IsInvariant book) (keep : ℕ) (new : Book) (c : Cra
 after_refusal : (book new : Book) → IsInvariant book → Refuses book new → IsInvariant new
 after_refusal book new i r = subst IsInvariant (sym r.done) (record {
   genuine = record { is_history = record { known = i.genuine.is_history.known; events = i.genuine.is_history.events }; waiting = i.genuine.waiting };
-  root = i.root;
+  head = i.head;
   eras = i.eras;
   known = i.known;
   distinct = i.distinct;

@@ -11,6 +11,7 @@ use Rattle.nfs3_types.specs.declared.replies.Outcome.{Outcome}
 use Rattle.nfs3_types.specs.declared.replies.Outcome.TheVariants as outcomes
 use Rattle.nfs3_types.specs.declared.status.Failure.{Failure}
 use Rattle.nfs3_types.specs.Procedures.{is_answered, failure_in}
+use Rattle.tree_starts.specs.Head.{Head}
 use Rattle.nfs_history.specs.declared.history.Meaning.TheVariants as meanings
 use Rattle.nfs_history.specs.declared.history.RecordedCall.{RecordedCall}
 use Rattle.certificate.specs.declared.plan.Place.{Place}
@@ -28,6 +29,8 @@ use Rattle.std.proofs.lemmas.Grind.{flat_map-append}
 use Rattle.certificate.specs.declared.plan.Bind.{Bind}
 use Rattle.tree_handles.specs.Binding.{Bindings}
 use Rattle.file_tree.specs.Success.{next_tree}
+use Rattle.file_tree.specs.Setting.{next_in}
+use Rattle.file_tree.specs.StartTree.{start_tree}
 use Rattle.tree_laws.specs.Leaving.{only_looks}
 use Rattle.tree_laws.specs.Outcomes.{count_written}
 use Rattle.tree_laws.proofs.Kept.{failure_leaves, looking_leaves}
@@ -224,10 +227,12 @@ binds_made : (made : List ℕ) → map pair_of (map bind_of made) ≡ map pair m
 binds_made [] = refl
 binds_made (object ∷ made) = ap (λ (xs : List (List ℕ × ℕ)). pair object ∷ xs) (binds_made made)
 
-pub binds_same : (book : Book) → book.history.known.root ≡ handle_of 0 → bindings_of book.history.known.root (plan_of book).binds ≡ bindings book
-binds_same book root = ap (λ r. bindings_of r (plan_of book).binds) root ∙ ap (λ pairs. record { root = handle_of 0; pairs = pairs }) (binds_made book.made)
+pub binds_same : (book : Book) → bindings_of (handle_of 0) (plan_of book).binds ≡ bindings book
+binds_same book = ap (λ pairs. record { root = handle_of 0; pairs = pairs }) (binds_made book.made)
 
 pub plan_runs : (book : Book) → IsInvariant book → Runs book.history.known (plan_of book)
 plan_runs book i =
-    subst (λ (b : Bindings). EveryEraRuns (next_tree b) opening (eras_of book.history.known (plan_of book))) (sym (binds_same book i.root))
-    (λ ahead behind era parts. all_run book.history.known.calls (bindings book) 1 book.over book.placed i.known [] opening refl i.runs ahead behind era parts)
+    subst (λ (head : Head). EveryEraRuns (next_in head.profile (length head.start) (bindings_of head.root (plan_of book).binds)) (start_tree head.start) (eras_of book.history.known (plan_of book)))
+    (sym i.head)
+    (subst (λ (b : Bindings). EveryEraRuns (next_tree b) opening (eras_of book.history.known (plan_of book))) (sym (binds_same book))
+    (λ ahead behind era parts. all_run book.history.known.calls (bindings book) 1 book.over book.placed i.known [] opening refl i.runs ahead behind era parts))

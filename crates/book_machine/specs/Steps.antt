@@ -15,6 +15,7 @@ use Rattle.xdr_records.specs.Record.{record_limit}
 use Rattle.nfs3_msgs.specs.Messages.{IsResult, result_text}
 use Rattle.history_file.specs.declared.event.Event.TheVariants as events
 use Rattle.history_file.specs.Owning.{all_happened}
+use Rattle.tree_starts.specs.Head.{plain_head}
 use Rattle.nfs_history.specs.declared.history.Meaning.TheVariants as meanings
 use Rattle.nfs_history.specs.declared.history.RecordedCall.{RecordedCall}
 use Rattle.nfs_history.specs.HistoryValue.{HistoryValue}
@@ -287,7 +288,7 @@ pub data Steps (old new : Book) : Type 0 where
 abbrev pub opening_book : ℕ → Book
 opening_book faults =
     record {
-      history = record { known = record { root = handle_of 0; eras = 1; calls = [] }; events = []; spare = 0 };
+      history = record { known = record { head = plain_head (handle_of 0); eras = 1; calls = [] }; events = []; spare = 0 };
       over = [];
       placed = [];
       made = [];

@@ -11,7 +11,7 @@ use Rattle.cut_check.specs.Places.{answered_at}
 
 -- the procedure of a judged call that was answered
 abbrev pub procedure_answered : CallKind → Option Procedure
-procedure_answered (Answered procedure) = Some procedure
+procedure_answered (Answered procedure failure) = Some procedure
 procedure_answered kind = None
 
 -- the procedure of the judged call at an answered place

@@ -60,14 +60,14 @@ pub fn check_cuts(
     history: &KnownCalls<'_>,
     certificate: &Certificate,
 ) -> Result<(), CutFault>
-    ensures ok { OnOk result (CutsKeepStable (bindings_of history.now.root certificate.now.binds) history.now.calls certificate.now.eras) }
+    ensures ok { OnOk result (CutsKeepStable (bindings_of history.now.head.root certificate.now.binds) history.now.calls certificate.now.eras) }
     // A plan whose cuts keep them is refused for want of memory alone.
-    ensures only { CutsKeepStable (bindings_of history.now.root certificate.now.binds) history.now.calls certificate.now.eras
+    ensures only { CutsKeepStable (bindings_of history.now.head.root certificate.now.binds) history.now.calls certificate.now.eras
         → HasNoCutFault result }
     // The fault that is told is the first, and the first is told.
     ensures fault { (e needed : ℕ) → result ≡ Err (CutFault.ShortCut e needed)
-        → IsShortCut (bindings_of history.now.root certificate.now.binds) history.now.calls certificate.now.eras e needed }
-    ensures named { (e needed : ℕ) → IsShortCut (bindings_of history.now.root certificate.now.binds) history.now.calls certificate.now.eras e needed
+        → IsShortCut (bindings_of history.now.head.root certificate.now.binds) history.now.calls certificate.now.eras e needed }
+    ensures named { (e needed : ℕ) → IsShortCut (bindings_of history.now.head.root certificate.now.binds) history.now.calls certificate.now.eras e needed
         → (result ≡ Err (CutFault.ShortCut e needed)) ⊎ (result ≡ Err CutFault.NoMemory) }
 {
     let eras = certificate.eras.as_slice();

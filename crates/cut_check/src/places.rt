@@ -33,7 +33,7 @@ pub fn bindings_of_plan(
     history: &KnownCalls<'_>,
     certificate: &Certificate,
 ) -> Result<Binds, AllocError>
-    ensures { IfOk result (λ b. b ≡ bindings_of history.now.root certificate.now.binds) }
+    ensures { IfOk result (λ b. b ≡ bindings_of history.now.head.root certificate.now.binds) }
 {
     bindings(
         alloc,
@@ -57,7 +57,7 @@ fn procedure_answered(kind: CallKind) -> Option<Procedure>
     ensures { result ≡ procedure_answered kind }
 {
     match kind {
-        CallKind::Answered(procedure) => Some(procedure),
+        CallKind::Answered(procedure, _) => Some(procedure),
         CallKind::Unanswered(_) | CallKind::Unjudged => None,
     }
 }

@@ -1,2 +1,15 @@
 pub mod Planned
+pub mod AfterPut
+pub mod AfterMove
+pub mod ToldAfter
+pub mod Answered
+pub mod PutTold
+pub mod SameAgreement
+pub mod Agreed
+pub mod Profiles
+pub mod Bare
 pub mod SomeSuccess
+pub mod Starts
+pub mod StartNames
+pub mod StartStep
+pub mod StartTrees

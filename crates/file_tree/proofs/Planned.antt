@@ -22,7 +22,8 @@ use Rattle.nfs3_types.specs.declared.calls.WriteArguments.{WriteArguments}
 use Rattle.nfs3_types.specs.declared.calls.SetAttrArguments.{SetAttrArguments}
 use Rattle.tree_handles.specs.Live.{FileEntry, live_entry, directory_of, file_of}
 use Rattle.file_tree.specs.Written.{reaches, write_at, write_change, set_attributes}
-use Rattle.tree_handles.specs.Entry.{is_plain, entry_at, named}
+use Rattle.tree_starts.specs.Names.{is_plain}
+use Rattle.tree_handles.specs.Entry.{entry_at, named}
 use Rattle.tree_handles.specs.Kind.{is_directory}
 use Rattle.tree_handles.proofs.Paths.{same_object}
 use Rattle.file_tree.specs.Change.Change.{Keep, Put, Remove, Move}

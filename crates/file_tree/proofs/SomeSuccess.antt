@@ -33,12 +33,17 @@ use Rattle.nfs3_types.specs.declared.replies.NfsReply.TheVariants as replies
 use Rattle.nfs3_types.specs.declared.status.Failure.{Failure}
 use Rattle.tree_nodes.specs.declared.node.Content.{Content}
 use Rattle.tree_nodes.specs.declared.node.Content.TheVariants as contents
+use Rattle.nfs3_types.specs.declared.replies.Outcome.TheVariants.{Received}
+use Rattle.nfs3_types.specs.Procedures.{is_answered, failure_in}
+use Rattle.reply_attributes.specs.Attributes.{type_and_size}
+use Rattle.tree_starts.specs.declared.profile.Profile.{Profile}
+use Rattle.tree_starts.specs.declared.profile.Profile.TheVariants.{Plain, Strict}
 use Rattle.tree_nodes.specs.declared.node.Node.{Node}
 use Rattle.tree_nodes.specs.Files.{node_limit}
 use Rattle.tree_nodes.specs.Tree.{Names, Tree, entry_of}
 use Rattle.tree_nodes.proofs.Chains.{chained, passed}
 use Rattle.tree_handles.specs.Binding.{Bindings, same_bytes, is_bound, is_named, gives_object}
-use Rattle.tree_handles.specs.Entry.{is_plain}
+use Rattle.tree_starts.specs.Names.{is_plain}
 use Rattle.tree_handles.specs.Kind.{is_link}
 use Rattle.tree_handles.specs.Live.{FileEntry, live_entry, directory_of, file_of}
 use Rattle.tree_handles.proofs.HandleOf.{handle_of, is_among_names}
@@ -49,9 +54,13 @@ use Rattle.file_tree.specs.Change.Change.{Keep, Put}
 use Rattle.file_tree.specs.Made.{only_if, create_present, create_over, create_at, create_change, make_entry, make_directory, make_link}
 use Rattle.file_tree.specs.Removed.{remove_entry, remove_directory, rename}
 use Rattle.file_tree.specs.Written.{reaches, write_at, write_change, set_attributes}
-use Rattle.file_tree.specs.Success.{changed, change_written, change_created, change_set, change_directory_made, change_link_made, change_removed, change_directory_removed, change_renamed, change_done, change_answered}
+use Rattle.file_tree.specs.Success.{next_tree, changed, change_written, change_created, change_set, change_directory_made, change_link_made, change_removed, change_directory_removed, change_renamed, change_done, change_answered}
 use Rattle.file_tree.specs.Allows.{AllowsSuccess, may_be_found, may_succeed}
+use Rattle.file_tree.specs.Setting.{under, AllowsUnder}
+use Rattle.file_tree.specs.Strict.{told, fits, agrees, judged}
+use Rattle.file_tree.proofs.Bare.{IsBare, bare_agrees, getattr_agrees}
 use Rattle.file_tree.proofs.Planned.{file_written}
+use Rattle.file_tree.proofs.Profiles.{comes_out_plain}
 
 -- ---- values that are there
 
@@ -154,101 +163,130 @@ no_end false = refl
 none_listed : (tree : Tree) (directory : Names) (cookie : ℕ) → is_listing tree directory cookie false [] ≡ true
 none_listed tree directory cookie = ap (λ b. not b || are_all_listed tree directory []) (no_end (cookie == 0))
 
+-- a success that agrees with the trees before and after it
+pub record SomeBare (binds : Bindings) (tree : Tree) (number : ℕ) (call : NfsCall) : Type 0 where
+  pub reply : NfsReply
+  pub answers : is_answered call reply ≡ true
+  pub succeeds : failure_in reply ≡ None
+  pub leads : IsSome (next_tree binds tree number call (Received reply))
+  pub agreed : (after : Tree) → next_tree binds tree number call (Received reply) ≡ Some after → agrees binds tree after call reply ≡ true
+
+-- one that carries no attributes does
+barely : (binds : Bindings) (tree : Tree) (number : ℕ) (call : NfsCall) (reply : NfsReply) → is_answered call reply ≡ true → failure_in reply ≡ None
+    → IsSome (next_tree binds tree number call (Received reply)) → IsBare reply → SomeBare binds tree number call
+barely binds tree number call reply answers succeeds leads bare =
+    record { reply = reply; answers = answers; succeeds = succeeds; leads = leads; agreed = λ after next. bare_agrees binds tree after reply bare call }
+
+kept : (tree : Tree) (right : Bool) (after : Tree) → option_map (changed tree) (only_if right Keep) ≡ Some after → tree ≡ after
+kept tree true after e = cc
+kept tree false after e = absurd (cc)
+
+shown_fits : (content : Content) → fits (Some (told content)) (Some (type_and_size (attributes_of content))) ≡ true
+shown_fits contents.Directory = refl
+shown_fits (contents.File file) = eq-eqb (length file.bytes) (length file.bytes) refl
+shown_fits (contents.Link target) = refl
+
 module _ (binds : Bindings) (tree : Tree) (number : ℕ) where
-  attributes_allow : (object : List ℕ) → is_some (live_entry binds tree object) ≡ true → AllowsSuccess binds tree number (calls.GetAttr object)
+  attributes_allow : (object : List ℕ) → is_some (live_entry binds tree object) ≡ true → SomeBare binds tree number (calls.GetAttr object)
   attributes_allow object e =
       let at = there_of (live_entry binds tree object) e in
       let attributes = attributes_of at.0.1.content in
       let right = ap (λ (o : Option (Names × Node)). option_map_or (λ e. shows e.1.content attributes) o false) at.1 ∙ shown at.0.1.content in
-      record { reply = replies.GetAttr (Done attributes); answers = refl; succeeds = refl; leads = leads_on tree _ (keep_is _ right) }
+      record {
+        reply = replies.GetAttr (Done attributes);
+        answers = refl;
+        succeeds = refl;
+        leads = leads_on tree _ (keep_is _ right);
+        agreed = λ after next.
+            subst (λ (t : Tree). agrees binds tree t (calls.GetAttr object) (replies.GetAttr (Done attributes)) ≡ true)
+            (kept tree (getattr_is_legal binds tree object (replies.GetAttr (Done attributes))) after next)
+            (getattr_agrees binds tree object attributes at.0 at.1 (shown_fits at.0.1.content));
+      }
 
-  found_allow : (place : DirectoryName) → may_be_found binds tree place ≡ true → AllowsSuccess binds tree number (calls.Lookup place)
+  found_allow : (place : DirectoryName) → may_be_found binds tree place ≡ true → SomeBare binds tree number (calls.Lookup place)
   found_allow place e =
       let in_directory = passing _ (directory_of binds tree place.directory) e in
       let at = passing (is_named binds) (object_named tree in_directory.0 place.name) in_directory.2 in
       let handle = handle_of binds at.0 at.2 in
       let right = ap (λ (o : Option Names). option_map_or (is_object_named binds tree place handle.0) o false) in_directory.1
       ∙ ap (λ (o : Option ℕ). option_map_or (is_bound binds handle.0) o false) at.1 ∙ handle.1 in
-      record {
-        reply = replies.Lookup (Done (record { object = handle.0; attributes = None; directory_attributes = None }));
-        answers = refl;
-        succeeds = refl;
-        leads = leads_on tree _ (keep_is _ right);
-      }
+      barely binds tree number (calls.Lookup place) (replies.Lookup (Done (record { object = handle.0; attributes = None; directory_attributes = None }))) refl refl (leads_on tree _ (keep_is _ right))
+      (record { first = refl; before = refl; second = refl; second_before = refl; answer = refl; entries = refl })
 
-  text_allow : (link : List ℕ) → option_map_or (λ e. is_link e.1.content) (live_entry binds tree link) false ≡ true → AllowsSuccess binds tree number (calls.ReadLink link)
+  text_allow : (link : List ℕ) → option_map_or (λ e. is_link e.1.content) (live_entry binds tree link) false ≡ true → SomeBare binds tree number (calls.ReadLink link)
   text_allow link e =
       let at = passing (λ e. is_link e.1.content) (live_entry binds tree link) e in
       let target = text_of at.0.1.content in
       let right = ap (λ (o : Option (Names × Node)). option_map_or (λ e. has_text e.1.content target) o false) at.1 ∙ has_its_text at.0.1.content at.2 in
-      record { reply = replies.ReadLink (Done (record { attributes = None; target = target })); answers = refl; succeeds = refl; leads = leads_on tree _ (keep_is _ right) }
+      barely binds tree number (calls.ReadLink link) (replies.ReadLink (Done (record { attributes = None; target = target }))) refl refl (leads_on tree _ (keep_is _ right))
+      (record { first = refl; before = refl; second = refl; second_before = refl; answer = refl; entries = refl })
 
-  read_allow : (call : ReadArguments) → is_some (file_of binds tree call.file) ≡ true → AllowsSuccess binds tree number (calls.Read call)
+  read_allow : (call : ReadArguments) → is_some (file_of binds tree call.file) ≡ true → SomeBare binds tree number (calls.Read call)
   read_allow call e =
       let at = there_of (file_of binds tree call.file) e in
       let bytes = at.0.file.bytes in
       let success : ReadSuccess = record { attributes = None; count = 0; eof = nat_le (length bytes) (call.offset + 0); bytes = [] } in
       let right = ap (λ (o : Option FileEntry). option_map_or (λ entry. read_is_right entry.file.bytes call success) o false) at.1 ∙ none_read bytes call in
-      record { reply = replies.Read (Done success); answers = refl; succeeds = refl; leads = leads_on tree _ (keep_is _ right) }
+      barely binds tree number (calls.Read call) (replies.Read (Done success)) refl refl (leads_on tree _ (keep_is _ right))
+      (record { first = refl; before = refl; second = refl; second_before = refl; answer = refl; entries = refl })
 
-  write_allow : (call : WriteArguments) → is_some (file_of binds tree call.file) ≡ true → AllowsSuccess binds tree number (calls.Write call)
+  write_allow : (call : WriteArguments) → is_some (file_of binds tree call.file) ≡ true → SomeBare binds tree number (calls.Write call)
   write_allow call e =
       let at = there_of (file_of binds tree call.file) e in
       let change = file_written binds tree call 0 (Some levels.FileSync) at.0 at.1 (from_zero call.count) (from_zero (length call.bytes)) (all_reached call.level)
       ∙ ap (write_at at.0 call.offset) (none_taken call.bytes) in
-      record {
-        reply = replies.Write (Done (record { wcc = no_wcc; count = 0; level = levels.FileSync; verifier = record { value = 0 } }));
-        answers = refl;
-        succeeds = refl;
-        leads = leads_on tree _ (ap is_some change);
-      }
+      barely binds tree number (calls.Write call) (replies.Write (Done (record { wcc = no_wcc; count = 0; level = levels.FileSync; verifier = record { value = 0 } }))) refl refl (leads_on tree _ (ap is_some change))
+      (record { first = refl; before = refl; second = refl; second_before = refl; answer = refl; entries = refl })
 
-  commit_allow : (call : CommitArguments) → is_some (file_of binds tree call.file) ≡ true → AllowsSuccess binds tree number (calls.Commit call)
+  commit_allow : (call : CommitArguments) → is_some (file_of binds tree call.file) ≡ true → SomeBare binds tree number (calls.Commit call)
   commit_allow call e =
-      record { reply = replies.Commit (Done (record { wcc = no_wcc; verifier = record { value = 0 } })); answers = refl; succeeds = refl; leads = leads_on tree _ (keep_is _ e) }
+      barely binds tree number (calls.Commit call) (replies.Commit (Done (record { wcc = no_wcc; verifier = record { value = 0 } }))) refl refl (leads_on tree _ (keep_is _ e))
+      (record { first = refl; before = refl; second = refl; second_before = refl; answer = refl; entries = refl })
 
-  list_allow : (call : ReadDirArguments) → is_some (directory_of binds tree call.directory) ≡ true → AllowsSuccess binds tree number (calls.ReadDir call)
+  list_allow : (call : ReadDirArguments) → is_some (directory_of binds tree call.directory) ≡ true → SomeBare binds tree number (calls.ReadDir call)
   list_allow call e =
       let at = there_of (directory_of binds tree call.directory) e in
       let right = ap (λ (o : Option Names). option_map_or (λ directory. is_listing tree directory call.cookie false []) o false) at.1 ∙ none_listed tree at.0 call.cookie in
-      record {
-        reply = replies.ReadDir (Done (record { attributes = None; verifier = record { value = 0 }; entries = []; eof = false }));
-        answers = refl;
-        succeeds = refl;
-        leads = leads_on tree _ (keep_is _ right);
-      }
+      barely binds tree number (calls.ReadDir call) (replies.ReadDir (Done (record { attributes = None; verifier = record { value = 0 }; entries = []; eof = false }))) refl refl (leads_on tree _ (keep_is _ right))
+      (record { first = refl; before = refl; second = refl; second_before = refl; answer = refl; entries = refl })
 
-  list_plus_allow : (call : ReadDirPlusArguments) → is_some (directory_of binds tree call.directory) ≡ true → AllowsSuccess binds tree number (calls.ReadDirPlus call)
+  list_plus_allow : (call : ReadDirPlusArguments) → is_some (directory_of binds tree call.directory) ≡ true → SomeBare binds tree number (calls.ReadDirPlus call)
   list_plus_allow call e =
       let at = there_of (directory_of binds tree call.directory) e in
       let right = ap (λ (o : Option Names). option_map_or (λ directory. is_listing tree directory call.cookie false [] && true) o false) at.1
       ∙ ap (λ b. b && true) (none_listed tree at.0 call.cookie) in
-      record {
-        reply = replies.ReadDirPlus (Done (record { attributes = None; verifier = record { value = 0 }; entries = []; eof = false }));
-        answers = refl;
-        succeeds = refl;
-        leads = leads_on tree _ (keep_is _ right);
-      }
+      barely binds tree number (calls.ReadDirPlus call) (replies.ReadDirPlus (Done (record { attributes = None; verifier = record { value = 0 }; entries = []; eof = false }))) refl refl (leads_on tree _ (keep_is _ right))
+      (record { first = refl; before = refl; second = refl; second_before = refl; answer = refl; entries = refl })
 
   abbrev made : CreateSuccess
   made = record { object = None; attributes = None; wcc = no_wcc }
 
+  pub allowed_bare : (call : NfsCall) → may_succeed binds tree number call ≡ true → SomeBare binds tree number call
+  allowed_bare (calls.GetAttr object) e = attributes_allow object e
+  allowed_bare (calls.Lookup place) e = found_allow place e
+  allowed_bare (calls.ReadLink link) e = text_allow link e
+  allowed_bare (calls.Read call) e = read_allow call e
+  allowed_bare (calls.Write call) e = write_allow call e
+  allowed_bare (calls.Commit call) e = commit_allow call e
+  allowed_bare (calls.ReadDir call) e = list_allow call e
+  allowed_bare (calls.ReadDirPlus call) e = list_plus_allow call e
+  allowed_bare (calls.Create call) e = barely binds tree number (calls.Create call) (replies.Create (Done made)) refl refl (leads_on tree _ e)
+      (record { first = refl; before = refl; second = refl; second_before = refl; answer = refl; entries = refl })
+  allowed_bare (calls.MkDir call) e = barely binds tree number (calls.MkDir call) (replies.MkDir (Done made)) refl refl (leads_on tree _ e)
+      (record { first = refl; before = refl; second = refl; second_before = refl; answer = refl; entries = refl })
+  allowed_bare (calls.SymLink call) e = barely binds tree number (calls.SymLink call) (replies.SymLink (Done made)) refl refl (leads_on tree _ e)
+      (record { first = refl; before = refl; second = refl; second_before = refl; answer = refl; entries = refl })
+  allowed_bare (calls.SetAttr call) e = barely binds tree number (calls.SetAttr call) (replies.SetAttr (Done no_wcc)) refl refl (leads_on tree _ e)
+      (record { first = refl; before = refl; second = refl; second_before = refl; answer = refl; entries = refl })
+  allowed_bare (calls.Remove place) e = barely binds tree number (calls.Remove place) (replies.Remove (Done no_wcc)) refl refl (leads_on tree _ e)
+      (record { first = refl; before = refl; second = refl; second_before = refl; answer = refl; entries = refl })
+  allowed_bare (calls.RmDir place) e = barely binds tree number (calls.RmDir place) (replies.RmDir (Done no_wcc)) refl refl (leads_on tree _ e)
+      (record { first = refl; before = refl; second = refl; second_before = refl; answer = refl; entries = refl })
+  allowed_bare (calls.Rename call) e = barely binds tree number (calls.Rename call) (replies.Rename (Done (record { from = no_wcc; to = no_wcc }))) refl refl (leads_on tree _ e)
+      (record { first = refl; before = refl; second = refl; second_before = refl; answer = refl; entries = refl })
+
   pub allowed : (call : NfsCall) → may_succeed binds tree number call ≡ true → AllowsSuccess binds tree number call
-  allowed (calls.GetAttr object) e = attributes_allow object e
-  allowed (calls.Lookup place) e = found_allow place e
-  allowed (calls.ReadLink link) e = text_allow link e
-  allowed (calls.Read call) e = read_allow call e
-  allowed (calls.Write call) e = write_allow call e
-  allowed (calls.Commit call) e = commit_allow call e
-  allowed (calls.ReadDir call) e = list_allow call e
-  allowed (calls.ReadDirPlus call) e = list_plus_allow call e
-  allowed (calls.Create call) e = record { reply = replies.Create (Done made); answers = refl; succeeds = refl; leads = leads_on tree _ e }
-  allowed (calls.MkDir call) e = record { reply = replies.MkDir (Done made); answers = refl; succeeds = refl; leads = leads_on tree _ e }
-  allowed (calls.SymLink call) e = record { reply = replies.SymLink (Done made); answers = refl; succeeds = refl; leads = leads_on tree _ e }
-  allowed (calls.SetAttr call) e = record { reply = replies.SetAttr (Done no_wcc); answers = refl; succeeds = refl; leads = leads_on tree _ e }
-  allowed (calls.Remove place) e = record { reply = replies.Remove (Done no_wcc); answers = refl; succeeds = refl; leads = leads_on tree _ e }
-  allowed (calls.RmDir place) e = record { reply = replies.RmDir (Done no_wcc); answers = refl; succeeds = refl; leads = leads_on tree _ e }
-  allowed (calls.Rename call) e = record { reply = replies.Rename (Done (record { from = no_wcc; to = no_wcc })); answers = refl; succeeds = refl; leads = leads_on tree _ e }
+  allowed call e = let bare = allowed_bare call e in record { reply = bare.reply; answers = bare.answers; succeeds = bare.succeeds; leads = bare.leads }
 
 -- ---- what a success asks for
 
@@ -403,3 +441,25 @@ module _ (binds : Bindings) (tree : Tree) (number : ℕ) where
 
   pub exactly : (call : NfsCall) (b : Bool) → b ≡ may_succeed binds tree number call → IsTrue b ↔ AllowsSuccess binds tree number call
   exactly call b is = (λ h. allowed binds tree number call (sym is ∙ true_is b h), λ success. is_true b (is ∙ so_allowed call success))
+
+-- ---- under a profile
+
+strictly_leads : (binds : Bindings) (tree : Tree) (number : ℕ) (call : NfsCall) (bare : SomeBare binds tree number call) → IsSome (under Strict binds tree number call (Received bare.reply))
+strictly_leads binds tree number call bare =
+    let after = there_of (next_tree binds tree number call (Received bare.reply)) (true_of _ bare.leads) in
+    subst IsSome
+    (sym (ap (option_and_then (judged binds tree call (Received bare.reply))) after.1 ∙ ap (λ b. cond b (Some after.0) None) (bare.agreed after.0 after.1)))
+    refl
+
+-- what is allowed under the plain profile is allowed under each
+pub allowed_under : (profile : Profile) (binds : Bindings) (tree : Tree) (number : ℕ) (call : NfsCall) → AllowsSuccess binds tree number call → AllowsUnder profile binds tree number call
+allowed_under Plain binds tree number call success = record { reply = success.reply; answers = success.answers; succeeds = success.succeeds; leads = success.leads }
+allowed_under Strict binds tree number call success =
+    let bare = allowed_bare binds tree number call (so_allowed binds tree number call success) in
+    record { reply = bare.reply; answers = bare.answers; succeeds = bare.succeeds; leads = strictly_leads binds tree number call bare }
+
+pub allowed_plain : (profile : Profile) (binds : Bindings) (tree : Tree) (number : ℕ) (call : NfsCall) → AllowsUnder profile binds tree number call → AllowsSuccess binds tree number call
+allowed_plain profile binds tree number call success =
+    let after = there_of (under profile binds tree number call (Received success.reply)) (true_of _ success.leads) in
+    let plain = comes_out_plain profile binds tree after.0 number call (Received success.reply) after.1 in
+    record { reply = success.reply; answers = success.answers; succeeds = success.succeeds; leads = subst IsSome (sym plain) refl }

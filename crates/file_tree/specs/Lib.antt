@@ -5,3 +5,9 @@ pub mod Change
 pub mod Success
 pub mod Allows
 pub mod Planning
+pub mod Strict
+pub mod AtPlace
+pub mod Setting
+pub mod Judging
+pub mod StartTree
+pub mod Built

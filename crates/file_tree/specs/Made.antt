@@ -20,7 +20,7 @@ use Rattle.file_bytes.specs.Files.{resized}
 use Rattle.tree_nodes.specs.Tree.{Names, Tree, entry_of}
 use Rattle.tree_handles.specs.Binding.{Bindings, gives_object}
 use Rattle.tree_handles.specs.Live.{directory_of}
-use Rattle.tree_handles.specs.Entry.{is_plain}
+use Rattle.tree_starts.specs.Names.{is_plain}
 
 -- a value where a test passes
 abbrev pub only_if : {A : Type 0} → Bool → A → Option A

@@ -11,7 +11,8 @@ use Rattle.tree_nodes.specs.Tree.{Names, Tree, same_path, is_bare}
 use Rattle.tree_nodes.specs.Moved.{is_from}
 use Rattle.tree_handles.specs.Binding.{Bindings}
 use Rattle.tree_handles.specs.Live.{directory_of}
-use Rattle.tree_handles.specs.Entry.{is_plain, named}
+use Rattle.tree_starts.specs.Names.{is_plain}
+use Rattle.tree_handles.specs.Entry.{named}
 use Rattle.tree_handles.specs.Kind.{is_directory}
 use Rattle.tree_reads.specs.Look.{same_flag}
 use Rattle.file_tree.specs.Made.{only_if}

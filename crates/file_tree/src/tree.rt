@@ -1,24 +1,31 @@
 //! The file tree, stepped by the calls of a history and taken back.
 
-ghost use Rattle.std.specs.Prelude.{◌≡◌, ◌↔◌, OnOk, OnErr, IfOk, IsTrue};
+ghost use Rattle.std.specs.Prelude.{◌≡◌, ◌↔◌, Some, None, Err, OnOk, OnErr, IfOk, IsTrue, option_map};
+ghost use Rattle.replay_law.specs.declared.replay.StepFault.TheVariants.{NotAllowed};
 ghost use Rattle.tree_nodes.specs.Tree.{opening};
 ghost use Rattle.tree_nodes.specs.Undo.{TakesBack, held_nodes};
 ghost use Rattle.file_tree.specs.Allows.{AllowsSuccess};
 ghost use Rattle.file_tree.specs.Change.{Change};
 ghost use Rattle.file_tree.specs.Planning.{Does};
-ghost use Rattle.file_tree.specs.Success.{changed, next_tree};
+ghost use Rattle.file_tree.specs.Judging.{change_under};
+ghost use Rattle.file_tree.specs.Setting.{under};
+ghost use Rattle.file_tree.specs.StartTree.{start_tree};
+ghost use Rattle.file_tree.specs.Success.{changed};
 ghost use Rattle.tree_nodes.specs.Printed.{tree_text, IsPrintable};
 ghost use Rattle.tree_nodes.specs.Unprinted.{same_text};
 
 use crate::allowed::may_succeed;
+use crate::judged::change_under;
 use crate::object_change::ObjectChange;
-use crate::success::change_of;
+use crate::setting::TreeSetting;
+use crate::start::nodes_of;
 use nfs3_types::{NfsCall, Outcome};
 use replay_law::{Replayable, StepFault};
 use std::alloc::{AllocError, Global};
 use std::marker::Model;
 use tree_handles::{Binds, View};
 use tree_nodes::{Nodes, Undo};
+use tree_starts::{Profile, SeenStart};
 
 /// A file tree. Contracts see it as a finite map from paths to nodes.
 pub struct FileTree {
@@ -79,6 +86,68 @@ impl FileTree {
 }
 
 impl FileTree {
+    /// The root alone.
+    pub fn empty(alloc: Global) -> Result<FileTree, AllocError>
+        ensures { IfOk result (λ tree. tree ≡ opening) }
+    {
+        Ok(FileTree {
+            alloc,
+            nodes: Nodes::opening(alloc)?,
+        })
+    }
+
+    /// The root and what stood at first.
+    pub fn of_start(alloc: Global, start: &SeenStart<'_>) -> Result<FileTree, AllocError>
+        ensures { IfOk result (λ tree. tree ≡ start_tree start.now) }
+    {
+        Ok(FileTree {
+            alloc,
+            nodes: nodes_of(alloc, start)?,
+        })
+    }
+
+    /// Does what a call with its outcome makes of the tree, where the profile lets it.
+    fn step_planned(
+        &mut self,
+        profile: Profile,
+        binds: &Binds,
+        number: u64,
+        call: &NfsCall,
+        outcome: &Outcome,
+    ) -> Result<Undo, StepFault>
+        ensures next { OnOk result (option_map (changed self.old) (change_under profile binds.now self.old number call.now outcome.now) ≡ Some self.new) }
+        ensures undo { IfOk result (λ undo. TakesBack undo self.new self.old) }
+        ensures not_allowed { result ≡ Err NotAllowed → change_under profile binds.now self.old number call.now outcome.now ≡ None }
+        ensures err { OnErr result (self.new ≡ self.old) }
+    {
+        let view = View {
+            binds,
+            nodes: &self.nodes,
+        };
+        let plan = change_under(self.alloc, profile, &view, number, call, outcome)?;
+        Ok(self.carry_out(plan)?)
+    }
+
+    /// Takes the step of a call with its outcome. What the call makes, if anything, is the object of this number. Under the
+    /// strict profile a received reply has to agree with the trees before and after it.
+    pub fn step_under(
+        &mut self,
+        profile: Profile,
+        binds: &Binds,
+        number: u64,
+        call: &NfsCall,
+        outcome: &Outcome,
+    ) -> Result<Undo, StepFault>
+        ensures next { OnOk result (under profile binds.now self.old number call.now outcome.now ≡ Some self.new) }
+        ensures undo { IfOk result (λ undo. TakesBack undo self.new self.old) }
+        ensures not_allowed { result ≡ Err NotAllowed → under profile binds.now self.old number call.now outcome.now ≡ None }
+        ensures err { OnErr result (self.new ≡ self.old) }
+    {
+        self.step_planned(profile, binds, number, call, outcome)
+    }
+}
+
+impl FileTree {
     /// Whether call number `number` may succeed: some success of its procedure has a next tree. For a LOOKUP of an
     /// object whose handle isn't its number in eight bytes it goes over all handles that are found by a hash; what else
     /// it takes doesn't grow with them.
@@ -108,7 +177,7 @@ impl FileTree {
 }
 
 impl Replayable for FileTree {
-    type Setting = Binds;
+    type Setting = TreeSetting;
 
     type Call = NfsCall;
 
@@ -118,9 +187,9 @@ impl Replayable for FileTree {
 
     ghost is_state = { IsPrintable };
 
-    ghost start = { λ _. opening };
+    ghost start = { λ setting. start_tree setting.start };
 
-    ghost next = { λ binds tree number call outcome. next_tree binds tree number call outcome };
+    ghost next = { λ setting tree number call outcome. under setting.profile setting.binds tree number call outcome };
 
     ghost undoes = { λ undo after before. TakesBack undo after before };
 
@@ -128,26 +197,19 @@ impl Replayable for FileTree {
 
     ghost print_tells = { same_text };
 
-    fn opening(alloc: Global, _setting: &Binds) -> Result<Self, AllocError> {
-        Ok(FileTree {
-            alloc,
-            nodes: Nodes::opening(alloc)?,
-        })
+    fn opening(alloc: Global, setting: &TreeSetting) -> Result<Self, AllocError> {
+        let start = setting.start.lend(alloc)?;
+        FileTree::of_start(alloc, &start)
     }
 
     fn step(
         &mut self,
-        setting: &Binds,
+        setting: &TreeSetting,
         number: u64,
         call: &NfsCall,
         outcome: &Outcome,
     ) -> Result<Undo, StepFault> {
-        let view = View {
-            binds: setting,
-            nodes: &self.nodes,
-        };
-        let plan = change_of(self.alloc, &view, number, call, outcome)?;
-        Ok(self.carry_out(plan)?)
+        self.step_under(setting.profile, &setting.binds, number, call, outcome)
     }
 
     fn undo(mut self, undo: Undo) -> Result<Self, AllocError> {

@@ -3,8 +3,8 @@ use Rattle.std.proofs.Common.{◌≡◌, ℕ, suc, ◌-◌, ◌+◌, ◌≤◌, 
 use Rattle.xdr_records.specs.Unread.{Unread, At}
 use Rattle.xdr_records.specs.Reading.{bound, Told}
 use Rattle.history_file.specs.declared.fault.FileFault.{FileFault}
-use Rattle.history_file.specs.declared.file.ItemFault.{ItemFault}
-use Rattle.history_file.specs.declared.file.ItemFault.TheVariants as told_by
+use Rattle.history_file.specs.declared.items.ItemFault.{ItemFault}
+use Rattle.history_file.specs.declared.items.ItemFault.TheVariants as told_by
 use Rattle.history_file.specs.Event.{Event}
 use Rattle.history_file.specs.HistoryFile.{event, events}
 use Rattle.history_file.specs.FileReading.{reading_of, told, with_front}

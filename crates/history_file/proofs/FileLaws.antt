@@ -1,6 +1,7 @@
 -- What is read of a file stands in it, and what is read where nothing stands is its first fault.
-use Rattle.std.proofs.Common.{◌≡◌, ◌⊎◌, inl, inr, ℕ, ◌≤◌, Bool, true, false, cond, List, ◌++◌, length, take, drop, Result, Ok, Err, IfOk, sym, ap, ◌∙◌, nat_eq, nat_le, refl}
+use Rattle.std.proofs.Common.{◌≡◌, ◌⊎◌, inl, inr, ℕ, ◌≤◌, Bool, true, false, cond, List, ◌++◌, length, take, drop, Option, Some, None, Result, Ok, Err, IfOk, sym, ap, subst, ◌∙◌, nat_eq, nat_le, refl, arith, length-append}
 use Rattle.std.specs.List.{starts_with}
+use Rattle.std.specs.Option.{option_map_or}
 use Rattle.std.specs.Cmp.Lexicographic.{same_text}
 use Rattle.std.proofs.lemmas.List.{take-append-drop}
 use Rattle.std.proofs.lemmas.Bool.{le-leb, lt-leb, leb-true, leb-false}
@@ -12,9 +13,12 @@ use Rattle.history_file.specs.declared.fault.FileFault.TheVariants as faults
 use Rattle.history_file.specs.declared.file.SeenRecording.{SeenRecording}
 use Rattle.history_file.specs.Event.{Recording}
 use Rattle.history_file.specs.Limits.{history_limit}
-use Rattle.history_file.specs.HistoryFile.{kind_of, recording, magic, HistoryFile}
+use Rattle.history_file.specs.declared.version.Version.{Version}
+use Rattle.history_file.specs.declared.version.Version.TheVariants.{First, Second}
+use Rattle.history_file.specs.Kinds.{kind_of}
+use Rattle.history_file.specs.HistoryFile.{recording, magic, HistoryFile}
 use Rattle.history_file.specs.FileFaults.{BeginsAsFile, IsFileFault, IsFineOrNoMemory, IsErrorOf, IsThatOrNoMemory}
-use Rattle.history_file.specs.FileReading.{IsAnswer, file_of}
+use Rattle.history_file.specs.FileReading.{IsAnswer, version_of, file_of_version, file_of}
 use Rattle.history_file.specs.Owning.{recording_value}
 
 -- an error that is told as it is
@@ -22,23 +26,43 @@ pub told_as_it_is : {X Y : Type 0} (view : X → Y) (fault : FileFault) (answer 
 told_as_it_is view faults.NoMemory answer h = tt
 told_as_it_is view fault answer h = h
 
-pub file_of-body : (bytes : List ℕ) → starts_with nat_eq bytes magic ≡ true → length bytes ≤ 268435456 → file_of bytes ≡ kinds (all_of kind_of recording (drop 8 bytes))
-file_of-body bytes begins small = let fits = le-leb (length bytes) 268435456 small in rw (begins, fits) refl
+pub file_of-body : (version : Version) (bytes : List ℕ) → length bytes ≤ 268435456 → file_of_version version bytes ≡ kinds (all_of kind_of (recording version) (drop 8 bytes))
+file_of-body version bytes small = let fits = le-leb (length bytes) 268435456 small in rw fits refl
 
 -- ---- the magic
 
-parts_of : (bytes : List ℕ) → starts_with nat_eq bytes magic ≡ true → bytes ≡ magic ++ drop 8 bytes
-parts_of bytes begins = sym (take-append-drop 8 bytes) ∙ ap (λ front. front ++ drop 8 bytes) (sym (same_text magic (take 8 bytes) (sym begins)))
+parts_of : (bytes : List ℕ) (version : Version) → version_of bytes ≡ Some version → bytes ≡ magic version ++ drop 8 bytes
+parts_of bytes version is = go (starts_with nat_eq bytes (magic First)) (starts_with nat_eq bytes (magic Second)) refl refl is where
+  go : (b c : Bool) → starts_with nat_eq bytes (magic First) ≡ b → starts_with nat_eq bytes (magic Second) ≡ c → cond b (Some First) (cond c (Some Second) None) ≡ Some version → bytes ≡ magic version ++ drop 8 bytes
+  go true c first second is =
+      let same : First ≡ version = cc in
+      subst (λ (v : Version). bytes ≡ magic v ++ drop 8 bytes) same (sym (take-append-drop 8 bytes) ∙ ap (λ front. front ++ drop 8 bytes) (sym (same_text (magic First) (take 8 bytes) (sym first))))
+  go false true first second is =
+      let same : Second ≡ version = cc in
+      subst (λ (v : Version). bytes ≡ magic v ++ drop 8 bytes) same (sym (take-append-drop 8 bytes) ∙ ap (λ front. front ++ drop 8 bytes) (sym (same_text (magic Second) (take 8 bytes) (sym second))))
+  go false false first second is = absurd (cc)
 
-begins_with : (bytes body : List ℕ) → bytes ≡ magic ++ body → starts_with nat_eq bytes magic ≡ true
-begins_with bytes body parts = rw parts refl
+begins_as : (bytes body : List ℕ) (version : Version) → bytes ≡ magic version ++ body → version_of bytes ≡ Some version
+begins_as bytes body First parts = rw parts refl
+begins_as bytes body Second parts = rw parts refl
 
-body_is : (bytes body : List ℕ) → bytes ≡ magic ++ body → drop 8 bytes ≡ body
-body_is bytes body parts = rw parts refl
+body_is : (bytes body : List ℕ) (version : Version) → bytes ≡ magic version ++ body → drop 8 bytes ≡ body
+body_is bytes body First parts = rw parts refl
+body_is bytes body Second parts = rw parts refl
 
-differ : (b : Bool) → b ≡ true → b ≡ false → ⊥
-differ true e f = absurd (cc)
-differ false e f = absurd (cc)
+length_of : (bytes : List ℕ) (version : Version) → bytes ≡ magic version ++ drop 8 bytes → 8 ≤ length bytes
+length_of bytes First parts = omega (arith, ap length parts, length-append (magic First) (drop 8 bytes))
+length_of bytes Second parts = omega (arith, ap length parts, length-append (magic Second) (drop 8 bytes))
+
+-- the magic takes eight bytes
+pub eight_bytes : (bytes : List ℕ) (version : Version) → version_of bytes ≡ Some version → 8 ≤ length bytes
+eight_bytes bytes version is = length_of bytes version (parts_of bytes version is)
+
+pub in_version : (bytes : List ℕ) (version : Version) → version_of bytes ≡ Some version → file_of bytes ≡ file_of_version version bytes
+in_version bytes version is = rw is refl
+
+pub in_none : (bytes : List ℕ) → version_of bytes ≡ None → file_of bytes ≡ Err faults.BadMagic
+in_none bytes is = rw is refl
 
 -- ---- a recording
 
@@ -52,21 +76,26 @@ err_kind {K = K} (Err f) fault e = let same : f.kind ≡ fault = cc in (f.at, ap
 
 -- what is read is the file's
 pub file_found : (bytes : List ℕ) (seen : Recording) → file_of bytes ≡ Ok seen → HistoryFile bytes seen
-file_found bytes seen is = go (starts_with nat_eq bytes magic) (nat_le (length bytes) history_limit) refl refl is where
-  go : (b c : Bool) → starts_with nat_eq bytes magic ≡ b → nat_le (length bytes) history_limit ≡ c → cond b (cond c (kinds (all_of kind_of recording (drop 8 bytes))) (Err faults.TooLarge)) (Err faults.BadMagic) ≡ Ok seen → HistoryFile bytes seen
-  go false c begins small is = absurd (cc)
-  go true false begins small is = absurd (cc)
-  go true true begins small is = record {
+file_found bytes seen is = go (version_of bytes) refl is where
+  here : (version : Version) (c : Bool) → version_of bytes ≡ Some version → nat_le (length bytes) history_limit ≡ c → cond c (kinds (all_of kind_of (recording version) (drop 8 bytes))) (Err faults.TooLarge) ≡ Ok seen → HistoryFile bytes seen
+  here version false begins small is = absurd (cc)
+  here version true begins small is = record {
+    version = version;
     body = drop 8 bytes;
-    parts = parts_of bytes begins;
+    parts = parts_of bytes version begins;
     small = leb-true (length bytes) history_limit small;
-    spelled = all_found kind_of recording (drop 8 bytes) seen (ok_kind (all_of kind_of recording (drop 8 bytes)) seen is);
+    spelled = all_found kind_of (recording version) (drop 8 bytes) seen (ok_kind (all_of kind_of (recording version) (drop 8 bytes)) seen is);
   }
+
+  go : (v : Option Version) → version_of bytes ≡ v → option_map_or (λ version. file_of_version version bytes) v (Err faults.BadMagic) ≡ Ok seen → HistoryFile bytes seen
+  go None begins is = absurd (cc)
+  go (Some version) begins is = here version (nat_le (length bytes) history_limit) begins refl is
 
 -- what a file holds is read
 pub file_again : (bytes : List ℕ) (seen : Recording) → HistoryFile bytes seen → file_of bytes ≡ Ok seen
 file_again bytes seen file =
-    file_of-body bytes (begins_with bytes file.body file.parts) file.small ∙ ap (λ xs. kinds (all_of kind_of recording xs)) (body_is bytes file.body file.parts) ∙ ap kinds (all_again kind_of recording file.body seen file.spelled)
+    in_version bytes file.version (begins_as bytes file.body file.version file.parts) ∙ file_of-body file.version bytes file.small
+    ∙ ap (λ xs. kinds (all_of kind_of (recording file.version) xs)) (body_is bytes file.body file.version file.parts) ∙ ap kinds (all_again kind_of (recording file.version) file.body seen file.spelled)
 
 ok_is : (r : Result Recording FileFault) (a b : Recording) → r ≡ Ok a → r ≡ Ok b → a ≡ b
 ok_is r a b e f = cc
@@ -76,33 +105,43 @@ one_recording bytes a b x y = ok_is (file_of bytes) a b (file_again bytes a x) (
 
 -- ---- the first fault
 
+-- no magic
+not_begun : (bytes : List ℕ) → version_of bytes ≡ None → ¬ BeginsAsFile bytes
+not_begun bytes none = λ h. let both : Some h.0 ≡ None = sym (begins_as bytes h.1 h.0 h.2) ∙ none in absurd (cc)
+
 -- the fault that is met is the first
 pub file_fault : (bytes : List ℕ) (fault : FileFault) → file_of bytes ≡ Err fault → IsFileFault bytes fault
-file_fault bytes fault is = go (starts_with nat_eq bytes magic) (nat_le (length bytes) history_limit) refl refl is where
-  go : (b c : Bool) → starts_with nat_eq bytes magic ≡ b → nat_le (length bytes) history_limit ≡ c → cond b (cond c (kinds (all_of kind_of recording (drop 8 bytes))) (Err faults.TooLarge)) (Err faults.BadMagic) ≡ Err fault → IsFileFault bytes fault
-  go false c begins small is = inl ((λ h. differ (starts_with nat_eq bytes magic) (begins_with bytes h.0 h.1) begins), cc)
-  go true false begins small is = inr (inl ((drop 8 bytes, parts_of bytes begins), leb-false (length bytes) history_limit small, cc))
-  go true true begins small is =
-      let read = err_kind (all_of kind_of recording (drop 8 bytes)) fault is in
+file_fault bytes fault is = go (version_of bytes) refl is where
+  here : (version : Version) (c : Bool) → version_of bytes ≡ Some version → nat_le (length bytes) history_limit ≡ c → cond c (kinds (all_of kind_of (recording version) (drop 8 bytes))) (Err faults.TooLarge) ≡ Err fault → IsFileFault bytes fault
+  here version false begins small is = inr (inl ((version, drop 8 bytes, parts_of bytes version begins), leb-false (length bytes) history_limit small, cc))
+  here version true begins small is =
+      let read = err_kind (all_of kind_of (recording version) (drop 8 bytes)) fault is in
       inr (inr (record {
+        version = version;
         body = drop 8 bytes;
-        parts = parts_of bytes begins;
+        parts = parts_of bytes version begins;
         small = leb-true (length bytes) history_limit small;
         at = read.0;
-        fails = all_fault kind_of recording (drop 8 bytes) (record { at = read.0; kind = fault }) read.1;
+        fails = all_fault kind_of (recording version) (drop 8 bytes) (record { at = read.0; kind = fault }) read.1;
       }))
 
-not_begun : (bytes : List ℕ) (b : Bool) → starts_with nat_eq bytes magic ≡ b → ¬ BeginsAsFile bytes → starts_with nat_eq bytes magic ≡ false
-not_begun bytes false is none = is
-not_begun bytes true is none = absurd (none (drop 8 bytes, parts_of bytes is))
+  go : (v : Option Version) → version_of bytes ≡ v → option_map_or (λ version. file_of_version version bytes) v (Err faults.BadMagic) ≡ Err fault → IsFileFault bytes fault
+  go None begins is = inl (not_begun bytes begins, cc)
+  go (Some version) begins is = here version (nat_le (length bytes) history_limit) begins refl is
+
+begun_as_none : (bytes : List ℕ) (v : Option Version) → version_of bytes ≡ v → ¬ BeginsAsFile bytes → version_of bytes ≡ None
+begun_as_none bytes None is none = is
+begun_as_none bytes (Some version) is none = absurd (none (version, drop 8 bytes, parts_of bytes version is))
 
 -- the first fault is met
 pub file_fails : (bytes : List ℕ) (fault : FileFault) → IsFileFault bytes fault → file_of bytes ≡ Err fault
-file_fails bytes fault (inl none) = rw (not_begun bytes (starts_with nat_eq bytes magic) refl none.0, none.1) refl
-file_fails bytes fault (inr (inl large)) = rw (begins_with bytes large.0.0 large.0.1, lt-leb (length bytes) history_limit large.1, large.2) refl
+file_fails bytes fault (inl none) = in_none bytes (begun_as_none bytes (version_of bytes) refl none.0) ∙ ap (λ (f : FileFault). Err f) (sym none.1)
+file_fails bytes fault (inr (inl large)) =
+    in_version bytes large.0.0 (begins_as bytes large.0.1 large.0.0 large.0.2) ∙ rw (lt-leb (length bytes) history_limit large.1, large.2) refl
 file_fails bytes fault (inr (inr item)) =
-    file_of-body bytes (begins_with bytes item.body item.parts) item.small ∙ ap (λ xs. kinds (all_of kind_of recording xs)) (body_is bytes item.body item.parts)
-    ∙ ap kinds (all_fails kind_of recording item.body (record { at = item.at; kind = fault }) item.fails)
+    in_version bytes item.version (begins_as bytes item.body item.version item.parts) ∙ file_of-body item.version bytes item.small
+    ∙ ap (λ xs. kinds (all_of kind_of (recording item.version) xs)) (body_is bytes item.body item.version item.parts)
+    ∙ ap kinds (all_fails kind_of (recording item.version) item.body (record { at = item.at; kind = fault }) item.fails)
 
 err_is : (r : Result Recording FileFault) (f g : FileFault) → r ≡ Err f → r ≡ Err g → f ≡ g
 err_is r f g x y = cc

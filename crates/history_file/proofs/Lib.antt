@@ -1,4 +1,9 @@
 pub mod EventLoop
 pub mod FileLaws
-pub mod WritingSteps
 pub mod EventLists
+pub mod ObjectLoop
+pub mod ObjectSteps
+pub mod WritingSteps
+pub mod StartWriting
+pub mod Spelled
+pub mod FileStart

@@ -1,6 +1,7 @@
--- A history as it was recorded: a root handle, and what happened, one event after the other (Herlihy and Wing
+-- A history as it was recorded: what it begins with, and what happened, one event after the other (Herlihy and Wing
 -- 1990, section 2; crashes as in Izraelevitz, Mendes and Scott 2016).
 use Rattle.std.specs.Prelude.{ℕ, List}
+use Rattle.tree_starts.specs.Head.{Head}
 
 pub data Event : Type 0 where
   -- a client sent a call on a lane, which is one connection: the message's bytes
@@ -13,5 +14,5 @@ pub data Event : Type 0 where
   crash : Event
 
 pub record Recording : Type 0 where
-  pub root : List ℕ
+  pub head : Head
   pub events : List Event

@@ -11,6 +11,8 @@ file_fault_words faults.BadMagic = codes "BadMagic"
 file_fault_words faults.TooLarge = codes "TooLarge"
 file_fault_words faults.Truncated = codes "Truncated"
 file_fault_words (faults.BadEvent i) = codes "BadEvent " ++ decimal i
+file_fault_words (faults.BadStart k) = codes "BadStart " ++ decimal k
+file_fault_words faults.BadProfile = codes "BadProfile"
 file_fault_words faults.Trailing = codes "Trailing"
 file_fault_words faults.NoMemory = codes "out of memory"
 

@@ -5,19 +5,22 @@ use Rattle.xdr_records.specs.Faults.{AllFails}
 use Rattle.history_file.specs.declared.fault.FileFault.{FileFault}
 use Rattle.history_file.specs.declared.fault.FileFault.TheVariants as faults
 use Rattle.history_file.specs.Limits.{history_limit}
-use Rattle.history_file.specs.HistoryFile.{kind_of, recording, magic}
+use Rattle.history_file.specs.declared.version.Version.{Version}
+use Rattle.history_file.specs.Kinds.{kind_of}
+use Rattle.history_file.specs.HistoryFile.{recording, magic}
 
 -- the bytes begin as a history file does
 abbrev pub BeginsAsFile : List ℕ → Type 0
-BeginsAsFile bytes = (body : List ℕ) × (bytes ≡ magic ++ body)
+BeginsAsFile bytes = (version : Version) × (body : List ℕ) × (bytes ≡ magic version ++ body)
 
 -- behind the magic an item is the first at fault, or bytes stand behind the last one
 pub record IsItemFault (bytes : List ℕ) (fault : FileFault) : Type 0 where
+  pub version : Version
   pub body : List ℕ
-  pub parts : bytes ≡ magic ++ body
+  pub parts : bytes ≡ magic version ++ body
   pub small : length bytes ≤ history_limit
   pub at : ℕ
-  pub fails : AllFails kind_of recording body (record { at = at; kind = fault })
+  pub fails : AllFails kind_of (recording version) body (record { at = at; kind = fault })
 
 -- the first fault of the bytes
 abbrev pub IsFileFault : List ℕ → FileFault → Type 0

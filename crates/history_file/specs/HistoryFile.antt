@@ -1,7 +1,5 @@
--- The file of a history, version 1 (this project's own format, in the items of RFC 4506).
+-- The file of a history, versions 1 and 2 (this project's own format, in the items of RFC 4506).
 use Rattle.std.specs.Prelude.{◌≡◌, ℕ, zero, suc, ◌+◌, ◌≤◌, nat_le, if◌then◌else◌, List, [], ◌∷◌, ◌++◌, length, codes, Result, Ok, Err}
-use Rattle.xdr_records.specs.declared.fault.XdrFault.{XdrFault}
-use Rattle.xdr_records.specs.declared.fault.XdrFault.TheVariants as xdr
 use Rattle.xdr_records.specs.Grammar.{Grammar, ◌>>=◌}
 use Rattle.xdr_records.specs.Grammar.Grammar.{one_word, one_opaque, named, nothing}
 use Rattle.xdr_records.specs.Spelling.{Spells}
@@ -11,15 +9,12 @@ use Rattle.history_file.specs.declared.fault.FileFault.TheVariants as faults
 use Rattle.history_file.specs.declared.file.EventKind.{EventKind}
 use Rattle.history_file.specs.declared.file.EventKind.TheVariants as kinds
 use Rattle.history_file.specs.Limits.{history_limit, event_limit, root_limit}
+use Rattle.tree_starts.specs.Head.{plain_head}
+use Rattle.history_file.specs.declared.version.Version.{Version}
+use Rattle.history_file.specs.declared.version.Version.TheVariants.{First, Second}
+use Rattle.history_file.specs.Starting.{profile_word, object_count, objects}
 use Rattle.history_file.specs.Event.{Event, Recording}
 use Rattle.history_file.specs.Event.Event.{call, reply, close, crash}
-
--- what is wrong where an item can't be read
-abbrev pub kind_of : XdrFault → FileFault
-kind_of xdr.Short = faults.Truncated
-kind_of xdr.BadFlag = faults.Truncated
-kind_of xdr.TooLong = faults.TooLarge
-kind_of xdr.Trailing = faults.Trailing
 
 -- the kind word of event i
 abbrev pub event_kind : ℕ → ℕ → Result EventKind FileFault
@@ -63,20 +58,30 @@ events (suc n) i = do
 abbrev pub event_count : ℕ → Result ℕ FileFault
 event_count n = if nat_le n event_limit then Ok n else Err faults.TooLarge
 
--- what stands behind the magic
-unfoldable pub recording : Grammar FileFault Recording
-recording = do
+-- what stands behind the magic: in version 1 no word of what the server held or of how strictly it is judged
+unfoldable pub recording : Version → Grammar FileFault Recording
+recording First = do
   root ← one_opaque root_limit
   count ← named event_count
   seen ← events count 1
-  nothing (record { root = root; events = seen })
+  nothing (record { head = plain_head root; events = seen })
+recording Second = do
+  root ← one_opaque root_limit
+  profile ← named profile_word
+  number ← named object_count
+  start ← objects number [] 1
+  count ← named event_count
+  seen ← events count 1
+  nothing (record { head = record { root = root; start = start; profile = profile }; events = seen })
 
-abbrev pub magic : List ℕ
-magic = codes "NFSHIST1"
+abbrev pub magic : Version → List ℕ
+magic First = codes "NFSHIST1"
+magic Second = codes "NFSHIST2"
 
 -- the bytes of a file are those of a recording
 pub record HistoryFile (bytes : List ℕ) (seen : Recording) : Type 0 where
+  pub version : Version
   pub body : List ℕ
-  pub parts : bytes ≡ magic ++ body
+  pub parts : bytes ≡ magic version ++ body
   pub small : length bytes ≤ history_limit
-  pub spelled : Spells recording body seen
+  pub spelled : Spells (recording version) body seen

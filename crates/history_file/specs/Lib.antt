@@ -1,5 +1,7 @@
 pub mod Event
 pub mod Limits
+pub mod Kinds
+pub mod Starting
 pub mod HistoryFile
 pub mod Owning
 pub mod FileFaults

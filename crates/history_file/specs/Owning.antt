@@ -29,4 +29,4 @@ all_seen events = map seen_event events
 
 -- what stands in a file, without where it lies in memory
 abbrev pub recording_value : SeenRecording → Recording
-recording_value seen = record { root = seen.root.now; events = all_seen seen.events.items }
+recording_value seen = record { head = record { root = seen.root.now; start = seen.start; profile = seen.profile }; events = all_seen seen.events.items }

@@ -4,17 +4,23 @@ use std::alloc::{AllocError, AllocFailed};
 use std::fmt;
 use thiserror::Error;
 
-/// Why bytes are no history file: the first fault, where events are numbered from 1.
+/// Why bytes are no history file: the first fault, where events and starting objects are numbered from 1.
 #[derive(Clone, Copy, Debug, PartialEq, Eq, Error)]
 pub enum FileFault {
     /// The file doesn't begin as one.
     BadMagic,
-    /// A limit is passed, by the file, its number of events, a message or the root handle.
+    /// A limit is passed: by the file, its number of events or of starting objects, a message, the root handle, or the name or the
+    /// bytes of a starting object.
     TooLarge,
     /// Bytes of an item are missing.
     Truncated,
     /// The kind word of an event isn't one.
     BadEvent(u64),
+    /// A starting object lies in none of the directories before it, its name is empty, `.`, `..` or taken there, or its kind word
+    /// isn't one.
+    BadStart(u64),
+    /// The profile word isn't one.
+    BadProfile,
     /// Bytes stand behind the last event.
     Trailing,
     /// Memory ran out.
@@ -33,6 +39,8 @@ impl fmt::Display for FileFault {
             FileFault::TooLarge => f.write_str("TooLarge"),
             FileFault::Truncated => f.write_str("Truncated"),
             FileFault::BadEvent(number) => write!(f, "BadEvent {number}"),
+            FileFault::BadStart(number) => write!(f, "BadStart {number}"),
+            FileFault::BadProfile => f.write_str("BadProfile"),
             FileFault::Trailing => f.write_str("Trailing"),
             FileFault::NoMemory => f.write_str("out of memory"),
         }

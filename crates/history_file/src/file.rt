@@ -1,22 +1,27 @@
 //! The events of a history file, in one pass. No message is copied: each stands in the file.
 
-ghost use Rattle.std.specs.Prelude.{◌≡◌, nat_eq, IfOk};
-ghost use Rattle.std.specs.List.{starts_with};
+ghost use Rattle.std.specs.Prelude.{◌≡◌, ◌≤◌, length, IfOk};
 ghost use Rattle.xdr_records.specs.Grammar.Grammar.{one_word, one_opaque, named};
 ghost use Rattle.xdr_records.specs.Reading.{Answers, AnswersAll, all_of, item_here};
 ghost use Rattle.xdr_records.specs.Items.{end_at};
-ghost use Rattle.history_file.specs.HistoryFile.{kind_of, event_kind, event_count, message, event, events, recording, magic, HistoryFile};
+ghost use Rattle.history_file.specs.Kinds.{kind_of};
+ghost use Rattle.history_file.specs.Limits.{root_limit};
+ghost use Rattle.history_file.specs.HistoryFile.{event_kind, event_count, message, event, events, recording, HistoryFile};
 ghost use Rattle.history_file.specs.declared.fault.FileFault.{FileFault};
 ghost use Rattle.history_file.specs.Event.{Recording};
 ghost use Rattle.history_file.specs.FileFaults.{IsFileFault, IsFineOrNoMemory, IsErrorOf, IsThatOrNoMemory};
-ghost use Rattle.history_file.specs.FileReading.{told, reading_of, file_of, IsAnswer};
+ghost use Rattle.history_file.specs.FileReading.{told, reading_of, file_of_version, file_of, IsAnswer};
 ghost use Rattle.history_file.specs.Owning.{seen_event, all_seen, recording_value};
 
 use crate::event::SeenEvent;
 use crate::fault::FileFault;
+use crate::items::{ItemFault, fault_at, opaque, word};
 use crate::limits::{EVENT_LIMIT, HISTORY_LIMIT, ROOT_LIMIT};
-use std::alloc::{AllocError, AllocFailed, Global};
-use xdr_records::{RECORD_LIMIT, Reader, XdrFault};
+use crate::starting::{object_count, profile, read_objects};
+use crate::version::{Version, version_of};
+use std::alloc::Global;
+use tree_starts::{Profile, SeenStart};
+use xdr_records::{RECORD_LIMIT, Reader};
 
 /// The bytes of an event in memory, but for its message, which stands in the file.
 const EVENT_SIZE: usize = 32;
@@ -39,64 +44,12 @@ pub enum EventKind {
 pub struct SeenRecording<'a> {
     /// The root handle, of at most 64 bytes.
     pub root: &'a [u8],
+    /// What the server held at first; object k is the k-th, counted from 1.
+    pub start: SeenStart<'a>,
+    /// How strictly the replies are judged.
+    pub profile: Profile,
     /// The events, in order; event n is the n-th, counted from 1.
     pub events: Vec<SeenEvent<'a>>,
-}
-
-/// Why an item can't be read, and where it stands.
-#[derive(Clone, Copy, PartialEq, Eq)]
-pub enum ItemFault {
-    /// The fault, and how many bytes stand between the magic and its item.
-    Fault { at: usize, fault: FileFault },
-    /// Memory ran out.
-    NoMemory,
-}
-
-impl From<AllocError> for ItemFault {
-    ghost use Rattle.std.specs.Prelude.{◌≡◌};
-    ghost use Rattle.history_file.specs.declared.file.ItemFault.TheVariants.{NoMemory};
-
-    ghost from_gives = { λ _ e. e ≡ NoMemory };
-
-    fn from(_error: AllocError) -> ItemFault {
-        ItemFault::NoMemory
-    }
-}
-
-impl<T: Drop> From<AllocFailed<T>> for ItemFault {
-    ghost use Rattle.std.specs.Prelude.{◌≡◌};
-    ghost use Rattle.history_file.specs.declared.file.ItemFault.TheVariants.{NoMemory};
-
-    ghost from_gives = { λ _ e. e ≡ NoMemory };
-
-    fn from(_error: AllocFailed<T>) -> ItemFault {
-        ItemFault::NoMemory
-    }
-}
-
-fn fault_at(at: usize, fault: XdrFault) -> ItemFault
-    ensures { result ≡ ItemFault.Fault at (kind_of fault) }
-{
-    let fault = match fault {
-        XdrFault::Short | XdrFault::BadFlag => FileFault::Truncated,
-        XdrFault::TooLong => FileFault::TooLarge,
-        XdrFault::Trailing => FileFault::Trailing,
-    };
-    ItemFault::Fault { at, fault }
-}
-
-fn word(reader: &mut Reader<'_>) -> Result<u32, ItemFault>
-    ensures { Answers told (λ n. n) reader.new result (reading_of one_word reader.old) }
-{
-    let at = reader.offset();
-    reader.u32().map_err(|fault| fault_at(at, fault))
-}
-
-fn opaque<'a>(reader: &mut Reader<'a>, limit: u32) -> Result<&'a [u8], ItemFault>
-    ensures { Answers told (λ bytes. bytes.now) reader.new result (reading_of (one_opaque limit) reader.old) }
-{
-    let at = reader.offset();
-    reader.opaque(limit).map_err(|fault| fault_at(at, fault))
 }
 
 fn kind(reader: &mut Reader<'_>, number: u64) -> Result<EventKind, ItemFault>
@@ -177,17 +130,64 @@ fn many_events<'a>(
     Ok(seen)
 }
 
+fn root<'a>(reader: &mut Reader<'a>) -> Result<&'a [u8], ItemFault>
+    ensures { Answers told (λ r. r.now) reader.new result (reading_of (one_opaque root_limit) reader.old) }
+{
+    opaque(reader, ROOT_LIMIT)
+}
+
+/// What stands in a file of version 1.
 #[tactic(auto, unfolding(crate::specs::HistoryFile::recording))]
 fn root_and_events<'a>(
     alloc: Global,
     reader: &mut Reader<'a>,
 ) -> Result<SeenRecording<'a>, ItemFault>
-    ensures { Answers told recording_value reader.new result (reading_of recording reader.old) }
+    ensures { Answers told recording_value reader.new result (reading_of (recording Version.First) reader.old) }
 {
-    let root = opaque(reader, ROOT_LIMIT)?;
+    let root = root(reader)?;
     let count = count(reader)?;
     let events = many_events(alloc, reader, count)?;
-    Ok(SeenRecording { root, events })
+    Ok(SeenRecording {
+        root,
+        start: SeenStart::empty(alloc),
+        profile: Profile::Plain,
+        events,
+    })
+}
+
+/// What stands in a file of version 2.
+#[tactic(auto, unfolding(crate::specs::HistoryFile::recording))]
+fn head_and_events<'a>(
+    alloc: Global,
+    reader: &mut Reader<'a>,
+) -> Result<SeenRecording<'a>, ItemFault>
+    ensures { Answers told recording_value reader.new result (reading_of (recording Version.Second) reader.old) }
+{
+    let root = root(reader)?;
+    let profile = profile(reader)?;
+    let number = object_count(reader)?;
+    let start = read_objects(alloc, reader, number)?;
+    let count = count(reader)?;
+    let events = many_events(alloc, reader, count)?;
+    Ok(SeenRecording {
+        root,
+        start,
+        profile,
+        events,
+    })
+}
+
+fn recorded<'a>(
+    alloc: Global,
+    reader: &mut Reader<'a>,
+    version: Version,
+) -> Result<SeenRecording<'a>, ItemFault>
+    ensures { Answers told recording_value reader.new result (reading_of (recording version) reader.old) }
+{
+    match version {
+        Version::First => root_and_events(alloc, reader),
+        Version::Second => head_and_events(alloc, reader),
+    }
 }
 
 fn ended(reader: &Reader<'_>) -> Result<(), ItemFault>
@@ -197,35 +197,45 @@ fn ended(reader: &Reader<'_>) -> Result<(), ItemFault>
     reader.done().map_err(|fault| fault_at(at, fault))
 }
 
-fn body<'a>(alloc: Global, bytes: &'a [u8]) -> Result<SeenRecording<'a>, ItemFault>
-    ensures { AnswersAll told recording_value result (all_of kind_of recording bytes.now) }
+fn body<'a>(
+    alloc: Global,
+    version: Version,
+    bytes: &'a [u8],
+) -> Result<SeenRecording<'a>, ItemFault>
+    ensures { AnswersAll told recording_value result (all_of kind_of (recording version) bytes.now) }
 {
     let mut reader = Reader::new(bytes);
-    let seen = root_and_events(alloc, &mut reader)?;
+    let seen = recorded(alloc, &mut reader, version)?;
     ended(&reader)?;
     Ok(seen)
 }
 
-fn has_magic(bytes: &[u8]) -> bool
-    ensures { result ≡ starts_with nat_eq bytes.now magic }
+/// The recording that a file of a version holds, step by step.
+fn recording_in<'a>(
+    alloc: Global,
+    version: Version,
+    bytes: &'a [u8],
+) -> Result<SeenRecording<'a>, FileFault>
+    requires { 8 ≤ length bytes.now }
+    ensures { IsAnswer recording_value result (file_of_version version bytes.now) }
 {
-    bytes.starts_with(b"NFSHIST1".as_slice())
+    if bytes.len() > HISTORY_LIMIT {
+        return Err(FileFault::TooLarge);
+    }
+    match body(alloc, version, &bytes[8..]) {
+        Ok(seen) => Ok(seen),
+        Err(ItemFault::Fault { fault, .. }) => Err(fault),
+        Err(ItemFault::NoMemory) => Err(FileFault::NoMemory),
+    }
 }
 
 /// The recording that a file holds, step by step.
 fn recording_of<'a>(alloc: Global, bytes: &'a [u8]) -> Result<SeenRecording<'a>, FileFault>
     ensures { IsAnswer recording_value result (file_of bytes.now) }
 {
-    if !has_magic(bytes) {
-        return Err(FileFault::BadMagic);
-    }
-    if bytes.len() > HISTORY_LIMIT {
-        return Err(FileFault::TooLarge);
-    }
-    match body(alloc, &bytes[8..]) {
-        Ok(seen) => Ok(seen),
-        Err(ItemFault::Fault { fault, .. }) => Err(fault),
-        Err(ItemFault::NoMemory) => Err(FileFault::NoMemory),
+    match version_of(bytes) {
+        Some(version) => recording_in(alloc, version, bytes),
+        None => Err(FileFault::BadMagic),
     }
 }
 

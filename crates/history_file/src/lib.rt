@@ -4,11 +4,17 @@
 mod event;
 mod fault;
 mod file;
+mod items;
 mod limits;
+mod starting;
+mod version;
 mod writing;
 
 pub use event::{Event, Message, SeenEvent, copy_events, lend_events};
 pub use fault::FileFault;
 pub use file::{SeenRecording, read_file};
+pub use items::ItemFault;
 pub use limits::{EVENT_LIMIT, HISTORY_LIMIT};
-pub use writing::{WriteFault, write_history};
+pub use starting::read_objects;
+pub use version::{Version, version_of};
+pub use writing::{WriteFault, write_history, write_history_from};

@@ -1,6 +1,5 @@
 -- Reading a history file event by event is reading it.
-use Rattle.std.proofs.Common.{◌≡◌, ℕ, zero, suc, ◌+◌, ◌-◌, ◌<◌, ◌≤◌, Bool, true, false, cond, nat_lt, nat_le, List, [], ◌∷◌, ◌++◌, length, Result, Ok, Err, IfOk, IfErr, refl, sym, ap, subst, ◌∙◌, append_assoc, length-append, drop, take, nat_eq, arith}
-use Rattle.std.specs.List.{starts_with}
+use Rattle.std.proofs.Common.{◌≡◌, ◌⊎◌, inl, inr, Option, Some, None, ℕ, zero, suc, ◌+◌, ◌-◌, ◌<◌, ◌≤◌, Bool, true, false, cond, nat_lt, nat_le, List, [], ◌∷◌, ◌++◌, length, Result, Ok, Err, IfOk, refl, sym, ap, subst, ◌∙◌, append_assoc, length-append, drop, take, arith}
 use Rattle.xdr_records.specs.declared.fault.XdrFault.{XdrFault}
 use Rattle.xdr_records.specs.declared.fault.XdrFault.TheVariants.{Short, TooLong}
 use Rattle.xdr_records.specs.Unread.{Unread, At, whole, behind}
@@ -16,11 +15,21 @@ use Rattle.history_file.specs.declared.file.EventKind.TheVariants as kinds_of
 use Rattle.history_file.specs.Event.{Event, Recording}
 use Rattle.history_file.specs.Event.Event.{call, reply, close, crash}
 use Rattle.history_file.specs.Limits.{root_limit}
-use Rattle.history_file.specs.HistoryFile.{kind_of, event_kind, event_count, message, event_of, event, events, recording, magic}
+use Rattle.tree_starts.specs.Head.{Head}
+use Rattle.tree_starts.specs.declared.object.StartObject.{StartObject}
+use Rattle.tree_starts.specs.declared.profile.Profile.{Profile}
+use Rattle.tree_starts.specs.declared.profile.Profile.TheVariants.{Plain}
+use Rattle.history_file.specs.declared.version.Version.{Version}
+use Rattle.history_file.specs.declared.version.Version.TheVariants.{First, Second}
+use Rattle.history_file.specs.Kinds.{kind_of}
+use Rattle.history_file.specs.Starting.{profile_word, object_count, objects}
+use Rattle.history_file.specs.FileReading.{version_of}
+use Rattle.history_file.specs.HistoryFile.{event_kind, event_count, message, event_of, event, events, recording}
 use Rattle.history_file.specs.FileFaults.{IsFileFault}
-use Rattle.history_file.proofs.FileLaws.{file_found, file_fault, file_of-body}
-use Rattle.history_lines.specs.declared.events.UnreadEvents.{UnreadEvents}
-use Rattle.history_lines.specs.Left.{with_end, events_left, recorded, body_of, IsBegun, IsLeftOf, IsLeft, IsWhole}
+use Rattle.history_file.proofs.FileLaws.{file_found, file_fault, file_of-body, in_version}
+use Rattle.history_file.specs.declared.fault.FileFault.TheVariants as faults
+use Rattle.history_lines.specs.declared.events.BegunFile.{BegunFile}
+use Rattle.history_lines.specs.Left.{with_end, events_left, recorded, body_of, IsBegun, IsLeftOf, IsLeft, IsWhole, IsErrorIn}
 
 -- ---- what is read doesn't depend on how many bytes stand ahead
 
@@ -150,31 +159,31 @@ first_fails : (m i : ℕ) (rest : List ℕ) (fault : FileFault) → kind_reading
 unfolding events
 first_fails m i rest fault is = rw is refl
 
-recorded_more : (root : List ℕ) (front : List Event) (e : Event) (left : Result (List Event) FileFault) → recorded root front (bound left (λ es. Ok (e ∷ es))) ≡ recorded root (front ++ e ∷ []) left
-recorded_more root front e (Ok es) =
-    let of : List Event → Result Recording FileFault = λ all. Ok (record { root = root; events = all }) in
+recorded_more : (head : Head) (front : List Event) (e : Event) (left : Result (List Event) FileFault) → recorded head front (bound left (λ es. Ok (e ∷ es))) ≡ recorded head (front ++ e ∷ []) left
+recorded_more head front e (Ok es) =
+    let of : List Event → Result Recording FileFault = λ all. Ok (record { head = head; events = all }) in
     ap of (sym (append_assoc front (e ∷ []) es))
-recorded_more root front e (Err fault) = refl
+recorded_more head front e (Err fault) = refl
 
-pub one_more : (bytes : List ℕ) (read count : ℕ) (rest : List ℕ) (e : Event) (after : Unread) → read < count → kind_reading kind_of (event (read + 1)) (whole rest) ≡ Ok (e, after)
-    → IsLeftOf bytes read count rest → IsLeftOf bytes (read + 1) count after.rest
-one_more bytes read count rest e after more is left =
+pub one_more : (bytes : List ℕ) (start : List StartObject) (profile : Profile) (read count : ℕ) (rest : List ℕ) (e : Event) (after : Unread) → read < count → kind_reading kind_of (event (read + 1)) (whole rest) ≡ Ok (e, after)
+    → IsLeftOf bytes start profile read count rest → IsLeftOf bytes start profile (read + 1) count after.rest
+one_more bytes start profile read count rest e after more is left =
     let k : count - read ≡ suc (count - (read + 1)) = omega arith in
-    let next : recorded left.root left.front (events_left (count - read) (read + 1) rest) ≡ recorded left.root left.front (bound (events_left (count - (read + 1)) ((read + 1) + 1) after.rest) (λ es. Ok (e ∷ es)))
-    = rw k (ap (recorded left.root left.front) (first_read (count - (read + 1)) (read + 1) rest e after is)) in
+    let next : recorded (record { root = left.root; start = start; profile = profile }) left.front (events_left (count - read) (read + 1) rest) ≡ recorded (record { root = left.root; start = start; profile = profile }) left.front (bound (events_left (count - (read + 1)) ((read + 1) + 1) after.rest) (λ es. Ok (e ∷ es)))
+    = rw k (ap (recorded (record { root = left.root; start = start; profile = profile }) left.front) (first_read (count - (read + 1)) (read + 1) rest e after is)) in
     record {
       root = left.root;
       front = left.front ++ e ∷ [];
       as_many = length-append left.front (e ∷ []) ∙ ap (λ n. n + 1) left.as_many;
-      goes_on = left.goes_on ∙ (next ∙ recorded_more left.root left.front e (events_left (count - (read + 1)) ((read + 1) + 1) after.rest));
+      goes_on = left.goes_on ∙ (next ∙ recorded_more (record { root = left.root; start = start; profile = profile }) left.front e (events_left (count - (read + 1)) ((read + 1) + 1) after.rest));
     }
 
-pub one_fails : (bytes : List ℕ) (read count : ℕ) (rest : List ℕ) (fault : FileFault) → read < count → kind_reading kind_of (event (read + 1)) (whole rest) ≡ Err fault
-    → IsLeftOf bytes read count rest → IsFileFault bytes fault
-one_fails bytes read count rest fault more is left =
+pub one_fails : (bytes : List ℕ) (start : List StartObject) (profile : Profile) (read count : ℕ) (rest : List ℕ) (fault : FileFault) → read < count → kind_reading kind_of (event (read + 1)) (whole rest) ≡ Err fault
+    → IsLeftOf bytes start profile read count rest → IsFileFault bytes fault
+one_fails bytes start profile read count rest fault more is left =
     let k : count - read ≡ suc (count - (read + 1)) = omega arith in
-    let next : recorded left.root left.front (events_left (count - read) (read + 1) rest) ≡ Err fault
-    = rw k (ap (recorded left.root left.front) (first_fails (count - (read + 1)) (read + 1) rest fault is)) in
+    let next : recorded (record { root = left.root; start = start; profile = profile }) left.front (events_left (count - read) (read + 1) rest) ≡ Err fault
+    = rw k (ap (recorded (record { root = left.root; start = start; profile = profile }) left.front) (first_fails (count - (read + 1)) (read + 1) rest fault is)) in
     file_fault bytes fault (left.goes_on ∙ next)
 
 -- ---- the end
@@ -183,16 +192,16 @@ none_left : (n i : ℕ) (rest : List ℕ) → n ≡ 0 → events_left n i rest �
 unfolding events
 none_left n i rest none = rw none refl
 
-pub whole_at_end : (bytes : List ℕ) (read count : ℕ) (rest : List ℕ) → count ≤ read → end_at (whole rest) ≡ Ok tt → IsLeftOf bytes read count rest → IsWhole bytes
-whole_at_end bytes read count rest done is left =
+pub whole_at_end : (bytes : List ℕ) (start : List StartObject) (profile : Profile) (read count : ℕ) (rest : List ℕ) → count ≤ read → end_at (whole rest) ≡ Ok tt → IsLeftOf bytes start profile read count rest → IsWhole bytes
+whole_at_end bytes start profile read count rest done is left =
     let none : events_left (count - read) (read + 1) rest ≡ Ok [] = none_left (count - read) (read + 1) rest (omega arith) ∙ rw is refl in
-    let seen : Recording = record { root = left.root; events = left.front ++ [] } in
-    (seen, file_found bytes seen (left.goes_on ∙ ap (recorded left.root left.front) none))
+    let seen : Recording = record { head = record { root = left.root; start = start; profile = profile }; events = left.front ++ [] } in
+    (seen, file_found bytes seen (left.goes_on ∙ ap (recorded (record { root = left.root; start = start; profile = profile }) left.front) none))
 
-pub fault_at_end : (bytes : List ℕ) (read count : ℕ) (rest : List ℕ) (name : XdrFault) → count ≤ read → end_at (whole rest) ≡ Err name → IsLeftOf bytes read count rest → IsFileFault bytes (kind_of name)
-fault_at_end bytes read count rest name done is left =
+pub fault_at_end : (bytes : List ℕ) (start : List StartObject) (profile : Profile) (read count : ℕ) (rest : List ℕ) (name : XdrFault) → count ≤ read → end_at (whole rest) ≡ Err name → IsLeftOf bytes start profile read count rest → IsFileFault bytes (kind_of name)
+fault_at_end bytes start profile read count rest name done is left =
     let none : events_left (count - read) (read + 1) rest ≡ Err (kind_of name) = none_left (count - read) (read + 1) rest (omega arith) ∙ rw is refl in
-    file_fault bytes (kind_of name) (left.goes_on ∙ ap (recorded left.root left.front) none)
+    file_fault bytes (kind_of name) (left.goes_on ∙ ap (recorded (record { root = left.root; start = start; profile = profile }) left.front) none)
 
 -- ---- the beginning
 
@@ -204,44 +213,96 @@ kinds-all : {A : Type 0} (r : Result (A × Unread) (At FileFault)) → kinds (bo
 kinds-all (Ok x) = kinds-ended x (end_at x.1)
 kinds-all (Err fault) = refl
 
-body_is_read : (body : List ℕ) → body_of body ≡ with_end (kind_reading kind_of recording (whole body))
-body_is_read body = kinds-all (reading kind_of recording (whole body)) ∙ ap with_end (sym (kind_reading-is kind_of recording (whole body)))
+body_is_read : (version : Version) (body : List ℕ) → body_of version body ≡ with_end (kind_reading kind_of (recording version) (whole body))
+body_is_read version body = kinds-all (reading kind_of (recording version) (whole body)) ∙ ap with_end (sym (kind_reading-is kind_of (recording version) (whole body)))
 
-pub begun : (body root : List ℕ) (count : ℕ) (behind_root behind_count : Unread) → kind_reading kind_of (one_opaque root_limit) (whole body) ≡ Ok (root, behind_root)
-    → kind_reading kind_of (named event_count) behind_root ≡ Ok (count, behind_count) → IsBegun body count behind_count.rest
-unfolding recording
-begun body root count behind_root behind_count has_root has_count =
-    let of : List Event → Recording = λ all. record { root = root; events = all } in
-    let read : with_end (kind_reading kind_of recording (whole body)) ≡ recorded root [] (events_left count 1 behind_count.rest)
-    = rw (has_root, has_count) (ending (kind_reading kind_of (events count 1) behind_count) (kind_reading kind_of (events count 1) (whole behind_count.rest)) of (events_anywhere count 1 behind_count.at 0 behind_count.rest)) in
-    record { root = root; goes_on = body_is_read body ∙ read }
+-- the events that follow what was read
+all_behind : (head : Head) (count : ℕ) (behind_count : Unread) → with_end (bound (kind_reading kind_of (events count 1) behind_count) (λ x. Ok (record { head = head; events = x.0 }, x.1))) ≡ recorded head [] (events_left count 1 behind_count.rest)
+all_behind head count behind_count =
+    ending (kind_reading kind_of (events count 1) behind_count) (kind_reading kind_of (events count 1) (whole behind_count.rest)) (λ (all : List Event). record { head = head; events = all }) (events_anywhere count 1 behind_count.at 0 behind_count.rest)
 
-pub root_fails : (body : List ℕ) (fault : FileFault) → kind_reading kind_of (one_opaque root_limit) (whole body) ≡ Err fault → body_of body ≡ Err fault
+pub begun_first : (body root : List ℕ) (count : ℕ) (behind_root behind_count : Unread) → kind_reading kind_of (one_opaque root_limit) (whole body) ≡ Ok (root, behind_root)
+    → kind_reading kind_of (named event_count) behind_root ≡ Ok (count, behind_count) → IsBegun First body [] Plain count behind_count.rest
 unfolding recording
-root_fails body fault is = body_is_read body ∙ rw is refl
+begun_first body root count behind_root behind_count has_root has_count =
+    let head : Head = record { root = root; start = []; profile = Plain } in
+    record { root = root; goes_on = body_is_read First body ∙ rw (has_root, has_count) (all_behind head count behind_count) }
+
+pub begun_second : (body root : List ℕ) (profile : Profile) (number : ℕ) (start : List StartObject) (count : ℕ) (behind_root behind_profile behind_number behind_start behind_count : Unread)
+    → kind_reading kind_of (one_opaque root_limit) (whole body) ≡ Ok (root, behind_root)
+    → kind_reading kind_of (named profile_word) behind_root ≡ Ok (profile, behind_profile)
+    → kind_reading kind_of (named object_count) behind_profile ≡ Ok (number, behind_number)
+    → kind_reading kind_of (objects number [] 1) behind_number ≡ Ok (start, behind_start)
+    → kind_reading kind_of (named event_count) behind_start ≡ Ok (count, behind_count) → IsBegun Second body start profile count behind_count.rest
+unfolding recording
+begun_second body root profile number start count behind_root behind_profile behind_number behind_start behind_count has_root has_profile has_number has_start has_count =
+    let head : Head = record { root = root; start = start; profile = profile } in
+    record { root = root; goes_on = body_is_read Second body ∙ rw (has_root, has_profile, has_number, has_start, has_count) (all_behind head count behind_count) }
+
+pub root_fails : (version : Version) (body : List ℕ) (fault : FileFault) → kind_reading kind_of (one_opaque root_limit) (whole body) ≡ Err fault → body_of version body ≡ Err fault
+unfolding recording
+root_fails First body fault is = body_is_read First body ∙ rw is refl
+root_fails Second body fault is = body_is_read Second body ∙ rw is refl
 
 pub count_fails : (body root : List ℕ) (behind_root : Unread) (fault : FileFault) → kind_reading kind_of (one_opaque root_limit) (whole body) ≡ Ok (root, behind_root)
-    → kind_reading kind_of (named event_count) behind_root ≡ Err fault → body_of body ≡ Err fault
+    → kind_reading kind_of (named event_count) behind_root ≡ Err fault → body_of First body ≡ Err fault
 unfolding recording
-count_fails body root behind_root fault has_root is = body_is_read body ∙ rw (has_root, is) refl
+count_fails body root behind_root fault has_root is = body_is_read First body ∙ rw (has_root, is) refl
 
-pub left_at_first : (bytes : List ℕ) (count : ℕ) (rest : List ℕ) → starts_with nat_eq bytes magic ≡ true → length bytes ≤ 268435456 → IsBegun (drop 8 bytes) count rest → IsLeftOf bytes 0 count rest
-left_at_first bytes count rest begins small first =
+pub profile_fails : (body root : List ℕ) (behind_root : Unread) (fault : FileFault) → kind_reading kind_of (one_opaque root_limit) (whole body) ≡ Ok (root, behind_root)
+    → kind_reading kind_of (named profile_word) behind_root ≡ Err fault → body_of Second body ≡ Err fault
+unfolding recording
+profile_fails body root behind_root fault has_root is = body_is_read Second body ∙ rw (has_root, is) refl
+
+pub number_fails : (body root : List ℕ) (profile : Profile) (behind_root behind_profile : Unread) (fault : FileFault) → kind_reading kind_of (one_opaque root_limit) (whole body) ≡ Ok (root, behind_root)
+    → kind_reading kind_of (named profile_word) behind_root ≡ Ok (profile, behind_profile) → kind_reading kind_of (named object_count) behind_profile ≡ Err fault → body_of Second body ≡ Err fault
+unfolding recording
+number_fails body root profile behind_root behind_profile fault has_root has_profile is = body_is_read Second body ∙ rw (has_root, has_profile, is) refl
+
+pub start_fails : (body root : List ℕ) (profile : Profile) (number : ℕ) (behind_root behind_profile behind_number : Unread) (fault : FileFault)
+    → kind_reading kind_of (one_opaque root_limit) (whole body) ≡ Ok (root, behind_root) → kind_reading kind_of (named profile_word) behind_root ≡ Ok (profile, behind_profile)
+    → kind_reading kind_of (named object_count) behind_profile ≡ Ok (number, behind_number) → kind_reading kind_of (objects number [] 1) behind_number ≡ Err fault → body_of Second body ≡ Err fault
+unfolding recording
+start_fails body root profile number behind_root behind_profile behind_number fault has_root has_profile has_number is = body_is_read Second body ∙ rw (has_root, has_profile, has_number, is) refl
+
+pub second_count_fails : (body root : List ℕ) (profile : Profile) (number : ℕ) (start : List StartObject) (behind_root behind_profile behind_number behind_start : Unread) (fault : FileFault)
+    → kind_reading kind_of (one_opaque root_limit) (whole body) ≡ Ok (root, behind_root) → kind_reading kind_of (named profile_word) behind_root ≡ Ok (profile, behind_profile)
+    → kind_reading kind_of (named object_count) behind_profile ≡ Ok (number, behind_number) → kind_reading kind_of (objects number [] 1) behind_number ≡ Ok (start, behind_start)
+    → kind_reading kind_of (named event_count) behind_start ≡ Err fault → body_of Second body ≡ Err fault
+unfolding recording
+second_count_fails body root profile number start behind_root behind_profile behind_number behind_start fault has_root has_profile has_number has_start is =
+    body_is_read Second body ∙ rw (has_root, has_profile, has_number, has_start, is) refl
+
+left_at_first : (bytes : List ℕ) (version : Version) (start : List StartObject) (profile : Profile) (count : ℕ) (rest : List ℕ) → version_of bytes ≡ Some version → length bytes ≤ 268435456 → IsBegun version (drop 8 bytes) start profile count rest → IsLeftOf bytes start profile 0 count rest
+left_at_first bytes version start profile count rest begins small first =
     let k : count - 0 ≡ count = omega arith in
-    record { root = first.root; front = []; as_many = refl; goes_on = file_of-body bytes begins small ∙ rw k first.goes_on }
+    record { root = first.root; front = []; as_many = refl; goes_on = in_version bytes version begins ∙ file_of-body version bytes small ∙ rw k first.goes_on }
 
-pub fault_at_first : (bytes : List ℕ) (fault : FileFault) → starts_with nat_eq bytes magic ≡ true → length bytes ≤ 268435456 → body_of (drop 8 bytes) ≡ Err fault → IsFileFault bytes fault
-fault_at_first bytes fault begins small is = file_fault bytes fault (file_of-body bytes begins small ∙ is)
+fault_at_first : (bytes : List ℕ) (version : Version) (fault : FileFault) → version_of bytes ≡ Some version → length bytes ≤ 268435456 → body_of version (drop 8 bytes) ≡ Err fault → IsFileFault bytes fault
+fault_at_first bytes version fault begins small is = file_fault bytes fault (in_version bytes version begins ∙ file_of-body version bytes small ∙ is)
 
 -- ---- what is read of a file
 
-pub found_of : (bytes body : List ℕ) (r : Result UnreadEvents FileFault) → body ≡ drop 8 bytes → starts_with nat_eq bytes magic ≡ true → length bytes ≤ 268435456
-    → IfOk r (λ unread. IsBegun body unread.count unread.rest.now × (unread.read ≡ 0)) → IfOk r (IsLeft bytes)
-found_of bytes body (Ok unread) same begins small first =
-    rw first.1 (left_at_first bytes unread.count unread.rest.now begins small (subst (λ (b : List ℕ). IsBegun b unread.count unread.rest.now) same first.0))
-found_of bytes body (Err fault) same begins small first = tt
+pub found_of : (bytes body : List ℕ) (version : Version) (r : Result BegunFile FileFault) → body ≡ drop 8 bytes → version_of bytes ≡ Some version → length bytes ≤ 268435456
+    → IfOk r (λ b. IsBegun version body b.start b.profile b.unread.count b.unread.rest.now × (b.unread.read ≡ 0)) → IfOk r (λ b. IsLeft bytes b.start b.profile b.unread)
+found_of bytes body version (Ok b) same begins small first =
+    rw first.1 (left_at_first bytes version b.start b.profile b.unread.count b.unread.rest.now begins small (subst (λ (xs : List ℕ). IsBegun version xs b.start b.profile b.unread.count b.unread.rest.now) same first.0))
+found_of bytes body version (Err fault) same begins small first = tt
 
-pub fault_of : (bytes body : List ℕ) (r : Result UnreadEvents FileFault) → body ≡ drop 8 bytes → starts_with nat_eq bytes magic ≡ true → length bytes ≤ 268435456
-    → IfErr r (λ fault. body_of body ≡ Err fault) → IfErr r (IsFileFault bytes)
-fault_of bytes body (Ok unread) same begins small is = tt
-fault_of bytes body (Err fault) same begins small is = fault_at_first bytes fault begins small (ap body_of (sym same) ∙ is)
+pub fault_of : (bytes body : List ℕ) (version : Version) (r : Result BegunFile FileFault) → body ≡ drop 8 bytes → version_of bytes ≡ Some version → length bytes ≤ 268435456
+    → IsErrorIn (Some version) (λ fault. body_of version body ≡ Err fault) r → IsErrorIn (version_of bytes) (IsFileFault bytes) r
+fault_of bytes body version r same begins small is = rw begins (in_version_of version r begins is) where
+  here : (v : Version) (fault : FileFault) → version_of bytes ≡ Some v → body_of v body ≡ Err fault → IsFileFault bytes fault
+  here v fault begins is = fault_at_first bytes v fault begins small (ap (body_of v) (sym same) ∙ is)
+
+  in_version_of : (v : Version) (r : Result BegunFile FileFault) → version_of bytes ≡ Some v → IsErrorIn (Some v) (λ fault. body_of v body ≡ Err fault) r → IsErrorIn (Some v) (IsFileFault bytes) r
+  in_version_of v (Ok b) begins is = tt
+  in_version_of First (Err fault) begins is = here First fault begins is
+  in_version_of Second (Err fault) begins (inl none) = inl none
+  in_version_of Second (Err fault) begins (inr is) = inr (here Second fault begins is)
+
+-- so an error is such a fault, or want of memory
+pub error_of : (Is : FileFault → Type 0) (version : Option Version) (fault : FileFault) → IsErrorIn {X = Unit {0}} version Is (Err fault) → (fault ≡ faults.NoMemory) ⊎ Is fault
+error_of Is None fault is = inr is
+error_of Is (Some First) fault is = inr is
+error_of Is (Some Second) fault is = is

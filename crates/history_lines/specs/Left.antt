@@ -1,5 +1,5 @@
 -- What is left of a history file that is read event by event: what the code's private functions say to the prover.
-use Rattle.std.specs.Prelude.{◌≡◌, ℕ, ◌+◌, ◌-◌, List, [], ◌++◌, length, Result, Ok}
+use Rattle.std.specs.Prelude.{◌≡◌, ◌⊎◌, ℕ, ◌+◌, ◌-◌, List, [], ◌++◌, length, Option, Some, None, Result, Ok, Err}
 use Rattle.xdr_records.specs.Unread.{Unread, whole}
 use Rattle.xdr_records.specs.Items.{end_at}
 use Rattle.xdr_records.specs.Reading.{bound, all_of, kinds}
@@ -7,8 +7,15 @@ use Rattle.xdr_records.specs.Kinds.{item_kind, kind_reading}
 use Rattle.history_file.specs.declared.fault.FileFault.{FileFault}
 use Rattle.history_file.specs.declared.file.EventKind as file
 use Rattle.history_file.specs.declared.file.EventKind.TheVariants as file_kinds
+use Rattle.tree_starts.specs.Head.{Head}
+use Rattle.tree_starts.specs.declared.object.StartObject.{StartObject}
+use Rattle.tree_starts.specs.declared.profile.Profile.{Profile}
+use Rattle.history_file.specs.declared.fault.FileFault.TheVariants as faults
+use Rattle.history_file.specs.declared.version.Version.{Version}
+use Rattle.history_file.specs.declared.version.Version.TheVariants.{First, Second}
 use Rattle.history_file.specs.Event.{Event, Recording}
-use Rattle.history_file.specs.HistoryFile.{kind_of, events, recording, HistoryFile}
+use Rattle.history_file.specs.Kinds.{kind_of}
+use Rattle.history_file.specs.HistoryFile.{events, recording, HistoryFile}
 use Rattle.history_file.specs.FileReading.{file_of}
 use Rattle.history_lines.specs.declared.items.EventKind.{EventKind}
 use Rattle.history_lines.specs.declared.items.EventKind.TheVariants as read_kinds
@@ -29,27 +36,39 @@ abbrev pub events_left : ℕ → ℕ → List ℕ → Result (List Event) FileFa
 events_left n i rest = with_end (kind_reading kind_of (events n i) (whole rest))
 
 -- a recording of the events that were read, and of those that are left
-abbrev pub recorded : List ℕ → List Event → Result (List Event) FileFault → Result Recording FileFault
-recorded root front left = bound left (λ others. Ok (record { root = root; events = front ++ others }))
+abbrev pub recorded : Head → List Event → Result (List Event) FileFault → Result Recording FileFault
+recorded head front left = bound left (λ others. Ok (record { head = head; events = front ++ others }))
 
 -- what a file holds behind its magic
-abbrev pub body_of : List ℕ → Result Recording FileFault
-body_of body = kinds (all_of kind_of recording body)
+abbrev pub body_of : Version → List ℕ → Result Recording FileFault
+body_of version body = kinds (all_of kind_of (recording version) body)
 
--- behind the magic and the root handle so many events are ahead, of which none is read
-pub record IsBegun (body : List ℕ) (count : ℕ) (rest : List ℕ) : Type 0 where
+-- behind the magic and the head so many events are ahead, of which none is read
+pub record IsBegun (version : Version) (body : List ℕ) (start : List StartObject) (profile : Profile) (count : ℕ) (rest : List ℕ) : Type 0 where
   pub root : List ℕ
-  pub goes_on : body_of body ≡ recorded root [] (events_left count 1 rest)
+  pub goes_on : body_of version body ≡ recorded (record { root = root; start = start; profile = profile }) [] (events_left count 1 rest)
+
+-- a value is what is read from the front, and an error is what is wrong there, or want of memory
+abbrev pub TellsOrNoMemory : {X Y : Type 0} → (X → Y) → Unread → Result X FileFault → Result (Y × Unread) FileFault → Type 0
+TellsOrNoMemory view new (Ok x) answer = answer ≡ Ok (view x, new)
+TellsOrNoMemory view new (Err fault) answer = (fault ≡ faults.NoMemory) ⊎ (answer ≡ Err fault)
+
+-- an error is such a fault, or where a start may stand in the file want of memory
+abbrev pub IsErrorIn : {X : Type 0} → Option Version → (FileFault → Type 0) → Result X FileFault → Type 0
+IsErrorIn version Is (Ok x) = Unit {0}
+IsErrorIn None Is (Err fault) = Is fault
+IsErrorIn (Some First) Is (Err fault) = Is fault
+IsErrorIn (Some Second) Is (Err fault) = (fault ≡ faults.NoMemory) ⊎ Is fault
 
 -- what was read of a file, which is so many events, and what is left make the whole
-pub record IsLeftOf (bytes : List ℕ) (read count : ℕ) (rest : List ℕ) : Type 0 where
+pub record IsLeftOf (bytes : List ℕ) (start : List StartObject) (profile : Profile) (read count : ℕ) (rest : List ℕ) : Type 0 where
   pub root : List ℕ
   pub front : List Event
   pub as_many : length front ≡ read
-  pub goes_on : file_of bytes ≡ recorded root front (events_left (count - read) (read + 1) rest)
+  pub goes_on : file_of bytes ≡ recorded (record { root = root; start = start; profile = profile }) front (events_left (count - read) (read + 1) rest)
 
-abbrev pub IsLeft : List ℕ → UnreadEvents → Type 0
-IsLeft bytes unread = IsLeftOf bytes unread.read unread.count unread.rest.now
+abbrev pub IsLeft : List ℕ → List StartObject → Profile → UnreadEvents → Type 0
+IsLeft bytes start profile unread = IsLeftOf bytes start profile unread.read unread.count unread.rest.now
 
 -- the bytes are a file
 abbrev pub IsWhole : List ℕ → Type 0

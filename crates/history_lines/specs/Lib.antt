@@ -1,4 +1,5 @@
 pub mod Printable
 pub mod Left
+pub mod StartShown
 pub mod Lines
 pub mod Shown

@@ -1,12 +1,14 @@
 //! The events of a history file, one after the other. Nothing is copied, and nothing is kept of those that are read.
 
-ghost use Rattle.std.specs.Prelude.{◌≡◌, ◌+◌, ◌-◌, ◌≤◌, ◌<◌, nat_eq, ℕ, List, IfOk, IfErr, OnOk, Err};
-ghost use Rattle.std.specs.List.{starts_with};
-ghost use Rattle.history_file.specs.HistoryFile.{magic};
+ghost use Rattle.std.specs.Prelude.{◌≡◌, ◌+◌, ◌-◌, ◌≤◌, ◌<◌, ℕ, List, IfOk, IfErr, OnOk, Some, Err};
+ghost use Rattle.tree_starts.specs.declared.object.StartObject.{StartObject};
+ghost use Rattle.tree_starts.specs.declared.profile.Profile.{Profile};
 
-use crate::items::{count, event, fault_of, opaque};
-use history_file::{FileFault, HISTORY_LIMIT, SeenEvent};
+use crate::items::{count, event, fault_of, object_count, objects, opaque, profile};
+use history_file::{FileFault, HISTORY_LIMIT, SeenEvent, Version, version_of};
 use nfs3_types::HANDLE_LIMIT;
+use std::alloc::Global;
+use tree_starts::{Profile, SeenStart};
 use xdr_records::Reader;
 
 /// What of a history file is still unread.
@@ -23,49 +25,102 @@ pub struct UnreadEvents<'a> {
     ghost among_them: { calls ≤ read },
 }
 
-fn has_magic(bytes: &[u8]) -> bool
-    ensures { result ≡ starts_with nat_eq bytes.now magic }
-{
-    bytes.starts_with(b"NFSHIST1".as_slice())
+/// What stands before the events of a history file, and its events, which are unread.
+#[derive(Drop)]
+pub struct BegunFile<'a> {
+    /// What the server held at first.
+    pub start: SeenStart<'a>,
+    /// How strictly its replies are judged.
+    pub profile: Profile,
+    /// Its events.
+    pub unread: UnreadEvents<'a>,
 }
 
 fn is_call(event: &SeenEvent<'_>) -> bool {
     matches!(event, SeenEvent::Call { .. })
 }
 
-impl<'a> UnreadEvents<'a> {
+impl<'a> BegunFile<'a> {
     ghost use Rattle.history_file.specs.FileFaults.{IsFileFault};
-    ghost use Rattle.history_lines.specs.Left.{body_of, IsBegun, IsLeft, IsWhole};
+    ghost use Rattle.history_file.specs.FileReading.{version_of};
+    ghost use Rattle.history_lines.specs.Left.{body_of, IsBegun, IsLeft, IsErrorIn};
 
-    /// What is unread of a file behind its magic.
-    fn in_body(body: &'a [u8]) -> Result<UnreadEvents<'a>, FileFault>
-        ensures found { IfOk result (λ unread. IsBegun body.now unread.count unread.rest.now × (unread.read ≡ 0)) }
-        ensures fault { IfErr result (λ fault. body_of body.now ≡ Err fault) }
+    /// What is unread of a file of version 1 after its magic.
+    fn in_first(alloc: Global, body: &'a [u8]) -> Result<BegunFile<'a>, FileFault>
+        ensures found { IfOk result (λ b. IsBegun Version.First body.now b.start b.profile b.unread.count b.unread.rest.now × (b.unread.read ≡ 0)) }
+        ensures fault { IsErrorIn (Some Version.First) (λ fault. body_of Version.First body.now ≡ Err fault) result }
     {
         let mut reader = Reader::new(body);
         opaque(&mut reader, HANDLE_LIMIT as u32)?;
         let count = count(&mut reader)?;
-        Ok(UnreadEvents {
+        Ok(BegunFile {
+            start: SeenStart::empty(alloc),
+            profile: Profile::Plain,
+            unread: UnreadEvents::ahead(&reader, count),
+        })
+    }
+
+    /// What is unread of a file of version 2 after its magic.
+    fn in_second(alloc: Global, body: &'a [u8]) -> Result<BegunFile<'a>, FileFault>
+        ensures found { IfOk result (λ b. IsBegun Version.Second body.now b.start b.profile b.unread.count b.unread.rest.now × (b.unread.read ≡ 0)) }
+        ensures fault { IsErrorIn (Some Version.Second) (λ fault. body_of Version.Second body.now ≡ Err fault) result }
+    {
+        let mut reader = Reader::new(body);
+        opaque(&mut reader, HANDLE_LIMIT as u32)?;
+        let profile = profile(&mut reader)?;
+        let number = object_count(&mut reader)?;
+        let start = objects(alloc, &mut reader, number)?;
+        let count = count(&mut reader)?;
+        Ok(BegunFile {
+            start,
+            profile,
+            unread: UnreadEvents::ahead(&reader, count),
+        })
+    }
+
+    fn in_body(alloc: Global, version: Version, body: &'a [u8]) -> Result<BegunFile<'a>, FileFault>
+        ensures found { IfOk result (λ b. IsBegun version body.now b.start b.profile b.unread.count b.unread.rest.now × (b.unread.read ≡ 0)) }
+        ensures fault { IsErrorIn (Some version) (λ fault. body_of version body.now ≡ Err fault) result }
+    {
+        match version {
+            Version::First => BegunFile::in_first(alloc, body),
+            Version::Second => BegunFile::in_second(alloc, body),
+        }
+    }
+
+    /// Ahead of the first event of a file.
+    pub fn of_file(alloc: Global, bytes: &'a [u8]) -> Result<BegunFile<'a>, FileFault>
+        ensures found { IfOk result (λ b. IsLeft bytes.now b.start b.profile b.unread) }
+        ensures first { IfOk result (λ b. b.unread.read ≡ 0) }
+        // Only a start takes memory.
+        ensures fault { IsErrorIn (version_of bytes.now) (IsFileFault bytes.now) result }
+    {
+        let Some(version) = version_of(bytes) else {
+            return Err(FileFault::BadMagic);
+        };
+        if bytes.len() > HISTORY_LIMIT {
+            return Err(FileFault::TooLarge);
+        }
+        BegunFile::in_body(alloc, version, &bytes[8..])
+    }
+}
+
+impl<'a> UnreadEvents<'a> {
+    ghost use Rattle.history_file.specs.FileFaults.{IsFileFault};
+    ghost use Rattle.history_lines.specs.Left.{IsLeft, IsWhole};
+
+    /// The events, of this number, which stand here.
+    fn ahead(reader: &Reader<'a>, count: u32) -> UnreadEvents<'a>
+        ensures count { result.count ≡ count }
+        ensures rest { result.rest.now ≡ reader.now.rest }
+        ensures none { result.read ≡ 0 }
+    {
+        UnreadEvents {
             rest: reader.rest(),
             read: 0,
             calls: 0,
             count: u64::from(count),
-        })
-    }
-
-    /// Ahead of the first event of a file.
-    pub fn of_file(bytes: &'a [u8]) -> Result<UnreadEvents<'a>, FileFault>
-        ensures found { IfOk result (IsLeft bytes.now) }
-        ensures first { IfOk result (λ unread. unread.read ≡ 0) }
-        ensures fault { IfErr result (IsFileFault bytes.now) }
-    {
-        if !has_magic(bytes) {
-            return Err(FileFault::BadMagic);
         }
-        if bytes.len() > HISTORY_LIMIT {
-            return Err(FileFault::TooLarge);
-        }
-        UnreadEvents::in_body(&bytes[8..])
     }
 
     /// The number of the last event that was read.
@@ -90,8 +145,8 @@ impl<'a> UnreadEvents<'a> {
     /// The next event. At an error it stands where it stood.
     pub fn next(&mut self) -> Result<SeenEvent<'a>, FileFault>
         requires { self.old.read < self.old.count }
-        ensures goes_on { OnOk result ((bytes : List ℕ) → IsLeft bytes self.old → IsLeft bytes self.new) }
-        ensures fault { IfErr result (λ fault. (bytes : List ℕ) → IsLeft bytes self.old → IsFileFault bytes fault) }
+        ensures goes_on { OnOk result ((bytes : List ℕ) (start : List StartObject) (profile : Profile) → IsLeft bytes start profile self.old → IsLeft bytes start profile self.new) }
+        ensures fault { IfErr result (λ fault. (bytes : List ℕ) (start : List StartObject) (profile : Profile) → IsLeft bytes start profile self.old → IsFileFault bytes fault) }
         ensures one { OnOk result (self.new.count - self.new.read < self.old.count - self.old.read) }
         ensures step { OnOk result (self.new.read ≡ self.old.read + 1) }
     {
@@ -106,8 +161,8 @@ impl<'a> UnreadEvents<'a> {
     /// Whether nothing stands behind the last event, where it is read.
     pub fn ended(&self) -> Result<(), FileFault>
         requires { self.now.count ≤ self.now.read }
-        ensures ok { OnOk result ((bytes : List ℕ) → IsLeft bytes self.now → IsWhole bytes) }
-        ensures fault { IfErr result (λ fault. (bytes : List ℕ) → IsLeft bytes self.now → IsFileFault bytes fault) }
+        ensures ok { OnOk result ((bytes : List ℕ) (start : List StartObject) (profile : Profile) → IsLeft bytes start profile self.now → IsWhole bytes) }
+        ensures fault { IfErr result (λ fault. (bytes : List ℕ) (start : List StartObject) (profile : Profile) → IsLeft bytes start profile self.now → IsFileFault bytes fault) }
     {
         match Reader::new(self.rest).done() {
             Ok(()) => Ok(()),

@@ -1,13 +1,18 @@
 //! The items of a history file.
 
-ghost use Rattle.std.specs.Prelude.{◌≡◌};
+ghost use Rattle.std.specs.Prelude.{◌≡◌, ◌≤◌, [], IfOk};
 ghost use Rattle.xdr_records.specs.Grammar.Grammar.{one_word, one_opaque, named};
 ghost use Rattle.xdr_records.specs.Kinds.{Tells, kind_reading};
-ghost use Rattle.history_file.specs.HistoryFile.{kind_of, event_kind, event_count, message, event};
+ghost use Rattle.tree_starts.specs.Start.{start_limit};
+ghost use Rattle.history_file.specs.Kinds.{kind_of};
+ghost use Rattle.history_file.specs.Starting as starting;
+ghost use Rattle.history_file.specs.HistoryFile.{event_kind, event_count, message, event};
 ghost use Rattle.history_file.specs.Owning.{seen_event};
-ghost use Rattle.history_lines.specs.Left.{kind_value};
+ghost use Rattle.history_lines.specs.Left.{kind_value, TellsOrNoMemory};
 
-use history_file::{EVENT_LIMIT, FileFault, SeenEvent};
+use history_file::{EVENT_LIMIT, FileFault, ItemFault, SeenEvent, read_objects};
+use std::alloc::Global;
+use tree_starts::{Profile, START_LIMIT, SeenStart};
 use xdr_records::{RECORD_LIMIT, Reader, XdrFault};
 
 /// The kind word of an event.
@@ -68,6 +73,45 @@ pub fn count(reader: &mut Reader<'_>) -> Result<u32, FileFault>
         return Err(FileFault::TooLarge);
     }
     Ok(count)
+}
+
+/// How strictly replies are judged.
+pub fn profile(reader: &mut Reader<'_>) -> Result<Profile, FileFault>
+    ensures { Tells (λ p. p) reader.new result (kind_reading kind_of (named starting.profile_word) reader.old) }
+{
+    match word(reader)? {
+        0 => Ok(Profile::Plain),
+        1 => Ok(Profile::Strict),
+        _ => Err(FileFault::BadProfile),
+    }
+}
+
+/// The number of starting objects.
+pub fn object_count(reader: &mut Reader<'_>) -> Result<u32, FileFault>
+    ensures read { Tells (λ n. n) reader.new result (kind_reading kind_of (named starting.object_count) reader.old) }
+    ensures few { IfOk result (λ n. n ≤ start_limit) }
+{
+    let number = word(reader)?;
+    if number as usize > START_LIMIT {
+        return Err(FileFault::TooLarge);
+    }
+    Ok(number)
+}
+
+/// The starting objects, of this number.
+pub fn objects<'a>(
+    alloc: Global,
+    reader: &mut Reader<'a>,
+    number: u32,
+) -> Result<SeenStart<'a>, FileFault>
+    requires { number ≤ start_limit }
+    ensures { TellsOrNoMemory (λ s. s) reader.new result (kind_reading kind_of (starting.objects number [] 1) reader.old) }
+{
+    match read_objects(alloc, reader, number) {
+        Ok(start) => Ok(start),
+        Err(ItemFault::Fault { fault, .. }) => Err(fault),
+        Err(ItemFault::NoMemory) => Err(FileFault::NoMemory),
+    }
 }
 
 #[tactic(auto, unfolding(history_file::specs::HistoryFile::message))]

@@ -1,4 +1,4 @@
-//! The events of a history file as lines of text, one an event, for whoever has to look at them.
+//! What a history file holds as lines of text, one a starting object and one an event, for whoever has to look at them.
 #![tactic(auto)]
 
 mod arguments;
@@ -8,6 +8,7 @@ mod lines;
 mod messages;
 mod names;
 mod results;
+mod start_lines;
 mod text;
 
 pub use lines::{EventLines, Selection};

@@ -1,18 +1,19 @@
-//! A line for each event of a history file.
+//! A line for each starting object and each event of a history file.
 
 ghost use Rattle.std.specs.Prelude.{◌≡◌, ℕ, List, IfOk, IfSome, MatchBool};
 ghost use Rattle.history_file.specs.FileFaults.{IsFileFault, IsErrorOf};
 ghost use Rattle.history_lines.specs.Printable.{IsLine};
 
-use crate::events::UnreadEvents;
+use crate::events::{BegunFile, UnreadEvents};
 use crate::messages::{Asked, push_call, push_reply};
+use crate::start_lines::StartLines;
 use crate::text::{Line, Text};
 use history_file::{FileFault, SeenEvent};
 use indexmap::IndexMap;
 use rpc_reader::{CallHead, ReplyHead, RpcFault, read_call, read_reply};
 use std::alloc::{AllocError, Global};
 
-/// Which events are shown.
+/// Which events are shown. What the server held at first is shown before the first event, where no call is named.
 #[derive(Clone, Copy)]
 pub struct Selection {
     /// The number of the first event.
@@ -25,6 +26,14 @@ pub struct Selection {
 
 impl Selection {
     ghost use Rattle.history_lines.specs.Shown.{IsAsked, IsPassedOver};
+    ghost use Rattle.history_lines.specs.StartShown.{asks_start};
+
+    /// Whether what the server held at first is shown.
+    fn has_start(&self) -> bool
+        ensures { result ≡ asks_start self.now }
+    {
+        self.call.is_none() && self.from <= 1
+    }
 
     /// Whether an event is shown, which is a call or the reply to one.
     fn has(&self, event: u64, call: Option<u64>) -> bool
@@ -254,51 +263,28 @@ impl LineMaker {
     }
 }
 
-/// The lines of a history file, one an event.
+/// The lines of a history file's events, one an event.
 #[derive(Drop)]
-pub struct EventLines<'a> {
+struct ShownEvents<'a> {
     maker: LineMaker,
     unread: UnreadEvents<'a>,
 }
 
-impl<'a> EventLines<'a> {
-    ghost use Rattle.history_lines.specs.Lines.{AreLinesOf, IsWholeAtEnd, IsNextShown, selection_of, last_read};
-
-    /// Ahead of the first event of a file.
-    pub fn new(
-        alloc: Global,
-        bytes: &'a [u8],
-        selection: Selection,
-    ) -> Result<EventLines<'a>, FileFault>
-        ensures found { IfOk result (AreLinesOf bytes.now) }
-        ensures first { IfOk result (λ lines. (selection_of lines ≡ selection) × (last_read lines ≡ 0)) }
-        ensures fault { IsErrorOf (IsFileFault bytes.now) result }
-    {
-        let unread = UnreadEvents::of_file(bytes)?;
-        let maker = LineMaker {
-            alloc,
-            selection,
-            unanswered: IndexMap::new(alloc),
-        };
-        Ok(EventLines { maker, unread })
-    }
+impl<'a> ShownEvents<'a> {
+    ghost use Rattle.tree_starts.specs.declared.object.StartObject.{StartObject};
+    ghost use Rattle.tree_starts.specs.declared.profile.Profile.{Profile};
+    ghost use Rattle.history_lines.specs.Left.{IsLeft};
+    ghost use Rattle.history_lines.specs.Lines.{IsWholeAtEnd, IsNextEvent};
 
     /// The line of the next event that is shown. Where none is left, the rest of the file is read too, so that its fault is
     /// named. After want of memory it goes on with the same event, and after a fault it names the fault again.
-    pub fn next_line(&mut self) -> Result<Option<Line>, FileFault>
-        // Printable bytes, and one line feed, at the end.
+    fn next_line(&mut self) -> Result<Option<Line>, FileFault>
         ensures printable { IfOk result (λ shown. IfSome shown IsLine) }
-
-        // It is the line of an event between the two numbers, and where no call is named none of these is left out, whatever
-        // fails.
-        ensures shown { IsNextShown self.old self.new result }
-        ensures kept { selection_of self.new ≡ selection_of self.old }
-
-        // Of a file they are its lines still, also where it is at fault, which is its first fault.
-        ensures goes_on { (bytes : List ℕ) → AreLinesOf bytes self.old → AreLinesOf bytes self.new }
-        ensures fault { (bytes : List ℕ) → AreLinesOf bytes self.old → IsErrorOf (IsFileFault bytes) result }
-        // Where no line is left the file is whole.
-        ensures ended { (bytes : List ℕ) → AreLinesOf bytes self.old → IsWholeAtEnd bytes result }
+        ensures shown { IsNextEvent self.old self.new result }
+        ensures kept { self.new.maker.selection ≡ self.old.maker.selection }
+        ensures goes_on { (bytes : List ℕ) (start : List StartObject) (profile : Profile) → IsLeft bytes start profile self.old.unread → IsLeft bytes start profile self.new.unread }
+        ensures fault { (bytes : List ℕ) (start : List StartObject) (profile : Profile) → IsLeft bytes start profile self.old.unread → IsErrorOf (IsFileFault bytes) result }
+        ensures ended { (bytes : List ℕ) (start : List StartObject) (profile : Profile) → IsLeft bytes start profile self.old.unread → IsWholeAtEnd bytes result }
     {
         while self.unread.left() > 0 {
             let mut unread = self.unread;
@@ -313,5 +299,69 @@ impl<'a> EventLines<'a> {
         }
         self.unread.ended()?;
         Ok(None)
+    }
+}
+
+/// The lines of a history file: of its profile where it isn't plain, one a starting object, one an event.
+#[derive(Drop)]
+pub struct EventLines<'a> {
+    ahead: StartLines<'a>,
+    behind: ShownEvents<'a>,
+}
+
+impl<'a> EventLines<'a> {
+    ghost use Rattle.history_lines.specs.Lines.{AreLinesOf, IsWholeAtEnd, IsNextShown, selection_of, last_read, starts_left, starts_asked};
+
+    /// Before the first line of a file.
+    pub fn new(
+        alloc: Global,
+        bytes: &'a [u8],
+        selection: Selection,
+    ) -> Result<EventLines<'a>, FileFault>
+        ensures found { IfOk result (AreLinesOf bytes.now) }
+        ensures first { IfOk result (λ lines. (selection_of lines ≡ selection) × (last_read lines ≡ 0)) }
+        // The lines of the start that are asked for are all still to come.
+        ensures starts { IfOk result (λ lines. starts_left lines ≡ starts_asked selection lines) }
+        ensures fault { IsErrorOf (IsFileFault bytes.now) result }
+    {
+        let BegunFile {
+            start,
+            profile,
+            unread,
+        } = BegunFile::of_file(alloc, bytes)?;
+        let maker = LineMaker {
+            alloc,
+            selection,
+            unanswered: IndexMap::new(alloc),
+        };
+        Ok(EventLines {
+            ahead: StartLines::new(start, profile, selection.has_start()),
+            behind: ShownEvents { maker, unread },
+        })
+    }
+
+    /// The next line: of the start, while one is left, else of the next event that is shown. Where none is left, the rest of the file
+    /// is read too, so that its fault is named. After want of memory it goes on with the same line, and after a fault it names the
+    /// fault again.
+    pub fn next_line(&mut self) -> Result<Option<Line>, FileFault>
+        // Printable bytes, and one line feed, at the end.
+        ensures printable { IfOk result (λ shown. IfSome shown IsLine) }
+
+        // It is a line of the start, of which none is left out, or else that of an event between the two numbers, and where no call is
+        // named none of these is left out, whatever fails.
+        ensures shown { IsNextShown self.old self.new result }
+        ensures kept { selection_of self.new ≡ selection_of self.old }
+
+        // Of a file they are its lines still, also where it is at fault, which is its first fault.
+        ensures goes_on { (bytes : List ℕ) → AreLinesOf bytes self.old → AreLinesOf bytes self.new }
+        ensures fault { (bytes : List ℕ) → AreLinesOf bytes self.old → IsErrorOf (IsFileFault bytes) result }
+        // Where no line is left the file is whole.
+        ensures ended { (bytes : List ℕ) → AreLinesOf bytes self.old → IsWholeAtEnd bytes result }
+    {
+        match self.ahead.next_line(self.behind.maker.alloc) {
+            Ok(Some(line)) => Ok(Some(line)),
+            Ok(None) => self.behind.next_line(),
+            Err(_) => Err(FileFault::NoMemory),
+        }
     }
 }

@@ -1,3 +1,4 @@
 pub mod Counted
-pub mod Noting
 pub mod Lost
+pub mod Kinds
+pub mod Noting

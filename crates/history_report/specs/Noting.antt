@@ -1,16 +1,16 @@
 -- A report of calls with one more call: what the code's private functions say to the prover.
 use Rattle.std.specs.Prelude.{◌+◌, ◌<◌, ◌^◌, not, if◌then◌else◌}
-use Rattle.nfs_history.specs.declared.history.RecordedCall.{RecordedCall}
+use Rattle.nfs_history.specs.declared.history.CallKind.{CallKind}
 use Rattle.history_report.specs.declared.counting.Report.{Report}
-use Rattle.history_report.specs.Counted.{is_judged_call, is_answered_call, is_excused}
+use Rattle.history_report.specs.Kinds.{is_judged_kind, is_answered_kind, is_excused_kind}
 
-abbrev pub report_with : Report → RecordedCall → Report
-report_with report call = record {
+abbrev pub report_with : Report → CallKind → Report
+report_with report kind = record {
   calls = report.calls + 1;
-  judged = report.judged + (if is_judged_call call then 1 else 0);
-  answered = report.answered + (if is_answered_call call then 1 else 0);
-  unjudged = report.unjudged + (if not (is_judged_call call) then 1 else 0);
-  excused = report.excused + (if is_excused call then 1 else 0);
+  judged = report.judged + (if is_judged_kind kind then 1 else 0);
+  answered = report.answered + (if is_answered_kind kind then 1 else 0);
+  unjudged = report.unjudged + (if not (is_judged_kind kind) then 1 else 0);
+  excused = report.excused + (if is_excused_kind kind then 1 else 0);
   eras = report.eras;
 }
 

@@ -1,11 +1,13 @@
 //! The calls of a history, counted.
 
 ghost use Rattle.std.specs.Prelude.{◌≡◌};
-ghost use Rattle.history_report.specs.Counted.{is_excused_status, failure_of, is_judged_call, is_answered_call, is_excused, report_of};
+ghost use Rattle.history_report.specs.Counted.{is_excused_status, report_of};
+ghost use Rattle.history_report.specs.Kinds.{is_judged_kind, is_answered_kind, is_excused_kind, report_by};
 ghost use Rattle.history_report.specs.Noting.{report_with, CanGrow};
 
-use nfs_history::{History, Meaning, RecordedCall};
-use nfs3_types::{Failure, Outcome};
+use crate::kind::HasKind;
+use nfs_history::{CallKind, History, KnownCalls};
+use nfs3_types::Failure;
 
 /// What is counted of a history.
 #[derive(Clone, Copy)]
@@ -43,52 +45,42 @@ fn is_excused_status(failure: Failure) -> bool
     )
 }
 
-/// The status of a reply that is no success.
-pub fn failure_of(outcome: &Option<Outcome>) -> Option<Failure>
-    ensures { result ≡ failure_of outcome.now }
+fn is_judged(kind: CallKind) -> bool
+    ensures { result ≡ is_judged_kind kind }
 {
-    match outcome {
-        Some(Outcome::Received(reply)) => reply.failure(),
-        _ => None,
-    }
+    !matches!(kind, CallKind::Unjudged)
 }
 
-fn is_judged_call(call: &RecordedCall) -> bool
-    ensures { result ≡ is_judged_call call.now }
+fn is_answered(kind: CallKind) -> bool
+    ensures { result ≡ is_answered_kind kind }
 {
-    matches!(call.meaning, Meaning::Judged(_))
+    matches!(kind, CallKind::Answered(..))
 }
 
-fn is_answered_call(call: &RecordedCall) -> bool
-    ensures { result ≡ is_answered_call call.now }
+fn is_excused(kind: CallKind) -> bool
+    ensures { result ≡ is_excused_kind kind }
 {
-    is_judged_call(call) && call.outcome.is_some()
-}
-
-fn is_excused(call: &RecordedCall) -> bool
-    ensures { result ≡ is_excused call.now }
-{
-    match failure_of(&call.outcome) {
-        Some(failure) => is_judged_call(call) && is_excused_status(failure),
-        None => false,
+    match kind {
+        CallKind::Answered(_, Some(failure)) => is_excused_status(failure),
+        _ => false,
     }
 }
 
 /// Counts one more call.
-fn note_call(report: &mut Report, call: &RecordedCall)
+fn note_kind(report: &mut Report, kind: CallKind)
     requires { CanGrow report.old }
-    ensures { report.new ≡ report_with report.old call.now }
+    ensures { report.new ≡ report_with report.old kind }
 {
     report.calls += 1;
-    report.judged += u64::from(is_judged_call(call));
-    report.answered += u64::from(is_answered_call(call));
-    report.unjudged += u64::from(!is_judged_call(call));
-    report.excused += u64::from(is_excused(call));
+    report.judged += u64::from(is_judged(kind));
+    report.answered += u64::from(is_answered(kind));
+    report.unjudged += u64::from(!is_judged(kind));
+    report.excused += u64::from(is_excused(kind));
 }
 
-/// What is counted of a history.
-pub fn report_of(history: &History) -> Report
-    ensures { result ≡ report_of history.now.known.eras history.now.known.calls }
+/// What is counted of the calls of so many eras.
+fn count_kinds<K: HasKind>(eras: u64, calls: &[K]) -> Report
+    ensures { result ≡ report_by K.kind eras calls.now }
 {
     let mut report = Report {
         calls: 0,
@@ -96,11 +88,24 @@ pub fn report_of(history: &History) -> Report
         answered: 0,
         unjudged: 0,
         excused: 0,
-        eras: history.eras(),
+        eras,
     };
-    let calls = history.recorded_calls();
     for call in calls {
-        note_call(&mut report, call);
+        note_kind(&mut report, call.kind_of());
     }
     report
+}
+
+/// What is counted of a history.
+pub fn report_of(history: &History) -> Report
+    ensures { result ≡ report_of history.now.known.eras history.now.known.calls }
+{
+    count_kinds(history.eras(), history.recorded_calls())
+}
+
+/// What is counted of the history that these calls are of. None of them is read.
+pub fn report_of_calls(history: &KnownCalls<'_>) -> Report
+    ensures { result ≡ report_of history.now.eras history.now.calls }
+{
+    count_kinds(history.eras(), history.kinds())
 }

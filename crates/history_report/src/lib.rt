@@ -2,7 +2,8 @@
 #![tactic(auto)]
 
 mod counting;
+mod kind;
 mod losing;
 
-pub use counting::{Report, report_of};
-pub use losing::lost_of;
+pub use counting::{Report, report_of, report_of_calls};
+pub use losing::{lost_of, lost_of_calls};

@@ -1,64 +1,69 @@
 //! What the crashes of a plan took away.
 
 ghost use Rattle.std.specs.Prelude.{◌≡◌, ◌<◌, ◌^◌};
+ghost use Rattle.std.specs.Option.{option_copied};
+ghost use Rattle.nfs_history.specs.Reread.{item_at};
 ghost use Rattle.order_check.specs.Shape.{HasShape};
-ghost use Rattle.history_report.specs.Lost.{is_modifying, has_succeeded, changes, changes_at, lost_in, lost};
+ghost use Rattle.history_report.specs.Kinds.{is_modifying_kind, has_succeeded_kind, changes_kind, changes_kind_at, lost_in_by, lost_by};
+ghost use Rattle.history_report.specs.Lost.{lost};
 
-use crate::counting::failure_of;
+use crate::kind::HasKind;
 use certificate::{Certificate, EraPlan, Place};
-use nfs_history::{History, Meaning, RecordedCall, find_call};
-use nfs3_types::{NfsCall, Outcome};
+use nfs_history::{CallKind, History, KnownCalls};
 
 /// Whether a call changes the tree or a file when it succeeds.
-fn is_modifying(meaning: &Meaning) -> bool
-    ensures { result ≡ is_modifying meaning.now }
+fn is_modifying(kind: CallKind) -> bool
+    ensures { result ≡ is_modifying_kind kind }
 {
-    matches!(
-        meaning,
-        Meaning::Judged(
-            NfsCall::SetAttr(_)
-                | NfsCall::Write(_)
-                | NfsCall::Create(_)
-                | NfsCall::MkDir(_)
-                | NfsCall::SymLink(_)
-                | NfsCall::Remove(_)
-                | NfsCall::RmDir(_)
-                | NfsCall::Rename(_)
-        )
-    )
-}
-
-/// Whether a call was answered, and not by a failure.
-fn has_succeeded(outcome: &Option<Outcome>) -> bool
-    ensures { result ≡ has_succeeded outcome.now }
-{
-    outcome.is_some() && failure_of(outcome).is_none()
-}
-
-/// Whether a call that stands so in the serial order changed something.
-fn changes(place: Place, call: &RecordedCall) -> bool
-    ensures { result ≡ changes place call.now }
-{
-    match place {
-        Place::Answered(_) => is_modifying(&call.meaning) && has_succeeded(&call.outcome),
-        Place::Taken(..) => is_modifying(&call.meaning),
+    match kind {
+        CallKind::Unjudged => false,
+        CallKind::Unanswered(procedure) | CallKind::Answered(procedure, _) => {
+            procedure.changes_the_tree()
+        }
     }
 }
 
+/// Whether a call was answered, and not by a failure.
+fn has_succeeded(kind: CallKind) -> bool
+    ensures { result ≡ has_succeeded_kind kind }
+{
+    matches!(kind, CallKind::Answered(_, None))
+}
+
+/// Whether a call that stands so in the serial order changed something.
+fn changes(place: Place, kind: CallKind) -> bool
+    ensures { result ≡ changes_kind place kind }
+{
+    match place {
+        Place::Answered(_) => is_modifying(kind) && has_succeeded(kind),
+        Place::Taken(..) => is_modifying(kind),
+    }
+}
+
+/// Item `number` of these, from 1 on.
+fn item_at<K>(calls: &[K], number: u64) -> Option<&K>
+    ensures { option_copied result ≡ item_at calls.now number }
+{
+    if number == 0 {
+        return None;
+    }
+    calls.get(number as usize - 1)
+}
+
 /// Whether the call at a place changed something.
-fn changes_at(calls: &[RecordedCall], place: Place) -> bool
-    ensures { result ≡ changes_at calls.now place }
+fn changes_at<K: HasKind>(calls: &[K], place: Place) -> bool
+    ensures { result ≡ changes_kind_at K.kind calls.now place }
 {
     let (Place::Answered(number) | Place::Taken(number, _)) = place;
-    match find_call(calls, number) {
-        Some(call) => changes(place, call),
+    match item_at(calls, number) {
+        Some(call) => changes(place, call.kind_of()),
         None => false,
     }
 }
 
 /// How many places past the cut of an era changed something.
-fn lost_in(calls: &[RecordedCall], era: &EraPlan) -> u64
-    ensures { result ≡ lost_in calls.now era.now }
+fn lost_in<K: HasKind>(calls: &[K], era: &EraPlan) -> u64
+    ensures { result ≡ lost_in_by K.kind calls.now era.now }
 {
     let places = era.places.as_slice();
     let cut = era.cut.unwrap_or(places.len() as u64);
@@ -70,9 +75,9 @@ fn lost_in(calls: &[RecordedCall], era: &EraPlan) -> u64
 }
 
 /// How many places past the cuts of these eras changed something.
-fn lost_over(calls: &[RecordedCall], eras: &[EraPlan]) -> u64
-    requires { lost calls.now eras.now < 2 ^ 64 }
-    ensures { result ≡ lost calls.now eras.now }
+fn lost_over<K: HasKind>(calls: &[K], eras: &[EraPlan]) -> u64
+    requires { lost_by K.kind calls.now eras.now < 2 ^ 64 }
+    ensures { result ≡ lost_by K.kind calls.now eras.now }
 {
     eras.iter().map(|era| lost_in(calls, era)).sum()
 }
@@ -84,4 +89,12 @@ pub fn lost_of(history: &History, certificate: &Certificate) -> u64
     ensures { result ≡ lost history.now.known.calls certificate.now.eras }
 {
     lost_over(history.recorded_calls(), certificate.eras.as_slice())
+}
+
+/// The same of the history that these calls are of. None of them is read.
+pub fn lost_of_calls(history: &KnownCalls<'_>, certificate: &Certificate) -> u64
+    requires { HasShape history.now.eras history.now.calls certificate.now.eras }
+    ensures { result ≡ lost history.now.calls certificate.now.eras }
+{
+    lost_over(history.kinds(), certificate.eras.as_slice())
 }

@@ -10,7 +10,6 @@ use crate::fault::RebuildFault;
 use crate::taking::take_record;
 use file_tree::{Binds, FileTree};
 use journal_device::Record;
-use replay_law::Replayable;
 use std::alloc::Global;
 
 /// Takes the records, one after the other.
@@ -41,7 +40,7 @@ fn tree_of(alloc: Global, records: &[Record]) -> Result<FileTree, RebuildFault>
     ensures fault { IfErr result (StopsIn records.now) }
 {
     let mut binds = Binds::of_root(alloc, 0u64.to_be_bytes().as_slice())?;
-    let mut tree = FileTree::opening(alloc, &binds)?;
+    let mut tree = FileTree::empty(alloc)?;
     take_records(alloc, &mut tree, &mut binds, records)?;
     Ok(tree)
 }

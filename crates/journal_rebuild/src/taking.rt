@@ -9,10 +9,10 @@ ghost use Rattle.journal_rebuild.specs.Rebuilding.{handle_of};
 ghost use Rattle.journal_rebuild.specs.Taking.{tree_behind, with_handle, IsTaken, IsUnread, StepStops, StopsAt};
 
 use crate::fault::RebuildFault;
-use file_tree::{Binds, FileTree};
+use file_tree::{Binds, FileTree, Profile};
 use journal_records::{Change, JournalRecord, RecordFault, read_record};
 use nfs3_types::{NfsCall, Outcome};
-use replay_law::{Replayable, StepFault};
+use replay_law::StepFault;
 use std::alloc::{AllocError, Global};
 
 /// The change of the record with this number.
@@ -47,7 +47,7 @@ fn take_step(
     ensures ok { OnOk result (next_tree binds.now tree.old object call.now outcome.now ≡ Some tree.new) }
     ensures fault { IfErr result (StepStops number (next_tree binds.now tree.old object call.now outcome.now)) }
 {
-    match tree.step(binds, object, call, outcome) {
+    match tree.step_under(Profile::Plain, binds, object, call, outcome) {
         Ok(undo) => {
             drop(undo);
             Ok(())

@@ -5,6 +5,7 @@ use Rattle.std.specs.HashMap.{get}
 use Rattle.std.proofs.lemmas.Bool.{eq-eqb, ne_eqb, false≢true}
 use Rattle.std.proofs.lemmas.List.{length-map, map_push}
 use Rattle.std.proofs.lemmas.Option.{same_Some}
+use Rattle.tree_starts.specs.Head.{Head}
 use Rattle.history_file.specs.declared.event.Event as owned
 use Rattle.history_file.specs.declared.event.Event.TheVariants as owns
 use Rattle.history_file.specs.Event.{Event, Recording}
@@ -307,17 +308,17 @@ seen_so events place asked is lane message same =
 all_with : (events events' : List owned.Event) (event : owned.Event) → events' ≡ events ++ event ∷ [] → all_happened events' ≡ all_happened events ++ happened event ∷ []
 all_with events events' event more = ap all_happened more ∙ map_push happened events event
 
-pub kept_more : (root : List ℕ) (known known' : OpenCalls) (calls calls' : List RecordedCall) (events events' : List owned.Event) (event : owned.Event) (spare spare' : ℕ)
-    → events' ≡ events ++ event ∷ [] → IsOpenAt (history_of root known calls events spare) known → MayFollow (all_happened events) (happened event) → KnowsOneMore known known' (happened event)
-    → AreRecorded (calls_of (all_happened events ++ happened event ∷ [])) calls' → IsOpenAt (history_of root known' calls' events' spare') known'
-kept_more root known known' calls calls' events events' event spare spare' more is may knows recorded =
+pub kept_more : (head : Head) (known known' : OpenCalls) (calls calls' : List RecordedCall) (events events' : List owned.Event) (event : owned.Event) (spare spare' : ℕ)
+    → events' ≡ events ++ event ∷ [] → IsOpenAt (history_of head known calls events spare) known → MayFollow (all_happened events) (happened event) → KnowsOneMore known known' (happened event)
+    → AreRecorded (calls_of (all_happened events ++ happened event ∷ [])) calls' → IsOpenAt (history_of head known' calls' events' spare') known'
+kept_more head known known' calls calls' events events' event spare spare' more is may knows recorded =
     let all = all_with events events' event more in
     let knows' : Knows known' (all_happened events') = subst (Knows known') (sym all) (knows (all_happened events) is.knows may) in
     record {
       history = record {
         known = record {
           follow = subst (EachMayFollow []) (sym all) (follow_push [] (all_happened events) (happened event) is.history.known.follow may);
-          root = refl;
+          head = refl;
           eras = knows'.era;
           calls = subst (λ (es : List Event). AreRecorded (calls_of es) calls') (sym all) recorded;
         };
@@ -326,15 +327,15 @@ kept_more root known known' calls calls' events events' event spare spare' more 
       knows = knows';
     }
 
-pub follows_more : (root : List ℕ) (known known' : OpenCalls) (calls calls' : List RecordedCall) (events events' : List owned.Event) (event : owned.Event) (spare : ℕ) (old : HistoryValue)
-    → history_of root known calls events spare ≡ old → events' ≡ events ++ event ∷ [] → IsOpenAt (history_of root known calls events spare) known → MayFollow (all_happened events) (happened event) → KnowsOneMore known known' (happened event)
-    → AreRecorded (calls_of (all_happened events ++ happened event ∷ [])) calls' → Follows old event (history_of root known' calls' events' 0)
-follows_more root known known' calls calls' events events' event spare old view more is may knows recorded =
-    subst (λ (h : HistoryValue). Follows h event (history_of root known' calls' events' 0)) view (record {
+pub follows_more : (head : Head) (known known' : OpenCalls) (calls calls' : List RecordedCall) (events events' : List owned.Event) (event : owned.Event) (spare : ℕ) (old : HistoryValue)
+    → history_of head known calls events spare ≡ old → events' ≡ events ++ event ∷ [] → IsOpenAt (history_of head known calls events spare) known → MayFollow (all_happened events) (happened event) → KnowsOneMore known known' (happened event)
+    → AreRecorded (calls_of (all_happened events ++ happened event ∷ [])) calls' → Follows old event (history_of head known' calls' events' 0)
+follows_more head known known' calls calls' events events' event spare old view more is may knows recorded =
+    subst (λ (h : HistoryValue). Follows h event (history_of head known' calls' events' 0)) view (record {
       history = record {
         known = record {
           follow = follow_push [] (all_happened events) (happened event) is.history.known.follow may;
-          root = refl;
+          head = refl;
           eras = (knows (all_happened events) is.knows may).era;
           calls = recorded;
         };
@@ -345,13 +346,13 @@ follows_more root known known' calls calls' events events' event spare old view 
     })
 
 -- where memory was wanting, all is as it was
-pub kept_as_much : (root : List ℕ) (known known' : OpenCalls) (calls calls' : List RecordedCall) (events events' : List owned.Event) (spare : ℕ) → calls' ≡ calls → events' ≡ events
-    → IsOpenAt (history_of root known calls events spare) known → KnowsAsMuch known known' → (history_of root known' calls' events' spare ≡ history_of root known calls events spare) × IsOpenAt (history_of root known' calls' events' spare) known'
-kept_as_much root known known' calls calls' events events' spare calls_are events_are is knows =
+pub kept_as_much : (head : Head) (known known' : OpenCalls) (calls calls' : List RecordedCall) (events events' : List owned.Event) (spare : ℕ) → calls' ≡ calls → events' ≡ events
+    → IsOpenAt (history_of head known calls events spare) known → KnowsAsMuch known known' → (history_of head known' calls' events' spare ≡ history_of head known calls events spare) × IsOpenAt (history_of head known' calls' events' spare) known'
+kept_as_much head known known' calls calls' events events' spare calls_are events_are is knows =
     let before = all_happened events in
     let knows' = knows before is.knows in
     let era : known'.era ≡ known.era = knows'.era ∙ sym is.knows.era in
-    let made : ℕ → List RecordedCall → List owned.Event → HistoryValue = λ n cs es. record { known = record { root = root; eras = n; calls = cs }; events = es; spare = spare } in
+    let made : ℕ → List RecordedCall → List owned.Event → HistoryValue = λ n cs es. record { known = record { head = head; eras = n; calls = cs }; events = es; spare = spare } in
     let same : made known'.era calls' events' ≡ made known.era calls events = rw (era, calls_are, events_are) refl in (
       same,
       record {

@@ -268,8 +268,8 @@ recording_or_fault bytes seen file = elim (events_or_fault [] seen.events) [
   | inl follow ↦ elim (calls_or_fault 1 (calls_of seen.events) (calls_readable 1 1 [] seen.events follow)) [
     | inr first ↦ inr (of_call first.0, inr (seen, file, inr (first.0, follow, first.1, refl)))
     | inl known ↦
-        let history : HistoryValue = record { known = record { root = seen.root; eras = eras_from 1 seen.events; calls = known.0 }; events = map owned_of seen.events; spare = 0 } in
-        inl (history, (seen, file, record { known = record { follow = follow; root = refl; eras = refl; calls = known.1 }; events = happened_again seen.events }, refl))
+        let history : HistoryValue = record { known = record { head = seen.head; eras = eras_from 1 seen.events; calls = known.0 }; events = map owned_of seen.events; spare = 0 } in
+        inl (history, (seen, file, record { known = record { follow = follow; head = refl; eras = refl; calls = known.1 }; events = happened_again seen.events }, refl))
   ]
 ]
 

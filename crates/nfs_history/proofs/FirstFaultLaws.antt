@@ -134,10 +134,10 @@ named_in events other fault (inl none) first = inl none
 named_in events other fault (inr is) first = inr (one_first_of events other fault is first)
 
 -- what is known of each call, of them all
-pub all_known : (events : List Event) (k : CallsValue) → k.eras ≡ eras_from 1 events → AreKnown events k.calls → AreCallsOf (record { root = k.root; events = events }) k
+pub all_known : (events : List Event) (k : CallsValue) → k.eras ≡ eras_from 1 events → AreKnown events k.calls → AreCallsOf (record { head = k.head; events = events }) k
 all_known events k eras_are known = record {
   follow = known.0;
-  root = refl;
+  head = refl;
   eras = eras_are;
   calls = known.1;
 }

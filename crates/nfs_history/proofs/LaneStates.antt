@@ -1,5 +1,5 @@
 -- How a lane stands, by what is known of it.
-use Rattle.std.proofs.Common.{◌≡◌, ◌⊎◌, inl, inr, ◌==◌, ℕ, Bool, true, false, not, if◌then◌else◌, nat_eq, List, Option, Some, None, refl, sym, ap, ◌∙◌, Contains}
+use Rattle.std.proofs.Common.{◌≡◌, inl, inr, ◌==◌, ℕ, Bool, true, false, not, if◌then◌else◌, nat_eq, List, Option, Some, None, sym, ◌∙◌, Contains}
 use Rattle.std.specs.HashMap.{get}
 use Rattle.std.proofs.lemmas.Bool.{false≢true}
 use Rattle.history_file.specs.Event.{Event}
@@ -8,7 +8,7 @@ use Rattle.nfs_history.specs.declared.checking.LaneState.TheVariants as states
 use Rattle.nfs_history.specs.declared.checking.LaneUse.{LaneUse}
 use Rattle.nfs_history.specs.declared.checking.LaneUse.TheVariants as uses
 use Rattle.nfs_history.specs.declared.checking.OpenCalls.{OpenCalls}
-use Rattle.nfs_history.specs.Standing.{IsCutOff, IsClosed, IsLaneState}
+use Rattle.nfs_history.specs.Standing.{IsCutOff, IsLaneState}
 use Rattle.nfs_history.specs.Checking.{was_cut_off, was_closed, is_shut, is_over, state_in, known_state, Knows}
 use Rattle.nfs_history.proofs.Lanes.{cut_off_is, is_cut_off, closed_is, open_is}
 

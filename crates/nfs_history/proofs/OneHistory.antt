@@ -10,6 +10,7 @@ use Rattle.nfs3_types.specs.declared.replies.Outcome.{Outcome}
 use Rattle.nfs3_types.specs.declared.replies.Outcome.TheVariants as outcomes
 use Rattle.nfs3_msgs.specs.Messages.{arguments, results}
 use Rattle.nfs3_values.specs.Told as told
+use Rattle.tree_starts.specs.Head.{Head}
 use Rattle.history_file.specs.declared.event.Event as owned
 use Rattle.history_file.specs.declared.event.Event.TheVariants as owns
 use Rattle.history_file.specs.Event.{Event, Recording}
@@ -112,18 +113,18 @@ one_sequence es fs same = sym (all_owned_again es) ∙ ap (map owned_of) same �
 
 -- ---- the history of a file
 
-made : List ℕ → ℕ → List RecordedCall → CallsValue
-made root eras calls = record { root = root; eras = eras; calls = calls }
+made : Head → ℕ → List RecordedCall → CallsValue
+made head eras calls = record { head = head; eras = eras; calls = calls }
 
-same_known : (h g : CallsValue) → h.root ≡ g.root → h.eras ≡ g.eras → h.calls ≡ g.calls → h ≡ g
+same_known : (h g : CallsValue) → h.head ≡ g.head → h.eras ≡ g.eras → h.calls ≡ g.calls → h ≡ g
 unfolding made
-same_known h g root eras calls =
-    let all : made h.root h.eras h.calls ≡ made g.root g.eras g.calls = rw (root, eras, calls) refl in
+same_known h g head eras calls =
+    let all : made h.head h.eras h.calls ≡ made g.head g.eras g.calls = rw (head, eras, calls) refl in
     all
 
 pub known_once : (seen : Recording) (h g : CallsValue) → AreCallsOf seen h → AreCallsOf seen g → h ≡ g
 known_once seen h g x y =
-    same_known h g (x.root ∙ sym y.root) (x.eras ∙ sym y.eras) (one_list (calls_of seen.events) h.calls g.calls x.calls y.calls)
+    same_known h g (x.head ∙ sym y.head) (x.eras ∙ sym y.eras) (one_list (calls_of seen.events) h.calls g.calls x.calls y.calls)
 
 held : CallsValue → List owned.Event → ℕ → HistoryValue
 held known events spare = record { known = known; events = events; spare = spare }

@@ -1,6 +1,7 @@
 -- What becomes of a history where an event is put behind the others. When events are a history's, and which fault is the first, is
 -- said in History and FirstFault.
-use Rattle.std.specs.Prelude.{◌≡◌, ℕ, ◌+◌, ◌<◌, ◌≤◌, List, [], ◌∷◌, ◌++◌, length, slice_set, None, Result, IsOk, OnOk, OnErr}
+use Rattle.std.specs.Prelude.{◌≡◌, ℕ, ◌<◌, ◌≤◌, List, [], ◌∷◌, ◌++◌, length, slice_set, None, Result, IsOk, OnOk, OnErr}
+use Rattle.tree_starts.specs.Head.{Head}
 use Rattle.history_file.specs.declared.event.Event as owned
 use Rattle.history_file.specs.Event.{Event, Recording}
 use Rattle.history_file.specs.Event.Event.{call, reply, close, crash}
@@ -17,14 +18,14 @@ use Rattle.nfs_history.specs.History.{AreRecorded, AreCallsOf, IsHistory}
 
 -- what was recorded, with this event behind the others
 abbrev pub with_event : HistoryValue → owned.Event → Recording
-with_event history event = record { root = history.known.root; events = all_happened history.events ++ happened event ∷ [] }
+with_event history event = record { head = history.known.head; events = all_happened history.events ++ happened event ∷ [] }
 
 -- ---- what the private functions say to the prover
 
 -- the calls of the events, and what these leave open
-abbrev pub IsReadOf : List ℕ → List Event → ReadCalls → Type 0
-IsReadOf root events read =
-    AreCallsOf (record { root = root; events = events }) (record { root = read.root; eras = read.open_calls.era; calls = read.calls.items })
+abbrev pub IsReadOf : Head → List Event → ReadCalls → Type 0
+IsReadOf head events read =
+    AreCallsOf (record { head = head; events = events }) (record { head = head; eras = read.open_calls.era; calls = read.calls.items })
     × Knows read.open_calls events
 
 -- a close and a crash answer nothing, and are no calls

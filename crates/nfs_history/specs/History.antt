@@ -71,7 +71,7 @@ AreRecorded (event ∷ events) (call ∷ calls) = IsRecorded event call × AreRe
 -- what the history of a recording is judged by
 pub record AreCallsOf (seen : Recording) (known : CallsValue) : Type 0 where
   pub follow : EachMayFollow [] seen.events
-  pub root : known.root ≡ seen.root
+  pub head : known.head ≡ seen.head
   pub eras : known.eras ≡ eras_from 1 seen.events
   pub calls : AreRecorded (calls_of seen.events) known.calls
 
@@ -82,7 +82,7 @@ pub record IsHistory (seen : Recording) (history : HistoryValue) : Type 0 where
 
 -- what was recorded, of which a history is made
 abbrev pub recording_of : HistoryValue → Recording
-recording_of history = record { root = history.known.root; events = all_happened history.events }
+recording_of history = record { head = history.known.head; events = all_happened history.events }
 
 -- the bytes are the file of a history that is judged by these
 abbrev pub IsCallsFile : List ℕ → CallsValue → Type 0

@@ -1,12 +1,13 @@
--- A history as it is seen: what it is judged by, which is the handle of its root directory, its eras and its calls, and what
+-- A history as it is seen: what it is judged by, which is what it begins with, its eras and its calls, and what
 -- happened, in order (Herlihy and Wing 1990, section 2; eras lie between crashes, Izraelevitz, Mendes and Scott 2016); and for how
 -- many events that come next room is set aside.
 use Rattle.std.specs.Prelude.{ℕ, List}
+use Rattle.tree_starts.specs.Head.{Head}
 use Rattle.history_file.specs.declared.event.Event.{Event}
 use Rattle.nfs_history.specs.declared.history.RecordedCall.{RecordedCall}
 
 pub record CallsValue : Type 0 where
-  pub root : List ℕ
+  pub head : Head
   pub eras : ℕ
   pub calls : List RecordedCall
 

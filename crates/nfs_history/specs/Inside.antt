@@ -1,5 +1,6 @@
 -- What of the parts in memory of a history, and of what it is judged by, is seen.
 use Rattle.std.specs.Prelude.{ℕ, ◌+◌, ◌≤◌, List, map, vec_len, vec_capacity}
+use Rattle.tree_starts.specs.Head.{Head}
 use Rattle.history_file.specs.declared.event.Event.{Event}
 use Rattle.history_file.specs.Owning.{all_happened}
 use Rattle.nfs_history.specs.declared.checking.OpenCalls.{OpenCalls}
@@ -13,14 +14,14 @@ use Rattle.nfs_history.specs.Matching.{seen_call}
 use Rattle.nfs_history.specs.Reread.{known_call}
 
 abbrev pub lent_within : known.Inside → CallsValue
-lent_within parts = record { root = parts.root; eras = parts.eras; calls = map known_call (map seen_call parts.seen.items) }
+lent_within parts = record { head = parts.head; eras = parts.eras; calls = map known_call (map seen_call parts.seen.items) }
 
-abbrev pub history_of : List ℕ → OpenCalls → List RecordedCall → List Event → ℕ → HistoryValue
-history_of root open_calls calls events spare =
-    record { known = record { root = root; eras = open_calls.era; calls = calls }; events = events; spare = spare }
+abbrev pub history_of : Head → OpenCalls → List RecordedCall → List Event → ℕ → HistoryValue
+history_of head open_calls calls events spare =
+    record { known = record { head = head; eras = open_calls.era; calls = calls }; events = events; spare = spare }
 
 abbrev pub value_of : history.Inside → HistoryValue
-value_of parts = history_of parts.root parts.open_calls parts.calls.items parts.events.items parts.spare
+value_of parts = history_of parts.head parts.open_calls parts.calls.items parts.events.items parts.spare
 
 -- it is the history of its events, and it is known what they leave open
 pub record IsOpenAt (value : HistoryValue) (known : OpenCalls) : Type 0 where

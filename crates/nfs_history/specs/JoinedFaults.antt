@@ -13,6 +13,8 @@ of_file file.BadMagic = faults.BadMagic
 of_file file.TooLarge = faults.TooLarge
 of_file file.Truncated = faults.Truncated
 of_file (file.BadEvent i) = faults.BadEvent i
+of_file (file.BadStart k) = faults.BadStart k
+of_file file.BadProfile = faults.BadProfile
 of_file file.Trailing = faults.Trailing
 of_file file.NoMemory = faults.NoMemory
 

@@ -10,7 +10,8 @@ use Rattle.rpc_reader.specs.Values.Body.{success}
 use Rattle.rpc_reader.specs.Heads.{kind_of, CallStart, call_head}
 use Rattle.rpc_reader.specs.ReplyHeads.{Status, ReplyStart, reply_head}
 use Rattle.rpc_reader.specs.ReplyHeads.Status.{results_follow, final}
-use Rattle.nfs3_types.specs.Procedures.{asked_for}
+use Rattle.nfs3_types.specs.Procedures.{asked_for, failure_in}
+use Rattle.nfs3_types.specs.declared.status.Failure.{Failure}
 use Rattle.nfs3_types.specs.declared.calls.NfsCall.{NfsCall}
 use Rattle.nfs3_types.specs.declared.replies.NfsReply.{NfsReply}
 use Rattle.nfs3_types.specs.declared.replies.Outcome.{Outcome}
@@ -90,11 +91,16 @@ abbrev pub item_at : {A : Type 0} → List A → ℕ → Option A
 item_at items zero = None
 item_at items (suc n) = slice_get items n
 
+-- the status of an outcome that is a failure
+abbrev pub failure_of : Outcome → Option Failure
+failure_of (outcomes.Received reply) = failure_in reply
+failure_of (outcomes.Taken count) = None
+
 -- what a call is for a plan
 abbrev pub kind_as : Meaning → Option Outcome → CallKind
 kind_as meanings.Unjudged outcome = kinds.Unjudged
 kind_as (meanings.Judged call) None = kinds.Unanswered (asked_for call)
-kind_as (meanings.Judged call) (Some outcome) = kinds.Answered (asked_for call)
+kind_as (meanings.Judged call) (Some outcome) = kinds.Answered (asked_for call) (failure_of outcome)
 
 abbrev pub call_kind : RecordedCall → CallKind
 call_kind call = kind_as call.meaning call.outcome

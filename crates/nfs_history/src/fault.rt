@@ -92,12 +92,13 @@ impl fmt::Display for CallFault {
     }
 }
 
-/// Why bytes are no history: the first fault, where events and calls are numbered from 1.
+/// Why bytes are no history: the first fault, where events, calls and starting objects are numbered from 1.
 #[derive(Clone, Copy, Debug, PartialEq, Eq, Error)]
 pub enum HistoryFault {
     /// The file doesn't begin as one.
     BadMagic,
-    /// A limit is passed, by the file, its number of events, a message or the root handle.
+    /// A limit is passed: by the file, its number of events or of starting objects, a message, the root handle, or the name or the
+    /// bytes of a starting object.
     TooLarge,
     /// Bytes of an item are missing.
     Truncated,
@@ -105,6 +106,11 @@ pub enum HistoryFault {
     BadEvent(u64),
     /// Bytes stand behind the last event.
     Trailing,
+    /// A starting object lies in none of the directories before it, its name is empty, `.`, `..` or taken there, or its kind word
+    /// isn't one.
+    BadStart(u64),
+    /// The profile word isn't one.
+    BadProfile,
     /// An event on a lane that is closed.
     LaneClosed(u64),
     /// The message of an event isn't an RPC call, or reply, as the event says.
@@ -137,6 +143,8 @@ impl fmt::Display for HistoryFault {
             HistoryFault::TooLarge => f.write_str("TooLarge"),
             HistoryFault::Truncated => f.write_str("Truncated"),
             HistoryFault::Trailing => f.write_str("Trailing"),
+            HistoryFault::BadStart(number) => write!(f, "BadStart {number}"),
+            HistoryFault::BadProfile => f.write_str("BadProfile"),
             HistoryFault::BadEvent(number) => write!(f, "BadEvent {number}"),
             HistoryFault::LaneClosed(number) => write!(f, "LaneClosed {number}"),
             HistoryFault::BadRpc(number) => write!(f, "BadRpc {number}"),
@@ -163,6 +171,8 @@ impl From<FileFault> for HistoryFault {
             FileFault::TooLarge => HistoryFault::TooLarge,
             FileFault::Truncated => HistoryFault::Truncated,
             FileFault::BadEvent(number) => HistoryFault::BadEvent(number),
+            FileFault::BadStart(number) => HistoryFault::BadStart(number),
+            FileFault::BadProfile => HistoryFault::BadProfile,
             FileFault::Trailing => HistoryFault::Trailing,
             FileFault::NoMemory => HistoryFault::NoMemory,
         }

@@ -2,12 +2,14 @@
 
 ghost use Rattle.std.specs.Prelude.{◌≡◌, ◌+◌, ◌≤◌, ◌<◌, ◌^◌, [], ◌∷◌, ◌++◌, length, slice_get, slice_set, vec_len, vec_capacity, IfOk, IfErr, IsOk, OnOk, OnErr, Some, option_map, option_and_then};
 ghost use Rattle.std.specs.Option.{option_copied};
+ghost use Rattle.tree_starts.specs.Head.{plain_head};
 ghost use Rattle.history_file.specs.Event.Event.{call, reply, crash};
 ghost use Rattle.history_file.specs.Owning.{happened, all_happened};
 ghost use Rattle.history_file.specs.declared.event.Event.TheVariants as events;
 ghost use Rattle.nfs_history.specs.declared.fault.HistoryFault.{HistoryFault};
 ghost use Rattle.nfs_history.specs.declared.history.History.{History};
 ghost use Rattle.nfs_history.specs.Precedence.{call_at, begin_of, end_of};
+ghost use Rattle.nfs_history.specs.Reread.{failure_of};
 ghost use Rattle.nfs_history.specs.History.{recording_of, AreRecorded, AreCallsOf, IsHistory};
 ghost use Rattle.nfs_history.specs.FirstFault.{FirstFaultOf};
 ghost use Rattle.nfs_history.specs.Answers.{IsFineOrNoMemory, IsErrorOf, IsThatOrNoMemory};
@@ -22,13 +24,15 @@ ghost use Rattle.nfs_history.specs.Standing.{IsLaneState, MayFollow, EachMayFoll
 
 use crate::checking::{LaneState, OpenCalls, follow_all};
 use crate::fault::{EventFault, HistoryFault};
+use crate::head::{LentHead, OwnedHead};
 use crate::judging::{Stop, judged_call};
 use crate::knowing::KnownCalls;
 use crate::matching::{SeenCall, SeenReply};
 use history_file::{Event, Message, lend_events};
-use nfs3_types::{FileHandle, NfsCall, Outcome, Procedure};
+use nfs3_types::{Failure, FileHandle, NfsCall, Outcome, Procedure};
 use std::alloc::{AllocError, Global};
 use std::marker::Model;
+use tree_starts::{Profile, Start};
 
 /// What a call was.
 #[derive(Drop)]
@@ -64,8 +68,18 @@ pub enum CallKind {
     Unjudged,
     /// A judged call of this procedure, to which no reply came.
     Unanswered(Procedure),
-    /// A judged call of this procedure, with its outcome.
-    Answered(Procedure),
+    /// A judged call of this procedure, and how it failed if it did.
+    Answered(Procedure, Option<Failure>),
+}
+
+/// The status of an outcome that is a failure.
+fn failure_of(outcome: &Outcome) -> Option<Failure>
+    ensures { result ≡ failure_of outcome.now }
+{
+    match outcome {
+        Outcome::Received(reply) => reply.failure(),
+        Outcome::Taken(_) => None,
+    }
 }
 
 impl RecordedCall {
@@ -79,10 +93,9 @@ impl RecordedCall {
         let Meaning::Judged(call) = &self.meaning else {
             return CallKind::Unjudged;
         };
-        if self.outcome.is_some() {
-            CallKind::Answered(call.procedure())
-        } else {
-            CallKind::Unanswered(call.procedure())
+        match &self.outcome {
+            Some(outcome) => CallKind::Answered(call.procedure(), failure_of(outcome)),
+            None => CallKind::Unanswered(call.procedure()),
         }
     }
 
@@ -127,14 +140,14 @@ impl Drop for RecordedCall {
 
 /// What is read of events: the calls, and what the events leave open.
 struct ReadCalls {
-    root: FileHandle,
     calls: Vec<RecordedCall>,
     open_calls: OpenCalls,
 }
 
 /// A history without a fault.
 pub struct History {
-    root: FileHandle,
+    /// What it begins with.
+    head: OwnedHead,
     calls: Vec<RecordedCall>,
     events: Vec<Event>,
     /// What of the events decides whether another may follow.
@@ -146,13 +159,13 @@ pub struct History {
 impl Drop for History {
     fn drop(self) {
         let History {
-            root,
+            head,
             calls,
             events,
             open_calls,
             spare: _,
         } = self;
-        drop(root);
+        drop(head);
         drop(calls);
         drop(events);
         drop(open_calls);
@@ -183,16 +196,16 @@ pub fn find_call(calls: &[RecordedCall], number: u64) -> Option<&RecordedCall>
 }
 
 /// What is known of the calls among these events.
-fn calls_among(
+fn calls_among<'a>(
     alloc: Global,
-    root: FileHandle,
-    events: &[Event],
-) -> Result<KnownCalls<'_>, HistoryFault>
-    ensures found { IfOk result (AreCallsOf (record { root = root; events = all_happened events.now })) }
+    head: LentHead<'a>,
+    events: &'a [Event],
+) -> Result<KnownCalls<'a>, HistoryFault>
+    ensures found { IfOk result (AreCallsOf (record { head = head.entry; events = all_happened events.now })) }
     ensures fault { IsErrorOf (FirstFaultOf (all_happened events.now)) result }
 {
     let seen = lend_events(alloc, events)?;
-    KnownCalls::of_events(alloc, root, seen)
+    KnownCalls::of_events(alloc, head, seen)
 }
 
 /// The calls, each read from its messages.
@@ -211,15 +224,18 @@ fn all_calls(alloc: Global, known: &KnownCalls<'_>) -> Result<Vec<RecordedCall>,
 }
 
 /// The calls among these events, read, and what the events leave open.
-fn read_among(alloc: Global, root: FileHandle, events: &[Event]) -> Result<ReadCalls, HistoryFault>
-    ensures found { IfOk result (IsReadOf root (all_happened events.now)) }
+fn read_among<'a>(
+    alloc: Global,
+    head: &'a OwnedHead,
+    events: &'a [Event],
+) -> Result<ReadCalls, HistoryFault>
+    ensures found { IfOk result (IsReadOf head.now (all_happened events.now)) }
     ensures fault { IsErrorOf (FirstFaultOf (all_happened events.now)) result }
 {
     let seen = lend_events(alloc, events)?;
     let open_calls = follow_all(alloc, seen.as_slice())?;
-    let known = KnownCalls::of_followed(alloc, root, seen)?;
+    let known = KnownCalls::of_followed(alloc, head.lend(alloc)?, seen)?;
     Ok(ReadCalls {
-        root: known.root().clone()?,
         calls: all_calls(alloc, &known)?,
         open_calls,
     })
@@ -248,15 +264,16 @@ fn put_event(
 }
 
 impl History {
-    /// The history of these events. The first fault is named: those of the events, then those of the calls.
+    /// The history of these events of a server that held nothing, whose attributes aren't judged. The first fault is named: those of
+    /// the events, then those of the calls.
     pub fn build(
         alloc: Global,
         root: FileHandle,
         events: Vec<Event>,
     ) -> Result<History, HistoryFault>
-        ensures found { IfOk result (IsHistory (record { root = root; events = all_happened events.items })) }
+        ensures found { IfOk result (IsHistory (record { head = plain_head root; events = all_happened events.items })) }
         // What is a history is built, memory aside.
-        ensures only { (history : History) → IsHistory (record { root = root; events = all_happened events.items }) history
+        ensures only { (history : History) → IsHistory (record { head = plain_head root; events = all_happened events.items }) history
             → IsFineOrNoMemory result }
         ensures fault { IsErrorOf (FirstFaultOf (all_happened events.items)) result }
         // The first fault is named, memory aside.
@@ -265,14 +282,33 @@ impl History {
         // No room is set aside.
         ensures bare { IfOk result (λ history. history.spare ≡ 0) }
     {
-        let known = read_among(alloc, root, events.as_slice())?;
-        let ReadCalls {
-            root,
-            calls,
-            open_calls,
-        } = known;
+        History::build_from(alloc, root, Profile::Plain, Start::empty(alloc), events)
+    }
+
+    /// The history of a start and these events. The first fault is named: those of the events, then those of the calls.
+    pub fn build_from(
+        alloc: Global,
+        root: FileHandle,
+        profile: Profile,
+        start: Start,
+        events: Vec<Event>,
+    ) -> Result<History, HistoryFault>
+        ensures found { IfOk result (IsHistory (record { head = record { root = root; start = start; profile = profile }; events = all_happened events.items })) }
+        // What is a history is built, memory aside.
+        ensures only { (history : History) → IsHistory (record { head = record { root = root; start = start; profile = profile }; events = all_happened events.items }) history
+            → IsFineOrNoMemory result }
+        ensures fault { IsErrorOf (FirstFaultOf (all_happened events.items)) result }
+        // The first fault is named, memory aside.
+        ensures named { (fault : HistoryFault) → FirstFaultOf (all_happened events.items) fault
+            → IsThatOrNoMemory fault result }
+        // No room is set aside.
+        ensures bare { IfOk result (λ history. history.spare ≡ 0) }
+    {
+        let head = OwnedHead::new(root, start, profile);
+        let known = read_among(alloc, &head, events.as_slice())?;
+        let ReadCalls { calls, open_calls } = known;
         Ok(History {
-            root,
+            head,
             calls,
             events,
             open_calls,
@@ -474,8 +510,8 @@ impl History {
     pub fn lend_calls(&self, alloc: Global) -> Result<KnownCalls<'_>, AllocError>
         ensures { IfOk result (λ known. known ≡ self.now.known) }
     {
-        let root = self.root().clone()?;
-        match calls_among(alloc, root, self.events()) {
+        let head = self.head.lend(alloc)?;
+        match calls_among(alloc, head, self.events()) {
             Ok(known) => Ok(known),
             Err(_) => Err(AllocError),
         }
@@ -483,9 +519,23 @@ impl History {
 
     /// The handle of the root directory.
     pub fn root(&self) -> &FileHandle
-        ensures { result.now ≡ self.now.known.root }
+        ensures { result.now ≡ self.now.known.head.root }
     {
-        &self.root
+        self.head.root()
+    }
+
+    /// What the server held at first.
+    pub fn start(&self) -> &Start
+        ensures { result.now ≡ self.now.known.head.start }
+    {
+        self.head.start()
+    }
+
+    /// How strictly the replies are judged.
+    pub fn profile(&self) -> Profile
+        ensures { result ≡ self.now.known.head.profile }
+    {
+        self.head.profile()
     }
 
     /// What happened, in order, numbered from 1.

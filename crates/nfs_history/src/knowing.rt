@@ -1,6 +1,6 @@
 //! What is known of the calls of a recording, or its first fault.
 
-ghost use Rattle.std.specs.Prelude.{◌≡◌, [], map, IfOk, IfSome, length, option_map};
+ghost use Rattle.std.specs.Prelude.{◌≡◌, ◌<◌, ◌^◌, [], map, IfOk, IfSome, length, option_map};
 ghost use Rattle.std.specs.Option.{option_copied};
 ghost use Rattle.history_file.specs.Owning.{all_seen};
 ghost use Rattle.nfs_history.specs.Calls.{calls_of, eras_from};
@@ -14,6 +14,7 @@ ghost use Rattle.nfs_history.specs.Standing.{EachMayFollow};
 
 use crate::checking::follow_all;
 use crate::fault::HistoryFault;
+use crate::head::LentHead;
 use crate::history::{CallKind, RecordedCall};
 use crate::judging::{kinds_of, read_again};
 use crate::matching::{SeenCall, count_eras, matched_calls};
@@ -21,11 +22,12 @@ use history_file::SeenEvent;
 use nfs3_types::FileHandle;
 use std::alloc::{AllocError, Global};
 use std::marker::Model;
+use tree_starts::{Profile, SeenStart};
 
-/// What a history is judged by: the handle of its root directory, its eras and its calls, without its events. Each call was
+/// What a history is judged by: what it begins with, its eras and its calls, without its events. Each call was
 /// read once, and is read again where its messages stand when it is asked for.
 pub struct KnownCalls<'a> {
-    root: FileHandle,
+    head: LentHead<'a>,
     eras: u64,
     seen: Vec<SeenCall<'a>>,
     kinds: Vec<CallKind>,
@@ -34,12 +36,12 @@ pub struct KnownCalls<'a> {
 impl<'a> Drop for KnownCalls<'a> {
     fn drop(self) {
         let KnownCalls {
-            root,
+            head,
             eras: _,
             seen,
             kinds,
         } = self;
-        drop(root);
+        drop(head);
         drop(seen);
         drop(kinds);
     }
@@ -99,31 +101,31 @@ impl<'a> KnownCalls<'a> {
     /// What is known of the calls among these events, which are let go before the calls are read.
     pub(crate) fn of_events(
         alloc: Global,
-        root: FileHandle,
+        head: LentHead<'a>,
         events: Vec<SeenEvent<'a>>,
     ) -> Result<KnownCalls<'a>, HistoryFault>
-        ensures found { IfOk result (AreCallsOf (record { root = root; events = all_seen events.entry.items })) }
+        ensures found { IfOk result (AreCallsOf (record { head = head.entry; events = all_seen events.entry.items })) }
         ensures fault { IsErrorOf (FirstFaultOf (all_seen events.entry.items)) result }
     {
         follow_all(alloc, events.as_slice())?;
-        KnownCalls::of_followed(alloc, root, events)
+        KnownCalls::of_followed(alloc, head, events)
     }
 
     /// What is known of the calls among these events, which may follow one another, and are let go before the calls are read.
     pub(crate) fn of_followed(
         alloc: Global,
-        root: FileHandle,
+        head: LentHead<'a>,
         events: Vec<SeenEvent<'a>>,
     ) -> Result<KnownCalls<'a>, HistoryFault>
         requires { EachMayFollow [] (all_seen events.items) }
-        ensures found { IfOk result (AreCallsOf (record { root = root; events = all_seen events.entry.items })) }
+        ensures found { IfOk result (AreCallsOf (record { head = head.entry; events = all_seen events.entry.items })) }
         ensures fault { IsErrorOf (FirstFaultOf (all_seen events.entry.items)) result }
     {
         let eras = count_eras(events.as_slice());
         let seen = followed_calls(alloc, events, eras)?;
         let kinds = kinds_of(alloc, seen.as_slice())?;
         Ok(KnownCalls {
-            root,
+            head,
             eras,
             seen,
             kinds,
@@ -132,9 +134,23 @@ impl<'a> KnownCalls<'a> {
 
     /// The handle of the root directory.
     pub fn root(&self) -> &FileHandle
-        ensures { result.now ≡ self.now.root }
+        ensures { result.now ≡ self.now.head.root }
     {
-        &self.root
+        self.head.root()
+    }
+
+    /// What the server held at first.
+    pub fn start(&self) -> &SeenStart<'a>
+        ensures { result.now ≡ self.now.head.start }
+    {
+        self.head.start()
+    }
+
+    /// How strictly the replies are judged.
+    pub fn profile(&self) -> Profile
+        ensures { result ≡ self.now.head.profile }
+    {
+        self.head.profile()
     }
 
     /// How many eras there are: one more than the server went down.
@@ -146,7 +162,8 @@ impl<'a> KnownCalls<'a> {
 
     /// How many calls there are.
     pub fn count(&self) -> usize
-        ensures { result ≡ length self.now.calls }
+        ensures value { result ≡ length self.now.calls }
+        ensures few { length self.now.calls < 2 ^ 63 }
     {
         self.kinds.len()
     }
@@ -156,6 +173,13 @@ impl<'a> KnownCalls<'a> {
         ensures { result ≡ option_map call_kind (call_at self.now.calls number) }
     {
         kind_at(self.kinds.as_slice(), number)
+    }
+
+    /// What each call is for a plan, in the order in which they began.
+    pub fn kinds(&self) -> &[CallKind]
+        ensures { result.now ≡ map call_kind self.now.calls }
+    {
+        self.kinds.as_slice()
     }
 
     // Call `number`, where it was seen.

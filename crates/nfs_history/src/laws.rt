@@ -1,6 +1,7 @@
 //! What the files of histories are: each law is the contract of a function that does nothing.
 
 ghost use Rattle.std.specs.Prelude.{◌≡◌, ◌⊎◌, ℕ, List};
+ghost use Rattle.tree_starts.specs.Start.{IsStart};
 ghost use Rattle.nfs_history.specs.declared.fault.HistoryFault.{HistoryFault};
 ghost use Rattle.nfs_history.specs.declared.history.History.{History};
 ghost use Rattle.nfs_history.specs.declared.knowing.KnownCalls.{KnownCalls};
@@ -28,4 +29,9 @@ pub fn bytes_have_one_first_fault()
 pub fn bytes_are_a_history_or_at_fault()
     ensures some { (bytes : List ℕ) → ((h : History) × IsHistoryFile bytes h) ⊎ ((fault : HistoryFault) × FirstFault bytes fault) }
     ensures never_both { (bytes : List ℕ) (h : History) (fault : HistoryFault) → IsHistoryFile bytes h → FirstFault bytes fault → ⊥ }
+{}
+
+/// What a file says of the objects that stood at first is a start: a server can have held them.
+pub fn a_file_begins_with_a_start()
+    ensures { (bytes : List ℕ) (known : KnownCalls) → IsCallsFile bytes known → IsStart known.head.start }
 {}

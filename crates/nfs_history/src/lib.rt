@@ -4,6 +4,7 @@
 mod checking;
 mod effects;
 mod fault;
+mod head;
 mod history;
 mod judging;
 mod knowing;
@@ -15,10 +16,13 @@ mod reading;
 pub use checking::{LaneState, OpenCalls};
 pub use fault::{CallFault, EventFault, HistoryFault, Which};
 pub use history::{CallKind, History, Meaning, RecordedCall, find_call};
-pub use history_file::{Event, FileFault, Message, WriteFault, write_history};
+pub use history_file::{Event, FileFault, Message, WriteFault, write_history, write_history_from};
 pub use knowing::KnownCalls;
 pub use laws::{
-    a_file_has_one_history, a_file_is_judged_by_its_history, bytes_are_a_history_or_at_fault,
-    bytes_have_one_first_fault,
+    a_file_begins_with_a_start, a_file_has_one_history, a_file_is_judged_by_its_history,
+    bytes_are_a_history_or_at_fault, bytes_have_one_first_fault,
 };
 pub use reading::{read_calls, read_history};
+pub use tree_starts::{
+    Profile, SeenNode, SeenObject, SeenStart, Start, StartFault, StartNode, StartObject,
+};

@@ -9,11 +9,13 @@ ghost use Rattle.nfs_history.specs.FirstFault.{FirstFault};
 ghost use Rattle.nfs_history.specs.Answers.{IsFineOrNoMemory, IsErrorOf, IsThatOrNoMemory};
 
 use crate::fault::HistoryFault;
+use crate::head::LentHead;
 use crate::history::History;
 use crate::knowing::KnownCalls;
-use history_file::{copy_events, read_file};
+use history_file::{SeenRecording, copy_events, read_file};
 use nfs3_types::FileHandle;
 use std::alloc::Global;
+use tree_starts::Start;
 
 /// What is known of the calls of the history that a file holds. The first fault is named: those of the file, then those
 /// of its events, then those of its calls. No message is copied: the calls point into the bytes.
@@ -28,7 +30,13 @@ pub fn read_calls(alloc: Global, bytes: &[u8]) -> Result<KnownCalls<'_>, History
 {
     let seen = read_file(alloc, bytes)?;
     let root = FileHandle::from_slice(alloc, seen.root)?;
-    KnownCalls::of_events(alloc, root, seen.events)
+    let SeenRecording {
+        root: _,
+        start,
+        profile,
+        events,
+    } = seen;
+    KnownCalls::of_events(alloc, LentHead::new(root, start, profile), events)
 }
 
 /// The history that a file holds. The first fault is named: those of the file, then those of its events, then
@@ -44,5 +52,6 @@ pub fn read_history(alloc: Global, bytes: &[u8]) -> Result<History, HistoryFault
     let recording = read_file(alloc, bytes)?;
     let root = FileHandle::from_slice(alloc, recording.root)?;
     let events = copy_events(alloc, recording.events.as_slice())?;
-    History::build(alloc, root, events)
+    let start = Start::of_seen(alloc, &recording.start)?;
+    History::build_from(alloc, root, recording.profile, start, events)
 }

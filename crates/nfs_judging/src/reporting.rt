@@ -2,7 +2,7 @@
 
 ghost use Rattle.std.specs.Prelude.{◌≡◌, ◌++◌, ℕ, List, [], codes, IfOk, OnErr, Option, Some, None, option_map, string_bytes};
 ghost use Rattle.std.specs.Option.{option_copied};
-ghost use Rattle.nfs_history.specs.History.{IsHistoryFile};
+ghost use Rattle.nfs_history.specs.History.{IsCallsFile};
 ghost use Rattle.witness_check.specs.Verdict.{IsFileVerdict};
 ghost use Rattle.nfs_judging.specs.Report.{line_of, status_of};
 ghost use Rattle.nfs_judging.specs.Reported.{IsLost, IsReported, IsReportedOfRead, count_lines, lost_lines, number_line};
@@ -10,10 +10,10 @@ ghost use Rattle.nfs_judging.specs.Reported.{IsLost, IsReported, IsReportedOfRea
 use crate::report::verdict_report;
 use bench_streams::Report;
 use certificate::{TextFault, read_certificate};
-use history_report::{Report as Counts, lost_of, report_of};
-use nfs_history::{History, HistoryFault, read_history};
+use history_report::{Report as Counts, lost_of_calls, report_of_calls};
+use nfs_history::{HistoryFault, KnownCalls, read_calls};
 use std::alloc::{AllocError, Global};
-use witness_check::{FileVerdict, Verdict, check};
+use witness_check::{FileVerdict, Verdict, check_calls};
 
 /// What is found of a history and a certificate's text: the verdict, and with a yes how many places were lost.
 #[derive(Drop)]
@@ -23,11 +23,11 @@ struct Finding {
 }
 
 /// Judges a history and a certificate's text.
-fn find(alloc: Global, history: &History, certificate: &[u8]) -> Result<Finding, AllocError>
-    ensures verdict { (file : List ℕ) → IsHistoryFile file history.now
+fn find(alloc: Global, history: &KnownCalls<'_>, certificate: &[u8]) -> Result<Finding, AllocError>
+    ensures verdict { (file : List ℕ) → IsCallsFile file history.now
         → IfOk result (λ finding. IsFileVerdict file certificate.now finding.verdict) }
     ensures lost { IfOk result (λ finding.
-        IsLost history.now.known certificate.now finding.verdict finding.lost) }
+        IsLost history.now certificate.now finding.verdict finding.lost) }
 {
     let certificate = match read_certificate(alloc, certificate) {
         Ok(certificate) => certificate,
@@ -39,10 +39,10 @@ fn find(alloc: Global, history: &History, certificate: &[u8]) -> Result<Finding,
             });
         }
     };
-    match check(alloc, history, &certificate)? {
+    match check_calls(alloc, history, &certificate)? {
         Verdict::Yes => Ok(Finding {
             verdict: FileVerdict::Yes,
-            lost: Some(lost_of(history, &certificate)),
+            lost: Some(lost_of_calls(history, &certificate)),
         }),
         Verdict::No(fault) => Ok(Finding {
             verdict: FileVerdict::No(fault),
@@ -109,9 +109,9 @@ pub(crate) fn report_files(
 ) -> Result<Report, AllocError>
     ensures { IfOk result (λ report. IsReported history.now certificate.now report.status report.line) }
 {
-    match read_history(alloc, history) {
+    match read_calls(alloc, history) {
         Ok(history) => {
-            let counts = report_of(&history);
+            let counts = report_of_calls(&history);
             let finding = find(alloc, &history, certificate)?;
             report_found(alloc, &counts, finding)
         }

@@ -8,6 +8,7 @@ use Rattle.xdr_records.proofs.Written.{length-word_text, length-opaque_text}
 use Rattle.history_file.specs.declared.event.Event as owned
 use Rattle.history_file.specs.Event.{Event}
 use Rattle.history_file.specs.HistoryFile.{magic}
+use Rattle.history_file.specs.declared.version.Version.TheVariants.{First}
 use Rattle.history_file.specs.Owning.{happened, all_happened}
 use Rattle.history_file.specs.Writing.{event_text, events_text, file_text}
 use Rattle.bench_streams.proofs.Fronts.{both}
@@ -22,18 +23,18 @@ texts : (xs ys : List owned.Event) → events_text (all_happened (xs ++ ys)) ≡
 texts xs ys = ap events_text (map-append happened xs ys) ∙ events_text-append (all_happened xs) (all_happened ys)
 
 abbrev head : List ℕ → ℕ → List ℕ
-head root n = magic ++ (opaque_text root ++ word_text n)
+head root n = (magic First) ++ (opaque_text root ++ word_text n)
 
 length-head : (n : ℕ) → length (head [] n) ≡ 16
 length-head n =
-    let eight : length magic ≡ 8 = refl in
-    omega (arith, eight, length-append magic (opaque_text [] ++ word_text n), length-append (opaque_text []) (word_text n), length-opaque_text [], length-word_text n)
+    let eight : length (magic First) ≡ 8 = refl in
+    omega (arith, eight, length-append (magic First) (opaque_text [] ++ word_text n), length-append (opaque_text []) (word_text n), length-opaque_text [], length-word_text n)
 
 -- a file is its head and its events
-pub file_parts : (root : List ℕ) (es : List Event) → file_text root es ≡ (magic ++ (opaque_text root ++ word_text (length es))) ++ events_text es
+pub file_parts : (root : List ℕ) (es : List Event) → file_text root es ≡ ((magic First) ++ (opaque_text root ++ word_text (length es))) ++ events_text es
 file_parts root es =
-    ap (λ (l : List ℕ). magic ++ l) (sym (append_assoc (opaque_text root) (word_text (length es)) (events_text es)))
-    ∙ sym (append_assoc magic (opaque_text root ++ word_text (length es)) (events_text es))
+    ap (λ (l : List ℕ). (magic First) ++ l) (sym (append_assoc (opaque_text root) (word_text (length es)) (events_text es)))
+    ∙ sym (append_assoc (magic First) (opaque_text root ++ word_text (length es)) (events_text es))
 
 pub head_within : (text : List ℕ) (es : List Event) → text ≡ file_text [] es → 16 ≤ length text
 head_within text es is = omega (arith, ap length (is ∙ file_parts [] es), length-append (head [] (length es)) (events_text es), length-head (length es))
@@ -92,19 +93,19 @@ pub split_parts : (rest piece behind : List owned.Event) (n : ℕ) → piece ≡
 split_parts rest piece behind n front back = rw (front, back) (sym (take-append-drop n rest))
 
 -- a file's head is within the limit
-pub head_small : (head root : List ℕ) (n : ℕ) → length root ≤ 64 → head ≡ magic ++ (opaque_text root ++ word_text n) → length head ≤ 268435456
+pub head_small : (head root : List ℕ) (n : ℕ) → length root ≤ 64 → head ≡ (magic First) ++ (opaque_text root ++ word_text n) → length head ≤ 268435456
 head_small head root n le is =
-    let eight : length magic ≡ 8 = refl in
-    omega (arith, eight, le, ap length is, length-append magic (opaque_text root ++ word_text n), length-append (opaque_text root) (word_text n), length-opaque_text root, length-word_text n)
+    let eight : length (magic First) ≡ 8 = refl in
+    omega (arith, eight, le, ap length is, length-append (magic First) (opaque_text root ++ word_text n), length-append (opaque_text root) (word_text n), length-opaque_text root, length-word_text n)
 
 -- the head, and the events behind it
-pub log_written : (old mid new : Option (List ℕ)) (head root : List ℕ) (es : List Event) → head ≡ magic ++ (opaque_text root ++ word_text (length es)) → Appends old mid head
+pub log_written : (old mid new : Option (List ℕ)) (head root : List ℕ) (es : List Event) → head ≡ (magic First) ++ (opaque_text root ++ word_text (length es)) → Appends old mid head
     → Appends mid new (events_text es) → Appends old new (file_text root es)
 log_written old mid new head root es is first second =
     let parts : head ++ events_text es ≡ file_text root es = ap (λ (l : List ℕ). l ++ events_text es) is ∙ sym (file_parts root es) in
     subst (Appends old new) parts (both old mid new head (events_text es) first second)
 
-pub log_within : (head root : List ℕ) (es : List Event) → head ≡ magic ++ (opaque_text root ++ word_text (length es)) → length head + length (events_text es) ≤ 268435456
+pub log_within : (head root : List ℕ) (es : List Event) → head ≡ (magic First) ++ (opaque_text root ++ word_text (length es)) → length head + length (events_text es) ≤ 268435456
     → length (file_text root es) ≤ 268435456
 log_within head root es is le =
     let parts : head ++ events_text es ≡ file_text root es = ap (λ (l : List ℕ). l ++ events_text es) is ∙ sym (file_parts root es) in

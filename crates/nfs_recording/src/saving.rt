@@ -4,6 +4,7 @@ ghost use Rattle.std.specs.Prelude.{◌≡◌, ◌+◌, ◌<◌, ◌≤◌, ◌^
 ghost use Rattle.std.specs.Io.KnownBytes.{Appends};
 ghost use Rattle.xdr_records.specs.Texts.{opaque_text, word_text};
 ghost use Rattle.history_file.specs.HistoryFile.{magic};
+ghost use Rattle.history_file.specs.declared.version.Version.TheVariants.{First};
 ghost use Rattle.history_file.specs.Limits.{history_limit};
 ghost use Rattle.history_file.specs.Owning.{all_happened};
 ghost use Rattle.history_file.specs.Writing.{events_text, file_text};
@@ -59,7 +60,7 @@ impl From<WriteFault> for SaveFault {
 /// The bytes of a file ahead of its events.
 fn file_head(alloc: Global, root: &[u8], events: u32) -> Result<Vec<u8>, SaveFault>
     requires { length root.now < 2 ^ 32 }
-    ensures { IfOk result (λ head. head.items ≡ magic ++ (opaque_text root.now ++ word_text events)) }
+    ensures { IfOk result (λ head. head.items ≡ magic First ++ (opaque_text root.now ++ word_text events)) }
 {
     let mut head = Vec::from_slice(alloc, b"NFSHIST1".as_slice())?;
     put_opaque(&mut head, root)?;
@@ -121,8 +122,8 @@ pub(crate) fn write_log<W: Write>(
     log: &TapLog,
     writer: &mut W,
 ) -> Result<(), SaveFault>
-    ensures written { OnOk result (Appends (W.contents writer.old) (W.contents writer.new) (file_text log.now.root log.now.events)) }
-    ensures within { OnOk result (length (file_text log.now.root log.now.events) ≤ history_limit) }
+    ensures written { OnOk result (Appends (W.contents writer.old) (W.contents writer.new) (file_text log.now.head.root log.now.events)) }
+    ensures within { OnOk result (length (file_text log.now.head.root log.now.events) ≤ history_limit) }
 {
     let events = log.events();
     if events.len() > EVENT_LIMIT as usize {

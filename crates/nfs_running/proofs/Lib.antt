@@ -1,2 +1,1 @@
 mod Plans
-mod Texts

@@ -1,6 +1,8 @@
 //! What a server that closed has recorded, as the texts of two files.
 
-ghost use Rattle.std.specs.Prelude.{◌≡◌, IfOk};
+ghost use Rattle.std.specs.Prelude.{◌≡◌, IfOk, IsTrue};
+ghost use Rattle.tree_starts.specs.Head.{plain_head};
+ghost use Rattle.nfs_history.specs.History.{IsCallsFile};
 ghost use Rattle.certificate.specs.CertificateText.{IsCertificate};
 ghost use Rattle.order_check.specs.Shape.{HasShape};
 ghost use Rattle.witness_check.specs.Witness.{IsWitness};
@@ -8,10 +10,9 @@ ghost use Rattle.nfs_running.specs.Recording.{AreCountsOf, IsRecordingOf};
 
 use crate::fault::RunFault;
 use certificate::{Certificate, write_certificate};
-use history_file::write_history;
 use history_report::{lost_of, report_of};
 use journal_server::Closed;
-use nfs_history::History;
+use nfs_history::{History, Profile, WriteFault, write_history, write_history_from};
 use std::alloc::Global;
 
 /// What a run comes to in numbers.
@@ -63,8 +64,26 @@ fn counts_of(history: &History, certificate: &Certificate) -> Counts
     }
 }
 
+/// Whether nothing stood at first, and attributes aren't judged.
+fn is_plain(history: &History) -> bool
+    ensures { IsTrue result → history.now.known.head ≡ plain_head history.now.known.head.root }
+{
+    history.start().objects().is_empty() && history.profile() == Profile::Plain
+}
+
+/// The file of a history: of version 1 where nothing stood at first and attributes aren't judged, else of version 2.
+fn file_of(alloc: Global, history: &History) -> Result<Vec<u8>, WriteFault>
+    ensures { IfOk result (λ text. IsCallsFile text.items history.now.known) }
+{
+    let root = history.root().as_slice();
+    if is_plain(history) {
+        return write_history(alloc, root, history.events());
+    }
+    let profile = history.profile();
+    write_history_from(alloc, root, profile, history.start(), history.events())
+}
+
 /// The texts of a history and of its certificate.
-#[tactic(auto, using(crate::proofs::Texts::calls_file))]
 fn recorded_of(
     alloc: Global,
     history: &History,
@@ -73,9 +92,8 @@ fn recorded_of(
     requires { IsWitness history.now.known certificate.now × IsCertificate certificate.now }
     ensures { IfOk result (IsRecordingOf history.now.known certificate.now) }
 {
-    let text = write_history(alloc, history.root().as_slice(), history.events())?;
     Ok(Recorded {
-        history: text,
+        history: file_of(alloc, history)?,
         certificate: write_certificate(alloc, certificate)?,
         counts: counts_of(history, certificate),
     })

@@ -1,6 +1,7 @@
 -- A log of which an event is noted, or refused, and what it knows from then on.
 use Rattle.std.proofs.Common.{◌≡◌, ℕ, ◌+◌, ◌-◌, ◌≤◌, Bool, true, if◌then◌else◌, List, [], ◌∷◌, ◌++◌, length, Ok, Err, Some, refl, sym, ap, subst, ◌∙◌, arith}
 use Rattle.std.proofs.lemmas.List.{length-map, map_push}
+use Rattle.tree_starts.specs.Head.{plain_head}
 use Rattle.history_file.specs.declared.event.Event as owned
 use Rattle.history_file.specs.Owning.{happened, all_happened}
 use Rattle.history_file.specs.Event.{Event, Recording}
@@ -21,7 +22,7 @@ use Rattle.nfs_tap.proofs.RoomLeft.{left-more}
 
 -- the log that holds these
 abbrev pub log_of : List ℕ → List owned.Event → Recording
-log_of root events = record { root = root; events = all_happened events }
+log_of root events = record { head = plain_head root; events = all_happened events }
 
 all_of_one_more : (events events' : List owned.Event) (e : owned.Event) (seen : Event) → events' ≡ events ++ e ∷ [] → happened e ≡ seen → all_happened events' ≡ all_happened events ++ seen ∷ []
 all_of_one_more events events' e seen more is = ap all_happened more ∙ map_push happened events e ∙ ap (λ (x : Event). all_happened events ++ x ∷ []) is
@@ -55,7 +56,7 @@ pub noted_here : (root : List ℕ) (events events' : List owned.Event) (e : owne
     → events' ≡ events ++ e ∷ [] → happened e ≡ seen → MayFollow (all_happened events) seen → Notes {X = Unit {0}} old seen (Ok tt) (log_of root events')
 noted_here root events events' e seen old view more is may =
     let now : log_of root events' ≡ with_event (log_of root events) seen =
-    ap (λ (es : List Event). let log : Recording = record { root = root; events = es } in log) (all_of_one_more events events' e seen more is) in
+    ap (λ (es : List Event). let log : Recording = record { head = plain_head root; events = es } in log) (all_of_one_more events events' e seen more is) in
     subst (λ (log : Recording). Notes {X = Unit {0}} log seen (Ok tt) (log_of root events')) view (noted_so (log_of root events) (log_of root events') seen tt may now)
 
 pub refused_here : (root : List ℕ) (events : List owned.Event) (known : OpenCalls) (left number : ℕ) (seen : Event) (old : Recording) (fault : EventFault) (named : NoteFault)

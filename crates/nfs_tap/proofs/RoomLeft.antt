@@ -5,6 +5,7 @@ use Rattle.xdr_records.specs.Texts.{word_text, opaque_text}
 use Rattle.xdr_records.proofs.Written.{length-word_text, length-opaque_text}
 use Rattle.history_file.specs.Event.{Event}
 use Rattle.history_file.specs.HistoryFile.{magic}
+use Rattle.history_file.specs.declared.version.Version.TheVariants.{First}
 use Rattle.history_file.specs.Writing.{event_text, events_text, file_text}
 
 pub length-message_text : (kind lane : ℕ) (message : List ℕ) → length (word_text kind ++ (word_text lane ++ opaque_text message)) ≡ 12 + padded (length message)
@@ -21,11 +22,11 @@ length-events_text (f ∷ events) e =
 
 length-file_text : (root : List ℕ) (events : List Event) → length (file_text root events) ≡ (16 + padded (length root)) + length (events_text events)
 length-file_text root events =
-    let head : length magic ≡ 8 = refl in
+    let head : length (magic First) ≡ 8 = refl in
     omega (
       arith,
       head,
-      length-append magic (opaque_text root ++ (word_text (length events) ++ events_text events)),
+      length-append (magic First) (opaque_text root ++ (word_text (length events) ++ events_text events)),
       length-append (opaque_text root) (word_text (length events) ++ events_text events),
       length-append (word_text (length events)) (events_text events),
       length-opaque_text root,

@@ -11,4 +11,4 @@ use Rattle.nfs_history.specs.Standing.{EachMayFollow}
 pub record IsKept (log : Recording) (known : OpenCalls) (left : ℕ) : Type 0 where
   pub follow : EachMayFollow [] log.events
   pub knows : Knows known log.events
-  pub bytes : left ≡ history_limit - length (file_text log.root log.events)
+  pub bytes : left ≡ history_limit - length (file_text log.head.root log.events)

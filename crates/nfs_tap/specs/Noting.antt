@@ -22,7 +22,7 @@ IsRefusal before e refusal = (fault : EventFault) × IsAtFault (length before + 
 
 -- the log with one event more
 abbrev pub with_event : Recording → Event → Recording
-with_event log e = record { root = log.root; events = log.events ++ e ∷ [] }
+with_event log e = record { head = log.head; events = log.events ++ e ∷ [] }
 
 -- this error, or want of memory
 abbrev pub IsThatOrNoMemory : {X : Type 0} → NoteFault → Result X NoteFault → Type 0

@@ -13,4 +13,4 @@ closes = 4096
 -- close two words
 pub record HasRoom (log : Recording) (n : ℕ) : Type 0 where
   pub events : length log.events + 1 + closes ≤ event_limit
-  pub bytes : length (file_text log.root log.events) + (12 + padded n) + 8 * closes ≤ history_limit
+  pub bytes : length (file_text log.head.root log.events) + (12 + padded n) + 8 * closes ≤ history_limit

@@ -1,6 +1,7 @@
 //! What a recorder saw so far.
 
 ghost use Rattle.std.specs.Prelude.{◌≡◌, [], IsTrue, ◌↔◌};
+ghost use Rattle.tree_starts.specs.Head.{plain_head};
 ghost use Rattle.history_file.specs.Event.Event.{call, reply, close, crash};
 ghost use Rattle.history_file.specs.Owning.{seen_event, all_happened};
 ghost use Rattle.nfs_history.specs.Standing.{EachMayFollow};
@@ -27,22 +28,23 @@ pub struct TapLog {
 }
 
 impl Model for TapLog {
+    ghost use Rattle.tree_starts.specs.Head.{plain_head};
     ghost use Rattle.history_file.specs.Event.{Recording};
     ghost use Rattle.history_file.specs.Owning.{all_happened};
     ghost use Rattle.nfs_tap.specs.Keeping.{IsKept};
 
     ghost Value = { Recording };
 
-    ghost view = { λ log. record { root = log.root; events = all_happened log.events.items } };
+    ghost view = { λ log. record { head = plain_head log.root; events = all_happened log.events.items } };
 
     // Its events are a history's.
-    ghost invariant = { λ log. IsKept (record { root = log.root; events = all_happened log.events.items }) log.known log.left };
+    ghost invariant = { λ log. IsKept (record { head = plain_head log.root; events = all_happened log.events.items }) log.known log.left };
 }
 
 impl TapLog {
     /// The log of a server, ahead of the first event. The root handle is the one that the clients mount.
     pub fn new(alloc: Global, root: FileHandle) -> TapLog
-        ensures { result ≡ record { root = root; events = [] } }
+        ensures { result ≡ record { head = plain_head root; events = [] } }
     {
         let left = left_behind_head(&root);
         TapLog {
@@ -108,7 +110,7 @@ impl TapLog {
 
     /// The handle of the root directory.
     pub fn root(&self) -> &FileHandle
-        ensures { result.now ≡ self.now.root }
+        ensures { result.now ≡ self.now.head.root }
     {
         &self.root
     }

@@ -76,7 +76,7 @@ fn may_be_taken(call: &RecordedCall, count: Option<u32>) -> bool
 pub fn is_answered_call(history: &KnownCalls<'_>, number: u64) -> bool
     ensures { result ≡ passes is_wanted (call_at history.now.calls number) }
 {
-    matches!(history.kind(number), Some(CallKind::Answered(_)))
+    matches!(history.kind(number), Some(CallKind::Answered(..)))
 }
 
 /// Whether a place names a call.

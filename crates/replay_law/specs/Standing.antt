@@ -4,6 +4,10 @@ use Rattle.replay_law.specs.declared.stepping.Replay.{Replay}
 use Rattle.replay_law.specs.Run.{TakenStep, state_after}
 use Rattle.replay_law.specs.Undone.{UndoesAll}
 
+-- the rule does in step `named` what the other does in step `number`
+abbrev pub DoesSo : {State Call Outcome : Type 0} → (State → ℕ → Call → Outcome → Option State) → (State → ℕ → Call → Outcome → Option State) → ℕ → ℕ → Call → Outcome → Type 0
+DoesSo {State} next other named number call outcome = (state : State) → next state named call outcome ≡ other state number call outcome
+
 module _ {State Setting Call Outcome Undo : Type 0} (undoes : Undo → State → State → Type 0) where
   -- what was kept leads from the starting state to one that the steps past the cut left, and theirs are the undo values
   pub record StandsAfter (next : State → ℕ → Call → Outcome → Option State) (start : State) (replay : Replay State Setting Call Outcome Undo)

@@ -1,7 +1,7 @@
 //! A state that is stepped, and loses at a crash what came after a cut.
-ghost use Rattle.std.specs.Prelude.{◌≡◌, List, [], ◌∷◌, ◌++◌, None, OnOk, OnErr, IfOk};
+ghost use Rattle.std.specs.Prelude.{◌≡◌, ℕ, List, [], ◌∷◌, ◌++◌, Option, None, OnOk, OnErr, IfOk};
 ghost use Rattle.replay_law.specs.Run.{TakenStep, state_after};
-ghost use Rattle.replay_law.specs.Standing.{StandsAfter, HasBase};
+ghost use Rattle.replay_law.specs.Standing.{StandsAfter, HasBase, DoesSo};
 
 use crate::replay::{Replayable, StepFault};
 use crate::undo::undo_all;
@@ -25,6 +25,16 @@ impl<R: Replayable> Replay<R> {
         })
     }
 
+    /// A run that begins at this state, whatever led to it.
+    pub fn from_state(alloc: Global, state: R) -> Self
+        ensures { (next : R → ℕ → R.Call → R.Outcome → Option R) → StandsAfter R.undoes next state result [] [] }
+    {
+        Replay {
+            state,
+            lost: Vec::new(alloc),
+        }
+    }
+
     /// The state.
     pub fn state(&self) -> &R
         ensures { result.now ≡ self.now.state }
@@ -32,7 +42,7 @@ impl<R: Replayable> Replay<R> {
         &self.state
     }
 
-    /// Takes a step ahead of the cut.
+    /// Takes a step ahead of the cut. A run may know the step by another number than the state does, by a rule that does the same.
     pub fn step_kept(
         &mut self,
         setting: &R::Setting,
@@ -40,14 +50,13 @@ impl<R: Replayable> Replay<R> {
         call: &R::Call,
         outcome: &R::Outcome,
     ) -> Result<(), StepFault>
-        ensures ok { OnOk result ((kept : List (TakenStep R.Call R.Outcome))
-            → StandsAfter R.undoes (R.next setting.now) (R.start setting.now) self.old kept []
-            → StandsAfter R.undoes (R.next setting.now) (R.start setting.now) self.new
-            (kept ++ record { number = number; call = call.now; outcome = outcome.now } ∷ []) []) }
-        ensures not_allowed { result ≡ Err StepFault.NotAllowed → (kept lost : List (TakenStep R.Call R.Outcome))
-            → StandsAfter R.undoes (R.next setting.now) (R.start setting.now) self.old kept lost
-            → state_after (R.next setting.now) (R.start setting.now)
-            ((kept ++ lost) ++ record { number = number; call = call.now; outcome = outcome.now } ∷ []) ≡ None }
+        ensures ok { OnOk result ((next : R → ℕ → R.Call → R.Outcome → Option R) (start : R) (named : ℕ) (kept : List (TakenStep R.Call R.Outcome))
+            → DoesSo next (R.next setting.now) named number call.now outcome.now → StandsAfter R.undoes next start self.old kept []
+            → StandsAfter R.undoes next start self.new (kept ++ record { number = named; call = call.now; outcome = outcome.now } ∷ []) []) }
+        ensures not_allowed { result ≡ Err StepFault.NotAllowed
+            → (next : R → ℕ → R.Call → R.Outcome → Option R) (start : R) (named : ℕ) (kept lost : List (TakenStep R.Call R.Outcome))
+            → DoesSo next (R.next setting.now) named number call.now outcome.now → StandsAfter R.undoes next start self.old kept lost
+            → state_after next start ((kept ++ lost) ++ record { number = named; call = call.now; outcome = outcome.now } ∷ []) ≡ None }
         ensures err { OnErr result (self.new ≡ self.old) }
     {
         self.state.step(setting, number, call, outcome)?;
@@ -62,17 +71,15 @@ impl<R: Replayable> Replay<R> {
         call: &R::Call,
         outcome: &R::Outcome,
     ) -> Result<(), StepFault>
-        ensures ok { OnOk result ((kept lost : List (TakenStep R.Call R.Outcome))
-            → StandsAfter R.undoes (R.next setting.now) (R.start setting.now) self.old kept lost
-            → StandsAfter R.undoes (R.next setting.now) (R.start setting.now) self.new kept
-            (lost ++ record { number = number; call = call.now; outcome = outcome.now } ∷ [])) }
-        ensures not_allowed { result ≡ Err StepFault.NotAllowed → (kept lost : List (TakenStep R.Call R.Outcome))
-            → StandsAfter R.undoes (R.next setting.now) (R.start setting.now) self.old kept lost
-            → state_after (R.next setting.now) (R.start setting.now)
-            ((kept ++ lost) ++ record { number = number; call = call.now; outcome = outcome.now } ∷ []) ≡ None }
-        ensures err { OnErr result ((kept lost : List (TakenStep R.Call R.Outcome))
-            → StandsAfter R.undoes (R.next setting.now) (R.start setting.now) self.old kept lost
-            → StandsAfter R.undoes (R.next setting.now) (R.start setting.now) self.new kept lost) }
+        ensures ok { OnOk result ((next : R → ℕ → R.Call → R.Outcome → Option R) (start : R) (named : ℕ) (kept lost : List (TakenStep R.Call R.Outcome))
+            → DoesSo next (R.next setting.now) named number call.now outcome.now → StandsAfter R.undoes next start self.old kept lost
+            → StandsAfter R.undoes next start self.new kept (lost ++ record { number = named; call = call.now; outcome = outcome.now } ∷ [])) }
+        ensures not_allowed { result ≡ Err StepFault.NotAllowed
+            → (next : R → ℕ → R.Call → R.Outcome → Option R) (start : R) (named : ℕ) (kept lost : List (TakenStep R.Call R.Outcome))
+            → DoesSo next (R.next setting.now) named number call.now outcome.now → StandsAfter R.undoes next start self.old kept lost
+            → state_after next start ((kept ++ lost) ++ record { number = named; call = call.now; outcome = outcome.now } ∷ []) ≡ None }
+        ensures err { OnErr result ((next : R → ℕ → R.Call → R.Outcome → Option R) (start : R) (kept lost : List (TakenStep R.Call R.Outcome))
+            → StandsAfter R.undoes next start self.old kept lost → StandsAfter R.undoes next start self.new kept lost) }
     {
         self.lost.reserve(1)?;
         let undo = self.state.step(setting, number, call, outcome)?;
@@ -83,9 +90,8 @@ impl<R: Replayable> Replay<R> {
     /// Takes back the steps past the cut. All is spent where there is no memory.
     pub fn crash(self) -> Result<Self, AllocError>
         requires { HasBase R.undoes self }
-        ensures { IfOk result (λ replay. (setting : R.Setting) → (kept lost : List (TakenStep R.Call R.Outcome))
-            → StandsAfter R.undoes (R.next setting) (R.start setting) self kept lost
-            → StandsAfter R.undoes (R.next setting) (R.start setting) replay kept []) }
+        ensures { IfOk result (λ replay. (next : R → ℕ → R.Call → R.Outcome → Option R) (start : R) (kept lost : List (TakenStep R.Call R.Outcome))
+            → StandsAfter R.undoes next start self kept lost → StandsAfter R.undoes next start replay kept []) }
     {
         let Replay { state, lost } = self;
         let alloc = *lost.allocator();

@@ -12,6 +12,7 @@ use Rattle.std.proofs.lemmas.Cmp.{nat_list_cmp_total, tied_itself}
 use Rattle.std.proofs.lemmas.List.Sorted.{Contains-permutation, IsPermutation-sym, ranks_by, sorted_far}
 use Rattle.std.proofs.lemmas.Map.Keys.{IsDistinct-IsPermutation}
 use Rattle.std.proofs.lemmas.List.Elements.{recursion_from_All}
+use Rattle.tree_starts.specs.Start.{object_made}
 use Rattle.nfs_history.specs.declared.history.RecordedCall.{RecordedCall}
 use Rattle.nfs_history.specs.declared.history.CallKind.{CallKind}
 use Rattle.nfs_history.specs.declared.history.CallKind.TheVariants as kinds
@@ -22,7 +23,7 @@ use Rattle.certificate.specs.declared.plan.Bind.{Bind}
 use Rattle.certificate.specs.CertificateText.{AreRising}
 use Rattle.tree_handles.specs.Binding.{same_bytes, object_of}
 use Rattle.reply_order.specs.declared.replies.Reply.{Reply}
-use Rattle.reply_order.specs.ReplyOrder.{is_answered, makes_object, handle_received, handle_given, replied_at, IsMaker, IsFirstMaker, BindsFirstMakers}
+use Rattle.reply_order.specs.ReplyOrder.{is_answered, makes_object, handle_received, handle_given, replied_at, IsMaker, IsFirstMade, BindsFirstMakers}
 use Rattle.reply_order.specs.Making.{names_of, is_new, binds_with, given_at, binds_behind, AreSorted, AreInOrder}
 use Rattle.reply_order.proofs.Unique.{Among, Pairwise, all_among, among_all, among_contained, contained, among_either, among_map, map_among, pairs_of_distinct, distinct_of_pairs, pairs_append, pairs_become, unique}
 use Rattle.reply_order.proofs.InReplies.{reply_given, every, in_order}
@@ -114,7 +115,7 @@ made_by true o handle is = refl
 made_by false o handle is = absurd (cc)
 
 makes_answered : (kind : CallKind) → makes_object kind ≡ true → is_answered kind ≡ true
-makes_answered (kinds.Answered procedure) h = refl
+makes_answered (kinds.Answered procedure failure) h = refl
 makes_answered (kinds.Unanswered procedure) h = absurd (false≢true h)
 makes_answered kinds.Unjudged h = absurd (false≢true h)
 
@@ -124,9 +125,9 @@ abbrev handles_of : List Bind → List (List ℕ)
 handles_of bs = map (λ (b : Bind). b.handle) bs
 
 pub record AreBound (history : CallsValue) (bs : List Bind) (rest : List Reply) : Type 0 where
-  pub firsts : (b : Bind) → Among b bs → IsFirstMaker history b.handle b.object
+  pub firsts : (b : Bind) → Among b bs → IsFirstMade history b.handle b.object
   pub apart : Pairwise (λ (a b : Bind). a.handle ≢ b.handle) bs
-  pub covered : (handle : List ℕ) (m : ℕ) → IsMaker history.calls handle m → IsGood history.root handle → Among handle (map (λ (b : Bind). b.handle) bs) ⊎ ((r : Reply) × Among r rest × (r.number ≡ m))
+  pub covered : (handle : List ℕ) (m : ℕ) → IsMaker history.calls handle m → IsGood history.head.root handle → Among handle (map (λ (b : Bind). b.handle) bs) ⊎ ((r : Reply) × Among r rest × (r.number ≡ m))
 
 more_handles : (bs : List Bind) (b : Bind) (handle : List ℕ) → Among handle (map (λ (b : Bind). b.handle) bs) → Among handle (map (λ (b : Bind). b.handle) (bs ++ b ∷ []))
 more_handles [] b handle a = absurd a
@@ -154,12 +155,15 @@ module _ (history : CallsValue) where
     clash o h p q = absurd (cc)
 
   passed_some : (bs : List Bind) (r : Reply) (rest : List Reply) (handle : List ℕ) (new : Bool) → given_at history.calls r.number ≡ Some handle
-      → is_new (names_of history.root bs) handle ≡ new → AllByRecursion (λ (q : Reply). replied_at history.calls r.number ≤ replied_at history.calls q.number) rest
-      → AreBound history bs (r ∷ rest) → AreBound history (cond new (bs ++ (record { handle = handle; object = r.number }) ∷ []) bs) rest
+      → is_new (names_of history.head.root bs) handle ≡ new → AllByRecursion (λ (q : Reply). replied_at history.calls r.number ≤ replied_at history.calls q.number) rest
+      → AreBound history bs (r ∷ rest) → AreBound history (cond new (bs ++ (record { handle = handle; object = object_made (length history.head.start) r.number }) ∷ []) bs) rest
   passed_some bs r rest handle true gave new order bound =
-      let b : Bind = record { handle = handle; object = r.number } in
-      let so = new_so history.root handle bs new in
-      let first : IsFirstMaker history handle r.number = record {
+      let made = object_made (length history.head.start) r.number in
+      let b : Bind = record { handle = handle; object = made } in
+      let so = new_so history.head.root handle bs new in
+      let first : IsFirstMade history handle made = record {
+        number = r.number;
+        made = refl;
         maker = gives_maker history.calls handle r.number gave;
         some = so.0.some;
         fits = so.0.fits;
@@ -174,7 +178,7 @@ module _ (history : CallsValue) where
       record {
         firsts = λ c a. elim (among_either bs (b ∷ []) c a) [
           | inl l ↦ bound.firsts c l
-          | inr (inl e) ↦ subst (λ (d : Bind). IsFirstMaker history d.handle d.object) e first
+          | inr (inl e) ↦ subst (λ (d : Bind). IsFirstMade history d.handle d.object) e first
           | inr (inr never) ↦ absurd never
         ];
         apart = pairs_append (λ (a b : Bind). a.handle ≢ b.handle) bs (b ∷ []) bound.apart (tt, tt)
@@ -200,7 +204,7 @@ module _ (history : CallsValue) where
           | inl named ↦ inl named
           | inr (q, inl e, is) ↦
               let same = same_gift (given_at history.calls m) handle other (ap (given_at history.calls) (sym is ∙ ap (λ (p : Reply). p.number) (sym e)) ∙ gave) (maker_gives history.calls other m maker) in
-              inl (subst (λ h. Among h (map (λ (b : Bind). b.handle) bs)) same (new_not history.root handle bs old (subst (IsGood history.root) (sym same) good)))
+              inl (subst (λ h. Among h (map (λ (b : Bind). b.handle) bs)) same (new_not history.head.root handle bs old (subst (IsGood history.head.root) (sym same) good)))
           | inr (q, inr a, is) ↦ inr (q, a, is)
         ];
   } where
@@ -209,15 +213,15 @@ module _ (history : CallsValue) where
 
   passed : (bs : List Bind) (r : Reply) (rest : List Reply) (gift : Option (List ℕ)) → given_at history.calls r.number ≡ gift
       → AllByRecursion (λ (q : Reply). replied_at history.calls r.number ≤ replied_at history.calls q.number) rest
-      → AreBound history bs (r ∷ rest) → AreBound history (binds_with history.root bs r.number gift) rest
+      → AreBound history bs (r ∷ rest) → AreBound history (binds_with history.head bs r.number gift) rest
   passed bs r rest None gave order bound = passed_none bs r rest gave bound
-  passed bs r rest (Some handle) gave order bound = passed_some bs r rest handle (is_new (names_of history.root bs) handle) gave refl order bound
+  passed bs r rest (Some handle) gave order bound = passed_some bs r rest handle (is_new (names_of history.head.root bs) handle) gave refl order bound
 
   all_passed : (rest : List Reply) (bs : List Bind) → Pairwise (λ (a b : Reply). replied_at history.calls a.number ≤ replied_at history.calls b.number) rest
       → AreBound history bs rest → AreBound history (binds_behind history bs rest) []
   all_passed [] bs order bound = bound
   all_passed (r ∷ rest) bs order bound =
-      all_passed rest (binds_with history.root bs r.number (given_at history.calls r.number)) order.1 (passed bs r rest (given_at history.calls r.number) refl order.0 bound)
+      all_passed rest (binds_with history.head bs r.number (given_at history.calls r.number)) order.1 (passed bs r rest (given_at history.calls r.number) refl order.0 bound)
 
   pub are_bound : (replies : List Reply) → AreInOrder history.calls replies → AreBound history (binds_behind history [] replies) []
   are_bound replies order = all_passed replies [] (in_order history.calls replies order) (record {
@@ -264,8 +268,8 @@ two_lists history xs ys one other =
     unique (λ (a b : Bind). slice_cmp nat_cmp a.handle b.handle ≡ Less) (λ (a b : Bind). slice_cmp nat_cmp a.handle b.handle ≡ Less)
     (λ x y less more. never_less x (nat_list_cmp_total.trans x.handle y.handle x.handle less more)) never_less xs ys (rising xs one.rising) strict
     (pairs_become (λ (a b : Bind). slice_cmp nat_cmp a.handle b.handle ≡ Less) (λ x y. x ≢ y) ys (λ x y a b less same. never_less x (subst (λ (d : Bind). slice_cmp nat_cmp x.handle d.handle ≡ Less) (sym same) less)) strict)
-    (λ b a. among_contained ys b (other.every b.handle b.object (all_among (λ (d : Bind). IsFirstMaker history d.handle d.object) xs b one.each a)))
-    (λ b a. among_contained xs b (one.every b.handle b.object (all_among (λ (d : Bind). IsFirstMaker history d.handle d.object) ys b other.each a)))
+    (λ b a. among_contained ys b (other.every b.handle b.object (all_among (λ (d : Bind). IsFirstMade history d.handle d.object) xs b one.each a)))
+    (λ b a. among_contained xs b (one.every b.handle b.object (all_among (λ (d : Bind). IsFirstMade history d.handle d.object) ys b other.each a)))
 
 -- between binds in order, none ahead of a lower one
 sorted_pairs : (bs : List Bind) → ((i j : ℕ) (d : Bind) → i ≤ j → j < length bs → is_lt (slice_cmp nat_cmp (get_or bs j d).handle (get_or bs i d).handle) ≡ false)
@@ -305,9 +309,9 @@ made_binds history replies made plan order sorted follow =
     (sorted_pairs made (sorted_far (λ (a b : Bind). is_lt (slice_cmp nat_cmp a.handle b.handle)) (ranks_by nat_list_cmp_total (λ (b : Bind). b.handle)) made sorted.ordered))
     (pairs_become (λ (a b : Bind). test a b ≡ false) (λ x y. x ≢ y) made (λ x y a b other same. false≢true (sym other ∙ (bytes_decides x.handle y.handle).1 (ap (λ (d : Bind). d.handle) same))) distinct)
     (λ b a.
-    let first = all_among (λ (d : Bind). IsFirstMaker history d.handle d.object) plan b follow.each a in
-    let good : IsGood history.root b.handle = record { some = first.some; fits = first.fits; other = first.other } in
-    elim (bound.covered b.handle b.object first.maker good) [
+    let first = all_among (λ (d : Bind). IsFirstMade history d.handle d.object) plan b follow.each a in
+    let good : IsGood history.head.root b.handle = record { some = first.some; fits = first.fits; other = first.other } in
+    elim (bound.covered b.handle first.number first.maker good) [
       | inl named ↦
           let m = among_map (λ (d : Bind). d.handle) found b.handle named in
           let same : m.0 ≡ b = one_bind plan m.0 b strict (in_plan m.0 m.1) a m.2 in

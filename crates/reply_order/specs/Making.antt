@@ -5,6 +5,8 @@ use Rattle.std.specs.Option.{option_to_list}
 use Rattle.std.specs.List.Sorted.{IsPermutation, IsNonDecreasingBy, IsSortedBy}
 use Rattle.std.specs.Ordering.{nat_cmp, is_lt}
 use Rattle.std.specs.Cmp.Lexicographic.{slice_cmp}
+use Rattle.tree_starts.specs.Head.{Head}
+use Rattle.tree_starts.specs.Start.{object_made}
 use Rattle.nfs_history.specs.declared.history.RecordedCall.{RecordedCall}
 use Rattle.nfs_history.specs.HistoryValue.{CallsValue}
 use Rattle.nfs_history.specs.Precedence.{call_at}
@@ -72,10 +74,10 @@ abbrev pub is_new : Bindings → List ℕ → Bool
 is_new names handle = nat_lt 0 (length handle) && nat_le (length handle) 64 && is_none (object_of names handle)
 
 -- the binds with that of the handle that call n was given, if it was given one that is new
-abbrev pub binds_with : List ℕ → List Bind → ℕ → Option (List ℕ) → List Bind
-binds_with root binds n None = binds
-binds_with root binds n (Some handle) =
-    if is_new (names_of root binds) handle then binds ++ (record { handle = handle; object = n }) ∷ [] else binds
+abbrev pub binds_with : Head → List Bind → ℕ → Option (List ℕ) → List Bind
+binds_with head binds n None = binds
+binds_with head binds n (Some handle) =
+    if is_new (names_of head.root binds) handle then binds ++ (record { handle = handle; object = object_made (length head.start) n }) ∷ [] else binds
 
 -- the handle that call n was given
 abbrev pub given_at : List RecordedCall → ℕ → Option (List ℕ)
@@ -84,7 +86,7 @@ given_at calls n = option_and_then handle_given (call_at calls n)
 -- the binds with those of further replies
 abbrev pub binds_behind : CallsValue → List Bind → List Reply → List Bind
 binds_behind history binds [] = binds
-binds_behind history binds (r ∷ replies) = binds_behind history (binds_with history.root binds r.number (given_at history.calls r.number)) replies
+binds_behind history binds (r ∷ replies) = binds_behind history (binds_with history.head binds r.number (given_at history.calls r.number)) replies
 
 -- the binds in the order of their handles
 pub record AreSorted (found binds : List Bind) : Type 0 where

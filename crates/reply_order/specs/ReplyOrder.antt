@@ -13,6 +13,7 @@ use Rattle.nfs3_types.specs.declared.replies.NfsReply.{NfsReply}
 use Rattle.nfs3_types.specs.declared.replies.NfsReply.TheVariants as replies
 use Rattle.nfs3_types.specs.declared.replies.Outcome.{Outcome}
 use Rattle.nfs3_types.specs.declared.replies.Outcome.TheVariants as outcomes
+use Rattle.tree_starts.specs.Start.{object_made}
 use Rattle.nfs_history.specs.declared.history.RecordedCall.{RecordedCall}
 use Rattle.nfs_history.specs.declared.history.CallKind.{CallKind}
 use Rattle.nfs_history.specs.declared.history.CallKind.TheVariants as kinds
@@ -29,7 +30,7 @@ use Rattle.certificate.specs.CertificateText.{AreRising}
 
 -- a judged call that was answered
 abbrev pub is_answered : CallKind → Bool
-is_answered (kinds.Answered procedure) = Bool.true
+is_answered (kinds.Answered procedure failure) = Bool.true
 is_answered kind = false
 
 -- call n is an answered judged call of this era
@@ -86,7 +87,7 @@ ErasFollow calls e (era ∷ eras) =
 
 -- an answered CREATE, MKDIR or SYMLINK
 abbrev pub makes_object : CallKind → Bool
-makes_object (kinds.Answered procedure) =
+makes_object (kinds.Answered procedure failure) =
     number procedure == number Create || number procedure == number MkDir || number procedure == number SymLink
 makes_object kind = false
 
@@ -116,19 +117,22 @@ pub record IsMaker (calls : List RecordedCall) (handle : List ℕ) (n : ℕ) : T
   pub there : call_at calls n ≡ Some call
   pub gave : handle_given call ≡ Some handle
 
--- of the calls that were given the handle none was answered ahead of call n; the root's handle is bound already
-pub record IsFirstMaker (history : CallsValue) (handle : List ℕ) (n : ℕ) : Type 0 where
-  pub maker : IsMaker history.calls handle n
+-- the object is that of call n, and of the calls that were given the handle none was answered before that one; the root's handle is bound
+-- already
+pub record IsFirstMade (history : CallsValue) (handle : List ℕ) (object : ℕ) : Type 0 where
+  pub number : ℕ
+  pub made : object ≡ object_made (length history.head.start) number
+  pub maker : IsMaker history.calls handle number
   pub some : 0 < length handle
   pub fits : length handle ≤ 64
-  pub other : handle ≢ history.root
-  pub first : (m : ℕ) → IsMaker history.calls handle m → replied_at history.calls n ≤ replied_at history.calls m
+  pub other : handle ≢ history.head.root
+  pub first : (m : ℕ) → IsMaker history.calls handle m → replied_at history.calls number ≤ replied_at history.calls m
 
--- each handle is bound to the first call that was given it, in the order of the handles
+-- each handle is bound to what the first call made that was given it, in the order of the handles
 pub record BindsFirstMakers (history : CallsValue) (binds : List Bind) : Type 0 where
   pub rising : AreRising binds
-  pub each : AllByRecursion (λ bind. IsFirstMaker history bind.handle bind.object) binds
-  pub every : (handle : List ℕ) (n : ℕ) → IsFirstMaker history handle n → Contains binds (record { handle = handle; object = n })
+  pub each : AllByRecursion (λ bind. IsFirstMade history bind.handle bind.object) binds
+  pub every : (handle : List ℕ) (object : ℕ) → IsFirstMade history handle object → Contains binds (record { handle = handle; object = object })
 
 -- the plan follows the replies
 pub record IsReplyOrder (history : CallsValue) (plan : Certificate) : Type 0 where

@@ -1,7 +1,8 @@
 //! The binds: each handle names what the first reply that gave it made.
 
-ghost use Rattle.std.specs.Prelude.{◌≡◌, [], IfOk};
+ghost use Rattle.std.specs.Prelude.{◌≡◌, [], IfOk, length};
 ghost use Rattle.std.specs.Option.{option_copied};
+ghost use Rattle.tree_starts.specs.Start.{object_made};
 ghost use Rattle.reply_order.specs.ReplyOrder.{makes_object, handle_in, handle_replied, handle_received};
 ghost use Rattle.reply_order.specs.Making.{names_of, is_new, binds_with, given_at, binds_behind, AreSorted};
 
@@ -19,7 +20,7 @@ fn makes_object(kind: CallKind) -> bool
     ensures { result ≡ makes_object kind }
 {
     match kind {
-        CallKind::Answered(procedure) => {
+        CallKind::Answered(procedure, _) => {
             matches!(
                 procedure,
                 Procedure::Create | Procedure::MkDir | Procedure::SymLink
@@ -98,6 +99,16 @@ fn is_new(names: &Binds, handle: &[u8]) -> bool
     0 < handle.len() && handle.len() <= HANDLE_LIMIT && names.object(handle).is_none()
 }
 
+/// The number of the object that a call makes. A history has too few calls and starting objects for a sum past 64 bits.
+fn object_made(history: &KnownCalls<'_>, number: u64) -> Result<u64, AllocError>
+    ensures { IfOk result (λ object. object ≡ object_made (length history.now.head.start) number) }
+{
+    match number.checked_add(history.start().count() as u64) {
+        Some(object) => Ok(object),
+        None => Err(AllocError),
+    }
+}
+
 /// Binds the handle that a call was given, if it was given one that is new.
 fn bind_given(
     alloc: Global,
@@ -106,19 +117,17 @@ fn bind_given(
     names: &mut Binds,
     number: u64,
 ) -> Result<(), AllocError>
-    requires { names.old ≡ names_of history.now.root binds.old.items }
-    ensures names { IfOk result (λ _. names.new ≡ names_of history.now.root binds.new.items) }
-    ensures binds { IfOk result (λ _. binds.new.items ≡ binds_with history.now.root binds.old.items number (given_at history.now.calls number)) }
+    requires { names.old ≡ names_of history.now.head.root binds.old.items }
+    ensures names { IfOk result (λ _. names.new ≡ names_of history.now.head.root binds.new.items) }
+    ensures binds { IfOk result (λ _. binds.new.items ≡ binds_with history.now.head binds.old.items number (given_at history.now.calls number)) }
 {
     let Some(handle) = handle_given(alloc, history, number)? else {
         return Ok(());
     };
     if is_new(names, handle.as_slice()) {
-        names.push(handle.as_slice(), number)?;
-        binds.push(Bind {
-            handle,
-            object: number,
-        })?;
+        let object = object_made(history, number)?;
+        names.push(handle.as_slice(), object)?;
+        binds.push(Bind { handle, object })?;
     }
     Ok(())
 }

@@ -23,7 +23,7 @@ pub struct Reply {
 fn reply_at(history: &KnownCalls<'_>, number: u64) -> Option<Reply>
     ensures { result ≡ reply_at history.now.calls number }
 {
-    let Some(CallKind::Answered(_)) = history.kind(number) else {
+    let Some(CallKind::Answered(..)) = history.kind(number) else {
         return None;
     };
     let era = history.era(number)?;

@@ -9,6 +9,7 @@ use search_problem::Found;
 use std::alloc::AllocError;
 use tree_handles::{View, directory_of, entry_at, named};
 use tree_nodes::Nodes;
+use tree_reads::object_named;
 
 impl Desk {
     /// The object of an entry of a directory.
@@ -23,18 +24,28 @@ impl Desk {
         }
     }
 
-    /// Binds the handle that a call was given for what it made, or found there.
+    /// The object that a LOOKUP finds: an entry, or with `.` and `..` the directory itself and the one that it lies in.
+    fn object_looked_up(&self, nodes: &Nodes, place: &DirectoryName) -> Option<u64> {
+        let view = View {
+            binds: &self.binds,
+            nodes,
+        };
+        let directory = directory_of(&view, &place.directory)?;
+        object_named(nodes, directory, place.name.as_slice())
+    }
+
+    /// Binds the handle that a call was given for the object that it made, or for one that it found there.
     fn bind_made(
         &mut self,
         nodes: &Nodes,
-        number: u64,
+        made: u64,
         place: &DirectoryName,
         success: &CreateSuccess,
     ) -> Result<(), AllocError> {
         let Some(handle) = &success.object else {
             return Ok(());
         };
-        let object = self.entry_object(nodes, place).unwrap_or(number);
+        let object = self.entry_object(nodes, place).unwrap_or(made);
         self.bind(handle, object)
     }
 
@@ -62,11 +73,12 @@ impl Desk {
         Ok(())
     }
 
-    /// Binds the handles that a reply gives and that are bound to no object yet, as the tree ahead of the call has them.
+    /// Binds the handles that a reply gives and that are bound to no object yet, as the tree before the call has them. What the call
+    /// makes, if anything, has the number `made`.
     pub(crate) fn bind_given(
         &mut self,
         nodes: &Nodes,
-        number: u64,
+        made: u64,
         found: &Found,
     ) -> Result<(), AllocError> {
         let Outcome::Received(reply) = &found.outcome else {
@@ -74,16 +86,16 @@ impl Desk {
         };
         match (&found.call, reply) {
             (NfsCall::Create(call), NfsReply::Create(Answer::Done(success))) => {
-                self.bind_made(nodes, number, &call.place, success)
+                self.bind_made(nodes, made, &call.place, success)
             }
             (NfsCall::MkDir(call), NfsReply::MkDir(Answer::Done(success))) => {
-                self.bind_made(nodes, number, &call.place, success)
+                self.bind_made(nodes, made, &call.place, success)
             }
             (NfsCall::SymLink(call), NfsReply::SymLink(Answer::Done(success))) => {
-                self.bind_made(nodes, number, &call.place, success)
+                self.bind_made(nodes, made, &call.place, success)
             }
             (NfsCall::Lookup(place), NfsReply::Lookup(Answer::Done(success))) => {
-                match self.entry_object(nodes, place) {
+                match self.object_looked_up(nodes, place) {
                     Some(object) => self.bind(&success.object, object),
                     None => Ok(()),
                 }

@@ -41,8 +41,7 @@ fn number_of(chosen: Move) -> u64 {
 impl State {
     /// At the branch without a move.
     pub fn begin(alloc: Global, problem: &Problem<'_, '_>) -> Result<State, AllocError> {
-        let binds = Binds::of_root(alloc, problem.known().root().as_slice())?;
-        let trial = Trial::begin(alloc, &binds)?;
+        let trial = Trial::begin(alloc, problem.known())?;
         let digest = digest_of(alloc, &trial)?;
         Ok(State {
             trial: Some(trial),
@@ -57,8 +56,7 @@ impl State {
         problem: &Problem<'_, '_>,
         has_one_handle: bool,
     ) -> Result<State, AllocError> {
-        let binds = Binds::of_root(alloc, problem.known().root().as_slice())?;
-        let trial = Trial::begin(alloc, &binds)?;
+        let trial = Trial::begin(alloc, problem.known())?;
         let mut desk = Desk::new(alloc, problem, false, 0)?;
         desk.has_one_handle = has_one_handle;
         Ok(State {
@@ -84,8 +82,9 @@ impl State {
     ) -> Result<bool, AllocError> {
         let mut trial = self.take_trial()?;
         let before = self.desk.front;
-        self.desk.bind_given(trial.nodes(), number, found)?;
-        let is_legal = trial.step(&self.desk.binds, number, &found.call, &found.outcome)?;
+        let object = problem.object_of(number);
+        self.desk.bind_given(trial.nodes(), object, found)?;
+        let is_legal = trial.step(&self.desk.binds, object, &found.call, &found.outcome)?;
         self.trial = Some(trial);
         if !is_legal {
             self.desk.front = before;
@@ -141,9 +140,9 @@ impl State {
     /// Takes the step of a move again.
     fn redo_once(&mut self, problem: &Problem<'_, '_>, chosen: Move) -> Result<(), AllocError> {
         if let Some(found) = find(self.desk.alloc, problem.known(), chosen)? {
-            let number = number_of(chosen);
+            let object = problem.object_of(number_of(chosen));
             let mut trial = self.take_trial()?;
-            trial.step(&self.desk.binds, number, &found.call, &found.outcome)?;
+            trial.step(&self.desk.binds, object, &found.call, &found.outcome)?;
             self.trial = Some(trial);
         }
         Ok(())

@@ -1,6 +1,7 @@
 //! A tree that calls are tried on.
 
-use file_tree::FileTree;
+use file_tree::{FileTree, Profile};
+use nfs_history::KnownCalls;
 use nfs3_types::{NfsCall, Outcome};
 use replay_law::{Replayable, StepFault};
 use std::alloc::{AllocError, Global};
@@ -11,12 +12,17 @@ use tree_nodes::{Nodes, Undo};
 /// A tree behind steps, each of which can be taken back. A contract sees how many there are.
 pub(crate) struct Trial {
     tree: FileTree,
+    profile: Profile,
     undos: Vec<Undo>,
 }
 
 impl Drop for Trial {
     fn drop(self) {
-        let Trial { tree, undos } = self;
+        let Trial {
+            tree,
+            profile: _,
+            undos,
+        } = self;
         drop(tree);
         drop(undos);
     }
@@ -34,11 +40,12 @@ impl Model for Trial {
 }
 
 impl Trial {
-    /// Before any step.
-    pub(crate) fn begin(alloc: Global, binds: &Binds) -> Result<Trial, AllocError> {
-        let tree = FileTree::opening(alloc, binds)?;
+    /// Before any step of a history.
+    pub(crate) fn begin(alloc: Global, known: &KnownCalls<'_>) -> Result<Trial, AllocError> {
+        let tree = FileTree::of_start(alloc, known.start())?;
         Ok(Trial {
             tree,
+            profile: known.profile(),
             undos: Vec::new(alloc),
         })
     }
@@ -48,16 +55,20 @@ impl Trial {
         self.tree.nodes()
     }
 
-    /// Takes a step, and says whether it is one that the call allows; else nothing changes.
+    /// Takes a step, and says whether it is one that the call allows; else nothing changes. What the call makes, if anything, has this
+    /// object's number.
     pub(crate) fn step(
         &mut self,
         binds: &Binds,
-        number: u64,
+        object: u64,
         call: &NfsCall,
         outcome: &Outcome,
     ) -> Result<bool, AllocError> {
         self.undos.reserve(1)?;
-        match self.tree.step(binds, number, call, outcome) {
+        match self
+            .tree
+            .step_under(self.profile, binds, object, call, outcome)
+        {
             Ok(undo) => {
                 self.undos.push(undo).unwrap();
                 Ok(true)
@@ -69,14 +80,23 @@ impl Trial {
 
     /// Takes the last step back, where there is one.
     fn back_once(self) -> Result<Trial, AllocError> {
-        let Trial { tree, undos } = self;
+        let Trial {
+            tree,
+            profile,
+            undos,
+        } = self;
         let mut undos = undos;
         match undos.pop() {
             Some(undo) => Ok(Trial {
                 tree: tree.undo(undo)?,
+                profile,
                 undos,
             }),
-            None => Ok(Trial { tree, undos }),
+            None => Ok(Trial {
+                tree,
+                profile,
+                undos,
+            }),
         }
     }
 

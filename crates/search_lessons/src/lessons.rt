@@ -152,10 +152,10 @@ impl Lessons {
         }
     }
 
-    /// Takes back that the first of some objects was made by an unanswered call of which that was guessed, and gives it, where there is one.
-    pub fn refute_first(&mut self, objects: &[Option<u64>]) -> Result<Option<u64>, AllocError> {
-        for object in objects {
-            if let Some(number) = object {
+    /// Takes back that the first of some calls made an object, where that was guessed of an unanswered one, and gives it, if there is one.
+    pub fn refute_first(&mut self, makers: &[Option<u64>]) -> Result<Option<u64>, AllocError> {
+        for maker in makers {
+            if let Some(number) = maker {
                 if self.handles.contains_key(number) {
                     self.refute_handle(*number)?;
                     return Ok(Some(*number));

@@ -50,17 +50,18 @@ impl<'p, 's, 'a> Pass<'p, 's, 'a> {
 
     /// Has an object of an unanswered call stand, and its handle name it; it says whether that could be done.
     fn place_maker(&mut self, maker: u64, handle: &FileHandle) -> Result<bool, AllocError> {
-        if self.state.stands(maker) {
-            self.state.bind(handle, maker)?;
+        let object = self.problem.object_of(maker);
+        if self.state.stands(object) {
+            self.state.bind(handle, object)?;
             return Ok(true);
         }
         if !self.place(maker)? {
             return Ok(false);
         }
-        if !self.state.stands(maker) {
+        if !self.state.stands(object) {
             return Ok(false);
         }
-        self.state.bind(handle, maker)?;
+        self.state.bind(handle, object)?;
         Ok(true)
     }
 
@@ -158,8 +159,9 @@ impl<'p, 's, 'a> Pass<'p, 's, 'a> {
 
     /// Whether an unanswered call made an object that stands and that no handle names, or none yet.
     fn is_free_maker(&self, maker: u64) -> bool {
-        if self.state.stands(maker) {
-            !self.state.is_named(maker)
+        let object = self.problem.object_of(maker);
+        if self.state.stands(object) {
+            !self.state.is_named(object)
         } else {
             !self.notes.revived.contains_key(&maker)
         }
@@ -173,7 +175,7 @@ impl<'p, 's, 'a> Pass<'p, 's, 'a> {
         match self.lessons.handle_of(maker) {
             Some(made) if made.as_slice() == handle.as_slice() => Some(Chance::Known),
             Some(_) => None,
-            None if self.state.stands(maker) => Some(Chance::Standing),
+            None if self.state.stands(self.problem.object_of(maker)) => Some(Chance::Standing),
             None if self.names.has(handle, name) => Some(Chance::Named),
             None => Some(Chance::Free),
         }
@@ -223,6 +225,14 @@ impl<'p, 's, 'a> Pass<'p, 's, 'a> {
         self.state.binds().object(handle?.as_slice())
     }
 
+    /// The call that made an object, or 0 for one that stood at first.
+    fn maker_of(&self, object: Option<u64>) -> Option<u64> {
+        match object {
+            Some(object) => Some(self.problem.maker_of(object)),
+            None => None,
+        }
+    }
+
     /// The object of the handle that a call's reply gives, if that handle could name what stands at the call's name, or what the call
     /// makes.
     fn given_amiss(&self, found: &Found, entry: Option<u64>) -> Option<u64> {
@@ -242,12 +252,16 @@ impl<'p, 's, 'a> Pass<'p, 's, 'a> {
         let one = self.object_of(one);
         let other = self.object_of(other);
         let given = self.given_amiss(found, from);
-        let refuted = self
-            .lessons
-            .refute_first([one, other, from, to, given].as_slice())?;
-        match refuted {
-            Some(object) => {
-                self.state.release(object);
+        let makers = [
+            self.maker_of(one),
+            self.maker_of(other),
+            self.maker_of(from),
+            self.maker_of(to),
+            self.maker_of(given),
+        ];
+        match self.lessons.refute_first(makers.as_slice())? {
+            Some(maker) => {
+                self.state.release(self.problem.object_of(maker));
                 self.find_maker(number, found)?;
                 Ok(true)
             }

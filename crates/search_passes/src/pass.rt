@@ -109,11 +109,12 @@ impl<'p, 's, 'a> Pass<'p, 's, 'a> {
 
     /// Binds the handle that an unanswered call is known to have made.
     fn bind_made(&mut self, number: u64) -> Result<(), AllocError> {
-        if self.problem.nature(number) != Nature::Unanswered || !self.state.stands(number) {
+        let object = self.problem.object_of(number);
+        if self.problem.nature(number) != Nature::Unanswered || !self.state.stands(object) {
             return Ok(());
         }
         match self.lessons.handle_of(number) {
-            Some(handle) => self.state.bind(handle, number),
+            Some(handle) => self.state.bind(handle, object),
             None => Ok(()),
         }
     }

@@ -62,6 +62,16 @@ impl<'s, 'a> Problem<'s, 'a> {
         }
     }
 
+    /// The number of the object that a call makes, if it makes one: those that stood at first come before it.
+    pub fn object_of(&self, number: u64) -> u64 {
+        number.saturating_add(self.known.start().count() as u64)
+    }
+
+    /// The call that makes the object of a number, or 0 for one that stood at first.
+    pub fn maker_of(&self, object: u64) -> u64 {
+        object.saturating_sub(self.known.start().count() as u64)
+    }
+
     /// Whether an era is the last one; eras are counted from 0.
     pub fn is_last(&self, era: usize) -> bool {
         era.saturating_add(1) >= self.spans.len()

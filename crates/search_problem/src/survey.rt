@@ -132,7 +132,7 @@ impl Survey {
         let era = known.era(number).unwrap_or(0);
         self.extend_calls(era, number);
         let nature = match known.kind(number) {
-            Some(CallKind::Answered(procedure))
+            Some(CallKind::Answered(procedure, _))
                 if procedure.changes_the_tree() || procedure == Procedure::Commit => {
                 match known.call(alloc, number)? {
                     Some(recorded) => {
@@ -144,7 +144,7 @@ impl Survey {
                     None => Nature::Unplaced,
                 }
             }
-            Some(CallKind::Answered(_)) => Nature::Looking,
+            Some(CallKind::Answered(..)) => Nature::Looking,
             Some(CallKind::Unanswered(procedure)) if procedure.changes_the_tree() =>
                 Nature::Unanswered,
             _ => Nature::Unplaced,

@@ -1,5 +1,5 @@
 -- every reply of a book's certificate is served
-use Rattle.std.proofs.Common.{◌≡◌, List, [], ◌∷◌, ◌++◌, take, Some, sym, ◌∙◌, subst}
+use Rattle.std.proofs.Common.{◌≡◌, List, [], ◌∷◌, ◌++◌, length, take, Some, sym, ◌∙◌, subst}
 use Rattle.std.specs.List.{AllByRecursion}
 use Rattle.nfs3_types.specs.declared.replies.NfsReply.{NfsReply}
 use Rattle.nfs3_types.specs.declared.replies.Outcome.TheVariants.{Received}
@@ -9,6 +9,12 @@ use Rattle.tree_nodes.specs.Tree.{Tree, opening}
 use Rattle.tree_nodes.proofs.Chains.{chained, same_some}
 use Rattle.tree_handles.specs.Binding.{Bindings}
 use Rattle.file_tree.specs.Success.{next_tree}
+use Rattle.file_tree.specs.Setting.{next_in}
+use Rattle.file_tree.specs.StartTree.{start_tree}
+use Rattle.certificate.specs.declared.plan.Certificate.{Certificate}
+use Rattle.cut_check.specs.Places.{bindings_of}
+use Rattle.tree_starts.specs.Head.{Head}
+use Rattle.tree_starts.specs.Start.{object_made}
 use Rattle.witness_check.specs.Run.{eras_of}
 use Rattle.book_machine.specs.Served.{IsServed}
 use Rattle.book_machine.specs.Placing.{Placed}
@@ -59,10 +65,19 @@ module _ (binds : Bindings) where
       let of_era = era_served ahead behind era opening parts.0 (subst (EachEraServed binds opening) are a) parts.1 in
       step_served before after step parts.0 tree (subst (AreServed binds parts.0) has of_era) parts.2 reply came
 
+-- what the law says of a plan behind this head
+abbrev EachReplyServedUnder : Head → Certificate → List Over → Type 0
+EachReplyServedUnder head plan eras =
+    (ahead behind : List Over) (era : Over) (before after : List Placed) (step : Placed) (reply : NfsReply) (tree : Tree) → eras ≡ ahead ++ era ∷ behind
+    → era.steps ≡ before ++ step ∷ after → step.outcome ≡ Received reply
+    → state_after (next_in head.profile (length head.start) (bindings_of head.root plan.binds)) (start_tree head.start) (kept_steps ahead ++ before) ≡ Some tree
+    → IsServed (bindings_of head.root plan.binds) tree (object_made (length head.start) step.number) step.call reply
+
 pub served_book : (book : Book) → IsInvariant book → IsServing book → IsServedBook book
 served_book book i a =
-    subst (λ (b : Bindings). EachReplyServed b (eras_of book.history.known (plan_of book))) (sym (binds_same book i.root))
-    (each_reply (bindings book) (eras_of book.history.known (plan_of book)) (all_planned book.history.known.calls (bindings book) 1 book.over book.placed i.known opening i.runs a))
+    subst (λ (head : Head). EachReplyServedUnder head (plan_of book) (eras_of book.history.known (plan_of book))) (sym i.head)
+    (subst (λ (b : Bindings). EachReplyServed b (eras_of book.history.known (plan_of book))) (sym (binds_same book))
+    (each_reply (bindings book) (eras_of book.history.known (plan_of book)) (all_planned book.history.known.calls (bindings book) 1 book.over book.placed i.known opening i.runs a)))
 
 all_served : (book : Book) (books : List Book) → IsInvariant book → IsServing book → IsRun book books → AllByRecursion IsServedBook books
 all_served book [] i a run = tt

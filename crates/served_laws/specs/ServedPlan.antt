@@ -1,17 +1,18 @@
 -- A plan whose replies are as full as can be: a server that serves as fully as it can may have given each of them (such a server is this
 -- project's own: `IsServed` of `book_machine`).
-use Rattle.std.specs.Prelude.{◌≡◌, ℕ, List, ◌∷◌, ◌++◌, Some}
+use Rattle.std.specs.Prelude.{◌≡◌, ℕ, List, ◌∷◌, ◌++◌, length, Some}
 use Rattle.std.specs.List.{AllByRecursion}
 use Rattle.nfs3_types.specs.declared.calls.NfsCall.{NfsCall}
 use Rattle.nfs3_types.specs.declared.replies.NfsReply.{NfsReply}
 use Rattle.nfs3_types.specs.declared.replies.Outcome.{Outcome}
 use Rattle.nfs3_types.specs.declared.replies.Outcome.TheVariants.{Received}
+use Rattle.tree_starts.specs.Start.{object_made}
 use Rattle.nfs_history.specs.declared.knowing.KnownCalls.{KnownCalls}
 use Rattle.certificate.specs.declared.plan.Certificate.{Certificate}
 use Rattle.cut_check.specs.Places.{bindings_of}
 use Rattle.replay_law.specs.Run.{TakenStep, Era, state_after, kept_steps}
-use Rattle.tree_nodes.specs.Tree.{Tree, opening}
-use Rattle.witness_check.specs.Run.{eras_of, next_of}
+use Rattle.tree_nodes.specs.Tree.{Tree}
+use Rattle.witness_check.specs.Run.{eras_of, next_of, base_of}
 use Rattle.book_machine.specs.Served.{IsServed}
 use Rattle.book_machine.specs.Book.{Book}
 use Rattle.book_machine.specs.Plan.{plan_of}
@@ -23,7 +24,8 @@ abbrev pub EachServed : KnownCalls → Certificate → Type 0
 EachServed history plan =
     (ahead behind : List (Era NfsCall Outcome)) (era : Era NfsCall Outcome) (before after : List (TakenStep NfsCall Outcome)) (step : TakenStep NfsCall Outcome) (reply : NfsReply) (tree : Tree)
     → eras_of history plan ≡ ahead ++ era ∷ behind → era.steps ≡ before ++ step ∷ after → step.outcome ≡ Received reply
-    → state_after (next_of history plan) opening (kept_steps ahead ++ before) ≡ Some tree → IsServed (bindings_of history.root plan.binds) tree step.number step.call reply
+    → state_after (next_of history plan) (base_of history) (kept_steps ahead ++ before) ≡ Some tree
+    → IsServed (bindings_of history.head.root plan.binds) tree (object_made (length history.head.start) step.number) step.call reply
 
 -- the replies of the book's own certificate
 abbrev pub IsServedBook : Book → Type 0

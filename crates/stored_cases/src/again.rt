@@ -4,7 +4,8 @@ use crate::case::Kind;
 use crate::twice::Written;
 use anyhow::{Result, ensure};
 use certificate::{read_certificate, write_certificate};
-use history_file::{copy_events, read_file, write_history};
+use history_file::{copy_events, read_file, write_history, write_history_from};
+use nfs_history::Start;
 use nfs3_msgs::{read_args, read_result};
 use rpc_reader::{read_call, read_reply};
 use std::alloc::Global;
@@ -34,7 +35,17 @@ fn rpc_reply_again(alloc: Global, message: &[u8]) -> Result<Vec<u8>> {
 fn history_again(alloc: Global, file: &[u8]) -> Result<Vec<u8>> {
     let recording = read_file(alloc, file)?;
     let events = copy_events(alloc, recording.events.as_slice())?;
-    Ok(write_history(alloc, recording.root, events.as_slice())?)
+    if file.starts_with(b"NFSHIST1".as_slice()) {
+        return Ok(write_history(alloc, recording.root, events.as_slice())?);
+    }
+    let start = Start::of_seen(alloc, &recording.start)?;
+    Ok(write_history_from(
+        alloc,
+        recording.root,
+        recording.profile,
+        &start,
+        events.as_slice(),
+    )?)
 }
 
 fn certificate_again(alloc: Global, text: &[u8]) -> Result<Vec<u8>> {

@@ -2,7 +2,7 @@
 
 use anyhow::Result;
 use history_file::{SeenRecording, copy_events, read_file};
-use nfs_history::{Event, History, HistoryFault, read_history};
+use nfs_history::{Event, History, HistoryFault, Start, read_history};
 use nfs3_types::FileHandle;
 use std::alloc::{AllocError, Global};
 
@@ -14,14 +14,24 @@ fn handle(alloc: Global, root: &[u8]) -> Result<FileHandle, HistoryFault> {
     Ok(FileHandle::from_slice(alloc, root)?)
 }
 
-// The history of the events.
-fn built(alloc: Global, root: &[u8], events: Vec<Event>) -> Result<History, HistoryFault> {
-    History::build(alloc, handle(alloc, root)?, events)
+// The history of the events, behind what stands in a file.
+fn built(
+    alloc: Global,
+    seen: &SeenRecording<'_>,
+    events: Vec<Event>,
+) -> Result<History, HistoryFault> {
+    let root = handle(alloc, seen.root)?;
+    let start = Start::of_seen(alloc, &seen.start)?;
+    History::build_from(alloc, root, seen.profile, start, events)
 }
 
 // The history to which the events are appended one by one.
-fn appended(alloc: Global, root: &[u8], events: Vec<Event>) -> Result<History, HistoryFault> {
-    let mut history = built(alloc, root, Vec::new(alloc))?;
+fn appended(
+    alloc: Global,
+    seen: &SeenRecording<'_>,
+    events: Vec<Event>,
+) -> Result<History, HistoryFault> {
+    let mut history = built(alloc, seen, Vec::new(alloc))?;
     for event in events {
         history.append(event)?;
     }
@@ -39,9 +49,9 @@ fn words(alloc: Global, made: Result<History, HistoryFault>) -> Result<String, A
 // What becomes of events.
 fn of_events(alloc: Global, seen: &SeenRecording<'_>) -> Result<String, AllocError> {
     let events = copy_events(alloc, seen.events.as_slice())?;
-    let of_all = words(alloc, built(alloc, seen.root, events))?;
+    let of_all = words(alloc, built(alloc, seen, events))?;
     let events = copy_events(alloc, seen.events.as_slice())?;
-    let of_each = words(alloc, appended(alloc, seen.root, events))?;
+    let of_each = words(alloc, appended(alloc, seen, events))?;
     format!(in alloc; "{of_all}, {of_each}")
 }
 

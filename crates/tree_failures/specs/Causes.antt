@@ -12,7 +12,8 @@ use Rattle.tree_nodes.specs.declared.node.Content.{Content}
 use Rattle.tree_nodes.specs.Tree.{Names, Tree, is_bare}
 use Rattle.tree_handles.specs.Binding.{Bindings}
 use Rattle.tree_handles.specs.Live.{live_entry, directory_of}
-use Rattle.tree_handles.specs.Entry.{is_plain, named}
+use Rattle.tree_starts.specs.Names.{is_plain}
+use Rattle.tree_handles.specs.Entry.{named}
 use Rattle.tree_handles.specs.Kind.{is_directory, is_file, is_link}
 use Rattle.tree_failures.specs.Asked.{first_handle, second_handle, first_place, second_place, wants_directory, file_wanted, entry_wanted}
 

@@ -8,7 +8,8 @@ use Rattle.tree_nodes.specs.Place.{path_of}
 use Rattle.tree_nodes.proofs.Found.{found_passes}
 use Rattle.tree_handles.specs.Standing.{place_of}
 use Rattle.std.specs.FinMap as map
-use Rattle.tree_handles.specs.Entry.{is_plain, entry_at}
+use Rattle.tree_starts.specs.Names.{is_plain}
+use Rattle.tree_handles.specs.Entry.{entry_at}
 
 -- a node that is found has the number that was looked for
 pub own_number : (tree : Tree) (object : ℕ) (e : Names × Node) → entry_of tree object ≡ Some e → e.1.object ≡ object

@@ -5,32 +5,12 @@ ghost use Rattle.std.specs.Option.{option_copied, option_map};
 ghost use Rattle.tree_nodes.specs.declared.node.Node.{Node};
 ghost use Rattle.tree_nodes.specs.Tree.{Names, entry_of};
 ghost use Rattle.tree_nodes.specs.Place.{path_of};
-ghost use Rattle.tree_handles.specs.Entry.{is_dot, is_two_dots, is_plain, entry_at, named};
+ghost use Rattle.tree_handles.specs.Entry.{entry_at, named};
 
 use crate::live::{View, directory_of};
 use nfs3_types::DirectoryName;
 use tree_nodes::{Node, Nodes};
-
-/// Whether a name is `.`, the directory itself.
-pub fn is_dot(name: &[u8]) -> bool
-    ensures { result ≡ is_dot name.now }
-{
-    name == b".".as_slice()
-}
-
-/// Whether a name is `..`, the directory that a directory lies in.
-pub fn is_two_dots(name: &[u8]) -> bool
-    ensures { result ≡ is_two_dots name.now }
-{
-    name == b"..".as_slice()
-}
-
-/// Whether an entry can have a name: it isn't empty, `.` or `..`.
-pub fn is_plain(name: &[u8]) -> bool
-    ensures { result ≡ is_plain name.now }
-{
-    !(name.is_empty() || is_dot(name) || is_two_dots(name))
-}
+use tree_starts::is_plain;
 
 /// The node of an entry of a directory.
 pub fn entry_at<'a>(nodes: &'a Nodes, directory: u64, name: &[u8]) -> Option<&'a Node>

@@ -12,6 +12,7 @@ mod pairs;
 mod short_handle;
 
 pub use binds::Binds;
-pub use entry::{entry_at, is_dot, is_plain, is_two_dots, named};
+pub use entry::{entry_at, named};
 pub use kind::{is_directory, is_file, is_link};
 pub use live::{FileEntry, View, directory_of, file_of, gives_object, is_bound, live_entry};
+pub use tree_starts::{is_dot, is_plain, is_two_dots};

@@ -1,5 +1,5 @@
 -- a call sees handles by what stands alone
-use Rattle.std.proofs.Common.{◌≡◌, ℕ, ◌⊎◌, inl, inr, Bool, true, false, cond, List, [], ◌∷◌, ◌++◌, length, Option, Some, None, refl, sym, ap, ◌∙◌, subst, eq-eqb}
+use Rattle.std.proofs.Common.{◌≡◌, ℕ, ◌⊎◌, inl, inr, Bool, true, false, List, [], ◌∷◌, ◌++◌, length, Option, Some, None, refl, sym, ap, ◌∙◌, subst, eq-eqb}
 use Rattle.std.proofs.lemmas.Bool.{eqb-true}
 use Rattle.std.specs.Prelude.{IsSome, ◌==◌, ◌&&◌, ◌||◌, not, nat_lt, nat_le, is_some, is_none, if◌then◌else◌, take, option_and_then, option_map, replicate}
 use Rattle.std.specs.Option.{option_map_or}
@@ -17,8 +17,6 @@ use Rattle.nfs3_types.specs.declared.calls.ReadDirPlusArguments.{ReadDirPlusArgu
 use Rattle.nfs3_types.specs.declared.calls.SetAttrArguments.{SetAttrArguments}
 use Rattle.nfs3_types.specs.declared.calls.WriteArguments.{WriteArguments}
 use Rattle.nfs3_types.specs.declared.calls.StableHow.{StableHow}
-use Rattle.nfs3_types.specs.declared.calls.MkDirArguments.{MkDirArguments}
-use Rattle.nfs3_types.specs.declared.calls.SymLinkArguments.{SymLinkArguments}
 use Rattle.nfs3_types.specs.declared.replies.Answer.TheVariants.{Done}
 use Rattle.nfs3_types.specs.declared.replies.NfsReply.{NfsReply}
 use Rattle.nfs3_types.specs.declared.replies.NfsReply.TheVariants as replies
@@ -37,7 +35,8 @@ use Rattle.tree_nodes.proofs.Chains.{chained}
 use Rattle.tree_nodes.proofs.Found.{some_found}
 use Rattle.tree_handles.specs.Binding.{Bindings, object_of, is_bound, gives_object}
 use Rattle.tree_handles.specs.Live.{FileEntry, live_entry, as_directory, directory_of, as_file, file_of}
-use Rattle.tree_handles.specs.Entry.{is_dot, is_two_dots, is_plain, entry_at, named}
+use Rattle.tree_starts.specs.Names.{is_dot, is_two_dots, is_plain}
+use Rattle.tree_handles.specs.Entry.{entry_at, named}
 use Rattle.tree_handles.specs.Kind.{is_directory, is_link}
 use Rattle.tree_reads.specs.Look as look
 use Rattle.tree_reads.specs.Listing as listing
@@ -52,7 +51,7 @@ use Rattle.file_tree.specs.Change.Change.{Keep, Put, Remove}
 use Rattle.file_tree.specs.Made as made
 use Rattle.file_tree.specs.Written as written
 use Rattle.file_tree.specs.Removed as removed
-use Rattle.file_tree.specs.Success.{changed, change_done, change_received, change_taken, change_of, change_answered, next_tree}
+use Rattle.file_tree.specs.Success.{changed, change_done, change_taken, change_of, change_answered}
 use Rattle.tree_laws.specs.Agreeing.{AgreeOn, OthersDontMatter}
 
 -- ---- functions that agree where they are asked
@@ -61,7 +60,7 @@ same_on : {X : Type 0} (f g : X → Bool) (o : Option X) (b : Bool) → ((x : X)
 same_on f g None b same = refl
 same_on f g (Some x) b same = same x refl
 
-then_on : {X Y : Type 0} (f g : X → Option Y) (o : Option X) → ((x : X) → o ≡ Some x → f x ≡ g x) → option_and_then f o ≡ option_and_then g o
+pub then_on : {X Y : Type 0} (f g : X → Option Y) (o : Option X) → ((x : X) → o ≡ Some x → f x ≡ g x) → option_and_then f o ≡ option_and_then g o
 then_on f g None same = refl
 then_on f g (Some x) same = same x refl
 
@@ -95,7 +94,7 @@ module _ (binds other : Bindings) (tree : Tree) (number : ℕ) (agree : AgreeOn 
   back : AgreeOn other binds tree number
   back handle object known = sym (agree handle object known)
 
-  live : (handle : List ℕ) → live_entry binds tree handle ≡ live_entry other tree handle
+  pub live : (handle : List ℕ) → live_entry binds tree handle ≡ live_entry other tree handle
   live handle = go (live_entry binds tree handle) (live_entry other tree handle) refl refl where
     go : (a b : Option (Names × Node)) → live_entry binds tree handle ≡ a → live_entry other tree handle ≡ b → live_entry binds tree handle ≡ live_entry other tree handle
     go (Some e) b is_a is_b = is_a ∙ sym (across binds other tree number agree handle e is_a)

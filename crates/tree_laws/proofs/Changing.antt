@@ -32,7 +32,8 @@ use Rattle.tree_nodes.specs.Tree.{Names, Tree, same_path, entry_of, is_bare}
 use Rattle.tree_nodes.specs.Moved.{is_from}
 use Rattle.tree_handles.specs.Binding.{Bindings, gives_object, object_of}
 use Rattle.tree_handles.specs.Live.{live_entry, directory_of, file_of}
-use Rattle.tree_handles.specs.Entry.{is_plain, entry_at, named}
+use Rattle.tree_starts.specs.Names.{is_plain}
+use Rattle.tree_handles.specs.Entry.{entry_at, named}
 use Rattle.tree_handles.specs.Kind.{is_directory}
 use Rattle.tree_reads.specs.Look.{getattr_is_legal, lookup_is_legal, readlink_is_legal, read_is_legal, commit_is_legal}
 use Rattle.tree_reads.specs.Listing.{readdir_is_legal, readdirplus_is_legal}

@@ -6,6 +6,8 @@ pub mod Staying
 pub mod Moved
 pub mod Renamed
 pub mod Keeping
+pub mod Starting
+pub mod Numbered
 pub mod Running
 pub mod Below
 pub mod Written
@@ -20,3 +22,6 @@ pub mod Agreeing
 pub mod Newcomers
 pub mod Taking
 pub mod Unheeded
+pub mod Sparing
+pub mod Judged
+pub mod Begun

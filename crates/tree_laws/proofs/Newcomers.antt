@@ -1,5 +1,5 @@
 -- the objects that a call brings in
-use Rattle.std.proofs.Common.{◌≡◌, ℕ, ◌⊎◌, inl, inr, Bool, true, false, cond, List, ◌++◌, drop, length, Option, Some, None, refl, sym, ap, ◌∙◌, subst, eq-eqb}
+use Rattle.std.proofs.Common.{◌≡◌, ℕ, ◌⊎◌, inl, inr, Bool, true, false, cond, ◌++◌, drop, length, Option, Some, None, sym, ap, ◌∙◌, eq-eqb}
 use Rattle.std.specs.Prelude.{IsSome, ◌==◌}
 use Rattle.std.specs.FinMap as map
 use Rattle.file_tree.specs.Change.{Change}
@@ -15,7 +15,7 @@ use Rattle.tree_laws.specs.Newcomers.{OnlyItsOwnIsNew}
 use Rattle.tree_nodes.proofs.Chains.{mapped, value_of, decide, differ, same_some}
 use Rattle.tree_nodes.proofs.Entries.{path_total}
 use Rattle.tree_nodes.proofs.Found.{some_found, found_stands, from_front, parts_of}
-use Rattle.tree_laws.proofs.Changing.{Replaces, Grows, Moves, Sets, Fits, Over, change_fits}
+use Rattle.tree_laws.proofs.Changing.{Replaces, Grows, Sets, Fits, Over, change_fits}
 use Rattle.tree_laws.proofs.Handles.{entry_object}
 use Rattle.tree_laws.proofs.Keeping.{is_or_isnt, put_there}
 use Rattle.tree_laws.proofs.Moved.{has_moved}

@@ -16,7 +16,8 @@ use Rattle.tree_nodes.specs.Tree.{Names, Tree, path_cmp, is_bare}
 use Rattle.tree_nodes.proofs.Entries.{path_total}
 use Rattle.tree_handles.specs.Binding.{Bindings}
 use Rattle.tree_handles.specs.Live.{directory_of}
-use Rattle.tree_handles.specs.Entry.{is_plain, entry_at, named}
+use Rattle.tree_starts.specs.Names.{is_plain}
+use Rattle.tree_handles.specs.Entry.{entry_at, named}
 use Rattle.tree_handles.specs.Kind.{is_directory}
 use Rattle.nfs3_types.specs.Procedures.{failure_in}
 use Rattle.file_tree.specs.Success.{changed, change_removed, change_directory_removed, change_answered}

@@ -15,7 +15,8 @@ use Rattle.tree_nodes.specs.Moved.{is_from, moved}
 use Rattle.tree_nodes.proofs.Soundness.{same_names}
 use Rattle.tree_handles.specs.Binding.{Bindings}
 use Rattle.tree_handles.specs.Live.{directory_of}
-use Rattle.tree_handles.specs.Entry.{is_plain, named}
+use Rattle.tree_starts.specs.Names.{is_plain}
+use Rattle.tree_handles.specs.Entry.{named}
 use Rattle.nfs3_types.specs.Procedures.{failure_in}
 use Rattle.file_tree.specs.Success.{changed, change_renamed, change_answered}
 use Rattle.file_tree.specs.Removed.{may_replace, rename}

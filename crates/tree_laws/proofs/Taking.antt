@@ -1,5 +1,5 @@
 -- successes without their replies
-use Rattle.std.proofs.Common.{◌≡◌, ℕ, Bool, true, false, cond, List, ◌∷◌, [], ◌++◌, length, Option, Some, None, refl, sym, ap, ◌∙◌}
+use Rattle.std.proofs.Common.{◌≡◌, ℕ, Bool, true, false, List, ◌∷◌, [], ◌++◌, length, Option, Some, None, ap, ◌∙◌}
 use Rattle.std.specs.Prelude.{◌&&◌, if◌then◌else◌, is_none, nat_le, nat_lt, replicate, take, option_and_then, option_map}
 use Rattle.std.specs.FinMap as map
 use Rattle.nfs3_types.specs.Limits.{file_limit}
@@ -10,7 +10,7 @@ use Rattle.nfs3_types.specs.declared.calls.WriteArguments.{WriteArguments}
 use Rattle.nfs3_types.specs.declared.calls.StableHow.{StableHow}
 use Rattle.nfs3_types.specs.declared.calls.NfsCall.{NfsCall}
 use Rattle.nfs3_types.specs.declared.calls.NfsCall.TheVariants as calls
-use Rattle.nfs3_types.specs.declared.replies.Answer.TheVariants.{Done, Failed}
+use Rattle.nfs3_types.specs.declared.replies.Answer.TheVariants.{Done}
 use Rattle.nfs3_types.specs.declared.replies.NfsReply.{NfsReply}
 use Rattle.nfs3_types.specs.declared.replies.NfsReply.TheVariants as replies
 use Rattle.nfs3_types.specs.declared.status.Failure.{Failure}
@@ -20,10 +20,10 @@ use Rattle.tree_nodes.specs.declared.node.Content.{Content}
 use Rattle.tree_nodes.specs.declared.node.Content.TheVariants as contents
 use Rattle.tree_nodes.specs.Files.{node_limit, file_node}
 use Rattle.tree_nodes.specs.Tree.{Names, Tree, entry_of}
-use Rattle.tree_nodes.proofs.Chains.{chained, both_pass, mapped}
+use Rattle.tree_nodes.proofs.Chains.{mapped}
 use Rattle.tree_handles.specs.Binding.{Bindings, gives_object}
-use Rattle.tree_handles.specs.Live.{FileEntry, directory_of, file_of}
-use Rattle.tree_handles.specs.Entry.{is_plain}
+use Rattle.tree_handles.specs.Live.{directory_of, file_of}
+use Rattle.tree_starts.specs.Names.{is_plain}
 use Rattle.file_tree.specs.Change.{Change}
 use Rattle.file_tree.specs.Change.Change.{Put}
 use Rattle.file_tree.specs.Made.{only_if, first_size, first_verifier, create_absent, create_present, create_over, create_at, create_change, make_entry}

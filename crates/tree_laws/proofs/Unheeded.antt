@@ -37,7 +37,8 @@ use Rattle.tree_nodes.specs.Tree.{Names, Tree, entry_of, same_path, is_below, is
 use Rattle.tree_nodes.proofs.Chains.{isnt, absent}
 use Rattle.tree_nodes.proofs.Found.{some_found}
 use Rattle.tree_handles.specs.Binding.{Bindings, same_bytes, object_of, is_bound, gives_object}
-use Rattle.tree_handles.specs.Entry.{is_dot, is_two_dots, is_plain, entry_at, named}
+use Rattle.tree_starts.specs.Names.{is_dot, is_two_dots, is_plain}
+use Rattle.tree_handles.specs.Entry.{entry_at, named}
 use Rattle.tree_handles.specs.Kind.{is_directory, is_link}
 use Rattle.tree_handles.specs.Live.{live_entry, as_directory, directory_of, as_file, file_of}
 use Rattle.tree_failures.specs.declared.failure.Cause.{Cause}

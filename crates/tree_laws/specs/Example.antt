@@ -1,7 +1,10 @@
--- a run in which each procedure that changes the tree succeeds, one that only looks does too, and one fails
+-- a run in which each procedure that changes the tree succeeds, one that only looks does too, and one fails; and a run behind a start
 use Rattle.std.specs.Prelude.{ℕ, List, [], ◌∷◌, IsSome, Some, None, true}
+use Rattle.nfs3_types.specs.declared.attributes.FileAttributes.{FileAttributes}
+use Rattle.nfs3_types.specs.declared.attributes.FileType.TheVariants.{Regular}
 use Rattle.nfs3_types.specs.declared.attributes.SetAttributes.{SetAttributes}
 use Rattle.nfs3_types.specs.declared.attributes.SetTime.TheVariants as times
+use Rattle.nfs3_types.specs.declared.attributes.Time.{Time}
 use Rattle.nfs3_types.specs.declared.attributes.WccData.{WccData}
 use Rattle.nfs3_types.specs.declared.calls.CreateMode.TheVariants.{Exclusive}
 use Rattle.nfs3_types.specs.declared.calls.StableHow.TheVariants.{FileSync}
@@ -14,8 +17,14 @@ use Rattle.nfs3_types.specs.declared.replies.Outcome.{Outcome}
 use Rattle.nfs3_types.specs.declared.replies.Outcome.TheVariants as outcomes
 use Rattle.nfs3_types.specs.declared.status.Failure.TheVariants.{NoEntry}
 use Rattle.replay_law.specs.Run.{TakenStep, state_after}
+use Rattle.tree_starts.specs.Start.{IsStart}
+use Rattle.tree_starts.specs.declared.object.StartObject.{StartObject}
+use Rattle.tree_starts.specs.declared.object.StartNode.TheVariants as kinds
+use Rattle.tree_starts.specs.declared.profile.Profile.TheVariants.{Strict}
 use Rattle.tree_nodes.specs.Tree.{opening}
 use Rattle.tree_handles.specs.Binding.{Bindings}
+use Rattle.file_tree.specs.Setting.{next_in}
+use Rattle.file_tree.specs.StartTree.{start_tree}
 use Rattle.file_tree.specs.Success.{next_tree}
 use Rattle.tree_laws.specs.Outcomes.{step}
 
@@ -91,3 +100,72 @@ steps =
 -- each of these calls has a next tree
 abbrev pub IsRun : Type 0
 IsRun = IsSome (state_after (next_tree handles) opening steps)
+
+-- ---- behind a start, under the strict profile
+
+-- the directory d, and in it the file f with the bytes abc
+abbrev pub first_objects : List StartObject
+first_objects =
+    record { parent = 0; name = 100 ∷ []; node = kinds.Directory } ∷ record { parent = 1; name = 102 ∷ []; node = kinds.File (97 ∷ 98 ∷ 99 ∷ []) } ∷ []
+
+-- the handles of the root, of the directory and of the file
+abbrev pub first_handles : Bindings
+first_handles = record { root = 0 ∷ []; pairs = (1 ∷ [], 1) ∷ (2 ∷ [], 2) ∷ [] }
+
+abbrev pub no_time : Time
+no_time = record { seconds = 0; nanoseconds = 0 }
+
+-- the attributes of a file of this size
+abbrev pub of_size : ℕ → FileAttributes
+of_size size =
+    record {
+      file_type = Regular;
+      mode = 420;
+      link_count = 1;
+      user = 0;
+      group = 0;
+      size = size;
+      used = size;
+      device = record { major = 0; minor = 0 };
+      file_system = 0;
+      file_number = 2;
+      access_time = no_time;
+      modify_time = no_time;
+      change_time = no_time;
+    }
+
+-- READ f, which gives abc; WRITE z behind it; GETATTR f, which is four bytes long
+abbrev pub read_first : NfsCall
+read_first = calls.Read (record { file = 2 ∷ []; offset = 0; count = 9 })
+
+abbrev pub first_read : Outcome
+first_read = outcomes.Received (replies.Read (Done (record { attributes = Some (of_size 3); count = 3; eof = true; bytes = 97 ∷ 98 ∷ 99 ∷ [] })))
+
+abbrev pub write_behind : NfsCall
+write_behind = calls.Write (record { file = 2 ∷ []; offset = 3; count = 1; level = FileSync; bytes = 122 ∷ [] })
+
+abbrev pub written_behind : Outcome
+written_behind =
+    outcomes.Received (replies.Write (Done (record {
+      wcc = record { before = Some (record { size = 3; modify_time = no_time; change_time = no_time }); after = Some (of_size 4) };
+      count = 1;
+      level = FileSync;
+      verifier = record { value = 7 };
+    })))
+
+abbrev pub get_attributes : NfsCall
+get_attributes = calls.GetAttr (2 ∷ [])
+
+abbrev pub four_long : Outcome
+four_long = outcomes.Received (replies.GetAttr (Done (of_size 4)))
+
+abbrev pub first_steps : List (TakenStep NfsCall Outcome)
+first_steps = step 1 read_first first_read ∷ step 2 write_behind written_behind ∷ step 3 get_attributes four_long ∷ []
+
+-- these objects are a start
+abbrev pub StartsRight : Type 0
+StartsRight = IsStart first_objects
+
+-- and each of these calls has a next tree behind it
+abbrev pub IsRunBehind : Type 0
+IsRunBehind = IsSome (state_after (next_in Strict 2 first_handles) (start_tree first_objects) first_steps)

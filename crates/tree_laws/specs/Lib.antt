@@ -14,3 +14,7 @@ pub mod Example
 pub mod Agreeing
 pub mod Newcomers
 pub mod Taking
+pub mod Starting
+pub mod FirstBytes
+pub mod StandsOn
+pub mod Profiles

@@ -1,5 +1,5 @@
 -- READ after WRITE: RFC 1813, sections 3.3.6 and 3.3.7
-use Rattle.std.specs.Prelude.{◌≡◌, ◌≢◌, ℕ, ◌+◌, ◌-◌, ◌<◌, ◌≤◌, Bool, true, false, List, [], ◌∷◌, ◌++◌, take, slice_index, Option, Some, IsSome, ⊤}
+use Rattle.std.specs.Prelude.{◌≡◌, ◌≢◌, ℕ, ◌+◌, ◌-◌, ◌<◌, ◌≤◌, Bool, true, false, List, [], ◌∷◌, ◌++◌, length, take, slice_index, Option, Some, IsSome, ⊤}
 use Rattle.std.specs.List.{AllByRecursion}
 use Rattle.nfs3_types.specs.declared.attributes.FileAttributes.{FileAttributes}
 use Rattle.nfs3_types.specs.declared.calls.WriteArguments.{WriteArguments}
@@ -12,9 +12,14 @@ use Rattle.nfs3_types.specs.declared.replies.NfsReply.TheVariants as replies
 use Rattle.nfs3_types.specs.declared.replies.Outcome.{Outcome}
 use Rattle.nfs3_types.specs.declared.replies.Outcome.TheVariants.{Received}
 use Rattle.replay_law.specs.Run as run
-use Rattle.tree_nodes.specs.Tree.{Tree, opening}
+use Rattle.tree_starts.specs.Start.{IsStart}
+use Rattle.tree_starts.specs.declared.object.StartObject.{StartObject}
+use Rattle.tree_starts.specs.declared.profile.Profile.{Profile}
+use Rattle.tree_nodes.specs.Tree.{Tree}
 use Rattle.tree_handles.specs.Binding.{Bindings, object_of}
 use Rattle.tree_reads.specs.Look.{read_is_legal}
+use Rattle.file_tree.specs.Setting.{next_in}
+use Rattle.file_tree.specs.StartTree.{start_tree}
 use Rattle.file_tree.specs.Success.{next_tree}
 use Rattle.tree_laws.specs.Outcomes.{count_written, step}
 use Rattle.tree_laws.specs.WellFormed.{IsWellFormed}
@@ -50,9 +55,21 @@ abbrev pub NumbersDiffer : List (run.TakenStep NfsCall Outcome) → Type 0
 NumbersDiffer [] = ⊤
 NumbersDiffer (one ∷ steps) = AllByRecursion (λ later. later.number ≢ one.number) steps × NumbersDiffer steps
 
+-- no call has the number 0
+abbrev pub FromOne : List (run.TakenStep NfsCall Outcome) → Type 0
+FromOne = AllByRecursion (λ one. one.number ≢ 0)
+
 -- among these calls a READ stands behind a WRITE of the same file, near or far; the WRITE wrote this byte, the READ asked for bytes
 -- from there or from ahead of it, and no call in between writes over it
-pub record ReadsLater (binds : Bindings) (steps : List (run.TakenStep NfsCall Outcome)) (write : WriteArguments) (read : ReadArguments) (answer : ReadSuccess) (byte : ℕ) : Type 0 where
+pub record ReadsLater
+    (profile : Profile)
+    (start : List StartObject)
+    (binds : Bindings)
+    (steps : List (run.TakenStep NfsCall Outcome))
+    (write : WriteArguments)
+    (read : ReadArguments)
+    (answer : ReadSuccess)
+    (byte : ℕ) : Type 0 where
   pub ahead : List (run.TakenStep NfsCall Outcome)
   pub m : ℕ
   pub outcome : Outcome
@@ -67,17 +84,23 @@ pub record ReadsLater (binds : Bindings) (steps : List (run.TakenStep NfsCall Ou
   pub counted : count_written outcome ≡ Some count
   pub was_written : (write.offset ≤ byte) × (byte < write.offset + count)
   pub was_asked : read.offset ≤ byte
-  pub stays : (tree : Tree) → run.state_after (next_tree binds) opening (ahead ++ step m (calls.Write write) outcome ∷ []) ≡ Some tree
-      → NoneWritesOver binds object byte tree between
+  pub stays : (tree : Tree)
+      → run.state_after (next_in profile (length start) binds) (start_tree start) (ahead ++ step m (calls.Write write) outcome ∷ []) ≡ Some tree
+      → NoneWritesOver profile (length start) binds object byte tree between
 
--- where the answer reaches the byte, it has the one that was written; where it stops ahead of it, it doesn't say that the file ends
--- there
-pub record GivesByte (write : WriteArguments) (read : ReadArguments) (answer : ReadSuccess) (byte : ℕ) : Type 0 where
-  pub given : byte < read.offset + answer.count → slice_index answer.bytes (byte - read.offset) ≡ slice_index write.bytes (byte - write.offset)
+-- where the answer reaches the byte, it has this one; where it stops ahead of it, it doesn't say that the file ends there
+pub record Gives (read : ReadArguments) (answer : ReadSuccess) (byte value : ℕ) : Type 0 where
+  pub given : byte < read.offset + answer.count → slice_index answer.bytes (byte - read.offset) ≡ value
   pub no_end : read.offset + answer.count ≤ byte → answer.eof ≡ false
 
--- so in a run whose calls have different numbers a READ gives each byte that a WRITE wrote, unless a call in between wrote over it
+-- the byte that was written
+abbrev pub GivesByte : WriteArguments → ReadArguments → ReadSuccess → ℕ → Type 0
+GivesByte write read answer byte = Gives read answer byte (slice_index write.bytes (byte - write.offset))
+
+-- so whatever stood at first, in a run whose calls have different numbers from 1 on a READ gives each byte that a WRITE wrote, unless
+-- a call in between wrote over it
 abbrev pub RunsReadBack : Type 0
 RunsReadBack =
-    (binds : Bindings) (steps : List (run.TakenStep NfsCall Outcome)) (write : WriteArguments) (read : ReadArguments) (answer : ReadSuccess) (byte : ℕ)
-    → IsSome (run.state_after (next_tree binds) opening steps) → NumbersDiffer steps → ReadsLater binds steps write read answer byte → GivesByte write read answer byte
+    (profile : Profile) (start : List StartObject) (binds : Bindings) (steps : List (run.TakenStep NfsCall Outcome)) (write : WriteArguments) (read : ReadArguments)
+    (answer : ReadSuccess) (byte : ℕ) → IsStart start → IsSome (run.state_after (next_in profile (length start) binds) (start_tree start) steps) → FromOne steps
+    → NumbersDiffer steps → ReadsLater profile start binds steps write read answer byte → GivesByte write read answer byte

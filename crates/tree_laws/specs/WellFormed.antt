@@ -1,19 +1,24 @@
 -- what a file tree is: RFC 1813, section 2.6 (`ftype3`) and section 3.3.3
-use Rattle.std.specs.Prelude.{◌≡◌, ℕ, List, [], ◌∷◌, ◌++◌, Bool, true, not, ◌&&◌, if◌then◌else◌, Option, Some, None, IsSome, option_and_then}
+use Rattle.std.specs.Prelude.{◌≡◌, ℕ, List, [], ◌∷◌, ◌++◌, length, Bool, true, not, ◌&&◌, if◌then◌else◌, Option, Some, None, IsSome, option_and_then}
 use Rattle.std.specs.FinMap as map
 use Rattle.nfs3_types.specs.declared.calls.DirectoryName.{DirectoryName}
 use Rattle.nfs3_types.specs.declared.calls.NfsCall.{NfsCall}
 use Rattle.nfs3_types.specs.declared.replies.Outcome.{Outcome}
 use Rattle.replay_law.specs.Run.{TakenStep, state_after}
+use Rattle.tree_starts.specs.Start.{IsStart}
+use Rattle.tree_starts.specs.declared.object.StartObject.{StartObject}
+use Rattle.tree_starts.specs.declared.profile.Profile.{Profile}
 use Rattle.tree_nodes.specs.declared.node.Node.{Node}
 use Rattle.tree_nodes.specs.declared.node.Content.{Content}
 use Rattle.tree_nodes.specs.declared.node.Content.TheVariants.{Directory}
-use Rattle.tree_nodes.specs.Tree.{Names, Tree, same_path, opening, is_bare}
+use Rattle.tree_nodes.specs.Tree.{Names, Tree, same_path, is_bare}
 use Rattle.tree_nodes.specs.Moved.{is_from}
 use Rattle.file_tree.specs.Change.Change.{Keep, Remove, Move}
 use Rattle.tree_handles.specs.Binding.{Bindings}
 use Rattle.tree_handles.specs.Entry.{named}
 use Rattle.tree_handles.specs.Kind.{is_directory}
+use Rattle.file_tree.specs.Setting.{next_in}
+use Rattle.file_tree.specs.StartTree.{start_tree}
 use Rattle.file_tree.specs.Success.{next_tree}
 use Rattle.file_tree.specs.Made.{only_if}
 use Rattle.file_tree.specs.Removed.{remove_entry, rename_at}
@@ -36,9 +41,11 @@ StepsKeep =
     (binds : Bindings) (before after : Tree) (number : ℕ) (call : NfsCall) (outcome : Outcome) → next_tree binds before number call outcome ≡ Some after
     → IsWellFormed before → IsWellFormed after
 
--- each tree that calls reach from the opening one is well formed
+-- whatever stood at first, and under each profile, each tree that calls reach is well formed
 abbrev pub RunsKeep : Type 0
-RunsKeep = (binds : Bindings) (steps : List (TakenStep NfsCall Outcome)) (tree : Tree) → state_after (next_tree binds) opening steps ≡ Some tree → IsWellFormed tree
+RunsKeep =
+    (profile : Profile) (start : List StartObject) (binds : Bindings) (steps : List (TakenStep NfsCall Outcome)) (tree : Tree) → IsStart start
+    → state_after (next_in profile (length start) binds) (start_tree start) steps ≡ Some tree → IsWellFormed tree
 
 -- in a well-formed tree nothing stands below a path at which no directory stands
 abbrev pub NothingBelow : Type 0

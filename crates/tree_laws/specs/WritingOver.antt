@@ -7,10 +7,12 @@ use Rattle.nfs3_types.specs.declared.calls.NfsCall.{NfsCall}
 use Rattle.nfs3_types.specs.declared.calls.NfsCall.TheVariants as calls
 use Rattle.nfs3_types.specs.declared.replies.Outcome.{Outcome}
 use Rattle.replay_law.specs.Run.{TakenStep}
+use Rattle.tree_starts.specs.declared.profile.Profile.{Profile}
 use Rattle.tree_nodes.specs.Tree.{Tree}
 use Rattle.tree_handles.specs.Binding.{Bindings, object_of}
 use Rattle.tree_handles.specs.Live.{FileEntry, file_of}
 use Rattle.tree_handles.specs.Entry.{named}
+use Rattle.file_tree.specs.Setting.{next_in}
 use Rattle.file_tree.specs.Success.{next_tree}
 use Rattle.tree_laws.specs.Outcomes.{IsSuccess, count_written}
 use Rattle.tree_laws.specs.WellFormed.{IsWellFormed}
@@ -45,12 +47,12 @@ pub record WritesOver (binds : Bindings) (tree : Tree) (object byte : ℕ) (call
   pub same_object : object_set binds tree call ≡ Some object
   pub sets : SetsByte call outcome byte
 
--- none of these calls does, each in the tree that those ahead of it leave
-abbrev pub NoneWritesOver : Bindings → ℕ → ℕ → Tree → List (TakenStep NfsCall Outcome) → Type 0
-NoneWritesOver binds object byte tree [] = ⊤
-NoneWritesOver binds object byte tree (one ∷ steps) =
+-- none of these calls does, each in the tree that those ahead of it leave, where so many objects stood at first
+abbrev pub NoneWritesOver : Profile → ℕ → Bindings → ℕ → ℕ → Tree → List (TakenStep NfsCall Outcome) → Type 0
+NoneWritesOver profile first binds object byte tree [] = ⊤
+NoneWritesOver profile first binds object byte tree (one ∷ steps) =
     (¬ WritesOver binds tree object byte one.call one.outcome)
-    × ((after : Tree) → next_tree binds tree one.number one.call one.outcome ≡ Some after → NoneWritesOver binds object byte after steps)
+    × ((after : Tree) → next_in profile first binds tree one.number one.call one.outcome ≡ Some after → NoneWritesOver profile first binds object byte after steps)
 
 -- a byte stays what it was, and isn't cut off
 pub record ByteStays (old new : List ℕ) (byte : ℕ) : Type 0 where

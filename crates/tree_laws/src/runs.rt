@@ -4,8 +4,8 @@ ghost use Rattle.tree_laws.specs.LiveHandles.{HandlesLast};
 ghost use Rattle.tree_laws.specs.Types.{ObjectsLast};
 ghost use Rattle.tree_laws.specs.WellFormed.{StepsKeep, RunsKeep, NothingBelow, NoDirectoryIsBare, RemoveAsksOnly, RenameAsksOnly};
 
-/// Whatever calls are made of the opening tree, and however they come out, each tree that they reach is well
-/// formed: the root is a directory, each entry lies in a directory, and each object stands at one path.
+/// Whatever a server held at first, whatever calls are made of it, and however they come out under either profile, each tree that they
+/// reach is well formed: the root is a directory, each entry lies in a directory, and each object stands at one path.
 pub fn every_tree_is_well_formed()
     ensures steps { StepsKeep }
     ensures runs { RunsKeep }

@@ -8,7 +8,8 @@ use Rattle.tree_nodes.specs.declared.node.Node.{Node}
 use Rattle.tree_nodes.specs.Tree.{Names, Tree, entry_of, is_in, parent}
 use Rattle.tree_nodes.specs.Place.{path_of, are_among}
 use Rattle.tree_nodes.proofs.Found.{found_stands}
-use Rattle.tree_handles.specs.Entry.{is_dot, is_two_dots, entry_at}
+use Rattle.tree_starts.specs.Names.{is_dot, is_two_dots}
+use Rattle.tree_handles.specs.Entry.{entry_at}
 use Rattle.tree_reads.specs.Look.{object_at, object_named}
 use Rattle.tree_reads.specs.Listing.{are_all_listed}
 use Rattle.tree_reads.specs.Held.{HasNames}

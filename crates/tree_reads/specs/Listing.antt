@@ -14,7 +14,8 @@ use Rattle.nfs3_types.specs.declared.replies.NfsReply.TheVariants as replies
 use Rattle.tree_nodes.specs.Tree.{Names, Tree, is_in}
 use Rattle.tree_handles.specs.Binding.{Bindings, same_bytes, gives_object}
 use Rattle.tree_handles.specs.Live.{directory_of}
-use Rattle.tree_handles.specs.Entry.{is_dot, is_two_dots, entry_at}
+use Rattle.tree_starts.specs.Names.{is_dot, is_two_dots}
+use Rattle.tree_handles.specs.Entry.{entry_at}
 
 abbrev pub is_among : List (List ℕ) → List ℕ → Bool
 is_among names name = list_any (λ other. same_bytes other name) names

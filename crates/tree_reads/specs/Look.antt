@@ -17,7 +17,8 @@ use Rattle.tree_nodes.specs.declared.node.Node.{Node}
 use Rattle.tree_nodes.specs.Tree.{Names, Tree, parent}
 use Rattle.tree_handles.specs.Binding.{Bindings, same_bytes, is_bound}
 use Rattle.tree_handles.specs.Live.{live_entry, directory_of, file_of}
-use Rattle.tree_handles.specs.Entry.{is_dot, is_two_dots, entry_at}
+use Rattle.tree_starts.specs.Names.{is_dot, is_two_dots}
+use Rattle.tree_handles.specs.Entry.{entry_at}
 
 -- GETATTR, RFC 1813, section 3.3.1: the type is the object's (`ftype3`, section 2.6), and a file's size is its length
 abbrev pub shows : Content → FileAttributes → Bool

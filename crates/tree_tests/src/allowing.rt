@@ -1,9 +1,9 @@
 //! Which calls can succeed in a small tree.
 
 use crate::requests::{Request, call};
-use file_tree::FileTree;
+use file_tree::{FileTree, Profile};
 use nfs3_types::Outcome;
-use replay_law::{Replayable, StepFault};
+use replay_law::StepFault;
 use std::alloc::{AllocError, Global};
 use std::test::Fail;
 use tree_handles::Binds;
@@ -19,7 +19,7 @@ fn make(directory: u8) -> Request {
 /// Whether call `number` can make `d` in the directory of this handle, where the tree has the root alone.
 fn may_make(alloc: Global, number: u64, directory: u8) -> Result<bool, AllocError> {
     let binds = Binds::of_root(alloc, &[0])?;
-    let tree = FileTree::opening(alloc, &binds)?;
+    let tree = FileTree::empty(alloc)?;
     let call = call(alloc, make(directory))?;
     tree.allows(&binds, number, &call)
 }
@@ -35,9 +35,9 @@ fn a_directory_can_be_made_once_in_one_that_is_there(rt: HostRuntime) -> Result<
 
 /// The tree in which call 5 made `d`.
 fn with_directory(alloc: Global, binds: &Binds) -> Result<FileTree, StepFault> {
-    let mut tree = FileTree::opening(alloc, binds)?;
+    let mut tree = FileTree::empty(alloc)?;
     let call = call(alloc, make(0))?;
-    drop(tree.step(binds, 5, &call, &Outcome::Taken(None))?);
+    drop(tree.step_under(Profile::Plain, binds, 5, &call, &Outcome::Taken(None))?);
     Ok(tree)
 }
 

@@ -14,3 +14,5 @@ mod register;
 mod requests;
 #[cfg(test)]
 mod runs;
+#[cfg(test)]
+mod starting;

@@ -4,7 +4,7 @@ ghost use Rattle.std.specs.Prelude.{IfOk};
 ghost use Rattle.tree_nodes.specs.Undo.{TakesBack};
 
 use crate::requests::{Request, call, success};
-use file_tree::FileTree;
+use file_tree::{FileTree, Profile};
 use replay_law::{Replayable, StepFault};
 use std::alloc::{AllocError, Global};
 use std::test::Fail;
@@ -12,7 +12,7 @@ use tree_handles::Binds;
 use tree_nodes::Undo;
 
 /// The tree of one file `abc` at the name `a`.
-const ONE_FILE: [u8; 56] = [
+pub(crate) const ONE_FILE: [u8; 56] = [
     0, 0, 0, 2, 0, 0, 0, 0, 0, 0, 0, 0, 0, 0, 0, 0, 0, 0, 0, 2, 0, 0, 0, 1, 0, 0, 0, 1, 97, 0, 0,
     0, 0, 0, 0, 0, 0, 0, 0, 1, 0, 0, 0, 1, 0, 0, 0, 3, 97, 98, 99, 0, 0, 0, 0, 0,
 ];
@@ -57,7 +57,7 @@ fn step(
 {
     let call = call(alloc, request)?;
     let outcome = success(alloc, request)?;
-    tree.step(binds, number, &call, &outcome)
+    tree.step_under(Profile::Plain, binds, number, &call, &outcome)
 }
 
 /// The tree after these requests, each with its number.
@@ -66,7 +66,7 @@ fn tree_after(
     binds: &Binds,
     requests: &[(u64, Request)],
 ) -> Result<FileTree, StepFault> {
-    let mut tree = FileTree::opening(alloc, binds)?;
+    let mut tree = FileTree::empty(alloc)?;
     for (number, request) in requests {
         drop(step(alloc, &mut tree, binds, *number, *request)?);
     }

@@ -1,7 +1,6 @@
 -- the laws' premises are met by the example
-use Rattle.std.proofs.Common.{◌≡◌, ℕ, zero, suc, ◌+◌, ◌<◌, ◌≤◌, List, [], ◌∷◌, ◌++◌, length, Some, None, refl, sym, ◌∙◌, subst, arith, inl, inr}
-use Rattle.std.specs.Prelude.{Contains, IsSome, slice_index_or, option_and_then}
-use Rattle.std.specs.List.{AllByRecursion}
+use Rattle.std.proofs.Common.{◌≡◌, ℕ, zero, suc, ◌<◌, ◌≤◌, List, [], ◌∷◌, ◌++◌, length, Some, None, refl, sym, subst, arith, inl, inr}
+use Rattle.std.specs.Prelude.{IsSome, option_and_then}
 use Rattle.std.specs.FinMap as map
 use Rattle.nfs3_types.specs.declared.calls.StableHow.TheVariants.{Unstable, FileSync}
 use Rattle.nfs3_types.specs.declared.calls.NfsCall.{NfsCall}
@@ -10,15 +9,13 @@ use Rattle.nfs3_types.specs.declared.replies.Answer.TheVariants.{Done}
 use Rattle.nfs3_types.specs.declared.replies.NfsReply.TheVariants as replies
 use Rattle.nfs3_types.specs.declared.replies.Outcome.{Outcome}
 use Rattle.nfs3_types.specs.declared.replies.Outcome.TheVariants.{Received}
-use Rattle.nfs_history.specs.declared.history.RecordedCall.{RecordedCall}
-use Rattle.nfs_history.specs.Precedence.{begin_of, end_of, Precedes}
 use Rattle.certificate.specs.declared.plan.EraPlan.{EraPlan}
-use Rattle.certificate.specs.declared.plan.Place.{Place}
 use Rattle.certificate.specs.declared.plan.Place.TheVariants.{Answered}
 use Rattle.order_check.specs.Order.{EachEraRespectsOrder}
 use Rattle.order_check.proofs.ShapeLaws.{shape_from_none}
 use Rattle.replay_law.specs.Run.{TakenStep, state_after}
 use Rattle.replay_law.proofs.Crashes.{none_runs, one_more_runs}
+use Rattle.tree_starts.specs.Start.{fault_from, IsStart}
 use Rattle.tree_nodes.specs.declared.node.Node.{Node}
 use Rattle.tree_nodes.specs.Files.{file_node}
 use Rattle.tree_nodes.specs.Tree.{Names, Tree, opening}
@@ -30,18 +27,16 @@ use Rattle.tree_laws.proofs.Replayed.{root, Has, put, entries_opening}
 use Rattle.cut_check.specs.declared.effect.Effect.{Effect}
 use Rattle.cut_check.specs.declared.effect.Effect.TheVariants as effects
 use Rattle.cut_check.specs.Cut.{KeepsStable, CutsKeepStable}
-use Rattle.cut_check.specs.Places.{bindings_of, era_at}
+use Rattle.cut_check.specs.Places.{bindings_of}
 use Rattle.cut_check.specs.Stable.{IsStableAt}
-use Rattle.cut_check.specs.Verifier.{verifier_at, Shows, VerifiersAgree}
 use Rattle.cut_check.proofs.StableLaws.{stable_within, stable_at_cases}
 use Rattle.witness_check.specs.Run.{era_of, Runs}
 use Rattle.witness_check.specs.Witness.{IsWitness}
 use Rattle.verdict_laws.specs.Example.{write_at, wrote, create, created, read, given, recorded, history, first_era, second_era, last_era, plan, quiet_history, quiet_plan, LawsApply}
+use Rattle.verdict_laws.proofs.Begun as begun
+use Rattle.verdict_laws.proofs.Checks.{not_before, ShowOnly, EachShowsOnly, all_agree}
 
 -- ---- the order of the calls
-
-not_before : (calls : List RecordedCall) (j i ended began : ℕ) → end_of calls j ≡ Some ended → begin_of calls i ≡ began → began ≤ ended → ¬ Precedes calls j i
-not_before calls j i ended began ends begins after before = let same = same_some ended before.0 (sym ends ∙ before.1) in omega (arith, same, begins, before.2)
 
 in_order : EachEraRespectsOrder recorded plan.eras
 in_order = (
@@ -55,7 +50,7 @@ in_order = (
 -- ---- the run
 
 abbrev handles : Bindings
-handles = bindings_of history.root plan.binds
+handles = bindings_of history.head.root plan.binds
 
 abbrev f : Names
 f = (102 ∷ []) ∷ []
@@ -161,32 +156,6 @@ all_kept (suc (suc (suc e))) era there ended = absurd (omega arith)
 
 -- ---- the verifiers
 
-in_all : {A : Type 0} (P : A → Type 0) (xs : List A) (x : A) → AllByRecursion P xs → Contains xs x → P x
-in_all P [] x all has = absurd (omega (arith, has.1))
-in_all P (y ∷ xs) x all has = go has.0 has.1 has.2 (λ later. in_all P xs x all.1 later) where
-  go : (k : ℕ) → k < length (y ∷ xs) → slice_index_or (y ∷ xs) k x ≡ x → (Contains xs x → P x) → P x
-  go zero less at others = subst P at all.0
-  go (suc k) less at others = others (k, omega arith, at)
-
--- places that show no verifier but this one
-abbrev ShowOnly : List RecordedCall → List Place → ℕ → Type 0
-ShowOnly calls places verifier = AllByRecursion (λ place. (shown : ℕ) → verifier_at calls place ≡ Some shown → shown ≡ verifier) places
-
--- era e shows none but 6 + e
-abbrev EachShowsOnly : List RecordedCall → List EraPlan → Type 0
-EachShowsOnly calls eras = (e : ℕ) (era : EraPlan) → era_at eras e ≡ Some era → ShowOnly calls era.places (6 + e)
-
-all_agree : (calls : List RecordedCall) (eras : List EraPlan) → EachShowsOnly calls eras → VerifiersAgree calls eras
-all_agree calls eras each = record {
-  within = λ e v w era there shown other. is_shown e v era there shown ∙ sym (is_shown e w era there other);
-  across = λ e g v era later before there there_later lost shown shown_later.
-      let first = is_shown e v era there shown in
-      let second = is_shown g v later there_later shown_later in
-      omega arith;
-} where
-  is_shown : (e v : ℕ) (era : EraPlan) → era_at eras e ≡ Some era → Shows calls era.places v → v ≡ 6 + e
-  is_shown e v era there shown = in_all (λ place. (w : ℕ) → verifier_at calls place ≡ Some w → w ≡ 6 + e) era.places shown.0 (each e era there) shown.1 v shown.2
-
 each_shows : EachShowsOnly recorded plan.eras
 each_shows zero era there = absurd (cc)
 each_shows (suc zero) era there =
@@ -231,8 +200,13 @@ is_witness = record {
   verifiers = all_agree recorded plan.eras each_shows;
 }
 
+nothing_stood : IsStart history.head.start
+unfolding fault_from
+nothing_stood = refl
+
 pub laws_apply : LawsApply
 laws_apply = record {
+  begins = nothing_stood;
   quiet = quiet_witness;
   witness = is_witness;
   stable = record { ahead = effects.Lasting ∷ []; here = effects.Lasting; behind = effects.Unstable 1 0 1 ∷ []; stands = refl; number = refl; stable = tt };
@@ -257,4 +231,12 @@ laws_apply = record {
     was_asked = omega arith;
     stays = λ tree reached. ((λ wrote. let past : 3 ≤ 0 = wrote.sets.2 in omega arith), λ after e. tt);
   };
+  starts = begun.starts_right;
+  strict = begun.is_witness;
+  judged = refl;
+  read_first = begun.read_first;
+  stood = begun.stood;
+  spared = begun.spared;
+  was_read = begun.read_there;
+  was_told = begun.told_there;
 }

@@ -53,7 +53,7 @@ stable_there binds calls places first more place is lasting =
 
 pub synced_is_left : SyncedIsLeft
 synced_is_left history plan ahead behind era next first more place write success witness eras places answered stable =
-    let binds = bindings_of history.root plan.binds in
+    let binds = bindings_of history.head.root plan.binds in
     let effect : effect_at binds history.calls place ≡ Lasting =
     ap (λ (o : Option (NfsCall × Outcome)). option_map_or (λ a. effect_of (object_written binds a.0) a.0 a.1) o Nothing) answered ∙ lasts success.level _ stable in
     let stands = stable_there binds history.calls era.places first more place places effect in

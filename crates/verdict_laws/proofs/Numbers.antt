@@ -1,5 +1,5 @@
 -- no two calls that an era sees have one number
-use Rattle.std.proofs.Common.{◌≡◌, ◌≢◌, ℕ, zero, suc, ◌+◌, List, [], ◌∷◌, ◌++◌, take, map, Option, Some, None, refl, sym, ap, ◌∙◌, subst, append-nil, append_assoc}
+use Rattle.std.proofs.Common.{◌≡◌, ◌≢◌, ℕ, zero, suc, ◌+◌, List, [], ◌∷◌, ◌++◌, take, map, Option, Some, None, refl, sym, ap, ◌∙◌, subst, append-nil, append_assoc, arith}
 use Rattle.std.specs.List.{AllByRecursion, flat_map, cons_option}
 use Rattle.std.proofs.lemmas.List.{map-append}
 use Rattle.nfs3_types.specs.declared.calls.NfsCall.{NfsCall}
@@ -17,7 +17,7 @@ use Rattle.order_check.specs.Places.{order_from, number_of}
 use Rattle.order_check.specs.Shape.{NameDifferentCalls}
 use Rattle.replay_law.specs.Run.{TakenStep}
 use Rattle.tree_nodes.proofs.Chains.{chained}
-use Rattle.tree_laws.specs.ReadBack.{NumbersDiffer}
+use Rattle.tree_laws.specs.ReadBack.{FromOne, NumbersDiffer}
 use Rattle.witness_check.specs.Run.{step_with, step_of_call, step_at, steps_of}
 use Rattle.verdict_laws.specs.Kept.{left_of, order_seen}
 
@@ -135,3 +135,19 @@ numbers_differ calls ahead behind era once =
     let all = subst Differ (all_numbers 1 (ahead ++ era ∷ behind)) (named_once (order_from 1 (ahead ++ era ∷ behind)) once) in
     let seen = differ_among (seen_among ahead behind era) all in
     steps_differ (steps_of calls (order_seen ahead era)) (differ_among (steps_among calls (order_seen ahead era)) seen)
+
+-- ---- no call has the number 0
+
+not_zero : (calls : List RecordedCall) (place : Place) (one : TakenStep NfsCall Outcome) → step_at calls place ≡ Some one → one.number ≢ 0
+not_zero calls (variants.Answered zero) one e = absurd (cc)
+not_zero calls (variants.Answered (suc n)) one e = λ none. let own : one.number ≡ suc n = numbered calls (variants.Answered (suc n)) one e in omega (arith, own, none)
+not_zero calls (variants.Taken zero count) one e = absurd (cc)
+not_zero calls (variants.Taken (suc n) count) one e = λ none. let own : one.number ≡ suc n = numbered calls (variants.Taken (suc n) count) one e in omega (arith, own, none)
+
+pub from_one : (calls : List RecordedCall) (places : List Place) → FromOne (steps_of calls places)
+from_one calls [] = tt
+from_one calls (place ∷ places) = go (step_at calls place) (not_zero calls place) (from_one calls places) where
+  go : (o : Option (TakenStep NfsCall Outcome)) → ((one : TakenStep NfsCall Outcome) → o ≡ Some one → one.number ≢ 0) → FromOne (steps_of calls places)
+      → FromOne (cons_option o (steps_of calls places))
+  go None is later = later
+  go (Some one) is later = (is one refl, later)

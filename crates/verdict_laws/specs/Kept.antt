@@ -11,6 +11,7 @@ use Rattle.nfs3_types.specs.declared.replies.ReadSuccess.{ReadSuccess}
 use Rattle.nfs3_types.specs.declared.replies.WriteSuccess.{WriteSuccess}
 use Rattle.nfs3_types.specs.declared.replies.NfsReply.TheVariants as replies
 use Rattle.nfs3_types.specs.declared.replies.Outcome.TheVariants.{Received}
+use Rattle.tree_starts.specs.Start.{IsStart}
 use Rattle.nfs_history.specs.declared.knowing.KnownCalls.{KnownCalls}
 use Rattle.certificate.specs.declared.plan.Certificate.{Certificate}
 use Rattle.certificate.specs.declared.plan.EraPlan.{EraPlan}
@@ -41,5 +42,6 @@ SyncedIsLeft =
 abbrev pub WhatWasKept : Type 0
 WhatWasKept =
     (history : KnownCalls) (plan : Certificate) (ahead behind : List EraPlan) (era : EraPlan) (write : WriteArguments) (read : ReadArguments) (answer : ReadSuccess) (byte : ℕ)
-    → IsWitness history plan → plan.eras ≡ ahead ++ era ∷ behind
-    → ReadsLater (bindings_of history.root plan.binds) (steps_of history.calls (order_seen ahead era)) write read answer byte → GivesByte write read answer byte
+    → IsStart history.head.start → IsWitness history plan → plan.eras ≡ ahead ++ era ∷ behind
+    → ReadsLater history.head.profile history.head.start (bindings_of history.head.root plan.binds) (steps_of history.calls (order_seen ahead era)) write read answer byte
+    → GivesByte write read answer byte

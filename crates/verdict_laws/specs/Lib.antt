@@ -1,3 +1,5 @@
 pub mod Without
 pub mod Kept
+pub mod Stood
+pub mod Attributes
 pub mod Example

@@ -12,8 +12,7 @@ use Rattle.order_check.specs.Places.{order_from, is_wanted, is_placeable}
 use Rattle.order_check.specs.Shape.{is_named, NameDifferentCalls}
 use Rattle.order_check.specs.Order.{RespectsOrder}
 use Rattle.replay_law.specs.Run.{state_after}
-use Rattle.tree_nodes.specs.Tree.{opening}
-use Rattle.witness_check.specs.Run.{next_of, steps_of}
+use Rattle.witness_check.specs.Run.{next_of, base_of, steps_of}
 
 -- the places as a serial order
 abbrev pub serial : List Place → List OrderedPlace
@@ -30,4 +29,4 @@ pub record IsLinearization (history : KnownCalls) (plan : Certificate) (places :
   -- no place stands ahead of one whose call had ended before the first one's began
   pub order : RespectsOrder history.calls places
   -- each call gives what it gave, in the tree that those ahead of it leave
-  pub runs : IsSome (state_after (next_of history plan) opening (steps_of history.calls places))
+  pub runs : IsSome (state_after (next_of history plan) (base_of history) (steps_of history.calls places))

@@ -15,14 +15,14 @@ ghost use Rattle.verdict_laws.specs.Kept.{SyncedIsLeft, WhatWasKept};
 pub fn stable_places_are_kept()
     ensures { (history : KnownCalls) (plan : Certificate) (e position : ℕ) (era : EraPlan)
         → IsWitness history plan → era_at plan.eras e ≡ Some era → e < length plan.eras
-        → IsStableAt (effects_of (bindings_of history.root plan.binds) history.calls era.places) position
+        → IsStableAt (effects_of (bindings_of history.head.root plan.binds) history.calls era.places) position
         → position ≤ cut_of era }
 {}
 
 /// A WRITE that was answered DATA_SYNC or FILE_SYNC is left by the crash that ends its era. What a WRITE wrote that was left is
 /// read in each later era, and before that in its own, byte by byte, unless a call in between that was left too wrote over it; no
-/// READ says that the file ends ahead of it. Whether the file was removed isn't asked: where the READ succeeds it wasn't, since
-/// no object comes back.
+/// READ says that the file ends before it. This holds whatever stood at first, and under each profile. Whether the file was removed
+/// isn't asked: where the READ succeeds it wasn't, since no object comes back.
 pub fn what_was_kept_is_read()
     ensures synced { SyncedIsLeft }
     ensures read { WhatWasKept }

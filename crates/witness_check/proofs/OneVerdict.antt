@@ -20,7 +20,6 @@ use Rattle.order_check.proofs.ShapeLaws.{none_from_shape}
 use Rattle.order_check.proofs.OrderLaws.{no_early_fault}
 use Rattle.order_check.proofs.OneEarly.{one_early}
 use Rattle.replay_law.proofs.Crashes as crashes
-use Rattle.tree_nodes.specs.Tree.{opening}
 use Rattle.cut_check.specs.Places.{bindings_of}
 use Rattle.cut_check.proofs.ShownLaws as verifiers
 use Rattle.witness_check.specs.declared.fault.Fault.{Fault}
@@ -32,7 +31,7 @@ use Rattle.witness_check.specs.declared.verdict.Verdict.TheVariants as told
 use Rattle.witness_check.specs.declared.verdict.FileVerdict.{FileVerdict}
 use Rattle.witness_check.specs.declared.verdict.FileVerdict.TheVariants as told_of_files
 use Rattle.witness_check.specs.Faults.{of_shape, of_order}
-use Rattle.witness_check.specs.Run.{eras_of, next_of}
+use Rattle.witness_check.specs.Run.{eras_of, next_of, base_of}
 use Rattle.witness_check.specs.Witness.{IsWitness, AreAccepted}
 use Rattle.witness_check.specs.Verdict.{IsShapeFault, IsOrderFault, IsRunFault, IsCutFault, IsVerifiersFault, Shaped, Ordered, Ran, Cut, IsPlanFault, IsVerdict, AreRefuted, IsBadText, IsFileVerdict}
 use Rattle.witness_check.proofs.OneCut.{cuts_or_short, one_short_cut}
@@ -58,18 +57,18 @@ module _ (history : KnownCalls) (plan : Certificate) where
   ordered f x order = no_early_fault history.calls plan.eras x.0 x.1 order.1
 
   one_run : (f g : Fault) → IsRunFault history plan f → IsRunFault history plan g → f ≡ g
-  one_run f g x y = x.2 ∙ ap (λ n. faults.Illegal n) (crashes.one_first (next_of history plan) opening (eras_of history plan) x.0 y.0 x.1 y.1) ∙ sym y.2
+  one_run f g x y = x.2 ∙ ap (λ n. faults.Illegal n) (crashes.one_first (next_of history plan) (base_of history) (eras_of history plan) x.0 y.0 x.1 y.1) ∙ sym y.2
 
   ran : (f : Fault) → IsRunFault history plan f → Ran history plan → ⊥
-  ran f x runs = crashes.not_both (next_of history plan) opening (eras_of history plan) x.0 x.1 runs.1
+  ran f x runs = crashes.not_both (next_of history plan) (base_of history) (eras_of history plan) x.0 x.1 runs.1
 
   one_cut : (f g : Fault) → IsCutFault history plan f → IsCutFault history plan g → f ≡ g
   one_cut f g x y =
-      let same = one_short_cut (bindings_of history.root plan.binds) history.calls plan.eras x.0 y.0 x.1 y.1 x.2 y.2 in
+      let same = one_short_cut (bindings_of history.head.root plan.binds) history.calls plan.eras x.0 y.0 x.1 y.1 x.2 y.2 in
       x.3 ∙ ap (λ e. faults.ShortCut e x.1) same.0 ∙ ap (λ n. faults.ShortCut y.0 n) same.1 ∙ sym y.3
 
   cut : (f : Fault) → IsCutFault history plan f → Cut history plan → ⊥
-  cut f x keep = cuts_or_short (bindings_of history.root plan.binds) history.calls plan.eras x.0 x.1 x.2 keep.1
+  cut f x keep = cuts_or_short (bindings_of history.head.root plan.binds) history.calls plan.eras x.0 x.1 x.2 keep.1
 
   one_verifier : (f g : Fault) → IsVerifiersFault history plan f → IsVerifiersFault history plan g → f ≡ g
   one_verifier f g x y = x.2 ∙ ap (λ e. faults.Verifier e) (verifiers.one_first history.calls plan.eras x.0 y.0 x.1 y.1) ∙ sym y.2

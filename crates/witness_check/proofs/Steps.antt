@@ -7,17 +7,20 @@ use Rattle.std.proofs.Math.Seq.{take-append_seam}
 use Rattle.std.proofs.lemmas.List.{append-nil, take_more, drop_more, take-append-drop}
 use Rattle.std.proofs.lemmas.List.Elements.{filter_map-append}
 use Rattle.replay_law.specs.Run.{TakenStep, state_after}
+use Rattle.replay_law.specs.Standing.{DoesSo}
+use Rattle.tree_starts.specs.Start.{object_made}
+use Rattle.file_tree.specs.Setting.{under}
 use Rattle.replay_law.proofs.Stands.{all_so_far}
 use Rattle.replay_law.proofs.Crashes.{from_base}
 use Rattle.nfs3_types.specs.declared.calls.NfsCall.{NfsCall}
 use Rattle.nfs3_types.specs.declared.replies.Outcome.{Outcome}
 use Rattle.replay_law.specs.declared.stepping.Replay.{Replay}
-use Rattle.tree_nodes.specs.Tree.{Tree, opening}
-use Rattle.tree_handles.specs.Binding.{Bindings}
+use Rattle.tree_nodes.specs.Tree.{Tree}
 use Rattle.tree_nodes.specs.declared.undo.Undo.{Undo}
 use Rattle.tree_nodes.specs.Undo.{TakesBack}
-use Rattle.file_tree.specs.Success.{next_tree}
-use Rattle.witness_check.specs.Running.{Stands, tree_after, IsStuckAt, IsIllegalBehind}
+use Rattle.file_tree.specs.declared.setting.TreeSetting.{TreeSetting}
+use Rattle.witness_check.specs.declared.run.Rule.{Rule}
+use Rattle.witness_check.specs.Running.{next_by, first_tree, Stands, tree_after, IsStuckAt, IsIllegalBehind}
 
 module _ {A B : Type 0} (f : A → Option B) where
   pub alone : (o : Option B) → cons_option o [] ≡ option_to_list o
@@ -48,49 +51,54 @@ module _ {A B : Type 0} (f : A → Option B) where
       ap (take (length (filter_map f (take n xs)))) (both n xs (take n xs) (drop n xs) refl refl)
       ∙ take-append_seam (filter_map f (take n xs)) (filter_map f (drop n xs))
 
-module _ {A : Type 0} (binds : Bindings) (f : A → Option (TakenStep NfsCall Outcome)) where
+-- a step of the tree is that of the call whose object has its number
+pub does_so : (rule : Rule) (n object : ℕ) (call : NfsCall) (outcome : Outcome) → object ≡ object_made (length rule.start.now) n
+    → DoesSo (next_by rule) (under rule.setting.profile rule.setting.binds) n object call outcome
+does_so rule n object call outcome is tree = ap (λ k. under rule.setting.profile rule.setting.binds tree k call outcome) (sym is)
+
+module _ {A : Type 0} (rule : Rule) (f : A → Option (TakenStep NfsCall Outcome)) where
   -- one place more ahead of the cut, and past it
-  pub more_kept : (xs : List A) (i : ℕ) (d : A) → i < length xs → (replay : Replay Tree Bindings NfsCall Outcome Undo) (kept : List (TakenStep NfsCall Outcome))
-      → Stands binds replay ((kept ++ filter_map f (take i xs)) ++ option_to_list (f (get_or xs i d))) [] → Stands binds replay (kept ++ filter_map f (take (i + 1) xs)) []
+  pub more_kept : (xs : List A) (i : ℕ) (d : A) → i < length xs → (replay : Replay Tree TreeSetting NfsCall Outcome Undo) (kept : List (TakenStep NfsCall Outcome))
+      → Stands rule replay ((kept ++ filter_map f (take i xs)) ++ option_to_list (f (get_or xs i d))) [] → Stands rule replay (kept ++ filter_map f (take (i + 1) xs)) []
   more_kept xs i d inside replay kept s =
-      subst (λ (steps : List (TakenStep NfsCall Outcome)). Stands binds replay steps [])
+      subst (λ (steps : List (TakenStep NfsCall Outcome)). Stands rule replay steps [])
       (append_assoc kept (filter_map f (take i xs)) (option_to_list (f (get_or xs i d))) ∙ ap (λ ys. kept ++ ys) (sym (more f xs i d inside))) s
 
-  pub more_lost : (xs : List A) (i : ℕ) (d : A) → i < length xs → (replay : Replay Tree Bindings NfsCall Outcome Undo) (kept : List (TakenStep NfsCall Outcome))
-      → Stands binds replay kept (filter_map f (take i xs) ++ option_to_list (f (get_or xs i d))) → Stands binds replay kept (filter_map f (take (i + 1) xs))
+  pub more_lost : (xs : List A) (i : ℕ) (d : A) → i < length xs → (replay : Replay Tree TreeSetting NfsCall Outcome Undo) (kept : List (TakenStep NfsCall Outcome))
+      → Stands rule replay kept (filter_map f (take i xs) ++ option_to_list (f (get_or xs i d))) → Stands rule replay kept (filter_map f (take (i + 1) xs))
   more_lost xs i d inside replay kept s =
-      subst (λ (steps : List (TakenStep NfsCall Outcome)). Stands binds replay kept steps) (sym (more f xs i d inside)) s
+      subst (λ (steps : List (TakenStep NfsCall Outcome)). Stands rule replay kept steps) (sym (more f xs i d inside)) s
 
   -- a step without a next tree is the first such one
   here : (xs : List A) (i : ℕ) (d : A) (found : Option (TakenStep NfsCall Outcome)) (number : ℕ) → i < length xs → f (get_or xs i d) ≡ found
-      → (kept : List (TakenStep NfsCall Outcome)) (state : Tree) → tree_after binds (kept ++ filter_map f (take i xs)) ≡ Some state
-      → IsStuckAt binds (kept ++ filter_map f (take i xs)) found number → IsIllegalBehind binds kept (filter_map f xs) number
+      → (kept : List (TakenStep NfsCall Outcome)) (state : Tree) → tree_after rule (kept ++ filter_map f (take i xs)) ≡ Some state
+      → IsStuckAt rule (kept ++ filter_map f (take i xs)) found number → IsIllegalBehind rule kept (filter_map f xs) number
   here xs i d None number inside at kept state before stuck = absurd stuck
   here xs i d (Some x) number inside at kept state before stuck = λ base reached.
-      let next = next_tree binds in
+      let next = next_by rule in
       let ahead = filter_map f (take i xs) in
       record {
         ahead = ahead;
         stuck = x;
         behind = filter_map f (drop (i + 1) xs);
         parts = parts f xs i d x inside at;
-        runs = subst IsSome (sym (sym (from_base next opening base kept ahead reached) ∙ before)) refl;
-        stops = sym (from_base next opening base kept (ahead ++ x ∷ []) reached) ∙ ap (state_after next opening) (sym (append_assoc kept ahead (x ∷ []))) ∙ stuck.1;
+        runs = subst IsSome (sym (sym (from_base next (first_tree rule) base kept ahead reached) ∙ before)) refl;
+        stops = sym (from_base next (first_tree rule) base kept (ahead ++ x ∷ []) reached) ∙ ap (state_after next (first_tree rule)) (sym (append_assoc kept ahead (x ∷ []))) ∙ stuck.1;
         named = stuck.0;
       }
 
   pub stuck_kept : (xs : List A) (i : ℕ) (d : A) (number : ℕ) → i < length xs
-      → (replay : Replay Tree Bindings NfsCall Outcome Undo) (kept : List (TakenStep NfsCall Outcome)) → Stands binds replay (kept ++ filter_map f (take i xs)) []
-      → IsStuckAt binds (kept ++ filter_map f (take i xs)) (f (get_or xs i d)) number → IsIllegalBehind binds kept (filter_map f xs) number
+      → (replay : Replay Tree TreeSetting NfsCall Outcome Undo) (kept : List (TakenStep NfsCall Outcome)) → Stands rule replay (kept ++ filter_map f (take i xs)) []
+      → IsStuckAt rule (kept ++ filter_map f (take i xs)) (f (get_or xs i d)) number → IsIllegalBehind rule kept (filter_map f xs) number
   stuck_kept xs i d number inside replay kept s stuck = here xs i d (f (get_or xs i d)) number inside refl kept s.base s.reached stuck
 
   pub stuck_lost : (xs : List A) (i : ℕ) (d : A) (number : ℕ) → i < length xs
-      → (replay : Replay Tree Bindings NfsCall Outcome Undo) (kept : List (TakenStep NfsCall Outcome)) → Stands binds replay kept (filter_map f (take i xs))
-      → IsStuckAt binds (kept ++ filter_map f (take i xs)) (f (get_or xs i d)) number → IsIllegalBehind binds kept (filter_map f xs) number
+      → (replay : Replay Tree TreeSetting NfsCall Outcome Undo) (kept : List (TakenStep NfsCall Outcome)) → Stands rule replay kept (filter_map f (take i xs))
+      → IsStuckAt rule (kept ++ filter_map f (take i xs)) (f (get_or xs i d)) number → IsIllegalBehind rule kept (filter_map f xs) number
   stuck_lost xs i d number inside replay kept s stuck =
-      here xs i d (f (get_or xs i d)) number inside refl kept replay.state (all_so_far TakesBack (next_tree binds) opening replay kept (filter_map f (take i xs)) s) stuck
+      here xs i d (f (get_or xs i d)) number inside refl kept replay.state (all_so_far TakesBack (next_by rule) (first_tree rule) replay kept (filter_map f (take i xs)) s) stuck
 
-module _ (binds : Bindings) where
+module _ (rule : Rule) where
   -- the step of a place, or none
   pub no_step : (o : Option (TakenStep NfsCall Outcome)) (xs : List (TakenStep NfsCall Outcome)) → o ≡ None → xs ++ option_to_list o ≡ xs
   no_step o xs none = ap (λ p. xs ++ option_to_list p) none ∙ append-nil xs
@@ -99,5 +107,5 @@ module _ (binds : Bindings) where
   one_step o x xs some = ap (λ p. xs ++ option_to_list p) some
 
   pub is_stuck : (o : Option (TakenStep NfsCall Outcome)) (x : TakenStep NfsCall Outcome) (steps : List (TakenStep NfsCall Outcome)) (number : ℕ) → o ≡ Some x → x.number ≡ number
-      → tree_after binds (steps ++ x ∷ []) ≡ None → IsStuckAt binds steps o number
-  is_stuck o x steps number some named stops = subst (λ p. IsStuckAt binds steps p number) (sym some) (named, stops)
+      → tree_after rule (steps ++ x ∷ []) ≡ None → IsStuckAt rule steps o number
+  is_stuck o x steps number some named stops = subst (λ p. IsStuckAt rule steps p number) (sym some) (named, stops)

@@ -1,5 +1,5 @@
 -- The run of a plan (a legal sequential history, Herlihy and Wing 1990, section 2.1; what a crash leaves,
--- Izraelevitz, Mendes and Scott 2016): from the opening tree, each era from what the eras ahead of it kept.
+-- Izraelevitz, Mendes and Scott 2016): from the tree that stood at first, each era from what the eras ahead of it kept.
 use Rattle.std.specs.Prelude.{ℕ, List, length, take, map, Option, Some, None, option_and_then}
 use Rattle.std.specs.List.{filter_map}
 use Rattle.nfs3_types.specs.declared.calls.NfsCall.{NfsCall}
@@ -17,9 +17,10 @@ use Rattle.certificate.specs.declared.plan.Certificate.{Certificate}
 use Rattle.certificate.specs.Plan.{cut_of}
 use Rattle.replay_law.specs.Run.{Era, EveryEraRuns}
 use Rattle.replay_law.specs.Run as run
-use Rattle.tree_nodes.specs.Tree.{Tree, opening}
+use Rattle.tree_nodes.specs.Tree.{Tree}
 use Rattle.cut_check.specs.Places.{bindings_of}
-use Rattle.file_tree.specs.Success.{next_tree}
+use Rattle.file_tree.specs.Setting.{next_in}
+use Rattle.file_tree.specs.StartTree.{start_tree}
 
 -- a judged call with an outcome, as a step of the run
 abbrev pub step_with : ℕ → Meaning → Outcome → Option (run.TakenStep NfsCall Outcome)
@@ -48,8 +49,12 @@ eras_of history plan = map (era_of history.calls) plan.eras
 
 -- what a call does to the tree, where it can have come out so
 abbrev pub next_of : KnownCalls → Certificate → Tree → ℕ → NfsCall → Outcome → Option Tree
-next_of history plan = next_tree (bindings_of history.root plan.binds)
+next_of history plan = next_in history.head.profile (length history.head.start) (bindings_of history.head.root plan.binds)
+
+-- what stood at first
+abbrev pub base_of : KnownCalls → Tree
+base_of history = start_tree history.head.start
 
 -- every era of the plan runs, from the tree that the places kept ahead of it lead to
 abbrev pub Runs : KnownCalls → Certificate → Type 0
-Runs history plan = EveryEraRuns (next_of history plan) opening (eras_of history plan)
+Runs history plan = EveryEraRuns (next_of history plan) (base_of history) (eras_of history plan)

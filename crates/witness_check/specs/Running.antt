@@ -1,5 +1,5 @@
 -- What the functions that run a plan say to the prover.
-use Rattle.std.specs.Prelude.{◌≡◌, ℕ, List, [], ◌∷◌, ◌++◌, Option, Some, None, option_map}
+use Rattle.std.specs.Prelude.{◌≡◌, ℕ, List, [], ◌∷◌, ◌++◌, length, Option, Some, None, option_map}
 use Rattle.std.specs.List.{filter_map}
 use Rattle.nfs3_types.specs.declared.calls.NfsCall.{NfsCall}
 use Rattle.nfs3_types.specs.declared.replies.Outcome.{Outcome}
@@ -10,12 +10,21 @@ use Rattle.replay_law.specs.declared.stepping.Replay.{Replay}
 use Rattle.replay_law.specs.Run as run
 use Rattle.replay_law.specs.Run.{state_after, IsFirstIllegal}
 use Rattle.replay_law.specs.Standing as standing
-use Rattle.tree_nodes.specs.Tree.{Tree, opening}
-use Rattle.tree_handles.specs.Binding.{Bindings}
+use Rattle.tree_nodes.specs.Tree.{Tree}
 use Rattle.tree_nodes.specs.declared.undo.Undo.{Undo}
 use Rattle.tree_nodes.specs.Undo.{TakesBack}
-use Rattle.file_tree.specs.Success.{next_tree}
+use Rattle.file_tree.specs.declared.setting.TreeSetting.{TreeSetting}
+use Rattle.file_tree.specs.Setting.{next_in}
+use Rattle.file_tree.specs.StartTree.{start_tree}
 use Rattle.witness_check.specs.declared.run.Found.{Found}
+use Rattle.witness_check.specs.declared.run.Rule.{Rule}
+
+-- what a call does to the tree under a rule, and what stood at first
+abbrev pub next_by : Rule → Tree → ℕ → NfsCall → Outcome → Option Tree
+next_by rule = next_in rule.setting.profile (length rule.start.now) rule.setting.binds
+
+abbrev pub first_tree : Rule → Tree
+first_tree rule = start_tree rule.start.now
 
 -- how a call came out at a place, of one that is taken as the place says
 abbrev pub outcome_at : Place → Option Outcome → Option Outcome
@@ -31,18 +40,18 @@ abbrev pub found_steps : List (Option Found) → List (run.TakenStep NfsCall Out
 found_steps found = filter_map (option_map found_step) found
 
 -- a run that stands after these steps, those behind the cut last
-abbrev pub Stands : Bindings → Replay Tree Bindings NfsCall Outcome Undo → List (run.TakenStep NfsCall Outcome) → List (run.TakenStep NfsCall Outcome) → Type 0
-Stands binds replay kept lost = standing.StandsAfter TakesBack (next_tree binds) opening replay kept lost
+abbrev pub Stands : Rule → Replay Tree TreeSetting NfsCall Outcome Undo → List (run.TakenStep NfsCall Outcome) → List (run.TakenStep NfsCall Outcome) → Type 0
+Stands rule replay kept lost = standing.StandsAfter TakesBack (next_by rule) (first_tree rule) replay kept lost
 
--- the tree after these steps from the opening one
-abbrev pub tree_after : Bindings → List (run.TakenStep NfsCall Outcome) → Option Tree
-tree_after binds steps = state_after (next_tree binds) opening steps
+-- the tree after these steps from what stood at first
+abbrev pub tree_after : Rule → List (run.TakenStep NfsCall Outcome) → Option Tree
+tree_after rule steps = state_after (next_by rule) (first_tree rule) steps
 
 -- the step, if there is one, is of this call and has no next tree behind these steps
-abbrev pub IsStuckAt : Bindings → List (run.TakenStep NfsCall Outcome) → Option (run.TakenStep NfsCall Outcome) → ℕ → Type 0
-IsStuckAt binds steps None number = ⊥
-IsStuckAt binds steps (Some step) number = (step.number ≡ number) × (tree_after binds (steps ++ step ∷ []) ≡ None)
+abbrev pub IsStuckAt : Rule → List (run.TakenStep NfsCall Outcome) → Option (run.TakenStep NfsCall Outcome) → ℕ → Type 0
+IsStuckAt rule steps None number = ⊥
+IsStuckAt rule steps (Some step) number = (step.number ≡ number) × (tree_after rule (steps ++ step ∷ []) ≡ None)
 
 -- the steps have a first illegal one behind those that were kept, which is of this call
-abbrev pub IsIllegalBehind : Bindings → List (run.TakenStep NfsCall Outcome) → List (run.TakenStep NfsCall Outcome) → ℕ → Type 0
-IsIllegalBehind binds kept steps number = (base : Tree) → tree_after binds kept ≡ Some base → IsFirstIllegal (next_tree binds) base steps number
+abbrev pub IsIllegalBehind : Rule → List (run.TakenStep NfsCall Outcome) → List (run.TakenStep NfsCall Outcome) → ℕ → Type 0
+IsIllegalBehind rule kept steps number = (base : Tree) → tree_after rule kept ≡ Some base → IsFirstIllegal (next_by rule) base steps number

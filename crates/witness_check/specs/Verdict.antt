@@ -21,7 +21,6 @@ use Rattle.cut_check.specs.Places.{bindings_of}
 use Rattle.cut_check.specs.Cut.{CutsKeepStable}
 use Rattle.cut_check.specs.ShortCut.{IsShortCut}
 use Rattle.cut_check.specs.VerifierFault.{IsVerifierFault}
-use Rattle.tree_nodes.specs.Tree.{opening}
 use Rattle.witness_check.specs.declared.fault.Fault.{Fault}
 use Rattle.witness_check.specs.declared.fault.Fault.TheVariants as faults
 use Rattle.witness_check.specs.declared.fault.CheckFault.TheVariants.{No}
@@ -30,7 +29,7 @@ use Rattle.witness_check.specs.declared.verdict.Verdict.TheVariants as told
 use Rattle.witness_check.specs.declared.verdict.FileVerdict.{FileVerdict}
 use Rattle.witness_check.specs.declared.verdict.FileVerdict.TheVariants as told_of_files
 use Rattle.witness_check.specs.Faults.{of_shape, of_order}
-use Rattle.witness_check.specs.Run.{eras_of, next_of, Runs}
+use Rattle.witness_check.specs.Run.{eras_of, next_of, base_of, Runs}
 use Rattle.witness_check.specs.Witness.{IsWitness, AreAccepted}
 
 module _ (history : KnownCalls) (plan : Certificate) where
@@ -41,10 +40,10 @@ module _ (history : KnownCalls) (plan : Certificate) where
   IsOrderFault fault = (found : OrderFault) × IsEarlyFault history.calls plan.eras found × (of_order found ≡ No fault)
 
   abbrev pub IsRunFault : Fault → Type 0
-  IsRunFault fault = (n : ℕ) × IsFirstIllegalInEras (next_of history plan) opening (eras_of history plan) n × (fault ≡ faults.Illegal n)
+  IsRunFault fault = (n : ℕ) × IsFirstIllegalInEras (next_of history plan) (base_of history) (eras_of history plan) n × (fault ≡ faults.Illegal n)
 
   abbrev pub IsCutFault : Fault → Type 0
-  IsCutFault fault = (e needed : ℕ) × IsShortCut (bindings_of history.root plan.binds) history.calls plan.eras e needed × (fault ≡ faults.ShortCut e needed)
+  IsCutFault fault = (e needed : ℕ) × IsShortCut (bindings_of history.head.root plan.binds) history.calls plan.eras e needed × (fault ≡ faults.ShortCut e needed)
 
   abbrev pub IsVerifiersFault : Fault → Type 0
   IsVerifiersFault fault = (e : ℕ) × IsVerifierFault history.calls plan.eras e × (fault ≡ faults.Verifier e)
@@ -59,7 +58,7 @@ module _ (history : KnownCalls) (plan : Certificate) where
   Ran = Ordered × Runs history plan
 
   abbrev pub Cut : Type 0
-  Cut = Ran × CutsKeepStable (bindings_of history.root plan.binds) history.calls plan.eras
+  Cut = Ran × CutsKeepStable (bindings_of history.head.root plan.binds) history.calls plan.eras
 
   -- the first fault of a plan
   abbrev pub IsPlanFault : Fault → Type 0

@@ -21,7 +21,7 @@ pub record IsWitness (history : KnownCalls) (plan : Certificate) : Type 0 where
   -- it gives every received reply, each era from the tree that was kept of those ahead of it
   pub runs : Runs history plan
   -- no crash takes a stable place away
-  pub cuts : CutsKeepStable (bindings_of history.root plan.binds) history.calls plan.eras
+  pub cuts : CutsKeepStable (bindings_of history.head.root plan.binds) history.calls plan.eras
   -- the write verifiers show each loss
   pub verifiers : VerifiersAgree history.calls plan.eras
 

@@ -1,26 +1,24 @@
-//! The run of a plan from the opening tree: one tree, from which a crash takes back what came behind the cut.
+//! The run of a plan from the tree that stood at first: one tree, from which a crash takes back what came behind the cut.
 
-ghost use Rattle.std.specs.Prelude.{◌≡◌, ℕ, List, [], ◌++◌, map, Err, IfOk, OnOk, IsSome, option_map, take, drop};
+ghost use Rattle.std.specs.Prelude.{◌≡◌, ℕ, List, [], ◌++◌, map, Err, IfOk, IfSome, OnOk, IsSome, length, option_map, take, drop};
 ghost use Rattle.std.specs.Option.{option_to_list};
 ghost use Rattle.certificate.specs.Plan.{cut_of};
 ghost use Rattle.replay_law.specs.Run as run;
 ghost use Rattle.replay_law.specs.Run.{EveryEraRuns, IsFirstIllegalInEras};
+ghost use Rattle.tree_starts.specs.Start.{object_made};
 ghost use Rattle.nfs3_types.specs.declared.calls.NfsCall.{NfsCall};
 ghost use Rattle.nfs3_types.specs.declared.replies.Outcome.{Outcome};
-ghost use Rattle.tree_nodes.specs.Tree.{opening};
-ghost use Rattle.file_tree.specs.Success.{next_tree};
-ghost use Rattle.witness_check.specs.Run.{step_of_call, step_at, steps_of, era_of, eras_of, next_of, Runs};
-ghost use Rattle.witness_check.specs.Running.{outcome_at, found_step, found_steps, Stands, tree_after, IsStuckAt, IsIllegalBehind};
+ghost use Rattle.witness_check.specs.Run.{step_of_call, step_at, steps_of, era_of, eras_of, next_of, base_of, Runs};
+ghost use Rattle.witness_check.specs.Running.{outcome_at, found_step, found_steps, next_by, first_tree, Stands, tree_after, IsStuckAt, IsIllegalBehind};
 
 use crate::ahead::{BLOCK, look_ahead};
 use certificate::{Certificate, EraPlan, Place};
 use cut_check::bindings_of_plan;
-use file_tree::FileTree;
-use nfs_history::{KnownCalls, RecordedCall};
+use file_tree::{FileTree, Start, TreeSetting};
+use nfs_history::{KnownCalls, RecordedCall, SeenStart};
 use nfs3_types::{NfsCall, Outcome};
 use replay_law::{Replay, RunFault, StepFault};
 use std::alloc::{AllocError, Global};
-use tree_handles::Binds;
 
 /// A call that is placed, and how it came out.
 pub struct Found {
@@ -42,6 +40,27 @@ impl Drop for Found {
         drop(call);
         drop(outcome);
     }
+}
+
+/// What a plan's run is judged by: what handles name and how strictly replies are judged, and what stood at first, where it lies. A
+/// step reads no start, so that of the setting is empty.
+struct Rule<'h, 'a> {
+    setting: TreeSetting,
+    start: &'h SeenStart<'a>,
+}
+
+impl<'h, 'a> Drop for Rule<'h, 'a> {
+    fn drop(self) {
+        let Rule { setting, start: _ } = self;
+        drop(setting);
+    }
+}
+
+/// The number of the object that a call makes. A history has too few calls and starting objects for a sum past 64 bits.
+fn object_made(rule: &Rule<'_, '_>, number: u64) -> Option<u64>
+    ensures { IfSome result (λ object. object ≡ object_made (length rule.now.start.now) number) }
+{
+    number.checked_add(rule.start.count() as u64)
 }
 
 /// Drops what was found at a place, so that no other proof goes through its cases.
@@ -89,19 +108,22 @@ fn find_step(
 /// Takes a step ahead of the cut, where there is one.
 fn run_kept_step(
     replay: &mut Replay<FileTree>,
-    binds: &Binds,
+    rule: &Rule<'_, '_>,
     step: &Option<Found>,
 ) -> Result<(), RunFault>
-    ensures ok { OnOk result ((kept : List (run.TakenStep NfsCall Outcome)) → Stands binds.now replay.old kept []
-        → Stands binds.now replay.new (kept ++ option_to_list (option_map found_step step.now)) []) }
+    ensures ok { OnOk result ((kept : List (run.TakenStep NfsCall Outcome)) → Stands rule.now replay.old kept []
+        → Stands rule.now replay.new (kept ++ option_to_list (option_map found_step step.now)) []) }
     ensures illegal { (number : ℕ) → result ≡ Err (RunFault.Illegal number)
-        → (kept : List (run.TakenStep NfsCall Outcome)) → Stands binds.now replay.old kept []
-        → IsStuckAt binds.now kept (option_map found_step step.now) number }
+        → (kept : List (run.TakenStep NfsCall Outcome)) → Stands rule.now replay.old kept []
+        → IsStuckAt rule.now kept (option_map found_step step.now) number }
 {
     let Some(found) = step else {
         return Ok(());
     };
-    match replay.step_kept(binds, found.number, &found.call, &found.outcome) {
+    let Some(object) = object_made(rule, found.number) else {
+        return Err(RunFault::NoMemory);
+    };
+    match replay.step_kept(&rule.setting, object, &found.call, &found.outcome) {
         Ok(()) => Ok(()),
         Err(StepFault::NotAllowed) => Err(RunFault::Illegal(found.number)),
         Err(StepFault::NoMemory) => Err(RunFault::NoMemory),
@@ -111,17 +133,17 @@ fn run_kept_step(
 /// Takes steps ahead of the cut.
 fn run_kept_steps(
     replay: &mut Replay<FileTree>,
-    binds: &Binds,
+    rule: &Rule<'_, '_>,
     steps: &[Option<Found>],
 ) -> Result<(), RunFault>
-    ensures ok { OnOk result ((kept : List (run.TakenStep NfsCall Outcome)) → Stands binds.now replay.old kept []
-        → Stands binds.now replay.new (kept ++ found_steps steps.now) []) }
+    ensures ok { OnOk result ((kept : List (run.TakenStep NfsCall Outcome)) → Stands rule.now replay.old kept []
+        → Stands rule.now replay.new (kept ++ found_steps steps.now) []) }
     ensures illegal { (number : ℕ) → result ≡ Err (RunFault.Illegal number)
-        → (kept : List (run.TakenStep NfsCall Outcome)) → Stands binds.now replay.old kept []
-        → IsIllegalBehind binds.now kept (found_steps steps.now) number }
+        → (kept : List (run.TakenStep NfsCall Outcome)) → Stands rule.now replay.old kept []
+        → IsIllegalBehind rule.now kept (found_steps steps.now) number }
 {
     for step in steps {
-        run_kept_step(replay, binds, step)?;
+        run_kept_step(replay, rule, step)?;
     }
     Ok(())
 }
@@ -154,39 +176,47 @@ struct Block {
 fn run_kept_block(
     alloc: Global,
     replay: &mut Replay<FileTree>,
-    binds: &Binds,
+    rule: &Rule<'_, '_>,
     history: &KnownCalls<'_>,
     places: &[Place],
     block: &mut Block,
 ) -> Result<(), RunFault>
-    ensures ok { OnOk result ((kept : List (run.TakenStep NfsCall Outcome)) → Stands binds.now replay.old kept []
-        → Stands binds.now replay.new (kept ++ steps_of history.now.calls places.now) []) }
+    ensures ok { OnOk result ((kept : List (run.TakenStep NfsCall Outcome)) → Stands rule.now replay.old kept []
+        → Stands rule.now replay.new (kept ++ steps_of history.now.calls places.now) []) }
     ensures illegal { (number : ℕ) → result ≡ Err (RunFault.Illegal number)
-        → (kept : List (run.TakenStep NfsCall Outcome)) → Stands binds.now replay.old kept []
-        → IsIllegalBehind binds.now kept (steps_of history.now.calls places.now) number }
+        → (kept : List (run.TakenStep NfsCall Outcome)) → Stands rule.now replay.old kept []
+        → IsIllegalBehind rule.now kept (steps_of history.now.calls places.now) number }
 {
     find_steps(alloc, history, places, &mut block.steps)?;
     let steps = block.steps.as_slice();
-    look_ahead(replay.state().nodes(), binds, steps, &mut block.seen)?;
-    run_kept_steps(replay, binds, steps)
+    look_ahead(
+        replay.state().nodes(),
+        &rule.setting.binds,
+        steps,
+        &mut block.seen,
+    )?;
+    run_kept_steps(replay, rule, steps)
 }
 
 /// Takes a step past the cut, where there is one.
 fn run_lost_step(
     replay: &mut Replay<FileTree>,
-    binds: &Binds,
+    rule: &Rule<'_, '_>,
     step: &Option<Found>,
 ) -> Result<(), RunFault>
-    ensures ok { OnOk result ((kept lost : List (run.TakenStep NfsCall Outcome)) → Stands binds.now replay.old kept lost
-        → Stands binds.now replay.new kept (lost ++ option_to_list (option_map found_step step.now))) }
+    ensures ok { OnOk result ((kept lost : List (run.TakenStep NfsCall Outcome)) → Stands rule.now replay.old kept lost
+        → Stands rule.now replay.new kept (lost ++ option_to_list (option_map found_step step.now))) }
     ensures illegal { (number : ℕ) → result ≡ Err (RunFault.Illegal number)
-        → (kept lost : List (run.TakenStep NfsCall Outcome)) → Stands binds.now replay.old kept lost
-        → IsStuckAt binds.now (kept ++ lost) (option_map found_step step.now) number }
+        → (kept lost : List (run.TakenStep NfsCall Outcome)) → Stands rule.now replay.old kept lost
+        → IsStuckAt rule.now (kept ++ lost) (option_map found_step step.now) number }
 {
     let Some(found) = step else {
         return Ok(());
     };
-    match replay.step_lost(binds, found.number, &found.call, &found.outcome) {
+    let Some(object) = object_made(rule, found.number) else {
+        return Err(RunFault::NoMemory);
+    };
+    match replay.step_lost(&rule.setting, object, &found.call, &found.outcome) {
         Ok(()) => Ok(()),
         Err(StepFault::NotAllowed) => Err(RunFault::Illegal(found.number)),
         Err(StepFault::NoMemory) => Err(RunFault::NoMemory),
@@ -197,18 +227,18 @@ fn run_lost_step(
 fn run_lost_place(
     alloc: Global,
     replay: &mut Replay<FileTree>,
-    binds: &Binds,
+    rule: &Rule<'_, '_>,
     history: &KnownCalls<'_>,
     place: Place,
 ) -> Result<(), RunFault>
-    ensures ok { OnOk result ((kept lost : List (run.TakenStep NfsCall Outcome)) → Stands binds.now replay.old kept lost
-        → Stands binds.now replay.new kept (lost ++ option_to_list (step_at history.now.calls place))) }
+    ensures ok { OnOk result ((kept lost : List (run.TakenStep NfsCall Outcome)) → Stands rule.now replay.old kept lost
+        → Stands rule.now replay.new kept (lost ++ option_to_list (step_at history.now.calls place))) }
     ensures illegal { (number : ℕ) → result ≡ Err (RunFault.Illegal number)
-        → (kept lost : List (run.TakenStep NfsCall Outcome)) → Stands binds.now replay.old kept lost
-        → IsStuckAt binds.now (kept ++ lost) (step_at history.now.calls place) number }
+        → (kept lost : List (run.TakenStep NfsCall Outcome)) → Stands rule.now replay.old kept lost
+        → IsStuckAt rule.now (kept ++ lost) (step_at history.now.calls place) number }
 {
     let found = find_step(alloc, history, place)?;
-    let step = run_lost_step(replay, binds, &found);
+    let step = run_lost_step(replay, rule, &found);
     put_away(found);
     step
 }
@@ -217,21 +247,21 @@ fn run_lost_place(
 fn run_kept(
     alloc: Global,
     replay: &mut Replay<FileTree>,
-    binds: &Binds,
+    rule: &Rule<'_, '_>,
     history: &KnownCalls<'_>,
     places: &[Place],
     block: &mut Block,
 ) -> Result<(), RunFault>
-    ensures ok { OnOk result ((kept : List (run.TakenStep NfsCall Outcome)) → Stands binds.now replay.old kept []
-        → Stands binds.now replay.new (kept ++ steps_of history.now.calls places.now) []) }
+    ensures ok { OnOk result ((kept : List (run.TakenStep NfsCall Outcome)) → Stands rule.now replay.old kept []
+        → Stands rule.now replay.new (kept ++ steps_of history.now.calls places.now) []) }
     ensures illegal { (number : ℕ) → result ≡ Err (RunFault.Illegal number)
-        → (kept : List (run.TakenStep NfsCall Outcome)) → Stands binds.now replay.old kept []
-        → IsIllegalBehind binds.now kept (steps_of history.now.calls places.now) number }
+        → (kept : List (run.TakenStep NfsCall Outcome)) → Stands rule.now replay.old kept []
+        → IsIllegalBehind rule.now kept (steps_of history.now.calls places.now) number }
 {
     let mut rest = places;
     while !rest.is_empty() {
         let (next, behind) = rest.split_at(rest.len().min(BLOCK));
-        run_kept_block(alloc, replay, binds, history, next, block)?;
+        run_kept_block(alloc, replay, rule, history, next, block)?;
         rest = behind;
     }
     Ok(())
@@ -241,18 +271,18 @@ fn run_kept(
 fn run_lost(
     alloc: Global,
     replay: &mut Replay<FileTree>,
-    binds: &Binds,
+    rule: &Rule<'_, '_>,
     history: &KnownCalls<'_>,
     places: &[Place],
 ) -> Result<(), RunFault>
-    ensures ok { OnOk result ((kept : List (run.TakenStep NfsCall Outcome)) → Stands binds.now replay.old kept []
-        → Stands binds.now replay.new kept (steps_of history.now.calls places.now)) }
+    ensures ok { OnOk result ((kept : List (run.TakenStep NfsCall Outcome)) → Stands rule.now replay.old kept []
+        → Stands rule.now replay.new kept (steps_of history.now.calls places.now)) }
     ensures illegal { (number : ℕ) → result ≡ Err (RunFault.Illegal number)
-        → (kept : List (run.TakenStep NfsCall Outcome)) → Stands binds.now replay.old kept []
-        → IsIllegalBehind binds.now kept (steps_of history.now.calls places.now) number }
+        → (kept : List (run.TakenStep NfsCall Outcome)) → Stands rule.now replay.old kept []
+        → IsIllegalBehind rule.now kept (steps_of history.now.calls places.now) number }
 {
     for place in places {
-        run_lost_place(alloc, replay, binds, history, *place)?;
+        run_lost_place(alloc, replay, rule, history, *place)?;
     }
     Ok(())
 }
@@ -273,46 +303,47 @@ fn split_at_cut(era: &EraPlan) -> (&[Place], &[Place])
 fn run_era(
     alloc: Global,
     replay: Replay<FileTree>,
-    binds: &Binds,
+    rule: &Rule<'_, '_>,
     history: &KnownCalls<'_>,
     era: &EraPlan,
     block: &mut Block,
 ) -> Result<Replay<FileTree>, RunFault>
-    requires { (kept : List (run.TakenStep NfsCall Outcome)) × Stands binds.now replay kept [] }
-    ensures runs { OnOk result ((kept : List (run.TakenStep NfsCall Outcome)) → Stands binds.now replay kept []
-        → IsSome (tree_after binds.now (kept ++ steps_of history.now.calls era.now.places))) }
-    ensures crashed { IfOk result (λ after. (kept : List (run.TakenStep NfsCall Outcome)) → Stands binds.now replay kept []
-        → Stands binds.now after (kept ++ steps_of history.now.calls (take (cut_of era.now) era.now.places)) []) }
+    requires { (kept : List (run.TakenStep NfsCall Outcome)) × Stands rule.now replay kept [] }
+    ensures runs { OnOk result ((kept : List (run.TakenStep NfsCall Outcome)) → Stands rule.now replay kept []
+        → IsSome (tree_after rule.now (kept ++ steps_of history.now.calls era.now.places))) }
+    ensures crashed { IfOk result (λ after. (kept : List (run.TakenStep NfsCall Outcome)) → Stands rule.now replay kept []
+        → Stands rule.now after (kept ++ steps_of history.now.calls (take (cut_of era.now) era.now.places)) []) }
     ensures illegal { (number : ℕ) → result ≡ Err (RunFault.Illegal number)
-        → (kept : List (run.TakenStep NfsCall Outcome)) → Stands binds.now replay kept []
-        → IsIllegalBehind binds.now kept (steps_of history.now.calls era.now.places) number }
+        → (kept : List (run.TakenStep NfsCall Outcome)) → Stands rule.now replay kept []
+        → IsIllegalBehind rule.now kept (steps_of history.now.calls era.now.places) number }
 {
     let (kept, lost) = split_at_cut(era);
     let mut replay = replay;
-    run_kept(alloc, &mut replay, binds, history, kept, block)?;
-    run_lost(alloc, &mut replay, binds, history, lost)?;
+    run_kept(alloc, &mut replay, rule, history, kept, block)?;
+    run_lost(alloc, &mut replay, rule, history, lost)?;
     let after = replay.crash()?;
     Ok(after)
 }
 
-/// Whether every era runs, the first from the opening tree and each other one from what those ahead of it kept.
+/// Whether every era runs, the first from the tree that stood at first and each other one from what those ahead of it kept.
 fn run_plans(
     alloc: Global,
-    binds: &Binds,
+    rule: &Rule<'_, '_>,
     history: &KnownCalls<'_>,
     eras: &[EraPlan],
 ) -> Result<(), RunFault>
-    ensures ok { OnOk result (EveryEraRuns (next_tree binds.now) opening (map (era_of history.now.calls) eras.now)) }
+    ensures ok { OnOk result (EveryEraRuns (next_by rule.now) (first_tree rule.now) (map (era_of history.now.calls) eras.now)) }
     ensures illegal { (number : ℕ) → result ≡ Err (RunFault.Illegal number)
-        → IsFirstIllegalInEras (next_tree binds.now) opening (map (era_of history.now.calls) eras.now) number }
+        → IsFirstIllegalInEras (next_by rule.now) (first_tree rule.now) (map (era_of history.now.calls) eras.now) number }
 {
     let mut block = Block {
         steps: Vec::new(alloc),
         seen: Vec::new(alloc),
     };
-    let mut replay = Replay::<FileTree>::begin(alloc, binds)?;
+    let tree = FileTree::of_start(alloc, rule.start)?;
+    let mut replay = Replay::from_state(alloc, tree);
     for era in eras {
-        replay = run_era(alloc, replay, binds, history, era, &mut block)?;
+        replay = run_era(alloc, replay, rule, history, era, &mut block)?;
     }
     Ok(())
 }
@@ -321,8 +352,15 @@ fn run_plans(
 pub fn run_plan(alloc: Global, history: &KnownCalls<'_>, plan: &Certificate) -> Result<(), RunFault>
     ensures ok { OnOk result (Runs history.now plan.now) }
     ensures illegal { (number : ℕ) → result ≡ Err (RunFault.Illegal number)
-        → IsFirstIllegalInEras (next_of history.now plan.now) opening (eras_of history.now plan.now) number }
+        → IsFirstIllegalInEras (next_of history.now plan.now) (base_of history.now) (eras_of history.now plan.now) number }
 {
-    let binds = bindings_of_plan(alloc, history, plan)?;
-    run_plans(alloc, &binds, history, plan.eras.as_slice())
+    let rule = Rule {
+        setting: TreeSetting {
+            binds: bindings_of_plan(alloc, history, plan)?,
+            start: Start::empty(alloc),
+            profile: history.profile(),
+        },
+        start: history.start(),
+    };
+    run_plans(alloc, &rule, history, plan.eras.as_slice())
 }

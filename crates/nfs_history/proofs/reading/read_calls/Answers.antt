@@ -31,7 +31,7 @@ from_slice-requires c = root_small c.args.bytes.now (recording_value c.in_ok-see
 pub returns-clause-found : goal.returns-clause-found
 returns-clause-found c =
     let root = c.in_ok-root.ensures in
-    found_in AreCallsOf c.args.bytes.now (recording_value c.in_ok-seen.seen) c.of_events.result c.in_ok-seen.ensures.found (rw root at c.of_events.ensures.found)
+    found_in AreCallsOf c.args.bytes.now (recording_value c.in_ok-seen.seen) c.of_events.result c.in_ok-seen.ensures.found (rw (c.new.ensures, root) at c.of_events.ensures.found)
 
 pub returns-clause-fault : goal.returns-clause-fault
 returns-clause-fault c =
@@ -46,4 +46,4 @@ returns-clause-named c = λ fault first.
     let root = c.in_ok-root.ensures in
     let bytes = c.args.bytes.now in
     let seen = recording_value c.in_ok-seen.seen in
-    named_of (λ (k : CallsValue). k) bytes c.of_events.result (found_in AreCallsOf bytes seen c.of_events.result c.in_ok-seen.ensures.found (rw root at c.of_events.ensures.found)) (fault_in bytes seen c.of_events.result c.in_ok-seen.ensures.found c.of_events.ensures.fault) fault first
+    named_of (λ (k : CallsValue). k) bytes c.of_events.result (found_in AreCallsOf bytes seen c.of_events.result c.in_ok-seen.ensures.found (rw (c.new.ensures, root) at c.of_events.ensures.found)) (fault_in bytes seen c.of_events.result c.in_ok-seen.ensures.found c.of_events.ensures.fault) fault first

@@ -31,26 +31,28 @@ from_slice-requires c = root_small c.args.bytes.now (recording_value c.in_ok-rec
 pub returns-clause-found : goal.returns-clause-found
 returns-clause-found c =
     let root = c.in_ok-root.ensures in
+    let start = c.in_ok-start.ensures in
     let events = c.in_ok-events.ensures ∙ ap all_seen c.as_slice.ensures.value in
-    history_found c.args.bytes.now (recording_value c.in_ok-recording.recording) c.build.result c.in_ok-recording.ensures.found (rw (root, events) at c.build.ensures.found) c.build.ensures.bare
+    history_found c.args.bytes.now (recording_value c.in_ok-recording.recording) c.build_from.result c.in_ok-recording.ensures.found (rw (root, start, events) at c.build_from.ensures.found) c.build_from.ensures.bare
 
 pub returns-clause-fault : goal.returns-clause-fault
 returns-clause-fault c =
     let events = c.in_ok-events.ensures ∙ ap all_seen c.as_slice.ensures.value in
-    fault_in c.args.bytes.now (recording_value c.in_ok-recording.recording) c.build.result c.in_ok-recording.ensures.found (rw events at c.build.ensures.fault)
+    fault_in c.args.bytes.now (recording_value c.in_ok-recording.recording) c.build_from.result c.in_ok-recording.ensures.found (rw events at c.build_from.ensures.fault)
 
 pub returns-clause-only : goal.returns-clause-only
 returns-clause-only c = λ history is.
     let events = c.in_ok-events.ensures ∙ ap all_seen c.as_slice.ensures.value in
     let bytes = c.args.bytes.now in
-    only_memory_of bytes c.build.result (fault_in bytes (recording_value c.in_ok-recording.recording) c.build.result c.in_ok-recording.ensures.found (rw events at c.build.ensures.fault)) history.known (calls_in bytes history is)
+    only_memory_of bytes c.build_from.result (fault_in bytes (recording_value c.in_ok-recording.recording) c.build_from.result c.in_ok-recording.ensures.found (rw events at c.build_from.ensures.fault)) history.known (calls_in bytes history is)
 
 pub returns-clause-named : goal.returns-clause-named
 returns-clause-named c = λ fault first.
     let root = c.in_ok-root.ensures in
+    let start = c.in_ok-start.ensures in
     let events = c.in_ok-events.ensures ∙ ap all_seen c.as_slice.ensures.value in
     let bytes = c.args.bytes.now in
     let seen = recording_value c.in_ok-recording.recording in
     let file = c.in_ok-recording.ensures.found in
-    let built = rw (root, events) at c.build.ensures.found in
-    named_of (λ (h : HistoryValue). h.known) bytes c.build.result (found_in (λ s h. AreCallsOf s h.known) bytes seen c.build.result file (calls_found seen c.build.result built)) (fault_in bytes seen c.build.result file (rw events at c.build.ensures.fault)) fault first
+    let built = rw (root, start, events) at c.build_from.ensures.found in
+    named_of (λ (h : HistoryValue). h.known) bytes c.build_from.result (found_in (λ s h. AreCallsOf s h.known) bytes seen c.build_from.result file (calls_found seen c.build_from.result built)) (fault_in bytes seen c.build_from.result file (rw events at c.build_from.ensures.fault)) fault first

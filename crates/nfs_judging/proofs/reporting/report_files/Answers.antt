@@ -11,8 +11,8 @@ left (inr q) none = q
 pub returns-in_ok-finding-in-Ok : goal.returns-in_ok-finding-in-Ok
 returns-in_ok-finding-in-Ok c =
     let finding = c.in_ok-finding-in-Ok.finding in
-    history_reported c.args.history.now c.args.certificate.now c.in-Ok.history c.report_of-counts.result finding.verdict finding.lost c.in-Ok.ensures.found
-    (c.in_ok-finding-in-Ok.ensures.verdict c.args.history.now c.in-Ok.ensures.found) c.in_ok-finding-in-Ok.ensures.lost c.report_of-counts.ensures
+    history_reported c.args.history.now c.args.certificate.now c.in-Ok.history c.report_of_calls-counts.result finding.verdict finding.lost c.in-Ok.ensures.found
+    (c.in_ok-finding-in-Ok.ensures.verdict c.args.history.now c.in-Ok.ensures.found) c.in_ok-finding-in-Ok.ensures.lost c.report_of_calls-counts.ensures
     c.report_found.result c.report_found.ensures.status c.report_found.ensures.line
 
 pub returns-in-Err : goal.returns-in-Err

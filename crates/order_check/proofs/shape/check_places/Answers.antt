@@ -5,4 +5,4 @@ use Rattle.order_check.proofs.ShapeLaws.{numbers_within}
 use Rattle.order_check.proofs.shape.check_places.Goals as goal
 
 pub mark_calls-requires : goal.mark_calls-requires
-mark_calls-requires c = rw c.count.ensures (numbers_within c.args.history.now.calls c.args.order.now (sym c.unknown.ensures ∙ ap option_copied c.in_default.is))
+mark_calls-requires c = rw c.count.ensures.value (numbers_within c.args.history.now.calls c.args.order.now (sym c.unknown.ensures ∙ ap option_copied c.in_default.is))

@@ -52,5 +52,5 @@ returns-clause-crashed g c = λ kept s.
     let front = map taken_of c.split_at.result.0.now in
     let kept_front = era_front taken_of c.steps.result.now _ c.args.era.now.steps c.kept.result _ c.steps.ensures.value c.split_at.ensures.front c.kept.ensures in
     let stands = c.in_ok-run_lost.ensures.ok (kept ++ front) (c.in_ok-run_kept.ensures.ok kept s) in
-    let after = c.in_ok-after.ensures c.args.setting.now (kept ++ front) (map taken_of c.split_at.result.1.now) stands in
+    let after = c.in_ok-after.ensures (R.next c.args.setting.now) (R.start c.args.setting.now) (kept ++ front) (map taken_of c.split_at.result.1.now) stands in
     subst (λ steps. StandsAfter R.undoes (R.next c.args.setting.now) (R.start c.args.setting.now) c.in_ok-after.after (kept ++ steps) []) kept_front after

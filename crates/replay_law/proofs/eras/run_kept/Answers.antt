@@ -1,4 +1,4 @@
-use Rattle.std.proofs.Common.{◌≡◌, [], ◌++◌, map, take, subst, arith}
+use Rattle.std.proofs.Common.{◌≡◌, [], ◌++◌, map, take, refl, subst, arith}
 use Rattle.replay_law.specs.Run.{IsFirstIllegal}
 use Rattle.replay_law.specs.Steps.{taken_of}
 use Rattle.replay_law.proofs.Within.{stuck_kept, more_kept}
@@ -11,7 +11,7 @@ returns-in-Err-NotAllowed-clause-illegal g c = λ number is kept base reached s.
     let i = c.loop-step.step-index in
     let x = c.step-item.result in
     let stands = c.loop-step.invariant kept s in
-    let stops = c.in-Err-NotAllowed.ensures.not_allowed (cc) (kept ++ map taken_of (take i all)) [] stands in
+    let stops = c.in-Err-NotAllowed.ensures.not_allowed (cc) (R.next c.args.setting.now) (R.start c.args.setting.now) x.number (kept ++ map taken_of (take i all)) [] (λ state. refl) stands in
     let found = stuck_kept taken_of R.undoes (R.next c.args.setting.now) (R.start c.args.setting.now) all i x (omega arith) c.step-item.is c.loop-step.replay kept base reached stands stops in
     let same : x.number ≡ number = cc in
     subst (λ m. IsFirstIllegal (R.next c.args.setting.now) base (map taken_of all) m) same found
@@ -22,4 +22,4 @@ loop-step-preserved g c = λ kept s.
     let all = c.args.steps.now in
     let i = c.loop-step.step-index in
     more_kept taken_of R.undoes (R.next c.args.setting.now) (R.start c.args.setting.now) all i c.step-item.result (omega arith) c.step-item.is c.step_kept.new.self kept
-    (c.in-Ok.ensures.ok (kept ++ map taken_of (take i all)) (c.loop-step.invariant kept s))
+    (c.in-Ok.ensures.ok (R.next c.args.setting.now) (R.start c.args.setting.now) c.step-item.result.number (kept ++ map taken_of (take i all)) (λ state. refl) (c.loop-step.invariant kept s))

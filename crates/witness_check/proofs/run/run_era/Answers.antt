@@ -8,17 +8,15 @@ use Rattle.replay_law.specs.declared.run.RunFault.TheVariants.{Illegal}
 use Rattle.replay_law.specs.Run.{TakenStep, IsFirstIllegal}
 use Rattle.replay_law.proofs.Crashes.{from_base}
 use Rattle.replay_law.proofs.Within.{first_of_front, first_behind, era_runs}
-use Rattle.tree_nodes.specs.Tree.{opening}
 use Rattle.tree_nodes.specs.Undo.{TakesBack}
-use Rattle.file_tree.specs.Success.{next_tree}
 use Rattle.witness_check.specs.Run.{step_at, steps_of}
-use Rattle.witness_check.specs.Running.{Stands}
+use Rattle.witness_check.specs.Running.{next_by, first_tree, Stands}
 use Rattle.witness_check.proofs.Steps.{both}
 use Rattle.witness_check.proofs.run.run_era.Goals as goal
 
 pub returns-in_err-run_kept-clause-illegal : goal.returns-in_err-run_kept-clause-illegal
 returns-in_err-run_kept-clause-illegal c = λ number is kept s base reached.
-    let next = next_tree c.args.binds.now in
+    let next = next_by c.args.rule.now in
     let calls = c.args.history.now.calls in
     let cut = cut_of c.args.era.now in
     let parts = both (step_at calls) cut c.args.era.now.places c.split_at_cut.result.0.now c.split_at_cut.result.1.now c.split_at_cut.ensures.kept c.split_at_cut.ensures.lost in
@@ -31,7 +29,7 @@ returns-in_err-run_kept-clause-illegal c = λ number is kept s base reached.
 
 pub returns-in_err-run_lost-clause-illegal : goal.returns-in_err-run_lost-clause-illegal
 returns-in_err-run_lost-clause-illegal c = λ number is kept s base reached.
-    let next = next_tree c.args.binds.now in
+    let next = next_by c.args.rule.now in
     let calls = c.args.history.now.calls in
     let front = steps_of calls c.split_at_cut.result.0.now in
     let parts = both (step_at calls) (cut_of c.args.era.now) c.args.era.now.places c.split_at_cut.result.0.now c.split_at_cut.result.1.now c.split_at_cut.ensures.kept c.split_at_cut.ensures.lost in
@@ -40,7 +38,7 @@ returns-in_err-run_lost-clause-illegal c = λ number is kept s base reached.
     let refused : c.run_lost.result ≡ Err (Illegal number) = cc (fault.1, fault.2, was, is) in
     let stands = c.in_ok-run_kept.ensures.ok kept s in
     let found = c.run_lost.ensures.illegal number refused (kept ++ front) stands stands.base stands.reached in
-    let middle = sym (from_base next opening base kept front reached) ∙ stands.reached in
+    let middle = sym (from_base next (first_tree c.args.rule.now) base kept front reached) ∙ stands.reached in
     subst (λ (steps : List (TakenStep NfsCall Outcome)). IsFirstIllegal next base steps number) (sym parts)
     (first_behind next base stands.base front (steps_of calls c.split_at_cut.result.1.now) number middle found)
 
@@ -56,7 +54,7 @@ returns-clause-runs c = λ kept s.
     let front = steps_of calls c.split_at_cut.result.0.now in
     let back = steps_of calls c.split_at_cut.result.1.now in
     let parts = both (step_at calls) (cut_of c.args.era.now) c.args.era.now.places c.split_at_cut.result.0.now c.split_at_cut.result.1.now c.split_at_cut.ensures.kept c.split_at_cut.ensures.lost in
-    era_runs TakesBack (next_tree c.args.binds.now) opening c.run_lost.new.replay kept front back (steps_of calls c.args.era.now.places) parts
+    era_runs TakesBack (next_by c.args.rule.now) (first_tree c.args.rule.now) c.run_lost.new.replay kept front back (steps_of calls c.args.era.now.places) parts
     (c.in_ok-run_lost.ensures.ok (kept ++ front) (c.in_ok-run_kept.ensures.ok kept s))
 
 pub returns-clause-crashed : goal.returns-clause-crashed
@@ -64,5 +62,5 @@ returns-clause-crashed c = λ kept s.
     let calls = c.args.history.now.calls in
     let front = steps_of calls c.split_at_cut.result.0.now in
     let stands = c.in_ok-run_lost.ensures.ok (kept ++ front) (c.in_ok-run_kept.ensures.ok kept s) in
-    let after = c.in_ok-after.ensures c.args.binds.now (kept ++ front) (steps_of calls c.split_at_cut.result.1.now) stands in
-    subst (λ (ps : List Place). Stands c.args.binds.now c.in_ok-after.after (kept ++ steps_of calls ps) []) c.split_at_cut.ensures.kept after
+    let after = c.in_ok-after.ensures (next_by c.args.rule.now) (first_tree c.args.rule.now) (kept ++ front) (steps_of calls c.split_at_cut.result.1.now) stands in
+    subst (λ (ps : List Place). Stands c.args.rule.now c.in_ok-after.after (kept ++ steps_of calls ps) []) c.split_at_cut.ensures.kept after

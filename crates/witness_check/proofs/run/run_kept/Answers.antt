@@ -10,14 +10,12 @@ use Rattle.replay_law.specs.declared.run.RunFault.TheVariants.{Illegal}
 use Rattle.replay_law.specs.Run.{TakenStep, IsFirstIllegal}
 use Rattle.replay_law.proofs.Crashes.{from_base}
 use Rattle.replay_law.proofs.Within.{first_of_front, first_behind}
-use Rattle.tree_nodes.specs.Tree.{opening}
-use Rattle.file_tree.specs.Success.{next_tree}
 use Rattle.witness_check.specs.Run.{step_at, steps_of}
-use Rattle.witness_check.specs.Running.{Stands}
+use Rattle.witness_check.specs.Running.{next_by, first_tree, Stands}
 use Rattle.witness_check.proofs.run.run_kept.Goals as goal
 
 pub loop-rest-init : goal.loop-rest-init
-loop-rest-init c = ([], refl, λ kept s. subst (λ (steps : List (TakenStep NfsCall Outcome)). Stands c.args.binds.now c.args.replay.now steps []) (sym (append-nil kept)) s)
+loop-rest-init c = ([], refl, λ kept s. subst (λ (steps : List (TakenStep NfsCall Outcome)). Stands c.args.rule.now c.args.replay.now steps []) (sym (append-nil kept)) s)
 
 pub loop-rest-preserved : goal.loop-rest-preserved
 loop-rest-preserved c =
@@ -30,14 +28,14 @@ loop-rest-preserved c =
     let joined : next ++ behind ≡ rest = ap (λ xs. xs ++ behind) c.split_at.ensures.front ∙ ap (λ xs. take n rest ++ xs) c.split_at.ensures.back ∙ take-append-drop n rest in (
       done ++ next,
       append_assoc done next behind ∙ ap (λ xs. done ++ xs) joined ∙ c.loop-rest.invariant.1,
-      λ kept s. subst (λ (steps : List (TakenStep NfsCall Outcome)). Stands c.args.binds.now c.run_kept_block.new.replay steps [])
+      λ kept s. subst (λ (steps : List (TakenStep NfsCall Outcome)). Stands c.args.rule.now c.run_kept_block.new.replay steps [])
           (append_assoc kept (steps_of calls done) (steps_of calls next) ∙ ap (λ xs. kept ++ xs) (sym (filter_map-append (step_at calls) done next)))
           (c.in_ok-run_kept_block.ensures.ok (kept ++ steps_of calls done) (c.loop-rest.invariant.2 kept s)),
     )
 
 pub returns-in_err-run_kept_block-clause-illegal : goal.returns-in_err-run_kept_block-clause-illegal
 returns-in_err-run_kept_block-clause-illegal c = λ number is kept s base reached.
-    let next_of = next_tree c.args.binds.now in
+    let next_of = next_by c.args.rule.now in
     let calls = c.args.history.now.calls in
     let f = step_at calls in
     let done = c.loop-rest.invariant.0 in
@@ -54,7 +52,7 @@ returns-in_err-run_kept_block-clause-illegal c = λ number is kept s base reache
     let refused : c.run_kept_block.result ≡ Err (Illegal number) = cc (fault.1, fault.2, was, is) in
     let stands = c.loop-rest.invariant.2 kept s in
     let found = c.run_kept_block.ensures.illegal number refused (kept ++ steps_of calls done) stands stands.base stands.reached in
-    let middle = sym (from_base next_of opening base kept (steps_of calls done) reached) ∙ stands.reached in
+    let middle = sym (from_base next_of (first_tree c.args.rule.now) base kept (steps_of calls done) reached) ∙ stands.reached in
     subst (λ (steps : List (TakenStep NfsCall Outcome)). IsFirstIllegal next_of base steps number) (sym parts)
     (first_behind next_of base stands.base (steps_of calls done) (steps_of calls next ++ steps_of calls behind) number middle
     (first_of_front next_of stands.base (steps_of calls next) (steps_of calls behind) number found))
@@ -65,4 +63,4 @@ returns-clause-ok c = λ kept s.
     let done = c.loop-rest.invariant.0 in
     let none : c.loop-rest.rest.now ≡ [] = nil_from_length c.loop-rest.rest.now (grind (arith, nat_tests)) in
     let all : done ≡ c.args.places.now = sym (append-nil done) ∙ ap (λ xs. done ++ xs) (sym none) ∙ c.loop-rest.invariant.1 in
-    subst (λ (ps : List Place). Stands c.args.binds.now c.loop-rest.replay (kept ++ steps_of calls ps) []) all (c.loop-rest.invariant.2 kept s)
+    subst (λ (ps : List Place). Stands c.args.rule.now c.loop-rest.replay (kept ++ steps_of calls ps) []) all (c.loop-rest.invariant.2 kept s)

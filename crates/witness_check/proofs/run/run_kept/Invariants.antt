@@ -10,7 +10,7 @@ use Rattle.witness_check.proofs.run.run_kept.Given as goal
 -- the places ahead of those that are left are kept
 abbrev pub invariant-loop-rest : goal.invariant-loop-rest
 invariant-loop-rest l = (done : List Place) × (done ++ l.rest ≡ l.places)
-    × ((kept : List (TakenStep NfsCall Outcome)) → Stands l.binds l.initial.replay kept [] → Stands l.binds l.replay (kept ++ steps_of l.history.calls done) [])
+    × ((kept : List (TakenStep NfsCall Outcome)) → Stands l.rule l.initial.replay kept [] → Stands l.rule l.replay (kept ++ steps_of l.history.calls done) [])
 
 -- a turn takes a place at least
 abbrev pub decreases-loop-rest : goal.decreases-loop-rest

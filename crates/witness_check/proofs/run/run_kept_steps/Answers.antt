@@ -17,8 +17,8 @@ loop-step-preserved c = λ kept s.
     let i = c.loop-step.step-index in
     let item = c.step-item.result in
     let same : option_map found_step item ≡ option_map found_step (get_or steps i item) = ap (option_map found_step) c.step-item.is in
-    more_kept c.args.binds.now (option_map found_step) steps i item c.loop-step-test.true c.run_kept_step.new.replay kept
-    (subst (λ (o : Option (TakenStep NfsCall Outcome)). Stands c.args.binds.now c.run_kept_step.new.replay ((kept ++ found_steps (take i steps)) ++ option_to_list o) []) same
+    more_kept c.args.rule.now (option_map found_step) steps i item c.loop-step-test.true c.run_kept_step.new.replay kept
+    (subst (λ (o : Option (TakenStep NfsCall Outcome)). Stands c.args.rule.now c.run_kept_step.new.replay ((kept ++ found_steps (take i steps)) ++ option_to_list o) []) same
     (c.in_ok-run_kept_step.ensures.ok (kept ++ found_steps (take i steps)) (c.loop-step.invariant kept s)))
 
 pub returns-in_err-run_kept_step-clause-illegal : goal.returns-in_err-run_kept_step-clause-illegal
@@ -31,11 +31,11 @@ returns-in_err-run_kept_step-clause-illegal c = λ number is kept s.
     let refused : c.run_kept_step.result ≡ Err (Illegal number) = cc (fault.1, fault.2, was, is) in
     let item = c.step-item.result in
     let same : option_map found_step item ≡ option_map found_step (get_or steps i item) = ap (option_map found_step) c.step-item.is in
-    stuck_kept c.args.binds.now (option_map found_step) steps i item number c.loop-step-test.true c.loop-step.replay kept stands
-    (subst (λ (o : Option (TakenStep NfsCall Outcome)). IsStuckAt c.args.binds.now (kept ++ found_steps (take i steps)) o number) same
+    stuck_kept c.args.rule.now (option_map found_step) steps i item number c.loop-step-test.true c.loop-step.replay kept stands
+    (subst (λ (o : Option (TakenStep NfsCall Outcome)). IsStuckAt c.args.rule.now (kept ++ found_steps (take i steps)) o number) same
     (c.run_kept_step.ensures.illegal number refused (kept ++ found_steps (take i steps)) stands))
 
 pub returns-clause-ok : goal.returns-clause-ok
 returns-clause-ok c = λ kept s.
     let all = take_all c.loop-step.step-index c.args.steps.now c.loop-step-test.false in
-    subst (λ (xs : List (Option Found)). Stands c.args.binds.now c.loop-step.replay (kept ++ found_steps xs) []) all (c.loop-step.invariant kept s)
+    subst (λ (xs : List (Option Found)). Stands c.args.rule.now c.loop-step.replay (kept ++ found_steps xs) []) all (c.loop-step.invariant kept s)

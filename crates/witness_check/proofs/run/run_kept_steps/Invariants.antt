@@ -8,4 +8,4 @@ use Rattle.witness_check.proofs.run.run_kept_steps.Given as goal
 -- the steps so far are kept
 abbrev pub invariant-loop-step : goal.invariant-loop-step
 invariant-loop-step l =
-    (kept : List (TakenStep NfsCall Outcome)) → Stands l.binds l.initial.replay kept [] → Stands l.binds l.replay (kept ++ found_steps (take l.step-index l.steps)) []
+    (kept : List (TakenStep NfsCall Outcome)) → Stands l.rule l.initial.replay kept [] → Stands l.rule l.replay (kept ++ found_steps (take l.step-index l.steps)) []

@@ -9,4 +9,4 @@ use Rattle.witness_check.proofs.run.run_lost.Given as goal
 -- the places so far are past the cut
 abbrev pub invariant-loop-place : goal.invariant-loop-place
 invariant-loop-place l =
-    (kept : List (TakenStep NfsCall Outcome)) → Stands l.binds l.initial.replay kept [] → Stands l.binds l.replay kept (steps_of l.history.calls (take l.place-index l.places))
+    (kept : List (TakenStep NfsCall Outcome)) → Stands l.rule l.initial.replay kept [] → Stands l.rule l.replay kept (steps_of l.history.calls (take l.place-index l.places))

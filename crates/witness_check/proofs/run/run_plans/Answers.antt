@@ -8,45 +8,46 @@ use Rattle.replay_law.specs.declared.run.RunFault.TheVariants.{Illegal}
 use Rattle.replay_law.specs.Run.{Era, TakenStep, EveryEraRuns, kept_steps}
 use Rattle.replay_law.proofs.Runs.{map_more, map_parts}
 use Rattle.replay_law.proofs.Crashes.{none_runs, one_more_runs, kept_one_more}
-use Rattle.tree_nodes.specs.Tree.{opening}
-use Rattle.file_tree.specs.Success.{next_tree}
 use Rattle.witness_check.specs.Run.{step_at, steps_of, era_of}
-use Rattle.witness_check.specs.Running.{Stands}
+use Rattle.witness_check.specs.Running.{next_by, first_tree, Stands}
 use Rattle.certificate.specs.Plan.{cut_of}
+use Rattle.tree_nodes.specs.Tree.{Tree}
+use Rattle.tree_nodes.specs.Undo.{TakesBack}
+use Rattle.replay_law.specs.Standing as standing
 use Rattle.witness_check.proofs.Steps.{kept}
 use Rattle.witness_check.proofs.run.run_plans.Goals as goal
 
 pub loop-era-init : goal.loop-era-init
 loop-era-init c = record {
-  stands = c.in_ok-replay.ensures;
-  run = none_runs (next_tree c.args.binds.now) opening;
+  stands = subst (λ (t : Tree). standing.StandsAfter TakesBack (next_by c.args.rule.now) t c.from_state-replay.result [] []) c.in_ok-tree.ensures (c.from_state-replay.ensures (next_by c.args.rule.now));
+  run = none_runs (next_by c.args.rule.now) (first_tree c.args.rule.now);
 }
 
 pub loop-era-preserved : goal.loop-era-preserved
 loop-era-preserved c =
-    let next = next_tree c.args.binds.now in
+    let next = next_by c.args.rule.now in
     let calls = c.args.history.now.calls in
     let era = c.era-item.result in
     let so_far = map (era_of calls) (take c.loop-era.era-index c.args.eras.now) in
     let more = map_more (era_of calls) c.args.eras.now c.loop-era.era-index era c.loop-era-test.true c.era-item.is in
     let stands = c.loop-era.invariant.stands in
-    let crashed = c.in_ok-replay-2.ensures.crashed (kept_steps so_far) stands in
+    let crashed = c.in_ok-replay.ensures.crashed (kept_steps so_far) stands in
     let front = kept (step_at calls) (cut_of era) era.places in
     let kept_front = ap (λ (xs : List (TakenStep NfsCall Outcome)). kept_steps so_far ++ xs) (sym front) in
     record {
-      stands = subst (λ (steps : List (TakenStep NfsCall Outcome)). Stands c.args.binds.now c.in_ok-replay-2.replay steps []) (kept_front ∙ sym (ap kept_steps more ∙ kept_one_more so_far (era_of calls era))) crashed;
-      run = subst (λ (eras : List (Era NfsCall Outcome)). EveryEraRuns next opening eras) (sym more)
-          (one_more_runs next opening so_far (era_of calls era) c.loop-era.invariant.run (c.in_ok-replay-2.ensures.runs (kept_steps so_far) stands));
+      stands = subst (λ (steps : List (TakenStep NfsCall Outcome)). Stands c.args.rule.now c.in_ok-replay.replay steps []) (kept_front ∙ sym (ap kept_steps more ∙ kept_one_more so_far (era_of calls era))) crashed;
+      run = subst (λ (eras : List (Era NfsCall Outcome)). EveryEraRuns next (first_tree c.args.rule.now) eras) (sym more)
+          (one_more_runs next (first_tree c.args.rule.now) so_far (era_of calls era) c.loop-era.invariant.run (c.in_ok-replay.ensures.runs (kept_steps so_far) stands));
     }
 
-pub returns-in_err-replay-2-clause-illegal : goal.returns-in_err-replay-2-clause-illegal
-returns-in_err-replay-2-clause-illegal c = λ number is.
+pub returns-in_err-replay-clause-illegal : goal.returns-in_err-replay-clause-illegal
+returns-in_err-replay-clause-illegal c = λ number is.
     let calls = c.args.history.now.calls in
     let i = c.loop-era.era-index in
     let era = c.era-item.result in
     let stands = c.loop-era.invariant.stands in
-    let fault = err_from_is_err_and c.from_residual-in_err-replay-2.result c.from_residual-in_err-replay-2.ensures.1 in
-    let was : c.run_era.result ≡ Err c.in_err-replay-2.field-0.0 = c.in_err-replay-2.was in
+    let fault = err_from_is_err_and c.from_residual-in_err-replay.result c.from_residual-in_err-replay.ensures.1 in
+    let was : c.run_era.result ≡ Err c.in_err-replay.field-0.0 = c.in_err-replay.was in
     let refused : c.run_era.result ≡ Err (Illegal number) = cc (fault.1, fault.2, was, is) in
     record {
       ahead = map (era_of calls) (take i c.args.eras.now);
@@ -61,5 +62,5 @@ returns-in_err-replay-2-clause-illegal c = λ number is.
 
 pub returns-clause-ok : goal.returns-clause-ok
 returns-clause-ok c =
-    let next = next_tree c.args.binds.now in
-    subst (λ (eras : List EraPlan). EveryEraRuns next opening (map (era_of c.args.history.now.calls) eras)) (take_all c.loop-era.era-index c.args.eras.now c.loop-era-test.false) c.loop-era.invariant.run
+    let next = next_by c.args.rule.now in
+    subst (λ (eras : List EraPlan). EveryEraRuns next (first_tree c.args.rule.now) (map (era_of c.args.history.now.calls) eras)) (take_all c.loop-era.era-index c.args.eras.now c.loop-era-test.false) c.loop-era.invariant.run

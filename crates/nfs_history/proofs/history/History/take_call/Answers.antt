@@ -22,7 +22,7 @@ invariant_of-self-2 c =
     let may = subst (λ (v : HistoryValue). MayFollow (all_happened v.events) (happened c.args.event)) (sym c.self.view_is) c.requires.follows in
     let with_call = subst (λ (v : HistoryValue). AreRecorded (calls_of (all_happened v.events ++ happened c.args.event ∷ [])) (v.known.calls ++ c.args.call ∷ [])) (sym c.self.view_is) c.requires.recorded in
     let recorded = subst (AreRecorded (calls_of (all_happened inside.events.items ++ happened c.args.event ∷ []))) (sym pushed) with_call in (
-      kept_more inside.root inside.open_calls c.put_event.new.open_calls inside.calls.items c.push.new.self.items inside.events.items c.put_event.new.events.items c.args.event inside.spare 0
+      kept_more inside.head inside.open_calls c.put_event.new.open_calls inside.calls.items c.push.new.self.items inside.events.items c.put_event.new.events.items c.args.event inside.spare 0
           c.in_ok-put_event.ensures.put c.self.invariant.0 may c.in_ok-put_event.ensures.knows recorded,
       omega (arith, c.put_event.new.events.ok.1),
     )
@@ -35,5 +35,5 @@ returns-clause-taken c =
     let may = subst (λ (v : HistoryValue). MayFollow (all_happened v.events) (happened c.args.event)) (sym c.self.view_is) c.requires.follows in
     let with_call = subst (λ (v : HistoryValue). AreRecorded (calls_of (all_happened v.events ++ happened c.args.event ∷ [])) (v.known.calls ++ c.args.call ∷ [])) (sym c.self.view_is) c.requires.recorded in
     let recorded = subst (AreRecorded (calls_of (all_happened inside.events.items ++ happened c.args.event ∷ []))) (sym pushed) with_call in
-    follows_more inside.root inside.open_calls c.put_event.new.open_calls inside.calls.items c.push.new.self.items inside.events.items c.put_event.new.events.items c.args.event inside.spare c.args.self.now
+    follows_more inside.head inside.open_calls c.put_event.new.open_calls inside.calls.items c.push.new.self.items inside.events.items c.put_event.new.events.items c.args.event inside.spare c.args.self.now
     c.self.view_is c.in_ok-put_event.ensures.put c.self.invariant.0 may c.in_ok-put_event.ensures.knows recorded

@@ -16,7 +16,7 @@ invariant_of-self-2 c =
     let inside = c.self.inside in
     let may = subst (λ (v : HistoryValue). MayFollow (all_happened v.events) (happened c.args.event)) (sym c.self.view_is) c.requires.follows in
     let recorded = quiet_recorded (value_of inside) inside.open_calls (happened c.args.event) c.self.invariant.0 c.requires.quiet in (
-      kept_more inside.root inside.open_calls c.put_event.new.open_calls inside.calls.items inside.calls.items inside.events.items c.put_event.new.events.items c.args.event inside.spare 0
+      kept_more inside.head inside.open_calls c.put_event.new.open_calls inside.calls.items inside.calls.items inside.events.items c.put_event.new.events.items c.args.event inside.spare 0
           c.in_ok-put_event.ensures.put c.self.invariant.0 may c.in_ok-put_event.ensures.knows recorded,
       omega (arith, c.put_event.new.events.ok.1),
     )
@@ -26,5 +26,5 @@ returns-clause-taken c =
     let inside = c.self.inside in
     let may = subst (λ (v : HistoryValue). MayFollow (all_happened v.events) (happened c.args.event)) (sym c.self.view_is) c.requires.follows in
     let recorded = quiet_recorded (value_of inside) inside.open_calls (happened c.args.event) c.self.invariant.0 c.requires.quiet in
-    follows_more inside.root inside.open_calls c.put_event.new.open_calls inside.calls.items inside.calls.items inside.events.items c.put_event.new.events.items c.args.event inside.spare c.args.self.now
+    follows_more inside.head inside.open_calls c.put_event.new.open_calls inside.calls.items inside.calls.items inside.events.items c.put_event.new.events.items c.args.event inside.spare c.args.self.now
     c.self.view_is c.in_ok-put_event.ensures.put c.self.invariant.0 may c.in_ok-put_event.ensures.knows recorded

@@ -21,14 +21,14 @@ invariant_of-self-in-Ok c =
     let pushed = rw c.unwrap.ensures at c.push.ensures.items in
     let more : c.push.new.self.items ≡ c.self.inside.undos.items ++ c.in-Ok.undo ∷ [] = pushed ∙ ap (λ us. us ++ c.in-Ok.undo ∷ []) c.in_ok-reserve.ensures.items in (
       c.self.invariant.0,
-      subst (λ us. UndoesAll TakesBack us c.step.new.self c.self.invariant.0) (sym more)
-          (one_more_undone TakesBack c.self.inside.undos.items c.in-Ok.undo c.step.new.self c.self.inside.tree c.self.invariant.0 c.self.invariant.1 c.in-Ok.ensures.undo),
+      subst (λ us. UndoesAll TakesBack us c.step_under.new.self c.self.invariant.0) (sym more)
+          (one_more_undone TakesBack c.self.inside.undos.items c.in-Ok.undo c.step_under.new.self c.self.inside.tree c.self.invariant.0 c.self.invariant.1 c.in-Ok.ensures.undo),
     )
 
 pub invariant_of-self-in-Err-NotAllowed : goal.invariant_of-self-in-Err-NotAllowed
 invariant_of-self-in-Err-NotAllowed c =
-    stays c.self.inside.undos.items c.reserve.new.self.items c.self.inside.tree c.step.new.self c.self.invariant c.in_ok-reserve.ensures.items c.in-Err-NotAllowed.ensures.err
+    stays c.self.inside.undos.items c.reserve.new.self.items c.self.inside.tree c.step_under.new.self c.self.invariant c.in_ok-reserve.ensures.items c.in-Err-NotAllowed.ensures.err
 
 pub invariant_of-self-in-Err-NoMemory : goal.invariant_of-self-in-Err-NoMemory
 invariant_of-self-in-Err-NoMemory c =
-    stays c.self.inside.undos.items c.reserve.new.self.items c.self.inside.tree c.step.new.self c.self.invariant c.in_ok-reserve.ensures.items c.in-Err-NoMemory.ensures.err
+    stays c.self.inside.undos.items c.reserve.new.self.items c.self.inside.tree c.step_under.new.self c.self.invariant c.in_ok-reserve.ensures.items c.in-Err-NoMemory.ensures.err
