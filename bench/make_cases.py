@@ -12,7 +12,7 @@ import sys
 
 sys.dont_write_bytecode = True
 
-from cases import bundles, changes, cuts, failures, faults, lines, looks, messages, orders, recorded, searches
+from cases import bundles, changes, cuts, failures, faults, lines, looks, messages, orders, recorded, searches, starts, strict
 from cases.history import Cases
 
 
@@ -35,14 +35,14 @@ def add_built(cases):
             continue
         seen.add(fault)
         # What is no file has no events.
-        times = 1 if fault in ("BadMagic", "TooLarge", "Truncated", "BadEvent", "Trailing") else 3
+        times = 1 if fault in ("BadMagic", "TooLarge", "Truncated", "BadEvent", "Trailing", "BadStart", "BadProfile") else 3
         cases.add(name + "-built", "%s-built built %s\n" % (name, asked.split("\n")[1]), ", ".join([answer] * times))
     cases.add("the-example-built", "the-example-built built %s\n" % faults.EXAMPLE.hex(), "ok, ok, ok")
 
 
 def main():
     folder = sys.argv[1]
-    cases = collected(looks, changes, failures, faults, orders, cuts, bundles, recorded, messages, lines, searches)
+    cases = collected(looks, changes, failures, faults, orders, cuts, bundles, recorded, messages, lines, searches, starts, strict)
     add_built(cases)
     cases.write(folder)
 

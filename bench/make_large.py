@@ -9,6 +9,8 @@ dirs     one directory of up to 60,000 files, with LOOKUPs, CREATEs, REMOVEs and
 deep     directories deep below one another that are renamed
 crashes  WRITEs and READs of 200 files, with a crash at every hundredth event or so
 lanes    as mixed, by 64 clients at once
+both     as mixed, of a server that held as many objects as there are events: a history of version 2
+starts   as many starting objects as are asked for, and no events
 
 A million events take a minute or two, and up to 2 GB.
 """

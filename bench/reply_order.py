@@ -5,8 +5,8 @@ reply_order.py HISTORY > CERTIFICATE
 
 That is the right order where no two calls that overlap depend on each other, and a crash of a server whose kernel keeps what
 was written. Else `nfsbench check` says no to it, though another certificate may get a yes. Calls without a reply are left out.
-A handle is bound to the call that made its object: one that gave the handle back, or one whose name a LOOKUP or READDIRPLUS
-found later.
+A handle is bound to the object that a call made, which gave the handle back or whose name a LOOKUP or READDIRPLUS found later, or to
+one that the server held at first, by a name that such a call found.
 """
 import struct
 import sys
@@ -44,12 +44,28 @@ class Items:
         return self.opaque() if self.word() else None
 
 
-def read_events(data):
-    """The events of a file as (kind, lane, message), behind the root handle."""
-    items = Items(data)
-    if items.take(8) != b"NFSHIST1":
+def read_head(items):
+    """The root handle, and what stood at first: the directory's number and the name of each object."""
+    magic = items.take(8)
+    if magic not in (b"NFSHIST1", b"NFSHIST2"):
         sys.exit("no history file")
-    yield items.opaque()
+    root = items.opaque()
+    if magic == b"NFSHIST1":
+        return root, []
+    items.word()
+    return root, [read_object(items) for _ in range(items.word())]
+
+
+def read_object(items):
+    """The number of a starting object's directory, and its name."""
+    place = struct.unpack(">Q", items.take(8))[0], items.opaque()
+    if items.word() != 2:
+        items.opaque()
+    return place
+
+
+def read_events(items):
+    """The events of a file as (kind, lane, message), after its head."""
     for _ in range(items.word()):
         kind = items.word()
         lane = items.word() if kind < 3 else None
@@ -78,10 +94,11 @@ def read_reply(message):
 
 
 class Objects:
-    """Which call made the object of each handle, and which object each name leads to."""
+    """Which object each handle names, and which object each name leads to."""
 
-    def __init__(self, root):
-        self.of_handle, self.of_name = {root: 0}, {}
+    def __init__(self, root, start):
+        self.of_handle, self.count = {root: 0}, len(start)
+        self.of_name = {place: number for number, place in enumerate(start, 1)}
 
     def bind(self, handle, made):
         if handle is not None and made is not None:
@@ -115,7 +132,7 @@ class Objects:
         elif is_unchecked and place in self.of_name:
             made = self.of_name[place]
         else:
-            made = number
+            made = self.count + number
         self.bind(handle, made)
         self.of_name[place] = made
 
@@ -133,10 +150,10 @@ class Objects:
 
 
 def main():
-    events = read_events(open(sys.argv[1], "rb").read())
-    objects, unanswered, calls = Objects(next(events)), {}, 0
+    items = Items(open(sys.argv[1], "rb").read())
+    objects, unanswered, calls = Objects(*read_head(items)), {}, 0
     eras = [[]]
-    for kind, lane, message in events:
+    for kind, lane, message in read_events(items):
         if kind == 0:
             calls += 1
             xid, procedure, asked = read_call(message)

@@ -7,8 +7,8 @@ difference is printed; with --keep its files are stored in FOLDER as SEED-NUMBER
 At the end a table says how often each answer was wanted. The status is 0 if there was no difference and each answer that histories can have was
 wanted at least once, else 1. A case depends on the seed and its number alone. Some 5,000 cases reach each answer.
 
-With --examples the second checker itself is tried on the worked examples NAME.hist, NAME.cert and NAME.want in FOLDER. Those of other commands, whose
-NAME.want isn't one line of a verdict, and those whose history is of another version are left out.
+With --examples the second checker itself is tried on the worked examples NAME.hist, NAME.cert and NAME.want in FOLDER, of both versions of a history
+file. Those of other commands, whose NAME.want isn't one line of a verdict, are left out.
 """
 import argparse
 import pathlib

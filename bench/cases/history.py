@@ -1,5 +1,5 @@
 """History files and certificates (docs/FORMATS.md), and the cases that are made of them."""
-from cases.xdr import opaque, word
+from cases.xdr import DIR, LNK, REG, double, name, opaque, word
 
 PROGRAM, VERSION = 100003, 3
 
@@ -38,6 +38,33 @@ ROOT = b"\0"
 
 def history_file(events, root=ROOT):
     return b"NFSHIST1" + opaque(root) + word(len(events)) + b"".join(events)
+
+
+# How strictly replies are judged, in a history of version 2.
+PLAIN, STRICT = 0, 1
+
+
+def start_object(parent, entry, kind, behind=b""):
+    """An object that stands before the first event."""
+    return double(parent) + name(entry) + word(kind) + behind
+
+
+def start_file(parent, entry, data=b""):
+    return start_object(parent, entry, REG, opaque(data))
+
+
+def start_directory(parent, entry):
+    return start_object(parent, entry, DIR)
+
+
+def start_link(parent, entry, text):
+    return start_object(parent, entry, LNK, opaque(text))
+
+
+def started_file(events, objects, profile=PLAIN, root=ROOT, count=None):
+    """A history file of version 2. The count is that of the objects, if no other is given."""
+    told = len(objects) if count is None else count
+    return b"NFSHIST2" + opaque(root) + word(profile) + word(told) + b"".join(objects) + word(len(events)) + b"".join(events)
 
 
 def certificate(lines, binds=()):

@@ -4,8 +4,8 @@ import struct
 
 from cases import messages, recorded
 from cases.faults import EXAMPLE
-from cases.history import (CRASH_EVENT, GARBAGE_ARGS, PROGRAM, SEALED, VERSION, call_event, call_message, close_event, history_file,
-                           reply_event, reply_message)
+from cases.history import (CRASH_EVENT, GARBAGE_ARGS, PROGRAM, SEALED, STRICT, VERSION, call_event, call_message, close_event, history_file,
+                           reply_event, reply_message, start_directory, start_file, start_link, started_file)
 from cases.xdr import FILE_SYNC, OK, STALE, UNTOLD, UNTOLD_BOTH, attributes, double, flag, handle, name, opaque, optional, word
 
 # RFC 1813, sections 3.3 and 2.6, and RFC 5531, section 9.
@@ -339,9 +339,48 @@ def reply_words(asked, failed, data):
     return words + " SUCCESS" + rest("results", data)
 
 
+class Refused(Exception):
+    """A fault of a start. It is told alone, since the whole start is read before the first line."""
+
+
+def start_words(number, parent, called, kind, told):
+    where = "start %d in %d" % (number, parent)
+    if kind == 1:
+        return "%s file %s %s" % (where, quoted(called), first_bytes(told))
+    return "%s directory %s" % (where, quoted(called)) if kind == 2 else "%s link %s to %s" % (where, quoted(called), quoted(told))
+
+
+def start_told(items, opaque_within):
+    """The lines of the profile and of the starting objects of a history of version 2."""
+    profile = items.word()
+    if profile > 1:
+        raise Refused("BadProfile")
+    count = items.word()
+    if count > 1_000_000:
+        raise OverflowError
+    lines, directories, names = ["profile strict"] * profile, {0}, set()
+    for number in range(1, count + 1):
+        bad = Refused("BadStart %d" % number)
+        parent = items.double()
+        if parent not in directories:
+            raise bad
+        called = opaque_within(1_048_576)
+        if called in (b"", b".", b"..") or (parent, called) in names:
+            raise bad
+        names.add((parent, called))
+        kind = items.word()
+        if kind not in (1, 2, 5):
+            raise bad
+        told = b"" if kind == 2 else opaque_within(16_777_216 if kind == 1 else 1_048_576)
+        if kind == 2:
+            directories.add(number)
+        lines.append(start_words(number, parent, called, kind, told))
+    return lines
+
+
 def lines_of(data, first=1, last=1_000_000, only=0):
-    """The lines that are shown of a file's events, and its fault, where it has one."""
-    if data[:8] != b"NFSHIST1":
+    """The lines that are shown of a file, and its fault, where it has one."""
+    if data[:8] not in (b"NFSHIST1", b"NFSHIST2"):
         return ["BadMagic"]
     items, lines = Items(data), []
     items.take(8)
@@ -361,9 +400,12 @@ def lines_of(data, first=1, last=1_000_000, only=0):
 
     try:
         opaque_within(64)
+        told = start_told(items, opaque_within) if data[:8] == b"NFSHIST2" else []
         count = items.word()
         if count > 1_000_000:
             return ["TooLarge"]
+        if first <= 1 and only == 0:
+            lines += told
         calls, unanswered = 0, {}
         for number in range(1, count + 1):
             kind = items.word()
@@ -402,6 +444,8 @@ def lines_of(data, first=1, last=1_000_000, only=0):
         return fault()
     except OverflowError:
         return lines + ["TooLarge"]
+    except Refused as refused:
+        return [str(refused)]
     return lines
 
 
@@ -414,6 +458,7 @@ def add_all(cases):
     of_replies(cases)
     of_files(cases)
     of_selections(cases)
+    of_starts(cases)
 
 
 def show(cases, case, data, *selection, told=None):
@@ -535,7 +580,8 @@ def of_replies(cases):
 def of_files(cases):
     """Files at fault, with what stands ahead of the fault."""
     show(cases, "file-of-no-bytes", b"", told=["BadMagic"])
-    show(cases, "file-of-another-magic", b"NFSHIST2" + EXAMPLE[8:], told=["BadMagic"])
+    show(cases, "file-of-another-magic", b"NFSHIST3" + EXAMPLE[8:], told=["BadMagic"])
+    show(cases, "file-of-the-other-version", b"NFSHIST2" + EXAMPLE[8:], told=["BadProfile"])
     show(cases, "file-of-a-magic", b"NFSHIST1", told=["Truncated"])
     show(cases, "file-with-a-root-of-65-bytes", history_file([], root=bytes(65)), told=["TooLarge"])
     show(cases, "file-without-a-count", history_file([])[:-4], told=["Truncated"])
@@ -561,3 +607,22 @@ def of_selections(cases):
     show(cases, "call-2-from-4", EXAMPLE, 4, 1_000_000, 2)
     show(cases, "call-without-closes", history_file([CRASH_EVENT, close_event(2), call_event(1, call_message(1, 0, b"")), CRASH_EVENT]), 1, 9, 1)
     show(cases, "fault-behind-the-selection", EXAMPLE[:-1], 1, 2, 0)
+
+
+def of_starts(cases):
+    """What a server held at first, and the profile, ahead of the events."""
+    objects = [start_file(0, "a", b"abc"), start_directory(0, "d"), start_link(2, "l", b"../a"), start_file(2, b"\x01\"", bytes(range(20)))]
+    told = ['start 1 in 0 file "a" 3 bytes 616263', 'start 2 in 0 directory "d"', 'start 3 in 2 link "l" to "../a"',
+            'start 4 in 2 file "\\x01\\"" 20 bytes 000102030405060708090a0b0c0d0e0f..']
+    plain, strict = started_file([CRASH_EVENT], objects), started_file([CRASH_EVENT], objects, STRICT)
+    show(cases, "start", plain, told=[*told, "1 crash"])
+    show(cases, "strict-start", strict, told=["profile strict", *told, "1 crash"])
+    show(cases, "start-of-nothing", started_file([], []), told=[])
+    show(cases, "start-of-nothing-and-strict", started_file([], [], STRICT), told=["profile strict"])
+    show(cases, "events-behind-a-start", strict, 2, 1_000_000, 0, told=[])
+    show(cases, "call-behind-a-start", strict, 1, 1_000_000, 1, told=[])
+    show(cases, "start-without-events", strict, 1, 0, 0, told=["profile strict", *told])
+    show(cases, "start-with-an-object-at-fault", started_file([CRASH_EVENT], [*objects, start_directory(1, "e")]), told=["BadStart 5"])
+    show(cases, "start-of-an-unknown-profile", started_file([CRASH_EVENT], objects, 2), told=["BadProfile"])
+    for length in (19, 23, 40, len(plain) - 9, len(plain) - 5, len(plain) - 1):
+        show(cases, "start-cut-at-%d" % length, plain[:length])

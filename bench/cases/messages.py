@@ -1,7 +1,8 @@
 """Messages, history files and certificates that are read, and written again, and faults of each kind of item."""
 from cases import grammar
 from cases.faults import CREATE, EXAMPLE, READ, WRITE
-from cases.history import CRASH_EVENT, call_event, call_message, close_event, history_file, reply_event, reply_message
+from cases.history import (CRASH_EVENT, STRICT, call_event, call_message, close_event, history_file, reply_event, reply_message,
+                           start_directory, start_file, start_link, started_file)
 from cases.xdr import (ACCES, BAD_COOKIE, EXIST, INVAL, IO, ISDIR, JUKEBOX, NAMETOOLONG, NOENT, NOSPC, NOT_SYNC, NOTEMPTY, OK, PERM, STALE,
                        TOOSMALL, UNTOLD, UNTOLD_BOTH, XDEV, DQUOT, double, flag, handle, name, opaque, optional, word)
 
@@ -246,6 +247,15 @@ def histories(cases):
     file("a-file-of-five-events-of-which-four-are-there", four[:19] + b"\5" + four[20:], "Truncated")
     file("a-file-of-three-events-and-one-behind-them", four[:19] + b"\3" + four[20:], "Trailing")
     file("a-file-with-a-third-event-of-no-kind", four[:55] + b"\7" + four[56:], "BadEvent 3")
+
+    objects = [start_file(0, "a", b"abcde"), start_directory(0, "d"), start_link(2, "l", b"../a"), start_file(2, b"", b"")]
+    three = started_file([CRASH_EVENT], objects[:3], STRICT)
+    file("a-file-of-each-kind-of-starting-object", three, "ok")
+    file("a-file-of-no-starting-objects", started_file([], []), "ok")
+    file("a-file-with-bytes-behind-a-starting-name", three[:37] + b"\1\2\3" + three[40:], "respelled")
+    file("a-file-with-a-starting-object-of-no-name", started_file([], objects), "BadStart 4")
+    file("a-file-of-a-third-profile", started_file([], objects[:3], 2), "BadProfile")
+    file("a-file-with-a-starting-object-missing", started_file([], objects[:3], count=4), "Truncated")
 
 
 def certificates(cases):

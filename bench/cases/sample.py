@@ -88,8 +88,8 @@ class Crash:
     kept: int
 
 
-def run(cases, case, answer, *steps, binds=BINDS):
-    """A history of calls one after another, each answered before the next, and the certificate with that order."""
+def laid_in_order(steps):
+    """The events of calls one after another, each answered before the next, and the lines of a certificate with that order."""
     events, lines, lane, number = [], [], 1, 0
     for step in steps:
         if isinstance(step, Crash):
@@ -104,7 +104,13 @@ def run(cases, case, answer, *steps, binds=BINDS):
             lines.append("place %d" % number)
         elif step.take is not None:
             lines.append("take %d%s" % (number, step.take))
-    cases.judge(case, answer, history_file(events), certificate(lines, binds))
+    return events, lines
+
+
+def run(cases, case, answer, *steps, binds=BINDS, laid_out=history_file):
+    """A history of calls one after another, each answered before the next, and the certificate with that order."""
+    events, lines = laid_in_order(steps)
+    cases.judge(case, answer, laid_out(events), certificate(lines, binds))
 
 
 def becomes(cases, case, tree, call):

@@ -17,7 +17,7 @@ def replace_word(dice: Dice, data: bytes) -> bytes:
 
 
 def replace_front(dice: Dice, data: bytes) -> bytes:
-    """A word of the magic, the root handle, the number of events, the first event."""
+    """A word of the magic, the root handle, the number of events, the first event, or the profile and the first starting object."""
     at = 8 + 4 * dice.randrange(8)
     return data[:at] + dice.choice(WORDS).to_bytes(4, "big") + data[at + 4:]
 
@@ -31,7 +31,7 @@ def go_on(dice: Dice, data: bytes) -> bytes:
 
 
 def change_magic(dice: Dice, data: bytes) -> bytes:
-    return dice.choice([b"NFSHIST0", b"nfshist1", b"NFSHIST", b"", b"NFSHIST1NFSHIST1"]) + data[8:]
+    return dice.choice([b"NFSHIST0", b"nfshist1", b"NFSHIST", b"", b"NFSHIST1NFSHIST1", b"NFSHIST3", b"NFSHIST2", b"NFSHIST1"]) + data[8:]
 
 
 HISTORY_CHANGES = {flip: 3, replace_word: 4, replace_front: 3, cut_short: 2, go_on: 1, change_magic: 1}

@@ -1,7 +1,7 @@
 """The text of a certificate: binds, and for each era its places and, but for the last, a cut."""
 import re
 
-from .histories import Refused
+from .refusals import Refused
 
 BIND = re.compile(rb"bind ((?:[0-9a-f]{2}){1,64}) (0|[1-9][0-9]*)")
 PLACE = re.compile(rb"(place|take) (0|[1-9][0-9]*)")

@@ -1,7 +1,7 @@
 """Cases: a run with its certificate, most of them with one or two changes, as the bytes of both files."""
 import copy
 
-from . import byte_changes, call_changes, event_changes, plan_changes, reply_changes
+from . import byte_changes, call_changes, event_changes, plan_changes, reply_changes, start_changes
 from .draws import Dice
 from .runs import Run
 from .server import make_run
@@ -11,7 +11,8 @@ from .verdicts import judge
 TRIES = 20
 
 # Of some variants of a case the one is taken whose answer is wanted most. Those that most changes lead to are wanted least.
-WANTED = {"Verifier": 9, "ShortCut": 8, "Outside TooFar": 7, "Outside CountDiffers": 7, "TooLarge": 7, "Illegal": 6, "yes": 5, "Early": 4, "Missing": 3}
+WANTED = {"Verifier": 9, "ShortCut": 8, "Outside TooFar": 7, "Outside CountDiffers": 7, "TooLarge": 7, "XidInUse": 7, "Illegal": 6, "yes": 5, "Early": 4,
+          "Missing": 3}
 AIMED = {"Verifier": 3, "ShortCut": 2, "yes": 1}
 VARIANTS = [1, 2, 3, 4]
 GRAMMAR_CHANGES = {**call_changes.GRAMMAR_CHANGES, **reply_changes.GRAMMAR_CHANGES}
@@ -38,7 +39,7 @@ def aim_cut(dice: Dice, run: Run) -> bool:
 
     def worth(cut: int) -> int:
         era.cut = cut
-        return AIMED.get(judge(*spell(dice, run)).name, 0) 
+        return AIMED.get(judge(*spell(dice, run)).name, 0)
 
     era.cut = max(cuts, key=worth)
     return True
@@ -58,9 +59,11 @@ def variant(dice: Dice, run: Run, changes: int):
 
 
 def spoiled(dice: Dice, run: Run, changes: int):
-    """The two files of a run whose last change is of the grammar: of a message, or of bytes of a file."""
+    """The two files of a run whose last change is of the grammar: of a message, of starting objects, or of bytes of a file."""
     for _ in range(changes - 1):
         change_run(dice, run)
+    if run.start is not None and dice.chance(0.4):
+        return start_changes.spoil(dice, run)
     if dice.chance(0.5):
         return byte_changes.change_files(dice, *spell(dice, run))
     for _ in range(TRIES):

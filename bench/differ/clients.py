@@ -27,9 +27,8 @@ CREATE_VERIFIERS = [b"verify-1", b"verify-1", b"verify-1", b"verify-1", b"verify
 class World:
     """What stands at the server, the handles that it ever gave, and this era's WRITEs (handle, first byte, end)."""
 
-    def __init__(self, dice: Dice, root: bytes, tree: dict):
-        self.root, self.tree, self.handles = root, tree, {0: [root]}
-        self.names = dice.choice(NAME_POOLS)
+    def __init__(self, dice: Dice, root: bytes, tree: dict, names: list):
+        self.root, self.tree, self.handles, self.names = root, tree, {0: [root]}, names
         self.right_share, self.hit_share, self.odd_share, self.alias_share = 86, 0, 0.06, dice.choice([0.05, 0.05, 0.4])
         self.own_share = dice.choice([0, 0.5, 0.9])
         self.writes = []

@@ -13,7 +13,8 @@ def follow_numbers(run: Run, before: list) -> None:
         era.places = [place for place in era.places if numbers.get(place.number, place.number) is not None]
         for place in era.places:
             place.number = numbers.get(place.number, place.number)
-    run.binds = [(handle, numbers.get(number, number) or number) for handle, number in run.binds]
+    first = run.first
+    run.binds = [(handle, first + (numbers.get(number - first) or number - first) if number > first else number) for handle, number in run.binds]
 
 
 def move_event(dice, run):
@@ -141,7 +142,7 @@ def change_xid(dice, run):
 
 CHANGES = {
     move_event: 3, widen: 6, swap_events: 3, drop_event: 1, drop_reply: 3, drop_call: 3, double_event: 1, add_crash: 3, drop_crash: 2, add_close: 1,
-    change_lane: 1, change_xid: 1,
+    change_lane: 1, change_xid: 2,
 }
 
 

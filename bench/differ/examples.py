@@ -1,7 +1,6 @@
 """Worked examples: NAME.hist and NAME.cert with NAME.want, which is the line that `nfsbench check` prints of them.
 
-An example is left out if NAME.want isn't one such line (it is of another command), if a file of it is missing, or if its history begins with
-`NFSHIST2`, the magic of another version.
+An example is left out if NAME.want isn't one such line (it is of another command), or if a file of it is missing.
 """
 import pathlib
 import re
@@ -9,7 +8,6 @@ import re
 from .verdicts import judge
 
 VERDICT = re.compile(r"(yes|(no|refused): [A-Z][A-Za-z]*( [A-Za-z0-9]+)*)\n")
-OTHER_MAGIC = b"NFSHIST2"
 
 
 def try_examples(folder: str, tell=print):
@@ -19,7 +17,7 @@ def try_examples(folder: str, tell=print):
     for want in sorted(pathlib.Path(folder).glob("*.want")):
         files = [want.with_suffix(end) for end in (".hist", ".cert")]
         wanted = want.read_text()
-        if not VERDICT.fullmatch(wanted) or not all(file.exists() for file in files) or files[0].read_bytes().startswith(OTHER_MAGIC):
+        if not VERDICT.fullmatch(wanted) or not all(file.exists() for file in files):
             left_out.append(want.stem)
             continue
         line = judge(*(file.read_bytes() for file in files)).line

@@ -1,21 +1,17 @@
 """A history file: its events, its calls, and what makes it refused."""
 from . import layouts as nfs
 from .items import Bad, Source, Word, read_whole
+from .refusals import Refused, take_bytes, take_limited
 from .rpc import RPCSEC_GSS, read_call, read_reply
+from .starts import PLAIN, STRICT, read_profile, read_start
+from .trees import OPENING
 
-MAGIC = b"NFSHIST1"
+MAGIC, MAGIC_OF_STARTS = b"NFSHIST1", b"NFSHIST2"
 FILE_LIMIT = 268_435_456
 EVENT_LIMIT = 1_000_000
 MESSAGE_LIMIT = 2_097_152
 SIZE_LIMIT = 16_777_216
 CALL, REPLY, CLOSE, CRASH = range(4)
-
-
-class Refused(Exception):
-    """The name of a fault and its values."""
-
-    def __init__(self, *words):
-        super().__init__(" ".join(str(word) for word in words))
 
 
 class Call:
@@ -39,36 +35,36 @@ class Call:
         return self.result is not None and self.result[0] == 0
 
 
+class Head:
+    """What a history begins with: the root handle, the tree before the first event, whether attributes are judged.
+
+    `first` is how many starting objects there are: call n makes object `first` + n.
+    """
+
+    def __init__(self, root: bytes, has_start=False, profile=PLAIN, opening=OPENING):
+        self.root, self.has_start, self.is_strict, self.opening, self.first = root, has_start, profile == STRICT, opening, len(opening) - 1
+
+
 class History:
-    def __init__(self, root: bytes, calls: list, eras: int):
-        self.root, self.calls, self.eras = root, calls, eras
+    def __init__(self, head: Head, calls: list, eras: int):
+        self.head, self.calls, self.eras = head, calls, eras
 
 
-def take_limited(source: Source, limit: int) -> int:
-    """A length or count. Over its limit it is at fault ahead of what is missing behind it."""
-    value = source.word()
-    if value > limit:
-        raise Refused("TooLarge")
-    return value
-
-
-def take_bytes(source: Source, limit: int) -> bytes:
-    length = take_limited(source, limit)
-    value = source.take(length)
-    source.take(-length % 4)
-    return value
+def read_head(source: Source) -> Head:
+    has_start = source.take(8) == MAGIC_OF_STARTS
+    root = take_bytes(source, nfs.HANDLE_LIMIT)
+    return Head(root, True, read_profile(source), read_start(source)) if has_start else Head(root)
 
 
 def read_file(data: bytes):
-    """The root handle and the events (kind, lane, message). The first item that can't be read decides."""
-    if data[:8] != MAGIC:
+    """The head and the events (kind, lane, message). The first item that can't be read decides."""
+    if data[:8] not in (MAGIC, MAGIC_OF_STARTS):
         raise Refused("BadMagic")
     if len(data) > FILE_LIMIT:
         raise Refused("TooLarge")
     source, events = Source(data), []
     try:
-        source.take(8)
-        root = take_bytes(source, nfs.HANDLE_LIMIT)
+        head = read_head(source)
         for number in range(1, take_limited(source, EVENT_LIMIT) + 1):
             kind = source.word()
             if kind > CRASH:
@@ -80,10 +76,10 @@ def read_file(data: bytes):
         raise Refused("Truncated") from None
     if source.at != len(data):
         raise Refused("Trailing")
-    return root, events
+    return head, events
 
 
-def read_head(reader, message: bytes, number: int) -> dict:
+def read_message(reader, message: bytes, number: int) -> dict:
     try:
         return reader(message)
     except Bad:
@@ -104,13 +100,13 @@ def match_events(events: list):
         if kind == CLOSE:
             closed.add(lane)
         elif kind == CALL:
-            head = read_head(read_call, message, number)
+            head = read_message(read_call, message, number)
             if (lane, head["xid"]) in waiting:
                 raise Refused("XidInUse", number)
             waiting[lane, head["xid"]] = call = Call(lane, head, number, era)
             calls.append(call)
         else:
-            reply = read_head(read_reply, message, number)
+            reply = read_message(read_reply, message, number)
             call = waiting.pop((lane, reply["xid"]), None)
             if call is None:
                 raise Refused("NoSuchCall", number)
@@ -175,8 +171,8 @@ def look_at_call(call: Call, number: int) -> None:
 
 
 def read_history(data: bytes) -> History:
-    root, events = read_file(data)
+    head, events = read_file(data)
     calls, eras = match_events(events)
     for number, call in enumerate(calls, 1):
         look_at_call(call, number)
-    return History(root, calls, eras)
+    return History(head, calls, eras)

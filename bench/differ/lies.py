@@ -18,12 +18,12 @@ DETAILS = [reply_changes.change_read, reply_changes.change_listing, reply_change
            reply_changes.change_written, reply_changes.change_verifier]
 
 
-def attempt(dice: Dice, world: World, number: int, procedure: int, arguments: dict):
-    """A reply as if the call succeeded, or None, and whether it may."""
-    one = Try(None, world.tree, number, arguments, None)
+def attempt(dice: Dice, world: World, made: int, procedure: int, arguments: dict):
+    """A reply as if the call succeeded, or None, and whether it may. `made` is the number of an object that it makes."""
+    one = Try(None, world.tree, made, arguments, None)
     one.binds = replies.binds_of(world)
     value = replies.success_value(dice, world, one, procedure)
-    is_right = value is not None and after_success(replies.binds_of(world), world.tree, number, procedure, arguments, value) is not None
+    is_right = value is not None and after_success(replies.binds_of(world), world.tree, made, procedure, arguments, value) is not None
     return value, is_right
 
 
@@ -53,9 +53,9 @@ def change_detail(dice: Dice, world: World, event: CallEvent, value: dict):
     return reply.value
 
 
-def lie(dice: Dice, world: World, number: int, event: CallEvent):
+def lie(dice: Dice, world: World, made: int, event: CallEvent):
     """Status and value of a reply that likely isn't allowed."""
-    value, is_right = attempt(dice, world, number, event.procedure, event.arguments)
+    value, is_right = attempt(dice, world, made, event.procedure, event.arguments)
     if value is not None and dice.chance(0.55):
         return 0, change_detail(dice, world, event, value) if is_right else value
     wrong = JUDGED_STATUSES - permitted(replies.binds_of(world), world.tree, event.procedure, event.arguments)

@@ -195,6 +195,20 @@ def change_bind(dice, run):
     return True
 
 
+def mistake_numbers(dice, run):
+    """Where objects stood at first: handles of what calls made are bound to the calls' numbers, or those of starting objects to the next ones."""
+    first = run.first
+    if not first or not run.binds:
+        return False
+    kind, some = dice.randrange(3), dice.choice(run.binds)[0]
+    for at, (handle, number) in enumerate(run.binds):
+        if kind == 0 and number > first:
+            run.binds[at] = handle, number - first
+        elif (kind == 1 and 0 < number <= first) or (kind == 2 and handle == some):
+            run.binds[at] = handle, number + dice.choice([1, -1, first])
+    return True
+
+
 def drop_bind(dice, run):
     if run.binds:
         del run.binds[dice.randrange(len(run.binds))]
@@ -206,7 +220,7 @@ def add_bind(dice, run):
     """One more handle: of the root, of an object that has another one, one that only a call used."""
     used = [handle for call in run.calls() if call.arguments for field, handle in call.arguments.items() if field in ("dir", "object", "to_dir")]
     handles = [draws.fresh_handle(dice, {handle for handle, _ in run.binds}), *([run.root] if run.root else []), *(handle for handle in used if handle)]
-    put_bind(run, dice.choice(handles), dice.choice([0, 1, 2, 3, *(number for _, number in run.binds)]))
+    put_bind(run, dice.choice(handles), dice.choice([0, 1, 2, 3, run.first, run.first + 1, *(number for _, number in run.binds)]))
     return True
 
 
@@ -225,7 +239,7 @@ def disorder_binds(dice, run):
 
 
 CHANGES = {
-    swap_neighbours: 5, swap_two: 3, move_in_era: 3, shuffle_some: 3, move_over_era: 3, drop_place: 2, double_place: 1, exchange_taken: 2, change_count: 2, change_number: 2,
-    take_unanswered: 5, leave_taken_out: 2, place_unjudged: 1, shift_cut: 7, join_eras: 1, split_era: 1, change_bind: 3, drop_bind: 2, add_bind: 2,
-    disorder_binds: 1,
+    swap_neighbours: 5, swap_two: 3, move_in_era: 3, shuffle_some: 3, move_over_era: 3, drop_place: 2, double_place: 1, exchange_taken: 2, change_count: 2,
+    change_number: 2, take_unanswered: 5, leave_taken_out: 2, place_unjudged: 1, shift_cut: 7, join_eras: 1, split_era: 1, change_bind: 3, drop_bind: 2, add_bind: 2,
+    disorder_binds: 1, mistake_numbers: 4,
 }

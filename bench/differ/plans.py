@@ -1,8 +1,9 @@
 """The faults of a certificate for a history, in their order: shape, order, run, cuts, write verifiers."""
 from . import layouts as nfs
 from .failure import may_fail
+from .strict import agrees
 from .success import after_success, after_taken
-from .trees import OPENING, Binds
+from .trees import Binds
 
 
 class Fault(Exception):
@@ -64,27 +65,42 @@ def check_order(history, text) -> None:
                 raise Fault("Early", max(early, key=lambda number: history.calls[number - 1].begin), place.number)
 
 
-def next_tree(binds, tree, history, place):
-    """The tree behind a place, or None where nothing permits it."""
-    call, number = history.calls[place.number - 1], place.number
+def next_tree(binds, tree, history, place, note=lambda call, spot, is_right: None):
+    """The tree after a place, or None where nothing permits it. In a strict history the attributes of the reply have to agree too."""
+    call, number = history.calls[place.number - 1], history.head.first + place.number
     if place.is_taken:
         return after_taken(binds, tree, number, call.procedure, call.arguments, place.count)
     status, shown = call.result
     if status == 0:
-        return after_success(binds, tree, number, call.procedure, call.arguments, shown)
-    return tree if may_fail(binds, tree, call.procedure, call.arguments, status) else None
+        after = after_success(binds, tree, number, call.procedure, call.arguments, shown)
+    else:
+        after = tree if may_fail(binds, tree, call.procedure, call.arguments, status) else None
+    if after is None or not history.head.is_strict:
+        return after
+    is_agreed = agrees(binds, tree, after, call.procedure, call.arguments, status, shown, lambda spot, is_right: note(call, spot, is_right))
+    return after if is_agreed else None
 
 
-def check_run(history, text, note=lambda call: None) -> None:
+class Notes:
+    """What a run came by: each call that its tree permitted, each attributes that were judged."""
+
+    def call(self, call) -> None:
+        pass
+
+    def attributes(self, call, spot, is_right) -> None:
+        pass
+
+
+def check_run(history, text, notes=Notes()) -> None:
     """Each era starts from the tree behind the places that the era before kept."""
-    binds, base = Binds(history.root, text.binds), OPENING
+    binds, base = Binds(history.head.root, text.binds), history.head.opening
     for part in text.eras:
         trees = [base]
         for place in part.places:
-            tree = next_tree(binds, trees[-1], history, place)
+            tree = next_tree(binds, trees[-1], history, place, notes.attributes)
             if tree is None:
                 raise Fault("Illegal", place.number)
-            note(history.calls[place.number - 1])
+            notes.call(history.calls[place.number - 1])
             trees.append(tree)
         base = trees[part.cut] if part.cut is not None else None
 
@@ -114,7 +130,7 @@ def placed_calls(history, part) -> list:
 
 
 def check_cuts(history, text) -> None:
-    binds = Binds(history.root, text.binds)
+    binds = Binds(history.head.root, text.binds)
     for era, part in enumerate(text.eras[:-1], 1):
         calls = placed_calls(history, part)
         needed = max((at + 1 for at in range(len(calls)) if is_stable(binds, calls, at)), default=0)

@@ -94,13 +94,13 @@ def failure_value(dice: Dice, procedure: int) -> dict:
     return {field: draws.post(dice) if field == "post" else draws.weak(dice) for field in fields}
 
 
-def reply_to(dice: Dice, world, number: int, procedure: int, call_arguments: dict, success_share: float):
-    """Status, value and the next tree."""
+def reply_to(dice: Dice, world, made: int, procedure: int, call_arguments: dict, success_share: float):
+    """Status, value and the next tree. `made` is the number of an object that the call makes."""
     binds = binds_of(world)
-    one = Try(binds, world.tree, number, call_arguments, None)
+    one = Try(binds, world.tree, made, call_arguments, None)
     if dice.chance(success_share):
         value = success_value(dice, world, one, procedure)
-        tree = after_success(binds_of(world), world.tree, number, procedure, call_arguments, value) if value else None
+        tree = after_success(binds_of(world), world.tree, made, procedure, call_arguments, value) if value else None
         if tree is not None:
             return 0, value, tree
     judged = sorted(permitted(binds, world.tree, procedure, call_arguments))

@@ -47,7 +47,7 @@ def loose_success(dice: Dice, run: Run, call) -> dict:
     if procedure in (nfs.CREATE, nfs.MKDIR, nfs.SYMLINK):
         return {"handle": dice.choice([*handles, None, None]), "post": post, "weak": weak}
     if procedure == nfs.RENAME:
-        return {"weak": weak, "to_weak": weak}
+        return {"weak": weak, "to_weak": draws.weak(dice)}
     if procedure in (nfs.READDIR, nfs.READDIRPLUS):
         return {"post": post, "verifier": bytes(8), "entries": [], "eof": dice.chance(0.5)}
     return {"weak": weak, **({"verifier": dice.choice(verifiers(run) or [bytes(8)])} if procedure == nfs.COMMIT else {})}
@@ -176,8 +176,40 @@ def change_shown_handle(dice, run):
     return True
 
 
+def places_for_attributes(value: dict) -> dict:
+    """Whose, and before or after, with the dicts that hold them there."""
+    places = {(field, field): [value] for field in ("post", "dir_post") if field in value}
+    for whose in ("weak", "to_weak"):
+        if whose in value:
+            places.update({(whose, field): [value[whose]] for field in ("before", "after")})
+    entries = [entry for entry in value.get("entries", []) if "post" in entry]
+    return {**places, **({("entries", "post"): entries} if entries else {})}
+
+
+def change_carried(dice, run):
+    """One detail of attributes that a strict history's reply carries, or attributes where there were none, or none where there were some."""
+    _, reply = some_pair(dice, run, is_success=False)
+    places = places_for_attributes(reply.value) if reply and run.is_strict else {}
+    if not places:
+        return False
+    where = dice.choice(sorted(places))
+    holder, field = dice.choice(places[where]), where[1]
+    carried, size = holder[field], dice.choice([0, 1, 3, 8])
+    if carried is None and field == "before":
+        holder[field] = {"size": size, "mtime": draws.time(dice), "ctime": draws.time(dice)}
+    elif carried is None:
+        holder[field] = draws.attributes(dice, dice.choice([1, 2, 5]), size)
+    elif dice.chance(0.1):
+        holder[field] = None
+    elif "type" in carried and dice.chance(0.5):
+        carried["type"] = dice.choice([1, 2, 5, 5, 3, 7])
+    else:
+        carried["size"] = max(0, carried["size"] + dice.choice([-1, 1, 2**32]))
+    return True
+
+
 def change_attributes(dice, run):
-    """Attributes that aren't judged."""
+    """All attributes become any, which a strict history alone may not have."""
     _, reply = some_pair(dice, run, is_success=False)
     if reply is None:
         return False
@@ -241,5 +273,5 @@ def spoil_reply(dice, run):
 
 
 CHANGES = {change_status: 6, make_success: 5, change_verifier: 4, share_verifier: 3, change_written: 4, change_read: 8, change_listing: 6,
-           change_shown: 4, change_shown_handle: 4, change_attributes: 1, refuse_call: 1}
+           change_shown: 4, change_shown_handle: 4, change_attributes: 1, change_carried: 10, refuse_call: 1}
 GRAMMAR_CHANGES = {spoil_result: 4, spoil_reply: 3}

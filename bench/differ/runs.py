@@ -3,6 +3,7 @@ from dataclasses import dataclass, field
 
 from . import layouts as nfs
 from . import rpc
+from .starts import STRICT
 
 
 @dataclass
@@ -64,11 +65,41 @@ class PlanEra:
 
 
 @dataclass
+class StartObject:
+    """An object that stands before the first event. A length that isn't None is written in place of the true one."""
+    parent: int
+    name: bytes
+    kind: int
+    data: bytes = b""
+    name_length: int | None = None
+    data_length: int | None = None
+
+
+@dataclass
+class Start:
+    """What a history of version 2 begins with. A count that isn't None is written in place of the true one."""
+    profile: int
+    objects: list = field(default_factory=list)
+    count: int | None = None
+
+
+@dataclass
 class Run:
+    """A run. Without a start its history is of version 1."""
     root: bytes
     events: list = field(default_factory=list)
     binds: list = field(default_factory=list)
     eras: list = field(default_factory=list)
+    start: Start | None = None
+
+    @property
+    def is_strict(self) -> bool:
+        return self.start is not None and self.start.profile == STRICT
+
+    @property
+    def first(self) -> int:
+        """How many objects stand before the first event: call n makes object `first` + n."""
+        return len(self.start.objects) if self.start else 0
 
     def calls(self) -> list:
         return [event for event in self.events if isinstance(event, CallEvent)]

@@ -3,15 +3,14 @@
 A call takes effect at one moment between its call and its reply; the certificate has the order of these moments. At a crash the server loses a
 suffix of what took effect in that era, but nothing stable, and changes its write verifier where it has to.
 """
-from . import lies, replies
+from . import carried, lies, replies
 from . import layouts as nfs
 from . import rpc
-from .clients import STARTS, THEMES, World, draw_call
+from .clients import ALL, NAME_POOLS, STARTS, THEMES, World, draw_call
 from .draws import Dice
+from .openings import draw_start, tree_of
 from .plans import is_stable
 from .runs import CallEvent, CloseEvent, CrashEvent, PlanEra, PlanPlace, ReplyEvent, Run
-from .trees import OPENING
-
 
 # What becomes of a call: it takes effect and is answered, takes effect without a reply, gets an RPC failure, or nothing at all.
 ANSWERED, PLACED, REFUSED, LOST = "answered", "placed", "refused", "lost"
@@ -34,6 +33,11 @@ class Served:
     def has_success(self) -> bool:
         return self.result is not None and self.result[0] == 0
 
+
+# How many runs have starting objects, of which half are strict.
+START_SHARE = 0.45
+# How many strict runs have at their end one more reply, with a wrong detail in its attributes.
+WRONG_AT_END_SHARE = 0.3
 
 # A server that keeps to the rules; one that once gives a reply that it may not give; one that loses what is stable, and shows any write verifier.
 KINDS = {
@@ -64,6 +68,7 @@ class Habits:
         self.unanswered_share = dice.choice([0, 0.05, 0.1, 0.25])
         self.success_share = dice.choice([0.6, 0.85, 0.97])
         self.odd_share = dice.choice([0, 0.05, 0.1])
+        self.given_share, self.wrong_share = dice.choice([0.3, 0.7, 1]), 0.3
         self.small_xids = dice.chance(0.4)
         self.odd_lanes = dice.chance(0.2)
 
@@ -72,11 +77,22 @@ class Server:
     def __init__(self, dice: Dice):
         self.dice, self.habits = dice, Habits(dice)
         root = dice.choice([b"\0", b"\0", b"", b"\xff" * 64, dice.randbytes(8), dice.randbytes(32)])
-        self.world, self.run, self.base = World(dice, root, OPENING), Run(root), OPENING
+        names = dice.choice(NAME_POOLS)
+        start = draw_start(dice, names) if dice.chance(START_SHARE) else None
+        self.base = tree_of(start)
+        self.world, self.run = World(dice, root, self.base, names), Run(root, start=start)
+        self.know_some()
         self.world.verifier = dice.choice([bytes(7) + b"\1", bytes(8), dice.randbytes(8)])
         self.calls = self.next_xid = 0
         self.lanes, self.used, self.closed, self.waiting = [], set(), set(), set()
         self.open, self.placed, self.verifiers, self.spent = [], [], [], set()
+
+    def know_some(self) -> None:
+        """Clients know some starting objects by handles that nobody gave; others they meet by replies."""
+        share = self.dice.choice([0, 0.4, 0.8, 1])
+        for number in range(1, self.run.first + 1):
+            if self.dice.chance(share):
+                self.world.handle_for(self.dice, number)
 
     # Lanes and transaction numbers
 
@@ -128,21 +144,50 @@ class Server:
         return ANSWERED
 
     def place(self, served: Served, success_share: float) -> None:
-        status, value, tree = replies.reply_to(self.dice, self.world, served.number, served.procedure, served.arguments, success_share)
+        before, made = self.world.tree, self.run.first + served.number
+        status, value, tree = replies.reply_to(self.dice, self.world, made, served.procedure, served.arguments, success_share)
         served.result, served.tree = (status, value), tree
         self.world.tree = tree
+        self.carry(served, before)
         if served.procedure == nfs.WRITE and status == 0:
             self.world.writes.append((served.arguments["object"], served.arguments["offset"], served.arguments["offset"] + value["count"]))
         self.placed.append(served)
 
+    def carry(self, served: Served, before: dict) -> None:
+        """Attributes of a reply: in a strict run they agree, in a plain one some don't."""
+        if self.run.start is not None:
+            trees = replies.binds_of(self.world), before, served.tree
+            carried.fill(self.dice, *trees, served, self.habits.given_share)
+            if not self.run.is_strict:
+                carried.spoil_some(self.dice, *trees, served, self.habits.wrong_share)
+
+    def carry_wrong(self) -> None:
+        """A call whose reply carries attributes of which a detail is wrong. Some have a file's handle where a directory's is wanted, some are of a dot."""
+        dice, before = self.dice, self.world.tree
+        procedure, arguments = draw_call(dice, self.world, ALL)
+        fields = [field for field in ("dir", "to_dir") if field in arguments]
+        files = self.world.live({nfs.REGULAR})
+        if procedure == nfs.LOOKUP and dice.chance(0.4):
+            arguments = {"dir": dice.choice(self.world.live({nfs.DIRECTORY})), "name": dice.choice([b".", b".."])}
+        elif fields and files and dice.chance(0.35):
+            arguments[dice.choice(fields)] = dice.choice(files)
+        served = self.begin(procedure, arguments, odd_share=0)
+        served.fate, served.event.flavor = ANSWERED, rpc.AUTH_NONE
+        self.place(served, 0.7)
+        carried.spoil_one(dice, replies.binds_of(self.world), before, served.tree, served)
+
     def lie(self) -> None:
         """A call that is answered as it mostly may not be."""
+        self.habits.lies_at = None
+        if self.run.is_strict and self.dice.chance(0.6):
+            self.carry_wrong()
+            return
         served = self.begin(*lies.draw_lying_call(self.dice, self.world), odd_share=0)
         served.fate, served.tree = ANSWERED, self.world.tree
         served.event.flavor = rpc.AUTH_NONE
-        served.result = lies.lie(self.dice, self.world, served.number, served.event)
+        served.result = lies.lie(self.dice, self.world, self.run.first + served.number, served.event)
+        self.carry(served, served.tree)
         self.placed.append(served)
-        self.habits.lies_at = None
 
     def answer(self, served: Served) -> None:
         event, dice = served.event, self.dice
@@ -235,6 +280,8 @@ class Server:
                 self.begin(*draw_call(dice, self.world, self.habits.weights), self.habits.odd_share)
         if self.habits.lies_at is not None:
             self.lie()
+        if self.run.is_strict and dice.chance(WRONG_AT_END_SHARE):
+            self.carry_wrong()
         for served in dice.sample(self.open, len(self.open)):
             while served in self.open and dice.chance(0.9):
                 self.go_on(served)

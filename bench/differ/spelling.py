@@ -1,9 +1,9 @@
 """The bytes of a run: the history file and the certificate text."""
 from . import layouts as nfs
 from . import rpc
-from .histories import CALL, CLOSE, CRASH, MAGIC, REPLY
-from .items import Opaque, Sink
-from .runs import CallEvent, CloseEvent, Run
+from .histories import CALL, CLOSE, CRASH, MAGIC, MAGIC_OF_STARTS, REPLY
+from .items import Hyper, Opaque, Sink
+from .runs import CallEvent, CloseEvent, Run, StartObject
 
 
 def spell_arguments(procedure: int, arguments: dict, pad=bytes) -> bytes:
@@ -49,10 +49,35 @@ def spell_message(event, pad=bytes) -> bytes:
     return sink.data()
 
 
+def put_with_length(sink: Sink, data: bytes, length) -> None:
+    """The bytes, with another length in front of them if it isn't None."""
+    sink.word(len(data) if length is None else length)
+    sink.put(data)
+    sink.put(sink.pad(-len(data) % 4))
+
+
+def put_object(sink: Sink, one: StartObject) -> None:
+    Hyper().write(sink, one.parent)
+    put_with_length(sink, one.name, one.name_length)
+    sink.word(one.kind)
+    if one.kind in (nfs.REGULAR, nfs.LINK_TYPE):
+        put_with_length(sink, one.data, one.data_length)
+
+
+def put_head(sink: Sink, run: Run) -> None:
+    """What stands in front of the number of events."""
+    sink.put(MAGIC if run.start is None else MAGIC_OF_STARTS)
+    Opaque().write(sink, run.root)
+    if run.start is not None:
+        sink.word(run.start.profile)
+        sink.word(len(run.start.objects) if run.start.count is None else run.start.count)
+        for one in run.start.objects:
+            put_object(sink, one)
+
+
 def spell_history(run: Run, pad=bytes) -> bytes:
     sink = Sink(pad)
-    sink.put(MAGIC)
-    Opaque().write(sink, run.root)
+    put_head(sink, run)
     sink.word(len(run.events))
     for event in run.events:
         if not hasattr(event, "lane"):

@@ -1,7 +1,7 @@
 """What each procedure does where it succeeds (RFC 1813, section 3.3). A rule gives the next tree, or None where the success can't be.
 
-Attributes in replies aren't judged, but for type and size in the reply of GETATTR. `shown` is the reply; a call that is taken as done without one
-shows nothing.
+Attributes in replies aren't judged here, but for type and size in the reply of GETATTR; `strict` judges the others. `shown` is the reply; a call that is
+taken as done without one shows nothing.
 """
 from . import layouts as nfs
 from .histories import SIZE_LIMIT
@@ -9,7 +9,8 @@ from .trees import (NODE_LIMIT, Node, below, entries_of, is_plain, moved, path_o
 
 
 class Try:
-    """One call at one tree. `shown` is None for a call that is taken as done; `count` is then what a WRITE wrote."""
+    """One call at one tree. `number` is that of an object that it makes. `shown` is None for a call that is taken as done; `count` is then what a
+    WRITE wrote."""
 
     def __init__(self, binds, tree, number, call_arguments, shown, count=None):
         self.binds, self.tree, self.number = binds, tree, number

@@ -1,8 +1,8 @@
 """Lanes of calls in flight over the small server: a call begins, is placed and is answered at three moments. With it goes the certificate."""
 import random
 
-from . import calls
-from .server import Server
+from . import calls, starts
+from .server import REGULAR, Server
 from .wire import CRASH_EVENT, call_message, close_event, event, hyper, opaque, reply_message, word
 
 
@@ -49,17 +49,26 @@ def last_stable(places: list) -> int:
 
 
 class Clients:
-    """So many lanes at once. After a crash they are new ones."""
+    """So many lanes at once. After a crash they are new ones. The server held `first` objects; where these are any, the history is of version 2."""
 
-    def __init__(self, width: int, seed: str, is_logging: bool):
+    def __init__(self, width: int, seed: str, is_logging: bool, first=0):
         self.dice = random.Random(seed)
         self.server = Server(is_logging)
+        self.start = list(starts.draw(self.dice, first))
         self.width, self.first_lane = width, 1
         self.flights = [None] * width
         self.parts, self.size = [], 0
         self.events = self.calls = self.open = 0
         self.era, self.places = 1, []
         self.made, self.lines = [], []
+        self.hold_start()
+
+    def hold_start(self) -> None:
+        """The server holds the starting objects, and clients know all of them."""
+        for number, (parent, name, kind, data) in enumerate(self.start, 1):
+            self.server.make(number, parent, name, kind, bytearray(data) if kind == REGULAR else data)
+            self.made.append(number)
+        self.server.taken_undo()
 
     def note(self, part: bytes) -> None:
         self.events += 1
@@ -90,9 +99,10 @@ class Clients:
         if isinstance(call, (calls.Access, calls.Garbage)):
             flight.results = b"" if isinstance(call, calls.Garbage) else bytes(8)
             return
-        flight.results, succeeded = call.run(self.server, number, self.era)
-        if number in self.server.objects:
-            self.made.append(number)
+        made = len(self.start) + number
+        flight.results, succeeded = call.run(self.server, made, self.era)
+        if made in self.server.objects:
+            self.made.append(made)
         flight.place = Place(number, call, succeeded, self.server.taken_undo())
         self.places.append(flight.place)
 
@@ -119,9 +129,11 @@ class Clients:
         self.note(close_event(lane))
 
     def history(self) -> bytes:
-        return b"NFSHIST1" + opaque(hyper(0)) + word(self.events) + b"".join(self.parts)
+        front = b"NFSHIST2" + opaque(hyper(0)) + starts.spelled(self.start) if self.start else b"NFSHIST1" + opaque(hyper(0))
+        return front + word(self.events) + b"".join(self.parts)
 
     def certificate(self) -> str:
-        lines = ["witness 1"] + [f"bind {number:016x} {number}" for number in sorted(self.made)] + self.lines
+        known = sorted(self.made) if self.events else []
+        lines = ["witness 1"] + [f"bind {number:016x} {number}" for number in known] + self.lines
         lines += [place.line() for place in self.places if place.stands()]
         return "\n".join(lines + ["end"]) + "\n"

@@ -1,4 +1,4 @@
-"""The six kinds of large histories: what their clients ask for, and how many of them there are."""
+"""The kinds of large histories: what their clients ask for, how many of them there are, and whether the server held something at first."""
 from . import calls
 from .clients import Clients
 from .server import DIRECTORY, LINK, REGULAR
@@ -167,13 +167,18 @@ def crashes(pool: Pool, is_tight: bool):
 
 
 # For each kind what its clients ask for, and how many there are at once.
-KINDS = {"mixed": (mixed, 8), "writes": (writes, 4), "dirs": (dirs, 4), "deep": (deep, 2), "crashes": (crashes, 4), "lanes": (mixed, 64)}
+KINDS = {"mixed": (mixed, 8), "writes": (writes, 4), "dirs": (dirs, 4), "deep": (deep, 2), "crashes": (crashes, 4), "lanes": (mixed, 64),
+         "both": (mixed, 8), "starts": (mixed, 8)}
+# Of these the server held as many objects as are asked for; `starts` has no events.
+WITH_START = ("both", "starts")
 
 
 def make(kind: str, events: int, seed: str) -> Clients:
     """Clients of a kind, with so many events behind them."""
     ask, width = KINDS[kind]
-    clients = Clients(width, seed, kind == "crashes")
+    clients = Clients(width, seed, kind == "crashes", events if kind in WITH_START else 0)
+    if kind == "starts":
+        return clients
     pool = Pool(clients, max(16, min(events // 8, 60_000)))
     while True:
         lane = pool.below(width)
