@@ -1,3 +1,4 @@
 pub mod Names
+pub mod Padding
 pub mod Places
 pub mod Walks
