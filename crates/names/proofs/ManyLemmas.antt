@@ -5,11 +5,13 @@ use Rattle.std.specs.declared.cmp.Ordering.{Ordering}
 use Rattle.std.specs.declared.cmp.Ordering.TheVariants.{Less, Equal, Greater}
 use Rattle.std.specs.Ordering.{is_eq, match_ordering}
 use Rattle.std.specs.FinMap.Entries as es
-use Rattle.std.specs.Map.{lookup, remove_entry}
+use Rattle.std.specs.List.{AllByRecursion}
+use Rattle.std.specs.List.Sorted.{IsStrictlySortedBy}
+use Rattle.std.specs.Map.{lookup, keys_of, set_value, remove_entry}
 use Rattle.std.specs.BTreeMap.{insert_entry, is_at}
 use Rattle.names.specs.Names.{name_cmp, entered}
 use Rattle.names.specs.Places.{AreShort, without}
-use Rattle.names.proofs.Orders.{ties, first, second, less}
+use Rattle.names.proofs.Orders.{total, ties, first, second, less}
 
 -- names that are all above one stay without it
 all_stay : (k : List ℕ) (pairs : List (List ℕ × ℕ)) → T (es.below_all name_cmp k pairs) → pairs ≡ without k pairs
@@ -59,6 +61,36 @@ module _ {Key : Type 0} (bytes : Key → List ℕ) where
     go rest false is =
         ap (λ b. entered bytes (cond b many (e ∷ remove_entry (is_at (query k)) many))) is ∙ ap (λ (z : List (List ℕ × ℕ)). (bytes e.0, e.1) ∷ z) rest
         ∙ sym (ap (λ b. cond (not b) ((bytes e.0, e.1) ∷ without k (entered bytes many)) (without k (entered bytes many))) is)
+
+  -- a name below a key is at none of the keys above that one
+
+  none_above : (k : List ℕ) (key : Key) (many : Entries) → name_cmp k (bytes key) ≡ Less → AllByRecursion (λ other. by_bytes key other ≡ Less) (keys_of many) → lookup (is_at (query k)) many ≡ None
+  none_above k key [] under above = refl
+  none_above k key (e ∷ many) under above =
+      ap (λ o. cond (is_eq o) (Some e.1) (lookup (is_at (query k)) many)) (total.trans k (bytes key) (bytes e.0) under above.0) ∙ none_above k key many under above.1
+
+  -- another object for a name that is there
+
+  pub replaced_entered : (k : List ℕ) (v old : ℕ) (many : Entries) → IsStrictlySortedBy by_bytes (keys_of many) → lookup (is_at (query k)) many ≡ Some old
+      → entered bytes (set_value (is_at (query k)) many v) ≡ es.put name_cmp k v (entered bytes many)
+  unfolding IsStrictlySortedBy
+  replaced_entered k v old [] sorted is = absurd (cc)
+  replaced_entered k v old (e ∷ many) sorted is = go (replaced_entered k v old many sorted.1) (name_cmp k (bytes e.0)) refl where
+    go : (lookup (is_at (query k)) many ≡ Some old → entered bytes (set_value (is_at (query k)) many v) ≡ es.put name_cmp k v (entered bytes many))
+        → (o : Ordering) → name_cmp k (bytes e.0) ≡ o
+        → entered bytes (cond (is_eq (name_cmp k (bytes e.0))) ((e.0, v) ∷ many) (e ∷ set_value (is_at (query k)) many v))
+        ≡ es.by_order (name_cmp k (bytes e.0)) ((k, v) ∷ entered bytes (e ∷ many)) ((bytes e.0, v) ∷ entered bytes many) ((bytes e.0, e.1) ∷ es.put name_cmp k v (entered bytes many))
+    go rest Less at =
+        let none = sym (none_above k e.0 many at sorted.0) ∙ sym (ap (λ o. cond (is_eq o) (Some e.1) (lookup (is_at (query k)) many)) at) ∙ is in
+        absurd (cc)
+    go rest Equal at =
+        ap (λ o. entered bytes (cond (is_eq o) ((e.0, v) ∷ many) (e ∷ set_value (is_at (query k)) many v))) at
+        ∙ sym (ap (λ o. es.by_order o ((k, v) ∷ entered bytes (e ∷ many)) ((bytes e.0, v) ∷ entered bytes many) ((bytes e.0, e.1) ∷ es.put name_cmp k v (entered bytes many))) at)
+    go rest Greater at =
+        let later = sym (ap (λ o. cond (is_eq o) (Some e.1) (lookup (is_at (query k)) many)) at) ∙ is in
+        ap (λ o. entered bytes (cond (is_eq o) ((e.0, v) ∷ many) (e ∷ set_value (is_at (query k)) many v))) at
+        ∙ ap (λ (z : List (List ℕ × ℕ)). (bytes e.0, e.1) ∷ z) (rest later)
+        ∙ sym (ap (λ o. es.by_order o ((k, v) ∷ entered bytes (e ∷ many)) ((bytes e.0, v) ∷ entered bytes many) ((bytes e.0, e.1) ∷ es.put name_cmp k v (entered bytes many))) at)
 
   pub length-entered : (many : Entries) → length (entered bytes many) ≡ length many
   length-entered [] = refl

@@ -6,7 +6,7 @@ ghost use Rattle.names.specs.Names.{name_cmp, listed};
 ghost use Rattle.names.specs.Places.{IsInOrder, IsAt, IsGap, without};
 
 use nfs3_types::ShortBytes;
-use std::alloc::AllocError;
+use std::alloc::{AllocError, Global};
 
 /// A name with its object.
 #[derive(Drop)]
@@ -38,17 +38,22 @@ pub(crate) fn object_of(few: &[Named], name: &[u8]) -> Option<u64>
 }
 
 /// Gives a name an object.
-pub(crate) fn put(few: &mut Vec<Named>, name: Vec<u8>, object: u64) -> Result<(), AllocError>
+pub(crate) fn put(
+    few: &mut Vec<Named>,
+    alloc: Global,
+    name: &[u8],
+    object: u64,
+) -> Result<(), AllocError>
     requires { IsInOrder (listed few.old.items) }
-    ensures ok { OnOk result (listed few.new.items ≡ put name_cmp name.items object (listed few.old.items)) }
-    ensures absent { OnErr result (find name_cmp name.items (listed few.old.items) ≡ None) }
+    ensures ok { OnOk result (listed few.new.items ≡ put name_cmp name.now object (listed few.old.items)) }
+    ensures absent { OnErr result (find name_cmp name.now (listed few.old.items) ≡ None) }
     ensures err { OnErr result (few.new.items ≡ few.old.items) }
 {
-    match search(few.as_slice(), name.as_slice()) {
+    match search(few.as_slice(), name) {
         Ok(index) => few[index].object = object,
         Err(index) => {
             few.reserve_exact(1)?;
-            let name = ShortBytes::from_vec(name);
+            let name = ShortBytes::from_slice(alloc, name)?;
             few.insert(index, Named { name, object })?;
         }
     }

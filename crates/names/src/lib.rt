@@ -139,18 +139,18 @@ impl Store {
         Ok(())
     }
 
-    fn put(&mut self, name: Vec<u8>, object: u64) -> Result<(), AllocError>
+    fn put(&mut self, alloc: Global, name: &[u8], object: u64) -> Result<(), AllocError>
         requires kept { IsKept self.old }
-        requires room { HasRoom self.old name.items }
-        ensures ok { OnOk result (pairs_of self.new ≡ put name_cmp name.items object (pairs_of self.old)) }
-        ensures absent { OnErr result (find name_cmp name.items (pairs_of self.old) ≡ None) }
+        requires room { HasRoom self.old name.now }
+        ensures ok { OnOk result (pairs_of self.new ≡ put name_cmp name.now object (pairs_of self.old)) }
+        ensures absent { OnErr result (find name_cmp name.now (pairs_of self.old) ≡ None) }
         ensures err { OnErr result (pairs_of self.new ≡ pairs_of self.old) }
         ensures kept { IsKept self.new }
     {
         match self {
-            Store::Few(few) => few::put(few, name, object),
-            Store::Short(many) => short::put(many, name.as_slice(), object),
-            Store::Long(many) => long::put(many, name, object),
+            Store::Few(few) => few::put(few, alloc, name, object),
+            Store::Short(many) => short::put(many, name, object),
+            Store::Long(many) => long::put(many, alloc, name, object),
         }
     }
 
@@ -200,13 +200,13 @@ impl Names {
     }
 
     /// Gives a name an object. It fails only where the name isn't there.
-    pub fn insert(&mut self, name: Vec<u8>, object: u64) -> Result<(), AllocError>
-        ensures updates { OnOk result (self.new ≡ map.insert self.old name.items object) }
-        ensures absent { OnErr result (map.get self.old name.items ≡ None) }
+    pub fn insert(&mut self, name: &[u8], object: u64) -> Result<(), AllocError>
+        ensures updates { OnOk result (self.new ≡ map.insert self.old name.now object) }
+        ensures absent { OnErr result (map.get self.old name.now ≡ None) }
         ensures err { OnErr result (self.new ≡ self.old) }
     {
-        self.store.make_room(self.alloc, name.as_slice())?;
-        self.store.put(name, object)
+        self.store.make_room(self.alloc, name)?;
+        self.store.put(self.alloc, name, object)
     }
 
     /// Takes a name out, if it is there.

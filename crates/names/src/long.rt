@@ -16,8 +16,7 @@ pub(crate) fn copy_of(alloc: Global, names: Iter<'_>) -> Result<BTreeMap<Vec<u8>
 {
     let mut many = BTreeMap::new(alloc);
     for (name, object) in names {
-        let key = Vec::from_slice(alloc, name)?;
-        put(&mut many, key, object)?;
+        put(&mut many, alloc, name, object)?;
     }
     Ok(many)
 }
@@ -29,17 +28,34 @@ pub(crate) fn object_of(many: &BTreeMap<Vec<u8>, u64>, name: &[u8]) -> Option<u6
     many.get(name).copied()
 }
 
-/// Gives a name an object.
-pub(crate) fn put(
-    many: &mut BTreeMap<Vec<u8>, u64>,
-    name: Vec<u8>,
-    object: u64,
-) -> Result<(), AllocError>
-    ensures ok { OnOk result (entered (λ key. key.items) many.new.entries ≡ put name_cmp name.items object (entered (λ key. key.items) many.old.entries)) }
-    ensures absent { OnErr result (find name_cmp name.items (entered (λ key. key.items) many.old.entries) ≡ None) }
+/// Gives a name that is there another object.
+fn replace(many: &mut BTreeMap<Vec<u8>, u64>, name: &[u8], object: u64) -> Result<(), AllocError>
+    ensures ok { OnOk result (entered (λ key. key.items) many.new.entries ≡ put name_cmp name.now object (entered (λ key. key.items) many.old.entries)) }
+    ensures absent { OnErr result (find name_cmp name.now (entered (λ key. key.items) many.old.entries) ≡ None) }
     ensures err { OnErr result (many.new.entries ≡ many.old.entries) }
 {
-    let Ok(_) = many.insert(name, object) else {
+    let Some(place) = many.get_mut(name) else {
+        return Err(AllocError);
+    };
+    *place = object;
+    Ok(())
+}
+
+/// Gives a name an object. One that is there gets it also where no memory is left for a key.
+pub(crate) fn put(
+    many: &mut BTreeMap<Vec<u8>, u64>,
+    alloc: Global,
+    name: &[u8],
+    object: u64,
+) -> Result<(), AllocError>
+    ensures ok { OnOk result (entered (λ key. key.items) many.new.entries ≡ put name_cmp name.now object (entered (λ key. key.items) many.old.entries)) }
+    ensures absent { OnErr result (find name_cmp name.now (entered (λ key. key.items) many.old.entries) ≡ None) }
+    ensures err { OnErr result (many.new.entries ≡ many.old.entries) }
+{
+    let Ok(key) = Vec::from_slice(alloc, name) else {
+        return replace(many, name, object);
+    };
+    let Ok(_) = many.insert(key, object) else {
         return Err(AllocError);
     };
     Ok(())

@@ -102,7 +102,6 @@ fn read_content(alloc: Global, reader: &mut Reader<'_>) -> Result<Content, TreeF
 
 /// Puts an object below the last of those on the way to it.
 fn enter_below(
-    alloc: Global,
     table: &mut ObjectTable,
     above: &[u64],
     name: &[u8],
@@ -112,7 +111,6 @@ fn enter_below(
     let Some(parent) = above.last() else {
         return Ok(());
     };
-    let name = Vec::from_slice(alloc, name)?;
     table.enter(*parent, name, object)?;
     if is_directory {
         table.put_parent(object, *parent)?;
@@ -133,7 +131,7 @@ fn read_object(
     let is_directory = content.is_directory();
     table.insert(object, content)?;
     above.truncate(depth as usize);
-    enter_below(alloc, table, above.as_slice(), name, object, is_directory)?;
+    enter_below(table, above.as_slice(), name, object, is_directory)?;
     above.reserve(1)?;
     above.push(object).unwrap();
     Ok(())

@@ -208,7 +208,7 @@ impl ObjectTable {
     pub(crate) fn enter(
         &mut self,
         directory: u64,
-        name: Vec<u8>,
+        name: &[u8],
         object: u64,
     ) -> Result<(), AllocError> {
         let shard = &mut self.shards[(directory % SHARDS as u64) as usize];

@@ -99,28 +99,23 @@ pub enum Change<'a> {
 /// What a change needs that is made ahead of it.
 pub struct Prepared {
     content: Option<Content>,
-    name: Option<Vec<u8>>,
 }
 
 impl Drop for Prepared {
     fn drop(self) {
-        let Prepared { content, name } = self;
+        let Prepared { content } = self;
         drop(content);
-        drop(name);
     }
 }
 
 impl Prepared {
     fn nothing() -> Prepared {
-        Prepared {
-            content: None,
-            name: None,
-        }
+        Prepared { content: None }
     }
 
-    fn into_parts(self) -> (Option<Content>, Option<Vec<u8>>) {
-        let Prepared { content, name } = self;
-        (content, name)
+    fn into_content(self) -> Option<Content> {
+        let Prepared { content } = self;
+        content
     }
 }
 
@@ -173,13 +168,10 @@ fn write(held: &mut Held, object: u64, offset: u64, bytes: &[u8]) -> Result<(), 
 }
 
 /// Gives a name of a directory an object.
-fn enter(held: &mut Held, directory: u64, name: Vec<u8>, object: u64) -> Result<(), AllocError> {
+fn enter(held: &mut Held, directory: u64, name: &[u8], object: u64) -> Result<(), AllocError> {
     match held.get_mut(directory).and_then(|node| node.names_mut()) {
         Some(names) => names.insert(name, object),
-        None => {
-            drop(name);
-            Ok(())
-        }
+        None => Ok(()),
     }
 }
 
@@ -224,7 +216,6 @@ impl Site<'_> {
         object: &NewObject<'_>,
     ) -> Result<Prepared, AllocError> {
         let content = object.content(alloc)?;
-        let name = Vec::from_slice(alloc, name)?;
         self.table.promise(rt, self.number)?;
         if matches!(object, NewObject::Directory) {
             put_parent(held, self.number, directory)?;
@@ -232,25 +223,18 @@ impl Site<'_> {
         enter(held, directory, name, self.number)?;
         Ok(Prepared {
             content: Some(content),
-            name: None,
         })
     }
 
     /// Makes what a RENAME needs: the new name, entered where it isn't there.
     fn prepare_renaming(
         &self,
-        alloc: Global,
         held: &mut Held,
         renaming: &Renaming<'_>,
     ) -> Result<Prepared, AllocError> {
-        let name = Vec::from_slice(alloc, renaming.to_name)?;
-        if renaming.replaced.is_some() {
-            return Ok(Prepared {
-                content: None,
-                name: Some(name),
-            });
+        if renaming.replaced.is_none() {
+            enter(held, renaming.to, renaming.to_name, renaming.object)?;
         }
-        enter(held, renaming.to, name, renaming.object)?;
         Ok(Prepared::nothing())
     }
 
@@ -282,7 +266,7 @@ impl Site<'_> {
                 name,
                 object,
             } => self.prepare_object(rt, alloc, held, *directory, name, object),
-            Change::Rename(renaming) => self.prepare_renaming(alloc, held, renaming),
+            Change::Rename(renaming) => self.prepare_renaming(held, renaming),
         }
     }
 
@@ -318,10 +302,9 @@ impl Site<'_> {
         rt: &R,
         held: &mut Held,
         renaming: &Renaming<'_>,
-        name: Option<Vec<u8>>,
     ) -> Result<(), AllocError> {
-        if let Some(name) = name {
-            enter(held, renaming.to, name, renaming.object)?;
+        if renaming.replaced.is_some() {
+            enter(held, renaming.to, renaming.to_name, renaming.object)?;
         }
         leave(held, renaming.from, renaming.from_name);
         if let Some(replaced) = renaming.replaced {
@@ -333,7 +316,7 @@ impl Site<'_> {
         Ok(())
     }
 
-    /// Makes a change that was prepared. It takes no more memory, so it fails only where something else was prepared.
+    /// Makes a change that was prepared. It needs no more memory, so it fails only where something else was prepared.
     pub fn make<R: Wait>(
         &self,
         rt: &R,
@@ -341,7 +324,7 @@ impl Site<'_> {
         change: &Change<'_>,
         prepared: Prepared,
     ) -> Result<(), AllocError> {
-        let (content, name) = prepared.into_parts();
+        let content = prepared.into_content();
         match change {
             Change::Nothing => Ok(()),
             Change::Resize { object, size } => resize(held, *object, *size),
@@ -364,7 +347,7 @@ impl Site<'_> {
                 self.remove_object(rt, held, *object);
                 Ok(())
             }
-            Change::Rename(renaming) => self.rename(rt, held, renaming, name),
+            Change::Rename(renaming) => self.rename(rt, held, renaming),
         }
     }
 }

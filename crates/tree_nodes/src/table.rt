@@ -180,13 +180,13 @@ pub(crate) fn lists_all(entries: &Slots<Entry>, directory: u64, names: &BTreeSet
 fn set_name(
     entries: &mut Slots<Entry>,
     directory: u64,
-    name: Vec<u8>,
+    name: &[u8],
     object: u64,
 ) -> Result<(), AllocError>
     requires { IsSome (held entries.old directory) }
-    ensures ok { OnOk result (HasName directory name.items (Some object) entries.old entries.new) }
+    ensures ok { OnOk result (HasName directory name.now (Some object) entries.old entries.new) }
     ensures err { OnErr result (IsSame entries.old entries.new) }
-    ensures absent { OnErr result (child entries.old directory name.items ≡ None) }
+    ensures absent { OnErr result (child entries.old directory name.now ≡ None) }
 {
     let Some(entry) = entries.get_mut(directory) else {
         unreachable!()
@@ -245,7 +245,6 @@ pub(crate) fn add(
     ensures err { OnErr result (IsSame entries.old entries.new) }
 {
     let object = node.object;
-    let key = Vec::from_slice(alloc, name)?;
     let body = Body {
         name: Bytes::from_slice(alloc, name)?,
         node,
@@ -256,7 +255,7 @@ pub(crate) fn add(
         body: Box::new(alloc, body)?,
     };
     entries.insert(object, entry)?;
-    let Ok(()) = set_name(entries, directory, key, object) else {
+    let Ok(()) = set_name(entries, directory, name, object) else {
         entries.remove(object);
         return Err(AllocError);
     };
@@ -281,7 +280,6 @@ pub(crate) fn cut(entries: &mut Slots<Entry>, object: u64) -> Entry
 /// Puts an object under another name, and gives where it lay. What lay there loses its name, but stays in the table.
 pub(crate) fn shift(
     entries: &mut Slots<Entry>,
-    alloc: Global,
     object: u64,
     place: Place,
 ) -> Result<Place, AllocError>
@@ -292,8 +290,7 @@ pub(crate) fn shift(
     ensures len { map.len entries.new ≡ map.len entries.old }
     ensures err { OnErr result (IsSame entries.old entries.new) }
 {
-    let key = Vec::from_slice(alloc, place.name.as_slice())?;
-    set_name(entries, place.parent, key, object)?;
+    set_name(entries, place.parent, place.name.as_slice(), object)?;
     let before = set_place(entries, object, place);
     drop_name(entries, before.parent, before.name.as_slice());
     Ok(before)

@@ -130,7 +130,7 @@ pub(crate) fn rename(
         name: Bytes::from_slice(alloc, name)?,
     };
     let target = child(entries, directory, name);
-    let place = shift(entries, alloc, object, place)?;
+    let place = shift(entries, object, place)?;
     let displaced = match target {
         Some(target) => entries.remove(target),
         None => None,
@@ -161,7 +161,7 @@ fn move_back(entries: &mut Slots<Entry>, alloc: Global, step: Move) -> Result<()
     ensures ok { OnOk result ((tree before : Tree) → IsTableOf entries.old tree → IsMovedBack step tree before → IsTableOf entries.new before) }
     ensures err { OnErr result ((tree before : Tree) → IsTableOf entries.old tree → IsMovedBack step tree before → (now : Tree) × IsTableOf entries.new now) }
 {
-    shift(entries, alloc, step.object, step.place)?;
+    shift(entries, step.object, step.place)?;
     match step.displaced {
         Some(entry) => put_back(entries, alloc, entry),
         None => Ok(()),

@@ -1,6 +1,5 @@
 use Rattle.std.proofs.Common.{◌≡◌, ℕ, List, ◌++◌, append-nil, sym, ap, subst, ◌∙◌}
-use Rattle.std.specs.FinMap.Entries as es
-use Rattle.names.specs.Names.{name_cmp, entered}
+use Rattle.names.specs.Names.{entered}
 use Rattle.names.proofs.Orders.{holds, copied_more}
 use Rattle.names.proofs.long.copy_of.Goals as goal
 
@@ -11,7 +10,7 @@ pub loop-name-preserved : goal.loop-name-preserved
 loop-name-preserved c =
     let before = entered (λ key. key.items) c.loop-name.many.entries in
     let so_far = subst (λ (z : List (List ℕ × ℕ)). before ++ z ≡ c.args.names) c.in-Some.ensures.steps c.loop-name.invariant in
-    ap (λ (z : List (List ℕ × ℕ)). z ++ c.next.new.self) (c.in_ok-put.ensures.ok ∙ ap (λ k. es.put name_cmp k c.in-Some.object before) c.in_ok-key.ensures.items)
+    ap (λ (z : List (List ℕ × ℕ)). z ++ c.next.new.self) c.in_ok-put.ensures.ok
     ∙ copied_more c.args.names before c.next.new.self c.in-Some.name.now c.in-Some.object (holds _ c.requires) so_far
 
 pub returns : goal.returns

@@ -13,7 +13,7 @@ returns-clause-ok c =
     let body = c.in_ok-new.ensures.ok in
     subst (λ (z : List ℕ). Adds c.args.directory z c.args.node.object c.args.node (child m) (child n) (held m) (held n)) name
     (subst (λ (z : Body). Adds c.args.directory z.name c.args.node.object z.node (child m) (child n) (held m) (held n)) body
-    (added m c.insert.new.self n c.args.node.object _ c.in_ok-key.key.items c.in_ok-insert.ensures.updates c.in-Ok.ensures.ok (c.in_ok-key.ensures.items ∙ sym name ∙ ap (λ (z : Body). z.name) (sym body))
+    (added m c.insert.new.self n c.args.node.object _ c.args.name.now c.in_ok-insert.ensures.updates c.in-Ok.ensures.ok (sym name ∙ ap (λ (z : Body). z.name) (sym body))
     (ap (λ (z : Body). z.names) body ∙ c.new.ensures) c.requires.new))
 
 pub set_name-requires : goal.set_name-requires

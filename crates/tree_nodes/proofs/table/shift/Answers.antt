@@ -12,5 +12,5 @@ returns-clause-ok c =
     let stands = c.requires.stands in
     let before = c.set_place-before.ensures.before stands.0 (c.in_ok-set_name.ensures.ok.places c.args.object ∙ stands.1) in
     let drops = subst (λ (z : List ℕ). HasName old.parent z None l n) c.as_slice-2.ensures.value c.drop_name.ensures in
-    shifted c.args.entries.now k l n c.args.object old.parent c.args.place.parent old.name c.args.place.name c.in_ok-key.key.items
-    c.in_ok-set_name.ensures.ok c.set_place-before.ensures.after drops (c.in_ok-key.ensures.items ∙ c.as_slice.ensures.value) (λ s t. stands.3 (s ∙ before.0) (t ∙ before.1))
+    shifted c.args.entries.now k l n c.args.object old.parent c.args.place.parent old.name c.args.place.name c.as_slice.result.now
+    c.in_ok-set_name.ensures.ok c.set_place-before.ensures.after drops c.as_slice.ensures.value (λ s t. stands.3 (s ∙ before.0) (t ∙ before.1))
