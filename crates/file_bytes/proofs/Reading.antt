@@ -1,7 +1,6 @@
 -- a file read piece by piece
 use Rattle.std.proofs.Common.{◌≡◌, ℕ, ◌+◌, ◌-◌, ◌*◌, ◌/◌, ◌%◌, ◌<◌, ◌≤◌, ◌⊎◌, inl, inr, Bool, true, false, List, ◌++◌, length, get_or, take, drop, sym, ap, ◌∙◌, arith, min}
 use Rattle.std.specs.Prelude.{slice_index, nat_eq, ◌↔◌}
-use Rattle.std.specs.BTreeMap.{BTreeMap}
 use Rattle.std.specs.Cmp.Lexicographic.{pointwise}
 use Rattle.std.proofs.lemmas.Bool.{cases_lt, false_from_ne_true, false≢true}
 use Rattle.std.proofs.lemmas.List.{length-take, length-drop, get_or-take, get_or-drop, get_or_past, take_all, take_rest, drop_min, ext_get_or}
@@ -9,13 +8,11 @@ use Rattle.std.proofs.Math.Seq.{take-add}
 use Rattle.std.proofs.lemmas.Bool.Decides.{same_from_decides}
 use Rattle.std.proofs.lemmas.Slice.Eq.{bytes_eq-Decides}
 use Rattle.file_bytes.specs.declared.page.TheConstants.{PAGE}
+use Rattle.file_bytes.specs.declared.pages.Pages.{Pages}
 use Rattle.file_bytes.specs.Files.{resized}
 use Rattle.file_bytes.specs.Paged.{page_of, byte_of, listed, IsFile}
 use Rattle.file_bytes.proofs.Places.{at_place, length-resized, resized_below, length-listed, read_file}
 use Rattle.file_bytes.proofs.Windows.{piece_of, byte_at}
-
-abbrev Pages : Type 0
-Pages = BTreeMap ℕ (List ℕ)
 
 -- these bytes stand in f from an offset up to an end
 abbrev pub AgreesTo : (ℕ → ℕ) → ℕ → List ℕ → ℕ → Type 0

@@ -7,20 +7,18 @@ use Rattle.std.specs.BTreeMap.{BTreeMap, is_at}
 use Rattle.std.specs.BTreeMap.Range.{range_contains, entries_between}
 use Rattle.std.specs.declared.ops.Bound.TheVariants.{Included, Unbounded}
 use Rattle.std.specs.Map.{lookup}
-use Rattle.std.proofs.lemmas.Bool.{cases_lt, cases_Bool, cond-true, cond-false, eq-eqb, ne_eqb, eqb-true, le-leb, lt-leb, lt-ltb, le-ltb, and_from, and_left, and_right}
+use Rattle.std.proofs.lemmas.Bool.{cases_lt, cases_eq, cases_Bool, cond-true, cond-false, eq-eqb, ne_eqb, eqb-true, le-leb, lt-leb, lt-ltb, le-ltb, and_from, and_left, and_right}
 use Rattle.std.proofs.lemmas.Bool.Decides.{nat_tests}
 use Rattle.std.proofs.lemmas.List.{length-take, length-drop, get_or-take, get_or-drop, get_or_past, take_min, drop_all}
 use Rattle.std.proofs.lemmas.Slice.{between_is}
 use Rattle.std.proofs.lemmas.Map.Entries.{lookup-filter-keys}
 use Rattle.file_bytes.specs.declared.page.TheConstants.{PAGE}
+use Rattle.file_bytes.specs.declared.pages.Pages.{Pages}
 use Rattle.file_bytes.specs.declared.changes.Change.{Change}
 use Rattle.file_bytes.specs.Files.{written}
-use Rattle.file_bytes.specs.Paged.{page_of, byte_of, changed, overwritten, cut}
-use Rattle.file_bytes.proofs.Places.{by_places, written_ahead, written_added, written_behind, over_ahead, over_added, over_behind}
+use Rattle.file_bytes.specs.Paged.{page_of, byte_of, changed, overwritten, first_cut, cut}
+use Rattle.file_bytes.proofs.Places.{by_places, written_ahead, written_added, written_behind, over_ahead, over_added, over_behind, cut_below, cut_above}
 use Rattle.file_bytes.proofs.Paging.{at_number, changed_append}
-
-abbrev Pages : Type 0
-Pages = BTreeMap ℕ (List ℕ)
 
 -- ---- one page
 
@@ -170,11 +168,11 @@ same_key q k h = grind (arith, nat_tests)
 ahead_of : (size i : ℕ) → range_contains nat_cmp (Included (size / PAGE)) Unbounded (i / PAGE) ≡ false → i < size
 ahead_of size i h = grind (arith, nat_tests)
 
-lookup_from : (pages : Pages) (size q : ℕ)
-    → lookup (is_at (nat_cmp q)) (pages_from size pages.entries) ≡ cond (range_contains nat_cmp (Included (size / PAGE)) Unbounded q) (tree.get nat_cmp pages q) None
-lookup_from pages size q =
+lookup_from : (rest : BTreeMap ℕ (List ℕ)) (size q : ℕ)
+    → lookup (is_at (nat_cmp q)) (pages_from size rest.entries) ≡ cond (range_contains nat_cmp (Included (size / PAGE)) Unbounded q) (tree.get nat_cmp rest q) None
+lookup_from rest size q =
     lookup-filter-keys (is_at (nat_cmp q)) (range_contains nat_cmp (Included (size / PAGE)) Unbounded) (range_contains nat_cmp (Included (size / PAGE)) Unbounded q)
-    (λ k h. ap (range_contains nat_cmp (Included (size / PAGE)) Unbounded) (sym (same_key q k h))) pages.entries
+    (λ k h. ap (range_contains nat_cmp (Included (size / PAGE)) Unbounded) (sym (same_key q k h))) rest.entries
 
 both_zero : (b : Bool) → ◌≡◌ {A = ℕ} 0 (cond b 0 0)
 both_zero true = refl
@@ -189,19 +187,86 @@ read_page size i (Some page) = go (cases_lt i size) where
       get_or_past (take (size - i / PAGE * PAGE) page) (i % PAGE) 0 (omega (arith, length-take (size - i / PAGE * PAGE) page))
       ∙ sym (cond-false (ltb i size) (get_or page (i % PAGE) 0) 0 (le-ltb i size h))
 
--- the pages from the one that the cut goes through, each cut, are all that a cut changes
-pub cut_all : (pages : Pages) (size : ℕ) → changed (map (cut_entry size) (pages_from size pages.entries)) (byte_of pages) ≡ cut (byte_of pages) size
-unfolding byte_of cut
-cut_all pages size = by_places (changed (map (cut_entry size) (pages_from size pages.entries)) (byte_of pages)) (cut (byte_of pages) size) (λ i. go i (cases_Bool (range_contains nat_cmp (Included (size / PAGE)) Unbounded (i / PAGE)))) where
-  first : (i : ℕ) → changed (map (cut_entry size) (pages_from size pages.entries)) (byte_of pages) i
-      ≡ read_cut size i (cond (range_contains nat_cmp (Included (size / PAGE)) Unbounded (i / PAGE)) (tree.get nat_cmp pages (i / PAGE)) None) (byte_of pages i)
-  first i = changed_cut size (pages_from size pages.entries) (byte_of pages) i ∙ ap (λ (o : Option (List ℕ)). read_cut size i o (byte_of pages i)) (lookup_from pages size (i / PAGE))
+-- the pages behind the first, from the one that the cut goes through, at one place
+module _ (rest : BTreeMap ℕ (List ℕ)) (size : ℕ) (f : ℕ → ℕ) (i : ℕ) where
+  abbrev rest_cut : List Change
+  rest_cut = map (cut_entry size) (pages_from size rest.entries)
 
-  go : (i : ℕ) → (range_contains nat_cmp (Included (size / PAGE)) Unbounded (i / PAGE) ≡ true) ⊎ (range_contains nat_cmp (Included (size / PAGE)) Unbounded (i / PAGE) ≡ false)
-      → changed (map (cut_entry size) (pages_from size pages.entries)) (byte_of pages) i ≡ cond (ltb i size) (byte_of pages i) 0
-  go i (inl h) =
-      first i ∙ ap (λ (b : Bool). read_cut size i (cond b (tree.get nat_cmp pages (i / PAGE)) None) (byte_of pages i)) h
-      ∙ read_page size i (tree.get nat_cmp pages (i / PAGE))
-  go i (inr h) =
-      first i ∙ ap (λ (b : Bool). read_cut size i (cond b (tree.get nat_cmp pages (i / PAGE)) None) (byte_of pages i)) h
-      ∙ sym (cond-true (ltb i size) (byte_of pages i) 0 (lt-ltb i size (ahead_of size i h)))
+  abbrev is_reached : Bool
+  is_reached = range_contains nat_cmp (Included (size / PAGE)) Unbounded (i / PAGE)
+
+  read_rest : changed rest_cut f i ≡ read_cut size i (cond is_reached (tree.get nat_cmp rest (i / PAGE)) None) (f i)
+  read_rest = changed_cut size (pages_from size rest.entries) f i ∙ ap (λ (o : Option (List ℕ)). read_cut size i o (f i)) (lookup_from rest size (i / PAGE))
+
+  not_reached : is_reached ≡ false → changed rest_cut f i ≡ cut f size i
+  not_reached h = read_rest ∙ ap (λ (b : Bool). read_cut size i (cond b (tree.get nat_cmp rest (i / PAGE)) None) (f i)) h ∙ sym (cut_below f size i (ahead_of size i h))
+
+  reached : is_reached ≡ true → f i ≡ get_or (unwrap_or (tree.get nat_cmp rest (i / PAGE)) []) (i % PAGE) 0 → changed rest_cut f i ≡ cut f size i
+  unfolding cut
+  reached h e =
+      let page = tree.get nat_cmp rest (i / PAGE) in
+      read_rest ∙ ap (λ (b : Bool). read_cut size i (cond b page None) (f i)) h
+      ∙ ap (λ (n : ℕ). read_cut size i page n) e ∙ read_page size i page
+      ∙ ap (λ (n : ℕ). cond (ltb i size) n 0) (sym e)
+
+-- the first page at one place
+first_read : (pages : Pages) (i : ℕ) → i / PAGE ≡ 0 → byte_of pages i ≡ get_or pages.first (i % PAGE) 0
+unfolding byte_of
+first_read pages i here =
+    ap (λ (page : List ℕ). get_or page (i % PAGE) 0) (cond-true (eqb (i / PAGE) 0) pages.first (unwrap_or (tree.get nat_cmp pages.rest (i / PAGE)) []) (eq-eqb (i / PAGE) 0 here))
+
+rest_read : (pages : Pages) (i : ℕ) → (i / PAGE ≡ 0 → ⊥) → byte_of pages i ≡ get_or (unwrap_or (tree.get nat_cmp pages.rest (i / PAGE)) []) (i % PAGE) 0
+unfolding byte_of
+rest_read pages i ne =
+    ap (λ (page : List ℕ). get_or page (i % PAGE) 0) (cond-false (eqb (i / PAGE) 0) pages.first (unwrap_or (tree.get nat_cmp pages.rest (i / PAGE)) []) (ne_eqb (i / PAGE) 0 ne))
+
+cut_within : (pages : Pages) (size i : ℕ) → i / PAGE ≡ 0 → get_or (take size pages.first) (i % PAGE) 0 ≡ cut (byte_of pages) size i
+cut_within pages size i here = go (cases_lt i size) where
+  go : (i < size) ⊎ (size ≤ i) → get_or (take size pages.first) (i % PAGE) 0 ≡ cut (byte_of pages) size i
+  go (inl h) = get_or-take size pages.first (i % PAGE) 0 (omega arith) ∙ sym (first_read pages i here) ∙ sym (cut_below (byte_of pages) size i h)
+  go (inr h) = get_or_past (take size pages.first) (i % PAGE) 0 (omega (arith, length-take size pages.first)) ∙ sym (cut_above (byte_of pages) size i h)
+
+from_number : (size q : ℕ) → range_contains nat_cmp (Included (size / PAGE)) Unbounded q ≡ true → size / PAGE ≤ q
+from_number size q h = grind (arith, nat_tests)
+
+-- a cut behind the first page changes nothing of it
+first_stays : (pages : Pages) (size i : ℕ) → PAGE ≤ size → i / PAGE ≡ 0
+    → changed (map (cut_entry size) (pages_from size pages.rest.entries)) (byte_of pages) i ≡ cut (byte_of pages) size i
+first_stays pages size i far here = go (cases_Bool (range_contains nat_cmp (Included (size / PAGE)) Unbounded (i / PAGE))) where
+  go : (range_contains nat_cmp (Included (size / PAGE)) Unbounded (i / PAGE) ≡ true) ⊎ (range_contains nat_cmp (Included (size / PAGE)) Unbounded (i / PAGE) ≡ false)
+      → changed (map (cut_entry size) (pages_from size pages.rest.entries)) (byte_of pages) i ≡ cut (byte_of pages) size i
+  go (inl h) = absurd (let low = from_number size (i / PAGE) h in omega arith)
+  go (inr h) = not_reached pages.rest size (byte_of pages) i h
+
+rest_changes : (pages : Pages) (size i : ℕ) → (i / PAGE ≡ 0 → ⊥)
+    → changed (map (cut_entry size) (pages_from size pages.rest.entries)) (byte_of pages) i ≡ cut (byte_of pages) size i
+rest_changes pages size i ne = go (cases_Bool (range_contains nat_cmp (Included (size / PAGE)) Unbounded (i / PAGE))) where
+  go : (range_contains nat_cmp (Included (size / PAGE)) Unbounded (i / PAGE) ≡ true) ⊎ (range_contains nat_cmp (Included (size / PAGE)) Unbounded (i / PAGE) ≡ false)
+      → changed (map (cut_entry size) (pages_from size pages.rest.entries)) (byte_of pages) i ≡ cut (byte_of pages) size i
+  go (inl h) = reached pages.rest size (byte_of pages) i h (rest_read pages i ne)
+  go (inr h) = not_reached pages.rest size (byte_of pages) i h
+
+-- the first page, and those behind it from the one that the cut goes through, each cut, are all that a cut changes
+pub cut_all : (pages : Pages) (size : ℕ)
+    → changed (first_cut size pages.first ++ map (cut_entry size) (pages_from size pages.rest.entries)) (byte_of pages) ≡ cut (byte_of pages) size
+cut_all pages size =
+    changed_append (first_cut size pages.first) (map (cut_entry size) (pages_from size pages.rest.entries)) (byte_of pages)
+    ∙ by_places (changed (first_cut size pages.first) (changed (map (cut_entry size) (pages_from size pages.rest.entries)) (byte_of pages))) (cut (byte_of pages) size)
+    (λ i. go i (cases_lt size PAGE) (cases_eq (i / PAGE) 0)) where
+      rest : ℕ → ℕ
+      rest = changed (map (cut_entry size) (pages_from size pages.rest.entries)) (byte_of pages)
+
+      near : size < PAGE → first_cut size pages.first ≡ at_number 0 (take size pages.first)
+      near h = cond-true (ltb size PAGE) (at_number 0 (take size pages.first)) [] (lt-ltb size PAGE h)
+
+      far : PAGE ≤ size → first_cut size pages.first ≡ []
+      far h = cond-false (ltb size PAGE) (at_number 0 (take size pages.first)) [] (le-ltb size PAGE h)
+
+      go : (i : ℕ) → (size < PAGE) ⊎ (PAGE ≤ size) → (i / PAGE ≡ 0) ⊎ (i / PAGE ≡ 0 → ⊥)
+          → changed (first_cut size pages.first) (changed (map (cut_entry size) (pages_from size pages.rest.entries)) (byte_of pages)) i ≡ cut (byte_of pages) size i
+      go i (inl h) (inl here) =
+          ap (λ (cs : List Change). changed cs rest i) (near h) ∙ on_page rest 0 (take size pages.first) i (sym here) ∙ cut_within pages size i here
+      go i (inl h) (inr ne) =
+          ap (λ (cs : List Change). changed cs rest i) (near h) ∙ off_page rest 0 (take size pages.first) i (λ here. ne (sym here)) ∙ rest_changes pages size i ne
+      go i (inr h) (inl here) = ap (λ (cs : List Change). changed cs rest i) (far h) ∙ first_stays pages size i h here
+      go i (inr h) (inr ne) = ap (λ (cs : List Change). changed cs rest i) (far h) ∙ rest_changes pages size i ne

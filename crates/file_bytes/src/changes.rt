@@ -1,12 +1,10 @@
 //! Pages in the place of others, all at once or not at all.
 
-ghost use Rattle.std.specs.Prelude.{◌≡◌, ◌≤◌, ℕ, [], All, OnOk, IfOk, OnErr, vec_len, vec_capacity};
-ghost use Rattle.std.specs.Ordering.{nat_cmp};
-ghost use Rattle.std.specs.BTreeMap.{ContainsKey};
-ghost use Rattle.file_bytes.specs.Paged.{byte_of, changed};
+ghost use Rattle.std.specs.Prelude.{◌≡◌, ℕ, All, cond, nat_eq, OnOk, IfOk, OnErr};
+ghost use Rattle.file_bytes.specs.Paged.{page_of, byte_of, HasRoom, changed};
 
 use crate::page::Page;
-use crate::pages::{Pages, stored};
+use crate::pages::{Pages, set_up, swap_page, take_out_empty};
 use std::alloc::{AllocError, Global};
 
 /// What a page is to hold.
@@ -34,17 +32,17 @@ pub(crate) fn replace(
     ensures undo { IfOk result (λ before. changed before.items (byte_of pages.new) ≡ byte_of pages.old) }
     ensures err { OnErr result (byte_of pages.new ≡ byte_of pages.old) }
 {
-    let mut before = Vec::with_capacity(alloc, changes.len())?;
+    let mut changes = changes;
     make_room(alloc, pages, changes.as_slice())?;
-    exchange(pages, changes, &mut before);
-    tidy(pages, before.as_slice());
-    Ok(before)
+    exchange(pages, &mut changes);
+    tidy(pages, changes.as_slice());
+    Ok(changes)
 }
 
 /// Sees that there is a page, if an empty one, at each number of the changes.
 fn make_room(alloc: Global, pages: &mut Pages, changes: &[Change]) -> Result<(), AllocError>
     ensures same { byte_of pages.new ≡ byte_of pages.old }
-    ensures present { OnOk result (All (λ change. ContainsKey nat_cmp pages.new change.number) changes.now) }
+    ensures room { OnOk result (All (λ change. HasRoom pages.new change.number) changes.now) }
 {
     for change in changes {
         set_up(alloc, pages, change.number)?;
@@ -52,37 +50,29 @@ fn make_room(alloc: Global, pages: &mut Pages, changes: &[Change]) -> Result<(),
     Ok(())
 }
 
-/// Sees that there is a page, if an empty one, at a number.
-fn set_up(alloc: Global, pages: &mut Pages, number: u64) -> Result<(), AllocError>
-    ensures same { byte_of pages.new ≡ byte_of pages.old }
-    ensures kept { (q : ℕ) → ContainsKey nat_cmp pages.old q → ContainsKey nat_cmp pages.new q }
-    ensures present { OnOk result (ContainsKey nat_cmp pages.new number) }
+/// Puts the pages, the last first, and keeps those that stood there in the order in which they went.
+fn exchange(pages: &mut Pages, changes: &mut Vec<Change>)
+    requires { All (λ change. HasRoom pages.old change.number) changes.old.items }
+    ensures changed { byte_of pages.new ≡ changed changes.old.items (byte_of pages.old) }
+    ensures undo { changed changes.new.items (byte_of pages.new) ≡ byte_of pages.old }
 {
-    if pages.contains_key(&number) {
-        return Ok(());
+    let mut left = changes.len();
+    while left > 0 {
+        left -= 1;
+        put_change(pages, &mut changes[left]);
     }
-    drop(pages.insert(number, Page::new(alloc))?);
-    Ok(())
+    changes.reverse();
 }
 
-/// Puts the pages, the last first, and keeps those that stood there in the order in which they went.
-fn exchange(pages: &mut Pages, changes: Vec<Change>, before: &mut Vec<Change>)
-    requires none { before.old.items ≡ [] }
-    requires room { vec_len changes ≤ vec_capacity before.old }
-    requires present { All (λ change. ContainsKey nat_cmp pages.old change.number) changes.items }
-    ensures changed { byte_of pages.new ≡ changed changes.items (byte_of pages.old) }
-    ensures undo { changed before.new.items (byte_of pages.new) ≡ byte_of pages.old }
+/// Puts a page, and keeps in its place the one that stood there.
+fn put_change(pages: &mut Pages, change: &mut Change)
+    requires { HasRoom pages.old change.old.number }
+    ensures number { change.new.number ≡ change.old.number }
+    ensures stood { change.new.page ≡ page_of pages.old change.old.number }
+    ensures puts { (q : ℕ) → page_of pages.new q ≡ cond (nat_eq change.old.number q) change.old.page (page_of pages.old q) }
+    ensures kept { (q : ℕ) → HasRoom pages.old q → HasRoom pages.new q }
 {
-    let mut changes = changes;
-    while let Some(Change { number, page }) = changes.pop() {
-        let Ok(stood) = pages.insert(number, page) else {
-            unreachable!()
-        };
-        let Some(page) = stood else { unreachable!() };
-        let Ok(()) = before.push(Change { number, page }) else {
-            unreachable!()
-        };
-    }
+    swap_page(pages, change.number, &mut change.page);
 }
 
 /// Takes out the empty pages that stand at the numbers of the changes.
@@ -90,8 +80,6 @@ fn tidy(pages: &mut Pages, changes: &[Change])
     ensures { byte_of pages.new ≡ byte_of pages.old }
 {
     for change in changes {
-        if stored(pages, change.number).is_empty() {
-            drop(pages.remove(&change.number));
-        }
+        take_out_empty(pages, change.number);
     }
 }

@@ -10,7 +10,6 @@ use crate::changes::{FileUndo, replace};
 use crate::page::{self, PAGE};
 use crate::pages::{Pages, cut_pages, piece, stored, written_pages};
 use std::alloc::{AllocError, Global};
-use std::collections::BTreeMap;
 use std::marker::Model;
 use std::mem;
 
@@ -59,7 +58,7 @@ impl FileBytes {
         FileBytes {
             alloc,
             size,
-            pages: BTreeMap::new(alloc),
+            pages: Pages::new(alloc),
         }
     }
 
@@ -68,6 +67,11 @@ impl FileBytes {
         requires { length bytes.now ≤ file_limit }
         ensures { IfOk result (λ file. file ≡ bytes.now) }
     {
+        let size = bytes.len() as u64;
+        if size <= PAGE {
+            let pages = Pages::one(alloc, bytes)?;
+            return Ok(FileBytes { alloc, size, pages });
+        }
         let mut file = FileBytes::new(alloc);
         drop(file.write(0, bytes)?);
         Ok(file)
@@ -180,7 +184,7 @@ impl FileBytes {
         Ok(FileBytes {
             alloc: self.alloc,
             size: self.size,
-            pages: self.pages.clone()?,
+            pages: self.pages.copy()?,
         })
     }
 }

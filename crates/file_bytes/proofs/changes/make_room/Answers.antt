@@ -1,9 +1,8 @@
 use Rattle.std.proofs.Common.{◌∙◌, sym, subst, take, arith}
-use Rattle.std.specs.Ordering.{nat_cmp}
-use Rattle.std.specs.BTreeMap.{ContainsKey}
 use Rattle.std.proofs.lemmas.List.{take_all}
 use Rattle.std.proofs.lemmas.List.Elements.{All-more, All-same, All-weaker}
 use Rattle.file_bytes.specs.declared.changes.Change.{Change}
+use Rattle.file_bytes.specs.Paged.{HasRoom}
 use Rattle.file_bytes.proofs.changes.make_room.Goals as goal
 
 pub loop-change-preserved : goal.loop-change-preserved
@@ -14,14 +13,14 @@ loop-change-preserved c =
     let old = c.loop-change.pages in
     let new = c.set_up.new.pages in (
       c.set_up.ensures.same ∙ c.loop-change.invariant.0,
-      All-more (λ (other : Change). ContainsKey nat_cmp new other.number) changes i change (omega arith)
-          (All-weaker (λ (other : Change). ContainsKey nat_cmp old other.number) (λ (other : Change). ContainsKey nat_cmp new other.number)
+      All-more (λ (other : Change). HasRoom new other.number) changes i change (omega arith)
+          (All-weaker (λ (other : Change). HasRoom old other.number) (λ (other : Change). HasRoom new other.number)
           (λ other here. c.set_up.ensures.kept other.number here) (take i changes) c.loop-change.invariant.1)
-          (subst (λ (other : Change). ContainsKey nat_cmp new other.number) c.change-item.is c.in_ok-set_up.ensures.present),
+          (subst (λ (other : Change). HasRoom new other.number) c.change-item.is c.in_ok-set_up.ensures.room),
     )
 
-pub returns-clause-present : goal.returns-clause-present
-returns-clause-present c =
+pub returns-clause-room : goal.returns-clause-room
+returns-clause-room c =
     let changes = c.args.changes.now in
     let i = c.loop-change.change-index in
-    All-same (λ (change : Change). ContainsKey nat_cmp c.loop-change.pages change.number) changes (take i changes) (sym (take_all i changes (omega arith))) c.loop-change.invariant.1
+    All-same (λ (change : Change). HasRoom c.loop-change.pages change.number) changes (take i changes) (sym (take_all i changes (omega arith))) c.loop-change.invariant.1

@@ -1,4 +1,5 @@
 use Rattle.std.proofs.Common.{◌≡◌, ◌++◌, map}
+use Rattle.file_bytes.specs.Paged.{first_cut}
 use Rattle.file_bytes.proofs.Windows.{cut_entry, pages_from}
 use Rattle.file_bytes.proofs.pages.cut_pages.Given as goal
 
@@ -6,4 +7,4 @@ use Rattle.file_bytes.proofs.pages.cut_pages.Given as goal
 abbrev pub invariant-loop-number : goal.invariant-loop-number
 invariant-loop-number l =
     (goal.iterator-loop-number).can_next l.number-iterator × (goal.iterator-loop-number).is_finite l.number-iterator
-    × (l.changes.items ++ map (cut_entry l.size) l.number-iterator ≡ map (cut_entry l.size) (pages_from l.size l.pages.entries))
+    × (l.changes.items ++ map (cut_entry l.size) l.number-iterator ≡ first_cut l.size l.pages.first ++ map (cut_entry l.size) (pages_from l.size l.pages.rest.entries))

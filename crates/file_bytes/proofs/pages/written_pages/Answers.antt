@@ -9,7 +9,7 @@ use Rattle.file_bytes.proofs.pages.written_pages.Goals as goal
 
 pub loop-number-init : goal.loop-number-init
 loop-number-init c = λ g.
-    ap (λ (cs : List Change). changed cs g) c.new-changes.ensures.items ∙ written_none (c.args.offset / PAGE * PAGE) (overwritten (byte_of c.args.pages.now) c.args.offset c.args.added.now) g
+    ap (λ (cs : List Change). changed cs g) c.in_ok-changes.ensures.items ∙ written_none (c.args.offset / PAGE * PAGE) (overwritten (byte_of c.args.pages.now) c.args.offset c.args.added.now) g
 
 pub loop-number-preserved : goal.loop-number-preserved
 loop-number-preserved c = λ g.

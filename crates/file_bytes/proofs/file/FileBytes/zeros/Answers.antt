@@ -6,7 +6,7 @@ use Rattle.file_bytes.proofs.Paging.{zeros_read}
 use Rattle.file_bytes.proofs.file.FileBytes.zeros.Goals as goal
 
 pub invariant_of-result : goal.invariant_of-result
-invariant_of-result c = file_of (byte_of c.new.result) c.args.size (replicate c.args.size 0) (length-replicate c.args.size 0) c.requires (zeros_read c.new.result c.args.size c.new.ensures.empty)
+invariant_of-result c = file_of (byte_of c.new.result) c.args.size (replicate c.args.size 0) (length-replicate c.args.size 0) c.requires (zeros_read c.new.result c.args.size c.new.ensures)
 
 pub returns : goal.returns
-returns c = list_of (byte_of c.new.result) c.args.size (replicate c.args.size 0) (length-replicate c.args.size 0) (zeros_read c.new.result c.args.size c.new.ensures.empty)
+returns c = list_of (byte_of c.new.result) c.args.size (replicate c.args.size 0) (length-replicate c.args.size 0) (zeros_read c.new.result c.args.size c.new.ensures)
