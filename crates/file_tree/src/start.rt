@@ -2,7 +2,6 @@
 
 ghost use Rattle.std.specs.Prelude.{◌≡◌, ◌≤◌, ◌<◌, ◌^◌, None, IfOk, OnOk, IsSome, length};
 ghost use Rattle.std.specs.FinMap as finite;
-ghost use Rattle.nfs3_types.specs.Limits.{file_limit};
 ghost use Rattle.tree_starts.specs.Seen.{seen_node, seen_object, all_seen};
 ghost use Rattle.tree_starts.specs.Start.{IsStart};
 ghost use Rattle.tree_nodes.specs.Tree.{entry_of};
@@ -16,16 +15,6 @@ use std::alloc::{AllocError, Global};
 use tree_nodes::{Bytes, Content, File, Node, Nodes};
 use tree_starts::{SeenNode, SeenObject, SeenStart};
 
-/// A file with these bytes.
-fn file_with(alloc: Global, bytes: &[u8]) -> Result<FileBytes, AllocError>
-    requires { length bytes.now ≤ file_limit }
-    ensures { IfOk result (λ file. file ≡ bytes.now) }
-{
-    let mut file = FileBytes::new(alloc);
-    drop(file.write(0, bytes)?);
-    Ok(file)
-}
-
 /// What an object is, with bytes of its own.
 fn content_of(alloc: Global, node: &SeenNode<'_>) -> Result<Content, AllocError>
     requires { Fits (seen_node node.now) }
@@ -33,7 +22,7 @@ fn content_of(alloc: Global, node: &SeenNode<'_>) -> Result<Content, AllocError>
 {
     match *node {
         SeenNode::File(bytes) => Ok(Content::File(File {
-            bytes: file_with(alloc, bytes)?,
+            bytes: FileBytes::from_slice(alloc, bytes)?,
             verifier: None,
         })),
         SeenNode::Directory => Ok(Content::Directory),

@@ -1,6 +1,6 @@
 //! What of the objects so far decides where others may stand.
 
-ghost use Rattle.std.specs.Prelude.{◌≡◌, ◌≤◌, ◌+◌, ◌∷◌, ◌++◌, [], None, length, OnOk, IfOk};
+ghost use Rattle.std.specs.Prelude.{◌≡◌, ◌≤◌, ◌+◌, ◌∷◌, ◌++◌, [], None, length, OnOk, OnErr, IfOk};
 ghost use Rattle.tree_starts.specs.Seen.{seen_object, seen_node};
 ghost use Rattle.tree_starts.specs.Start.{keys_of, is_parent, may_be_named, fits, is_directory, object_fault, start_limit};
 
@@ -87,7 +87,8 @@ impl<'a> StartTable<'a> {
     /// Puts the next object after the others.
     pub fn push(&mut self, object: &SeenObject<'a>) -> Result<(), AllocError>
         requires { object_fault (keys_of self.old) (length self.old + 1) (seen_object object.now) ≡ None }
-        ensures { OnOk result (self.new ≡ self.old ++ seen_object object.now ∷ []) }
+        ensures ok { OnOk result (self.new ≡ self.old ++ seen_object object.now ∷ []) }
+        ensures err { OnErr result (self.new ≡ self.old) }
     {
         self.seen.reserve(1)?;
         self.keys

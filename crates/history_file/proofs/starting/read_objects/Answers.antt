@@ -15,7 +15,7 @@ returns-in_err-object c =
 pub loop-index-preserved : goal.loop-index-preserved
 loop-index-preserved c =
     let object = seen_object c.in_ok-object.object in
-    rw c.in_ok-push.ensures (
+    rw c.in_ok-push.ensures.ok (
       length-append c.loop-index.table (object ∷ []) ∙ ap (λ n. n + 1) c.loop-index.invariant.0,
       goes_on c.loop-index.table c.args.count c.loop-index.index c.loop-index.reader object c.one_object.new.reader (reading_of (objects c.args.count [] 1) c.args.reader.now) c.loop-index-test.true c.in_ok-object.ensures.read c.loop-index.invariant.1,
     )
