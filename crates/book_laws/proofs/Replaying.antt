@@ -37,7 +37,7 @@ use Rattle.tree_laws.proofs.Newcomers.{only_its_own_is_new}
 use Rattle.book_machine.specs.Placing.{Placed, is_recorded}
 use Rattle.book_machine.specs.Book.{bindings_made}
 use Rattle.book_machine.proofs.Running.{unrecorded_leaves}
-use Rattle.cut_check.specs.Effect.{succeeded}
+use Rattle.nfs_history.specs.Success.{succeeded}
 use Rattle.journal_rebuild.proofs.Numbers.{Among}
 use Rattle.book_laws.proofs.Standing.{AllStand}
 use Rattle.book_laws.proofs.Renaming.{AreSmall, AreAlike, alike_bound}

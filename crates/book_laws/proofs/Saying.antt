@@ -1,10 +1,7 @@
 -- the record that a book keeps of a change reads as that change
-use Rattle.std.proofs.Common.{◌≡◌, ℕ, ◌<◌, ◌≤◌, ◌^◌, Bool, true, false, List, [], ◌∷◌, length, map, None, refl, sym, ap, ◌∙◌, subst, arith}
-use Rattle.std.specs.Prelude.{◌==◌, ◌&&◌, not, is_none}
+use Rattle.std.proofs.Common.{◌≡◌, ℕ, ◌<◌, ◌≤◌, ◌^◌, true, false, List, [], ◌∷◌, length, map, None, refl, sym, ap, ◌∙◌, subst, arith}
+use Rattle.std.specs.Prelude.{◌&&◌, not, is_none}
 use Rattle.std.specs.List.{AllByRecursion}
-use Rattle.std.proofs.lemmas.Bool.{eqb-true}
-use Rattle.xdr_records.specs.Grammar.{Grammar, either}
-use Rattle.xdr_records.specs.Grammar.Grammar.{nothing, refused, both}
 use Rattle.xdr_records.specs.Spelling.{Spells}
 use Rattle.xdr_records.specs.Record.{record_limit}
 use Rattle.rpc_reader.specs.Values.{CallValue}
@@ -12,50 +9,19 @@ use Rattle.rpc_reader.proofs.OneMessage.{one_head}
 use Rattle.nfs3_types.specs.declared.calls.NfsCall.{NfsCall}
 use Rattle.nfs3_types.specs.declared.calls.NfsCall.TheVariants as calls
 use Rattle.nfs3_types.specs.Procedures.{procedure_called, is_answered, failure_in, changes_the_tree}
-use Rattle.nfs3_values.specs.declared.fault.Kind.{Kind}
-use Rattle.nfs3_values.specs.declared.fault.Kind.TheVariants as kinds
-use Rattle.nfs3_msgs.specs.Messages.{arguments, IsArguments}
 use Rattle.nfs_history.specs.History.{IsCallOfNfs}
 use Rattle.journal_records.specs.declared.change.Change.{Change}
 use Rattle.journal_records.specs.Journal.{journal_record, IsChange, IsJournalRecord}
 use Rattle.journal_records.proofs.Meanings.{spelled_so}
 use Rattle.tree_laws.specs.Leaving.{only_looks}
 use Rattle.tree_nodes.proofs.Chains.{both_pass, negated, none_is}
-use Rattle.cut_check.specs.Effect.{succeeded}
+use Rattle.nfs_history.specs.Success.{succeeded}
+use Rattle.nfs_history.proofs.AskedProcedure.{procedure_is}
 use Rattle.book_machine.specs.Placing.{Placed, is_recorded}
 use Rattle.book_machine.specs.Book.{Book}
 use Rattle.book_machine.specs.Steps.{reply_message}
 use Rattle.journal_rebuild.specs.Rebuilding.{AreJournalRecords, step_in, numbers_in}
 use Rattle.book_laws.proofs.Recording.{IsKept, AreKept}
-
--- ---- the procedure of a call's arguments
-
--- the arguments of one procedure, or those of others
-level : (procedure n : ℕ) (bytes : List ℕ) (call : NfsCall) {A : Type 0} (g : Grammar Kind A) (f : A → NfsCall) (h : Grammar Kind NfsCall) → ((a : A) → procedure_called (f a) ≡ n)
-    → (Spells h bytes call → procedure ≡ procedure_called call) → Spells (either (procedure == n) (both g (λ a. nothing (f a))) h) bytes call → procedure ≡ procedure_called call
-level procedure n bytes call g f h of later = go (procedure == n) refl where
-  go : (b : Bool) → (procedure == n) ≡ b → Spells (either b (both g (λ a. nothing (f a))) h) bytes call → procedure ≡ procedure_called call
-  go true is s = eqb-true procedure n is ∙ sym (of s.0) ∙ ap procedure_called s.1.others.1
-  go false is s = later s
-
-pub procedure_is : (procedure : ℕ) (bytes : List ℕ) (call : NfsCall) → IsArguments procedure bytes call → procedure ≡ procedure_called call
-unfolding arguments
-procedure_is procedure bytes call =
-    level procedure 1 bytes call _ (λ a. calls.GetAttr a) _ (λ a. refl)
-    (level procedure 2 bytes call _ (λ a. calls.SetAttr a) _ (λ a. refl)
-    (level procedure 3 bytes call _ (λ a. calls.Lookup a) _ (λ a. refl)
-    (level procedure 5 bytes call _ (λ a. calls.ReadLink a) _ (λ a. refl)
-    (level procedure 6 bytes call _ (λ a. calls.Read a) _ (λ a. refl)
-    (level procedure 7 bytes call _ (λ a. calls.Write a) _ (λ a. refl)
-    (level procedure 8 bytes call _ (λ a. calls.Create a) _ (λ a. refl)
-    (level procedure 9 bytes call _ (λ a. calls.MkDir a) _ (λ a. refl)
-    (level procedure 10 bytes call _ (λ a. calls.SymLink a) _ (λ a. refl)
-    (level procedure 12 bytes call _ (λ a. calls.Remove a) _ (λ a. refl)
-    (level procedure 13 bytes call _ (λ a. calls.RmDir a) _ (λ a. refl)
-    (level procedure 14 bytes call _ (λ a. calls.Rename a) _ (λ a. refl)
-    (level procedure 16 bytes call _ (λ a. calls.ReadDir a) _ (λ a. refl)
-    (level procedure 17 bytes call _ (λ a. calls.ReadDirPlus a) _ (λ a. refl)
-    (level procedure 21 bytes call _ (λ a. calls.Commit a) (refused kinds.NotJudged) (λ a. refl) (λ s. absurd s)))))))))))))))
 
 changing_called : (call : NfsCall) → only_looks call ≡ false → changes_the_tree (procedure_called call) ≡ true
 changing_called (calls.GetAttr a) e = absurd (cc)

@@ -15,7 +15,8 @@ use Rattle.nfs_history.specs.HistoryValue.{HistoryValue}
 use Rattle.nfs_history.specs.History.{IsJudged, IsKnownAs}
 use Rattle.book_machine.specs.Steps.{IsAnswerTo}
 use Rattle.book_ledger.proofs.Standing.{HasSent}
-use Rattle.book_ledger.proofs.Replies.{xid_asked, xid_replied, its_procedure}
+use Rattle.nfs_history.proofs.AskedProcedure.{procedure_is}
+use Rattle.book_ledger.proofs.Replies.{xid_asked, xid_replied}
 
 pub answers_it : (h : HistoryValue) (c : RecordedCall) (call : NfsCall) (reply : NfsReply) (answer : List ℕ) (sent : HasSent h c) → c.meaning ≡ meanings.Judged call → is_answered call reply ≡ true
     → IsReply answer (record { xid = c.xid; body = success (result_text reply) }) → IsResult (procedure_answered reply) (result_text reply) reply → IsAnswerTo sent.asked.event.message answer reply
@@ -23,7 +24,7 @@ answers_it h c call reply answer sent judged right is_reply is_result =
     let means = sent.asked.recorded.means in
     let head : CallValue = means.0 in
     let known_as : IsJudged head means.1 call c.outcome = subst (λ (m : Meaning). IsKnownAs head means.1 m c.outcome) judged means.4 in
-    let procedure : procedure_answered reply ≡ head.procedure = sym (eqb-true (procedure_called call) (procedure_answered reply) right) ∙ its_procedure head.procedure head.args call known_as.of_nfs.arguments in
+    let procedure : procedure_answered reply ≡ head.procedure = sym (eqb-true (procedure_called call) (procedure_answered reply) right) ∙ sym (procedure_is head.procedure head.args call known_as.of_nfs.arguments) in
     let xid : c.xid ≡ head.xid = sent.asked.recorded.xid ∙ xid_asked sent.asked.event.message head means.2 in
     record {
       head = head;

@@ -3,7 +3,8 @@
 ghost use Rattle.std.specs.Prelude.{◌≡◌, ◌↔◌, ◌⊎◌, not, true, None, IsTrue, option_map};
 ghost use Rattle.rpc_reader.specs.Views.{call_value};
 ghost use Rattle.nfs3_types.specs.Procedures.{is_judged};
-ghost use Rattle.cut_check.specs.Effect.{succeeded, effect_of, write_success, commit_success};
+ghost use Rattle.nfs_history.specs.Success.{succeeded, write_success, commit_success};
+ghost use Rattle.cut_check.specs.Effect.{effect_of};
 ghost use Rattle.cut_check.specs.declared.effect.Effect.TheVariants.{Lasting};
 ghost use Rattle.cut_check.specs.Verifier.{verifier_of};
 ghost use Rattle.tree_laws.specs.Leaving.{only_looks};

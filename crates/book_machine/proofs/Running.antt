@@ -16,7 +16,7 @@ use Rattle.nfs_history.specs.declared.history.Meaning.TheVariants as meanings
 use Rattle.nfs_history.specs.declared.history.RecordedCall.{RecordedCall}
 use Rattle.certificate.specs.declared.plan.Place.{Place}
 use Rattle.certificate.specs.declared.plan.Place.TheVariants.{Answered, Taken}
-use Rattle.cut_check.specs.Effect.{succeeded}
+use Rattle.nfs_history.specs.Success.{succeeded}
 use Rattle.cut_check.specs.Places.{bindings_of}
 use Rattle.replay_law.specs.Run.{state_after, kept_steps, EveryEraRuns}
 use Rattle.tree_nodes.specs.Tree.{Tree, opening}

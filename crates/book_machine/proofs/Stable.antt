@@ -23,7 +23,8 @@ use Rattle.certificate.specs.Plan.{cut_of}
 use Rattle.tree_handles.specs.Binding.{Bindings}
 use Rattle.cut_check.specs.declared.effect.Effect.{Effect}
 use Rattle.cut_check.specs.declared.effect.Effect.TheVariants.{Nothing, Lasting, Unstable, Committed}
-use Rattle.cut_check.specs.Effect.{write_success, commit_success, succeeded, is_synchronous, of_object, at_level, effect_of_write, where_done, effect_of}
+use Rattle.nfs_history.specs.Success.{write_success, commit_success, succeeded}
+use Rattle.cut_check.specs.Effect.{is_synchronous, of_object, at_level, effect_of_write, where_done, effect_of}
 use Rattle.cut_check.specs.Places.{era_at, answered_with, object_written, effect_at, effects_of}
 use Rattle.cut_check.specs.Stable.{IsStable, AreCommitted, Reaches}
 use Rattle.cut_check.specs.Cut.{KeepsStable, CutsKeepStable}

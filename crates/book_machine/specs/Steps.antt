@@ -26,7 +26,8 @@ use Rattle.nfs_history.specs.Outside.{outside}
 use Rattle.nfs_history.specs.Precedence.{call_at}
 use Rattle.tree_nodes.specs.Tree.{Tree, entry_of}
 use Rattle.file_tree.specs.Success.{next_tree}
-use Rattle.cut_check.specs.Effect.{commit_success, effect_of}
+use Rattle.nfs_history.specs.Success.{commit_success}
+use Rattle.cut_check.specs.Effect.{effect_of}
 use Rattle.cut_check.specs.declared.effect.Effect.TheVariants.{Lasting}
 use Rattle.cut_check.specs.Verifier.{verifier_of}
 use Rattle.journal_device.specs.Device.{Device}

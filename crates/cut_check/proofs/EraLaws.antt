@@ -5,9 +5,11 @@ use Rattle.std.proofs.lemmas.Option.{none-some, same_Some, slice_get_read}
 use Rattle.nfs_history.specs.declared.history.RecordedCall.{RecordedCall}
 use Rattle.certificate.specs.declared.plan.EraPlan.{EraPlan}
 use Rattle.certificate.specs.Plan.{cut_of}
+use Rattle.nfs_history.specs.HistoryValue.{CallsValue}
+use Rattle.certificate.specs.declared.plan.Bind.{Bind}
 use Rattle.tree_handles.specs.Binding.{Bindings}
 use Rattle.cut_check.specs.Stable.{IsLastStable}
-use Rattle.cut_check.specs.Places.{era_at, effects_of}
+use Rattle.cut_check.specs.Places.{bindings_of, era_at, effects_of}
 use Rattle.cut_check.specs.Cut.{KeepsStable, CutsKeepStable}
 use Rattle.cut_check.specs.ShortCut.{IsShortCut}
 
@@ -47,3 +49,7 @@ pub keeps_along : (binds binds' : Bindings) (calls : List RecordedCall) (eras er
     → CutsKeepStable binds calls eras → CutsKeepStable binds' calls eras'
 keeps_along binds binds' calls eras eras' a b keeps =
     subst (λ x. CutsKeepStable x calls eras') a (subst (λ x. CutsKeepStable binds calls x) b keeps)
+
+-- what holds of calls that are lent, and of what a plan's handles name in them, holds of the history's
+pub lent_along : (P : Bindings → CallsValue → Type 0) (b : Bindings) (k l : CallsValue) (binds : List Bind) → k ≡ l → b ≡ bindings_of k.head.root binds → P b k → P (bindings_of l.head.root binds) l
+lent_along P b k l binds same is h = subst (λ x. P (bindings_of x.head.root binds) x) same (subst (λ x. P x k) is h)

@@ -3,3 +3,4 @@ pub mod StableLaws
 pub mod KeepsLaws
 pub mod ShownLaws
 pub mod EraLaws
+pub mod StoredLaws

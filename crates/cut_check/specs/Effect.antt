@@ -1,34 +1,15 @@
 -- What a placed call means for stable storage, by its reply (RFC 1813, section 4.7: a call that modifies data is on stable
 -- storage when it is answered; sections 3.3.7 and 3.3.21: but for a WRITE that was answered UNSTABLE, which a COMMIT puts there).
-use Rattle.std.specs.Prelude.{◌&&◌, ℕ, Bool, true, false, if◌then◌else◌, Option, Some, None, is_none}
+use Rattle.std.specs.Prelude.{◌&&◌, ℕ, Bool, true, false, if◌then◌else◌, Option, Some, None}
 use Rattle.nfs3_types.specs.declared.calls.NfsCall.{NfsCall}
 use Rattle.nfs3_types.specs.declared.calls.NfsCall.TheVariants as calls
 use Rattle.nfs3_types.specs.declared.calls.StableHow.{StableHow}
 use Rattle.nfs3_types.specs.declared.calls.StableHow.TheVariants as levels
-use Rattle.nfs3_types.specs.declared.replies.Answer.TheVariants.{Done}
-use Rattle.nfs3_types.specs.declared.replies.NfsReply.TheVariants as replies
 use Rattle.nfs3_types.specs.declared.replies.WriteSuccess.{WriteSuccess}
-use Rattle.nfs3_types.specs.declared.replies.CommitSuccess.{CommitSuccess}
 use Rattle.nfs3_types.specs.declared.replies.Outcome.{Outcome}
-use Rattle.nfs3_types.specs.declared.replies.Outcome.TheVariants as outcomes
-use Rattle.nfs3_types.specs.Procedures.{is_answered, failure_in}
+use Rattle.nfs_history.specs.Success.{write_success, commit_success, succeeded}
 use Rattle.cut_check.specs.declared.effect.Effect.{Effect}
 use Rattle.cut_check.specs.declared.effect.Effect.TheVariants.{Nothing, Lasting, Unstable, Committed}
-
--- what a WRITE's reply says that is a success
-abbrev pub write_success : Outcome → Option WriteSuccess
-write_success (outcomes.Received (replies.Write (Done success))) = Some success
-write_success outcome = None
-
--- what a COMMIT's reply says that is a success
-abbrev pub commit_success : Outcome → Option CommitSuccess
-commit_success (outcomes.Received (replies.Commit (Done success))) = Some success
-commit_success outcome = None
-
--- a call was answered, and not by a failure
-abbrev pub succeeded : NfsCall → Outcome → Bool
-succeeded call (outcomes.Received reply) = is_answered call reply && is_none (failure_in reply)
-succeeded call (outcomes.Taken count) = false
 
 -- the calls that change the tree or an object, but for WRITE
 abbrev pub is_synchronous : NfsCall → Bool

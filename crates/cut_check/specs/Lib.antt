@@ -12,3 +12,4 @@ pub mod VerifierFault
 pub mod FaultText
 pub mod FaultNamed
 pub mod Shown
+pub mod Stored

@@ -10,7 +10,7 @@ use Rattle.nfs_history.specs.declared.history.RecordedCall.{RecordedCall}
 use Rattle.certificate.specs.declared.plan.Place.{Place}
 use Rattle.certificate.specs.declared.plan.EraPlan.{EraPlan}
 use Rattle.certificate.specs.Plan.{cut_of}
-use Rattle.cut_check.specs.Effect.{write_success, commit_success}
+use Rattle.nfs_history.specs.Success.{write_success, commit_success}
 use Rattle.cut_check.specs.Places.{answered_at, era_at}
 
 -- the verifier that the reply to a call shows: of a WRITE or a COMMIT that succeeded

@@ -13,14 +13,14 @@ use crate::fault::CutFault;
 use crate::places::{bindings_of_plan, cut_of, effect_at};
 use crate::stability::Stability;
 use certificate::{Certificate, EraPlan, Place};
-use nfs_history::KnownCalls;
+use nfs_history::{History, LentCalls};
 use std::alloc::{AllocError, Global};
 use tree_handles::Binds;
 
 /// The position of the last stable place of an era, or 0.
 fn last_stable(
     alloc: Global,
-    history: &KnownCalls<'_>,
+    history: &LentCalls<'_, '_>,
     binds: &Binds,
     places: &[Place],
 ) -> Result<u64, AllocError>
@@ -37,7 +37,7 @@ fn last_stable(
 /// The first era whose cut is short, and the position that it should have kept.
 fn first_short_cut(
     alloc: Global,
-    history: &KnownCalls<'_>,
+    history: &LentCalls<'_, '_>,
     binds: &Binds,
     eras: &[EraPlan],
 ) -> Result<Option<(u64, u64)>, AllocError>
@@ -57,26 +57,46 @@ fn first_short_cut(
 /// Whether each cut keeps the stable places of its era.
 pub fn check_cuts(
     alloc: Global,
-    history: &KnownCalls<'_>,
+    history: &History,
     certificate: &Certificate,
 ) -> Result<(), CutFault>
-    ensures ok { OnOk result (CutsKeepStable (bindings_of history.now.head.root certificate.now.binds) history.now.calls certificate.now.eras) }
+    ensures ok { OnOk result (CutsKeepStable (bindings_of history.now.known.head.root certificate.now.binds) history.now.known.calls certificate.now.eras) }
     // A plan whose cuts keep them is refused for want of memory alone.
-    ensures only { CutsKeepStable (bindings_of history.now.head.root certificate.now.binds) history.now.calls certificate.now.eras
+    ensures only { CutsKeepStable (bindings_of history.now.known.head.root certificate.now.binds) history.now.known.calls certificate.now.eras
         → HasNoCutFault result }
     // The fault that is told is the first, and the first is told.
     ensures fault { (e needed : ℕ) → result ≡ Err (CutFault.ShortCut e needed)
-        → IsShortCut (bindings_of history.now.head.root certificate.now.binds) history.now.calls certificate.now.eras e needed }
-    ensures named { (e needed : ℕ) → IsShortCut (bindings_of history.now.head.root certificate.now.binds) history.now.calls certificate.now.eras e needed
+        → IsShortCut (bindings_of history.now.known.head.root certificate.now.binds) history.now.known.calls certificate.now.eras e needed }
+    ensures named { (e needed : ℕ) → IsShortCut (bindings_of history.now.known.head.root certificate.now.binds) history.now.known.calls certificate.now.eras e needed
         → (result ≡ Err (CutFault.ShortCut e needed)) ⊎ (result ≡ Err CutFault.NoMemory) }
 {
-    let eras = certificate.eras.as_slice();
     // No crash ends the last era.
-    if eras.len() <= 1 {
+    if certificate.eras.as_slice().len() <= 1 {
         return Ok(());
     }
-    let binds = bindings_of_plan(alloc, history, certificate)?;
-    match first_short_cut(alloc, history, &binds, eras)? {
+    let calls = history.lend();
+    let binds = bindings_of_plan(alloc, &calls, certificate)?;
+    check_cuts_of_calls(alloc, &calls, &binds, certificate)
+}
+
+/// The same of a history whose calls these are, where its handles name these objects.
+pub fn check_cuts_of_calls(
+    alloc: Global,
+    calls: &LentCalls<'_, '_>,
+    binds: &Binds,
+    certificate: &Certificate,
+) -> Result<(), CutFault>
+    ensures ok { OnOk result (CutsKeepStable binds.now calls.now.calls certificate.now.eras) }
+    // A plan whose cuts keep them is refused for want of memory alone.
+    ensures only { CutsKeepStable binds.now calls.now.calls certificate.now.eras
+        → HasNoCutFault result }
+    // The fault that is told is the first, and the first is told.
+    ensures fault { (e needed : ℕ) → result ≡ Err (CutFault.ShortCut e needed)
+        → IsShortCut binds.now calls.now.calls certificate.now.eras e needed }
+    ensures named { (e needed : ℕ) → IsShortCut binds.now calls.now.calls certificate.now.eras e needed
+        → (result ≡ Err (CutFault.ShortCut e needed)) ⊎ (result ≡ Err CutFault.NoMemory) }
+{
+    match first_short_cut(alloc, calls, binds, certificate.eras.as_slice())? {
         Some((era, needed)) => Err(CutFault::ShortCut(era, needed)),
         None => Ok(()),
     }

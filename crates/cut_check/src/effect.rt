@@ -1,10 +1,10 @@
 //! What a placed call means for what a crash may take away.
 
 ghost use Rattle.std.specs.Prelude.{◌≡◌};
-ghost use Rattle.std.specs.Option.{option_copied};
-ghost use Rattle.cut_check.specs.Effect.{write_success, commit_success, succeeded, is_synchronous, of_object, effect_of_write, effect_of};
+ghost use Rattle.cut_check.specs.Effect.{is_synchronous, effect_of_write, effect_of};
 
-use nfs3_types::{Answer, CommitSuccess, NfsCall, NfsReply, Outcome, StableHow, WriteSuccess};
+use nfs_history::{commit_success, succeeded, write_success};
+use nfs3_types::{NfsCall, Outcome, StableHow, WriteSuccess};
 
 /// What a place of an era means for stable storage. Objects are named by their numbers.
 #[derive(Clone, Copy, PartialEq, Eq)]
@@ -15,7 +15,7 @@ pub enum Effect {
     Lasting,
     /// It writes bytes that need not be there yet.
     Unstable {
-        /// The object's number: 0 is the root, n what call n made.
+        /// The object's number: 0 for the root, k for starting object k, s + n for what call n made where s objects stood at first.
         object: u64,
         /// Where the bytes begin, in bytes from the file's start.
         offset: u64,
@@ -24,55 +24,13 @@ pub enum Effect {
     },
     /// It puts bytes there: those from the offset on, and all of them where the count is 0.
     Committed {
-        /// The object's number: 0 is the root, n what call n made.
+        /// The object's number: 0 for the root, k for starting object k, s + n for what call n made where s objects stood at first.
         object: u64,
         /// Where the bytes begin, in bytes from the file's start.
         offset: u64,
         /// How many bytes, as the COMMIT asked; 0 means all from the offset on.
         count: u32,
     },
-}
-
-/// What stands behind the status of a WRITE's reply that is a success.
-pub fn write_success(outcome: &Outcome) -> Option<&WriteSuccess>
-    ensures { option_copied result ≡ write_success outcome.now }
-{
-    let Outcome::Received(reply) = outcome else {
-        return None;
-    };
-    let NfsReply::Write(answer) = reply else {
-        return None;
-    };
-    match answer {
-        Answer::Done(success) => Some(success),
-        Answer::Failed(..) => None,
-    }
-}
-
-/// What stands behind the status of a COMMIT's reply that is a success.
-pub fn commit_success(outcome: &Outcome) -> Option<&CommitSuccess>
-    ensures { option_copied result ≡ commit_success outcome.now }
-{
-    let Outcome::Received(reply) = outcome else {
-        return None;
-    };
-    let NfsReply::Commit(answer) = reply else {
-        return None;
-    };
-    match answer {
-        Answer::Done(success) => Some(success),
-        Answer::Failed(..) => None,
-    }
-}
-
-/// Whether a call was answered by a success.
-fn succeeded(call: &NfsCall, outcome: &Outcome) -> bool
-    ensures { result ≡ succeeded call.now outcome.now }
-{
-    match outcome {
-        Outcome::Received(reply) => call.is_answered_by(reply) && reply.failure().is_none(),
-        Outcome::Taken(_) => false,
-    }
 }
 
 /// Whether a call changes the tree or an object, and is no WRITE.

@@ -12,10 +12,10 @@ mod procedures;
 mod stability;
 mod verifier;
 
-pub use cut::check_cuts;
+pub use cut::{check_cuts, check_cuts_of_calls};
 pub use effect::Effect;
 pub use fault::{CutFault, VerifierFault};
 pub use laws::{one_first_short_cut, one_first_verifier_fault, one_last_stable};
 pub use places::{bindings, bindings_of_plan};
 pub use stability::Stability;
-pub use verifier::check_verifiers;
+pub use verifier::{check_verifiers, check_verifiers_of_calls};

@@ -1,18 +1,18 @@
 //! The calls at an era's places, and what their handles name.
 
-ghost use Rattle.std.specs.Prelude.{◌≡◌, IfOk, option_map, option_and_then};
-ghost use Rattle.std.specs.Option.{option_map_or};
-ghost use Rattle.certificate.specs.Plan.{cut_of};
-ghost use Rattle.cut_check.specs.Places.{bindings_of, answered_with, answered_at, object_written, effect_at};
-ghost use Rattle.cut_check.specs.declared.effect.Effect.{Effect};
-ghost use Rattle.cut_check.specs.Effect.{effect_of};
+ghost use Rattle.std.specs.Prelude.{◌≡◌, IfOk};
+ghost use Rattle.nfs_history.specs.Precedence.{call_at};
+ghost use Rattle.nfs_history.specs.Storage.{storage_value};
+ghost use Rattle.certificate.specs.Plan.{cut_of, call_of};
+ghost use Rattle.cut_check.specs.Places.{bindings_of, effect_at};
+ghost use Rattle.cut_check.specs.Stored.{effect_of_storage, effect_of_stored, effect_of_changing};
 ghost use Rattle.cut_check.specs.Procedures.{procedure_answered, procedure_at};
 
-use crate::effect::{Effect, effect_of};
-use crate::procedures::may_last;
+use crate::effect::Effect;
+use crate::procedures::{may_last, may_show_verifier};
 use certificate::{Bind, Certificate, EraPlan, Place};
-use nfs_history::{CallKind, KnownCalls, Meaning, RecordedCall};
-use nfs3_types::{NfsCall, Outcome, Procedure};
+use nfs_history::{CallKind, LentCalls, StorageCall};
+use nfs3_types::{Procedure, StableHow};
 use std::alloc::{AllocError, Global};
 use tree_handles::Binds;
 
@@ -30,16 +30,12 @@ pub fn bindings(alloc: Global, root: &[u8], binds: &[Bind]) -> Result<Binds, All
 /// What the handles of a history name, as a plan has it.
 pub fn bindings_of_plan(
     alloc: Global,
-    history: &KnownCalls<'_>,
+    calls: &LentCalls<'_, '_>,
     certificate: &Certificate,
 ) -> Result<Binds, AllocError>
-    ensures { IfOk result (λ b. b ≡ bindings_of history.now.head.root certificate.now.binds) }
+    ensures { IfOk result (λ b. b ≡ bindings_of calls.now.head.root certificate.now.binds) }
 {
-    bindings(
-        alloc,
-        history.root().as_slice(),
-        certificate.binds.as_slice(),
-    )
+    bindings(alloc, calls.root().as_slice(), certificate.binds.as_slice())
 }
 
 /// How many places of an era are kept.
@@ -62,84 +58,97 @@ fn procedure_answered(kind: CallKind) -> Option<Procedure>
     }
 }
 
+/// The number of the call at a place.
+pub fn number_at(place: Place) -> u64
+    ensures { result ≡ call_of place }
+{
+    match place {
+        Place::Answered(number) | Place::Taken(number, _) => number,
+    }
+}
+
 /// The procedure of the judged call at an answered place. The call isn't read.
-pub fn procedure_at(history: &KnownCalls<'_>, place: Place) -> Option<Procedure>
-    ensures { result ≡ procedure_at history.now.calls place }
+pub fn procedure_at(calls: &LentCalls<'_, '_>, place: Place) -> Option<Procedure>
+    ensures { result ≡ procedure_at calls.now.calls place }
 {
     let Place::Answered(number) = place else {
         return None;
     };
-    match history.kind(number) {
+    match calls.kind(number) {
         Some(kind) => procedure_answered(kind),
         None => None,
     }
 }
 
-/// The call at an answered place, read from its messages.
-pub fn recorded_at(
+/// What a WRITE or a COMMIT that succeeded means for stable storage, where its handle names this object.
+fn effect_of_storage(object: Option<u64>, call: &StorageCall<'_>) -> Effect
+    ensures { result ≡ effect_of_storage object (storage_value call.now) }
+{
+    let (offset, count) = (call.offset, call.count);
+    match (call.level, object) {
+        (Some(StableHow::DataSync | StableHow::FileSync), _) => Effect::Lasting,
+        (_, None) => Effect::Nothing,
+        (Some(StableHow::Unstable), Some(object)) => Effect::Unstable {
+            object,
+            offset,
+            count,
+        },
+        (None, Some(object)) => Effect::Committed {
+            object,
+            offset,
+            count,
+        },
+    }
+}
+
+/// What a WRITE or a COMMIT with this number means for stable storage.
+fn effect_of_stored(
     alloc: Global,
-    history: &KnownCalls<'_>,
-    place: Place,
-) -> Result<Option<RecordedCall>, AllocError>
-    ensures { IfOk result (λ found. option_and_then (λ call. answered_with call.meaning call.outcome) found
-        ≡ answered_at history.now.calls place) }
+    calls: &LentCalls<'_, '_>,
+    binds: &Binds,
+    number: u64,
+) -> Result<Effect, AllocError>
+    ensures { IfOk result (λ effect. effect ≡ effect_of_stored binds.now (call_at calls.now.calls number)) }
 {
-    match place {
-        Place::Answered(number) => history.call(alloc, number),
-        Place::Taken(..) => Ok(None),
+    match calls.storage(alloc, number)? {
+        Some(call) => Ok(effect_of_storage(binds.object(call.file), &call)),
+        None => Ok(Effect::Nothing),
     }
 }
 
-/// A judged call, and how it came out, where it was answered.
-pub fn answered(recorded: &RecordedCall) -> Option<(&NfsCall, &Outcome)>
-    ensures { option_map (λ a. (a.0.now, a.1.now)) result ≡ answered_with recorded.now.meaning recorded.now.outcome }
+/// What another call with this number means for stable storage that changes the tree or an object.
+fn effect_of_changing(
+    alloc: Global,
+    calls: &LentCalls<'_, '_>,
+    number: u64,
+) -> Result<Effect, AllocError>
+    ensures { IfOk result (λ effect. effect ≡ effect_of_changing (call_at calls.now.calls number)) }
 {
-    let Meaning::Judged(call) = &recorded.meaning else {
-        return None;
-    };
-    let outcome = recorded.outcome.as_ref()?;
-    Some((call, outcome))
-}
-
-/// The object that a WRITE's or a COMMIT's handle names.
-fn object_written(binds: &Binds, call: &NfsCall) -> Option<u64>
-    ensures { result ≡ object_written binds.now call.now }
-{
-    match call {
-        NfsCall::Write(write) => binds.object(write.file.as_slice()),
-        NfsCall::Commit(commit) => binds.object(commit.file.as_slice()),
-        _ => None,
+    if calls.succeeded(alloc, number)? {
+        Ok(Effect::Lasting)
+    } else {
+        Ok(Effect::Nothing)
     }
 }
 
-/// What a call that was read means for stable storage.
-fn effect_in(binds: &Binds, recorded: &RecordedCall) -> Effect
-    ensures { result ≡ option_map_or (λ a. effect_of (object_written binds.now a.0) a.0 a.1)
-        (answered_with recorded.now.meaning recorded.now.outcome) Effect.Nothing }
-{
-    match answered(recorded) {
-        Some((call, outcome)) => effect_of(object_written(binds, call), call, outcome),
-        None => Effect::Nothing,
-    }
-}
-
-/// What a place means for stable storage. A call that can't mean anything isn't read.
+/// What a place means for stable storage. A call that can't mean anything isn't read, and no call's bytes are copied.
 pub fn effect_at(
     alloc: Global,
-    history: &KnownCalls<'_>,
+    calls: &LentCalls<'_, '_>,
     binds: &Binds,
     place: Place,
 ) -> Result<Effect, AllocError>
-    ensures { IfOk result (λ effect. effect ≡ effect_at binds.now history.now.calls place) }
+    ensures { IfOk result (λ effect. effect ≡ effect_at binds.now calls.now.calls place) }
 {
-    let Some(procedure) = procedure_at(history, place) else {
+    let Some(procedure) = procedure_at(calls, place) else {
         return Ok(Effect::Nothing);
     };
-    if !may_last(procedure) {
-        return Ok(Effect::Nothing);
+    let number = number_at(place);
+    if may_show_verifier(procedure) {
+        return effect_of_stored(alloc, calls, binds, number);
     }
-    match recorded_at(alloc, history, place)? {
-        Some(recorded) => Ok(effect_in(binds, &recorded)),
-        None => Ok(Effect::Nothing),
+    if may_last(procedure) {
+        return effect_of_changing(alloc, calls, number);
     }
+    Ok(Effect::Nothing)
 }

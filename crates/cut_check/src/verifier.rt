@@ -1,22 +1,20 @@
 //! Whether the write verifiers of a plan's eras agree.
 
-ghost use Rattle.std.specs.Prelude.{◌≡◌, ◌↔◌, ◌⊎◌, ℕ, Err, IsTrue, false, IfOk, OnOk, MatchOption, option_and_then};
+ghost use Rattle.std.specs.Prelude.{◌≡◌, ◌↔◌, ◌⊎◌, ℕ, Err, IsTrue, false, IfOk, OnOk, MatchOption};
 ghost use Rattle.std.specs.List.{list_any};
-ghost use Rattle.std.specs.Option.{option_map_or};
 ghost use Rattle.cut_check.specs.declared.fault.VerifierFault.{VerifierFault};
-ghost use Rattle.cut_check.specs.Places.{answered_with};
-ghost use Rattle.cut_check.specs.Verifier.{verifier_of, writes_bytes, verifier_at, writes_bytes_at, loses_write, VerifiersAgree};
+ghost use Rattle.nfs_history.specs.Storage.{storage_value};
+ghost use Rattle.cut_check.specs.Stored.{brought_bytes};
+ghost use Rattle.cut_check.specs.Verifier.{verifier_at, writes_bytes_at, loses_write, VerifiersAgree};
 ghost use Rattle.cut_check.specs.VerifierFault.{IsVerifierFault};
 ghost use Rattle.cut_check.specs.Shown.{IsShown, IsShownWith, AddsSeen, AddsShown, IsAtFaultWith};
 ghost use Rattle.cut_check.specs.FaultNamed.{HasNoVerifierFault};
 
-use crate::effect::{commit_success, write_success};
 use crate::fault::VerifierFault;
-use crate::places::{answered, cut_of, procedure_at, recorded_at};
+use crate::places::{cut_of, number_at, procedure_at};
 use crate::procedures::{may_show_verifier, may_write};
 use certificate::{Certificate, EraPlan, Place};
-use nfs_history::{KnownCalls, RecordedCall};
-use nfs3_types::{NfsCall, Outcome};
+use nfs_history::{History, LentCalls, StorageCall};
 use std::alloc::{AllocError, Global};
 use std::collections::BTreeSet;
 
@@ -28,90 +26,49 @@ enum Shown {
     Several,
 }
 
-/// The verifier that the reply to a call shows.
-fn verifier_of(call: &NfsCall, outcome: &Outcome) -> Option<u64>
-    ensures { result ≡ verifier_of call.now outcome.now }
-{
-    match call {
-        NfsCall::Write(_) => match write_success(outcome) {
-            Some(success) => Some(success.verifier.value),
-            None => None,
-        },
-        NfsCall::Commit(_) => match commit_success(outcome) {
-            Some(success) => Some(success.verifier.value),
-            None => None,
-        },
-        _ => None,
-    }
-}
-
-/// Whether a call wrote at least one byte.
-fn writes_bytes(call: &NfsCall, outcome: &Outcome) -> bool
-    ensures { result ≡ writes_bytes call.now outcome.now }
-{
-    match call {
-        NfsCall::Write(_) => match write_success(outcome) {
-            Some(success) => 0 < success.count,
-            None => false,
-        },
-        _ => false,
-    }
-}
-
-/// The verifier that a call shows that was read.
-fn verifier_in(recorded: &RecordedCall) -> Option<u64>
-    ensures { result ≡ option_and_then (λ a. verifier_of a.0 a.1) (answered_with recorded.now.meaning recorded.now.outcome) }
-{
-    let (call, outcome) = answered(recorded)?;
-    verifier_of(call, outcome)
-}
-
-/// Whether a call that was read wrote at least one byte.
-fn writes_bytes_in(recorded: &RecordedCall) -> bool
-    ensures { result ≡ option_map_or (λ a. writes_bytes a.0 a.1) (answered_with recorded.now.meaning recorded.now.outcome) false }
-{
-    match answered(recorded) {
-        Some((call, outcome)) => writes_bytes(call, outcome),
-        None => false,
-    }
-}
-
 /// The verifier that a place shows. A call that can show none isn't read.
 fn verifier_at(
     alloc: Global,
-    history: &KnownCalls<'_>,
+    calls: &LentCalls<'_, '_>,
     place: Place,
 ) -> Result<Option<u64>, AllocError>
-    ensures { IfOk result (λ seen. seen ≡ verifier_at history.now.calls place) }
+    ensures { IfOk result (λ seen. seen ≡ verifier_at calls.now.calls place) }
 {
-    let Some(procedure) = procedure_at(history, place) else {
+    let Some(procedure) = procedure_at(calls, place) else {
         return Ok(None);
     };
     if !may_show_verifier(procedure) {
         return Ok(None);
     }
-    match recorded_at(alloc, history, place)? {
-        Some(recorded) => Ok(verifier_in(&recorded)),
+    match calls.storage(alloc, number_at(place))? {
+        Some(call) => Ok(Some(call.verifier)),
         None => Ok(None),
     }
+}
+
+/// Whether a WRITE wrote at least one byte.
+fn wrote_bytes(call: &StorageCall<'_>) -> bool
+    ensures { result ≡ brought_bytes (storage_value call.now) }
+{
+    call.level.is_some() && 0 < call.count
 }
 
 /// Whether a place wrote at least one byte. A call that can't have isn't read.
 fn writes_bytes_at(
     alloc: Global,
-    history: &KnownCalls<'_>,
+    calls: &LentCalls<'_, '_>,
     place: Place,
 ) -> Result<bool, AllocError>
-    ensures { IfOk result (λ writes. writes ≡ writes_bytes_at history.now.calls place) }
+    ensures { IfOk result (λ writes. writes ≡ writes_bytes_at calls.now.calls place) }
 {
-    let Some(procedure) = procedure_at(history, place) else {
+    let Some(procedure) = procedure_at(calls, place) else {
         return Ok(false);
     };
     if !may_write(procedure) {
         return Ok(false);
     }
-    match recorded_at(alloc, history, place)? {
-        Some(recorded) => Ok(writes_bytes_in(&recorded)),
+    match calls.storage(alloc, number_at(place))? {
+        Some(call) => Ok(wrote_bytes(&call)),
         None => Ok(false),
     }
 }
@@ -137,7 +94,11 @@ fn shown_with(so_far: Shown, seen: Option<u64>) -> Shown
 }
 
 /// What places show.
-fn shown_of(alloc: Global, history: &KnownCalls<'_>, places: &[Place]) -> Result<Shown, AllocError>
+fn shown_of(
+    alloc: Global,
+    history: &LentCalls<'_, '_>,
+    places: &[Place],
+) -> Result<Shown, AllocError>
     ensures { IfOk result (IsShown history.now.calls places.now) }
 {
     let mut shown = Shown::Nothing;
@@ -149,7 +110,11 @@ fn shown_of(alloc: Global, history: &KnownCalls<'_>, places: &[Place]) -> Result
 }
 
 /// Whether some place wrote at least one byte.
-fn any_writes(alloc: Global, history: &KnownCalls<'_>, places: &[Place]) -> Result<bool, AllocError>
+fn any_writes(
+    alloc: Global,
+    history: &LentCalls<'_, '_>,
+    places: &[Place],
+) -> Result<bool, AllocError>
     ensures { IfOk result (λ any. any ≡ list_any (writes_bytes_at history.now.calls) places.now) }
 {
     for place in places {
@@ -161,7 +126,11 @@ fn any_writes(alloc: Global, history: &KnownCalls<'_>, places: &[Place]) -> Resu
 }
 
 /// Whether a place past an era's cut wrote at least one byte.
-fn loses_write(alloc: Global, history: &KnownCalls<'_>, era: &EraPlan) -> Result<bool, AllocError>
+fn loses_write(
+    alloc: Global,
+    history: &LentCalls<'_, '_>,
+    era: &EraPlan,
+) -> Result<bool, AllocError>
     ensures { IfOk result (λ loses. loses ≡ loses_write history.now.calls era.now) }
 {
     let places = era.places.as_slice();
@@ -186,7 +155,7 @@ fn add_seen(set: &mut BTreeSet<u64>, seen: Option<u64>) -> Result<(), AllocError
 fn add_each(
     alloc: Global,
     set: &mut BTreeSet<u64>,
-    history: &KnownCalls<'_>,
+    history: &LentCalls<'_, '_>,
     places: &[Place],
 ) -> Result<(), AllocError>
     ensures { IfOk result (λ _. AddsShown history.now.calls places.now set.old set.new) }
@@ -202,7 +171,7 @@ fn add_each(
 fn add_shown(
     alloc: Global,
     set: &mut BTreeSet<u64>,
-    history: &KnownCalls<'_>,
+    history: &LentCalls<'_, '_>,
     places: &[Place],
     shown: Shown,
 ) -> Result<(), AllocError>
@@ -219,7 +188,7 @@ fn add_shown(
 /// Whether an era is at fault that shows this, where the set has the verifiers that later eras show.
 fn is_at_fault(
     alloc: Global,
-    history: &KnownCalls<'_>,
+    history: &LentCalls<'_, '_>,
     era: &EraPlan,
     shown: Shown,
     later: &BTreeSet<u64>,
@@ -243,7 +212,7 @@ fn is_at_fault(
 /// The first era at fault.
 fn first_at_fault(
     alloc: Global,
-    history: &KnownCalls<'_>,
+    history: &LentCalls<'_, '_>,
     eras: &[EraPlan],
 ) -> Result<Option<u64>, AllocError>
     ensures { IfOk result (λ found. MatchOption found (VerifiersAgree history.now.calls eras.now)
@@ -266,18 +235,35 @@ fn first_at_fault(
 /// Whether each era shows one write verifier, and none that an era ahead of it had when it lost a WRITE.
 pub fn check_verifiers(
     alloc: Global,
-    history: &KnownCalls<'_>,
+    history: &History,
     certificate: &Certificate,
 ) -> Result<(), VerifierFault>
-    ensures ok { OnOk result (VerifiersAgree history.now.calls certificate.now.eras) }
+    ensures ok { OnOk result (VerifiersAgree history.now.known.calls certificate.now.eras) }
     // A plan whose verifiers agree is refused for want of memory alone.
-    ensures only { VerifiersAgree history.now.calls certificate.now.eras → HasNoVerifierFault result }
+    ensures only { VerifiersAgree history.now.known.calls certificate.now.eras → HasNoVerifierFault result }
     // The fault that is told is the first, and the first is told.
-    ensures fault { (e : ℕ) → result ≡ Err (VerifierFault.Verifier e) → IsVerifierFault history.now.calls certificate.now.eras e }
-    ensures named { (e : ℕ) → IsVerifierFault history.now.calls certificate.now.eras e
+    ensures fault { (e : ℕ) → result ≡ Err (VerifierFault.Verifier e) → IsVerifierFault history.now.known.calls certificate.now.eras e }
+    ensures named { (e : ℕ) → IsVerifierFault history.now.known.calls certificate.now.eras e
         → (result ≡ Err (VerifierFault.Verifier e)) ⊎ (result ≡ Err VerifierFault.NoMemory) }
 {
-    match first_at_fault(alloc, history, certificate.eras.as_slice())? {
+    check_verifiers_of_calls(alloc, &history.lend(), certificate)
+}
+
+/// The same of a history whose calls these are.
+pub fn check_verifiers_of_calls(
+    alloc: Global,
+    calls: &LentCalls<'_, '_>,
+    certificate: &Certificate,
+) -> Result<(), VerifierFault>
+    ensures ok { OnOk result (VerifiersAgree calls.now.calls certificate.now.eras) }
+    // A plan whose verifiers agree is refused for want of memory alone.
+    ensures only { VerifiersAgree calls.now.calls certificate.now.eras → HasNoVerifierFault result }
+    // The fault that is told is the first, and the first is told.
+    ensures fault { (e : ℕ) → result ≡ Err (VerifierFault.Verifier e) → IsVerifierFault calls.now.calls certificate.now.eras e }
+    ensures named { (e : ℕ) → IsVerifierFault calls.now.calls certificate.now.eras e
+        → (result ≡ Err (VerifierFault.Verifier e)) ⊎ (result ≡ Err VerifierFault.NoMemory) }
+{
+    match first_at_fault(alloc, calls, certificate.eras.as_slice())? {
         Some(era) => Err(VerifierFault::Verifier(era)),
         None => Ok(()),
     }

@@ -14,3 +14,5 @@ pub mod OneHistory
 pub mod AppendSteps
 pub mod EitherWay
 pub mod Rereading
+pub mod AskedProcedure
+mod StorageLaws

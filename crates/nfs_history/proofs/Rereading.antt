@@ -32,7 +32,7 @@ use Rattle.nfs_history.proofs.CallFaultLaws.{call_fault_or_fine}
 use Rattle.nfs_history.proofs.EitherWay.{call_again, reply_again, reply_start}
 use Rattle.nfs_history.proofs.OneHistory.{has_effect, same_call}
 
-head_again : (message : List ℕ) (value : CallValue) → IsCall message value → head_in message ≡ value
+pub head_again : (message : List ℕ) (value : CallValue) → IsCall message value → head_in message ≡ value
 head_again message value is = ap head_from (call_again message value is) ∙ args where
   args : record value { args = is.back } ≡ value
   args = rw is.others refl
@@ -41,7 +41,7 @@ behind_again : (status : Status) (rest : List ℕ) (body : Body) → IsEnding st
 behind_again results_follow rest body is = sym is
 behind_again (final status) rest body is = sym is.1
 
-body_again : (answer : Option ReplyEvent) (body : Option Body) → Says answer body → body_in answer ≡ body
+pub body_again : (answer : Option ReplyEvent) (body : Option Body) → Says answer body → body_in answer ≡ body
 unfolding reply_start
 body_again None body is = sym is
 body_again (Some reply) body is =

@@ -15,5 +15,8 @@ pub mod Answers
 pub mod Checking
 pub mod Judging
 pub mod Reread
+pub mod Success
+pub mod Storage
+pub mod Lent
 pub mod FaultText
 pub mod Appending

@@ -175,7 +175,7 @@ fn known_of(
 }
 
 /// The body of the reply to a call, where one came.
-fn body_of<'a>(answer: &Option<SeenReply<'a>>) -> Option<ReplyBody<'a>>
+pub(crate) fn body_of<'a>(answer: &Option<SeenReply<'a>>) -> Option<ReplyBody<'a>>
     requires { (body : Option Body) × Says (option_map seen_reply answer.now) body }
     ensures { Says (option_map seen_reply answer.now) (option_map body_value result) }
 {

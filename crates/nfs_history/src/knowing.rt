@@ -1,7 +1,7 @@
 //! What is known of the calls of a recording, or its first fault.
 
-ghost use Rattle.std.specs.Prelude.{◌≡◌, ◌<◌, ◌^◌, [], map, IfOk, IfSome, length, option_map};
-ghost use Rattle.std.specs.Option.{option_copied};
+ghost use Rattle.std.specs.Prelude.{◌≡◌, ◌<◌, ◌^◌, [], map, false, IfOk, IfSome, length, option_map, option_and_then};
+ghost use Rattle.std.specs.Option.{option_copied, option_map_or};
 ghost use Rattle.history_file.specs.Owning.{all_seen};
 ghost use Rattle.nfs_history.specs.Calls.{calls_of, eras_from};
 ghost use Rattle.nfs_history.specs.Matching.{seen_call};
@@ -11,6 +11,7 @@ ghost use Rattle.nfs_history.specs.History.{IsRecorded, AreCallsOf};
 ghost use Rattle.nfs_history.specs.Precedence.{call_at, begin_of, end_of};
 ghost use Rattle.nfs_history.specs.Reread.{item_at, known_as, call_kind};
 ghost use Rattle.nfs_history.specs.Standing.{EachMayFollow};
+ghost use Rattle.nfs_history.specs.Storage.{storage_value, storage_in, brought_in, has_succeeded};
 
 use crate::checking::follow_all;
 use crate::fault::HistoryFault;
@@ -18,6 +19,7 @@ use crate::head::LentHead;
 use crate::history::{CallKind, RecordedCall};
 use crate::judging::{kinds_of, read_again};
 use crate::matching::{SeenCall, count_eras, matched_calls};
+use crate::storage::{StorageCall, brought_again, storage_again};
 use history_file::SeenEvent;
 use nfs3_types::FileHandle;
 use std::alloc::{AllocError, Global};
@@ -237,6 +239,36 @@ impl<'a> KnownCalls<'a> {
         match self.seen_call(number) {
             Some(seen) => Ok(Some(read_again(alloc, seen)?)),
             None => Ok(None),
+        }
+    }
+
+    /// What call `number` says of stable storage, where it is a WRITE or a COMMIT that succeeded. Its bytes aren't copied.
+    pub fn storage(&self, alloc: Global, number: u64) -> Result<Option<StorageCall<'a>>, AllocError>
+        ensures { IfOk result (λ found. option_map storage_value found ≡ option_and_then storage_in (call_at self.now.calls number)) }
+    {
+        match self.seen_call(number) {
+            Some(seen) => storage_again(alloc, seen),
+            None => Ok(None),
+        }
+    }
+
+    /// How many bytes call `number` brought, where it is a WRITE. They aren't copied.
+    pub fn brought(&self, alloc: Global, number: u64) -> Result<Option<usize>, AllocError>
+        ensures { IfOk result (λ found. found ≡ option_and_then brought_in (call_at self.now.calls number)) }
+    {
+        match self.seen_call(number) {
+            Some(seen) => brought_again(alloc, seen),
+            None => Ok(None),
+        }
+    }
+
+    /// Whether call `number` is a judged one that was answered by a success.
+    pub fn succeeded(&self, alloc: Global, number: u64) -> Result<bool, AllocError>
+        ensures { IfOk result (λ fine. fine ≡ option_map_or has_succeeded (call_at self.now.calls number) false) }
+    {
+        match self.call(alloc, number)? {
+            Some(call) => Ok(call.succeeded()),
+            None => Ok(false),
         }
     }
 }

@@ -9,9 +9,11 @@ mod history;
 mod judging;
 mod knowing;
 mod laws;
+mod lent;
 mod limits;
 mod matching;
 mod reading;
+mod storage;
 
 pub use checking::{LaneState, OpenCalls};
 pub use fault::{CallFault, EventFault, HistoryFault, Which};
@@ -22,7 +24,9 @@ pub use laws::{
     a_file_begins_with_a_start, a_file_has_one_history, a_file_is_judged_by_its_history,
     bytes_are_a_history_or_at_fault, bytes_have_one_first_fault,
 };
+pub use lent::LentCalls;
 pub use reading::{read_calls, read_history};
+pub use storage::{StorageCall, commit_success, succeeded, write_success};
 pub use tree_starts::{
     Profile, SeenNode, SeenObject, SeenStart, Start, StartFault, StartNode, StartObject,
 };

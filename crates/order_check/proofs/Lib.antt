@@ -1,3 +1,4 @@
 pub mod ShapeLaws
 pub mod OrderLaws
 pub mod OneEarly
+pub mod TakenLaws

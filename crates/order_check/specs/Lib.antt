@@ -3,3 +3,4 @@ pub mod Shape
 pub mod FirstFault
 pub mod Order
 pub mod FaultText
+pub mod Taking

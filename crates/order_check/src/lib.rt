@@ -8,5 +8,5 @@ mod places;
 mod shape;
 
 pub use fault::{OrderFault, ShapeFault};
-pub use order::check_order;
-pub use shape::check_shape;
+pub use order::{check_order, check_order_of_calls};
+pub use shape::{check_shape, check_shape_of_calls};

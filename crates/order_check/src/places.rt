@@ -1,14 +1,15 @@
 //! The places of a certificate as one serial order, and how a call may be placed.
 
-ghost use Rattle.std.specs.Prelude.{◌≡◌, ◌++◌, ℕ, map, IfOk};
+ghost use Rattle.std.specs.Prelude.{◌≡◌, ◌++◌, Some, None, map, IfOk};
 ghost use Rattle.nfs_history.specs.Precedence.{call_at};
 ghost use Rattle.certificate.specs.declared.plan.Place.{Place};
 ghost use Rattle.certificate.specs.Plan.{call_of};
 ghost use Rattle.order_check.specs.Places.{order_from, number_of, may_place, may_take, passes, is_wanted, is_known, is_of_era, is_placeable};
+ghost use Rattle.order_check.specs.Taking.{is_taken_whole};
 
 use certificate::{EraPlan, Place};
-use nfs_history::{CallKind, KnownCalls, Meaning, RecordedCall};
-use nfs3_types::NfsCall;
+use nfs_history::{CallKind, LentCalls};
+use nfs3_types::Procedure;
 use std::alloc::{AllocError, Global};
 
 /// A place, and the era in which it stands.
@@ -41,53 +42,59 @@ pub fn number_at(place: Place) -> u64
     }
 }
 
-/// Whether a call has the meaning of one that changes the tree, taken as done with this count of bytes.
-fn may_take(meaning: &Meaning, count: Option<u32>) -> bool
-    ensures { result ≡ may_take meaning.now count }
+/// Whether a call of this kind changes the tree and is no WRITE.
+fn is_taken_whole(kind: CallKind) -> bool
+    ensures { result ≡ is_taken_whole kind }
 {
-    match (meaning, count) {
-        (Meaning::Judged(NfsCall::Write(write)), Some(count)) => {
-            count as usize <= write.bytes.as_slice().len()
+    match kind {
+        CallKind::Unjudged => false,
+        CallKind::Unanswered(procedure) | CallKind::Answered(procedure, _) => {
+            procedure.changes_the_tree() && procedure != Procedure::Write
         }
-        (
-            Meaning::Judged(
-                NfsCall::SetAttr(_)
-                | NfsCall::Create(_)
-                | NfsCall::MkDir(_)
-                | NfsCall::SymLink(_)
-                | NfsCall::Remove(_)
-                | NfsCall::RmDir(_)
-                | NfsCall::Rename(_),
-            ),
-            None,
-        ) => true,
-        _ => false,
     }
 }
 
-/// Whether a call may be taken as done, with this count of bytes.
-fn may_be_taken(call: &RecordedCall, count: Option<u32>) -> bool
-    ensures { (number : ℕ) → result ≡ may_place (Place.Taken number count) call.now }
+/// Whether a call with this number may be taken as done with no count of bytes, if no reply came to it.
+fn may_be_taken_whole(history: &LentCalls<'_, '_>, number: u64) -> bool
+    ensures { result ≡ passes (λ call. may_take call.meaning None) (call_at history.now.calls number) }
 {
-    call.end.is_none() && may_take(&call.meaning, count)
+    match history.kind(number) {
+        Some(kind) => is_taken_whole(kind),
+        None => false,
+    }
+}
+
+/// Whether a call with this number may be taken as done with so many bytes, if no reply came to it.
+fn may_be_taken_in_part(
+    alloc: Global,
+    history: &LentCalls<'_, '_>,
+    number: u64,
+    count: u32,
+) -> Result<bool, AllocError>
+    ensures { IfOk result (λ may. may ≡ passes (λ call. may_take call.meaning (Some count)) (call_at history.now.calls number)) }
+{
+    match history.brought(alloc, number)? {
+        Some(brought) => Ok(count as usize <= brought),
+        None => Ok(false),
+    }
 }
 
 /// Whether a call of this number is judged and answered.
-pub fn is_answered_call(history: &KnownCalls<'_>, number: u64) -> bool
+pub fn is_answered_call(history: &LentCalls<'_, '_>, number: u64) -> bool
     ensures { result ≡ passes is_wanted (call_at history.now.calls number) }
 {
     matches!(history.kind(number), Some(CallKind::Answered(..)))
 }
 
 /// Whether a place names a call.
-pub fn names_call(history: &KnownCalls<'_>, place: &OrderedPlace) -> bool
+pub fn names_call(history: &LentCalls<'_, '_>, place: &OrderedPlace) -> bool
     ensures { result ≡ is_known history.now.calls place.now }
 {
     history.kind(place.number()).is_some()
 }
 
 /// Whether the call of a place is of its era.
-pub fn stands_in_era(history: &KnownCalls<'_>, place: &OrderedPlace) -> bool
+pub fn stands_in_era(history: &LentCalls<'_, '_>, place: &OrderedPlace) -> bool
     ensures { result ≡ is_of_era history.now.calls place.now }
 {
     match history.era(place.number()) {
@@ -99,22 +106,25 @@ pub fn stands_in_era(history: &KnownCalls<'_>, place: &OrderedPlace) -> bool
 /// Whether a call of this number may be taken as done, with this count of bytes.
 fn takes_right(
     alloc: Global,
-    history: &KnownCalls<'_>,
+    history: &LentCalls<'_, '_>,
     number: u64,
     count: Option<u32>,
 ) -> Result<bool, AllocError>
     ensures { IfOk result (λ right. right ≡ passes (may_place (Place.Taken number count)) (call_at history.now.calls number)) }
 {
-    match history.call(alloc, number)? {
-        Some(call) => Ok(may_be_taken(&call, count)),
-        None => Ok(false),
+    if history.end(number).is_some() {
+        return Ok(false);
+    }
+    match count {
+        Some(count) => may_be_taken_in_part(alloc, history, number, count),
+        None => Ok(may_be_taken_whole(history, number)),
     }
 }
 
 /// Whether the call of a place may be placed so.
 pub fn stands_right(
     alloc: Global,
-    history: &KnownCalls<'_>,
+    history: &LentCalls<'_, '_>,
     place: &OrderedPlace,
 ) -> Result<bool, AllocError>
     ensures { IfOk result (λ right. right ≡ is_placeable history.now.calls place.now) }

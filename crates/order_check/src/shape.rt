@@ -13,18 +13,18 @@ use crate::places::{
     OrderedPlace, is_answered_call, names_call, serial_order, stands_in_era, stands_right,
 };
 use certificate::{Certificate, EraPlan};
-use nfs_history::KnownCalls;
+use nfs_history::{History, LentCalls};
 use std::alloc::{AllocError, Global};
 
 /// The first place that names no call.
-fn unknown<'a>(history: &KnownCalls<'_>, order: &'a [OrderedPlace]) -> Option<&'a OrderedPlace>
+fn unknown<'a>(history: &LentCalls<'_, '_>, order: &'a [OrderedPlace]) -> Option<&'a OrderedPlace>
     ensures { option_copied result ≡ failing (is_known history.now.calls) order.now }
 {
     order.iter().find(|place| !names_call(history, place))
 }
 
 /// The first place whose call is of another era.
-fn wrong_era<'a>(history: &KnownCalls<'_>, order: &'a [OrderedPlace]) -> Option<&'a OrderedPlace>
+fn wrong_era<'a>(history: &LentCalls<'_, '_>, order: &'a [OrderedPlace]) -> Option<&'a OrderedPlace>
     ensures { option_copied result ≡ failing (is_of_era history.now.calls) order.now }
 {
     order.iter().find(|place| !stands_in_era(history, place))
@@ -33,7 +33,7 @@ fn wrong_era<'a>(history: &KnownCalls<'_>, order: &'a [OrderedPlace]) -> Option<
 /// The first place whose call may not be placed so.
 fn not_to_place(
     alloc: Global,
-    history: &KnownCalls<'_>,
+    history: &LentCalls<'_, '_>,
     order: &[OrderedPlace],
 ) -> Result<Option<OrderedPlace>, AllocError>
     ensures { IfOk result (λ found. found ≡ failing (is_placeable history.now.calls) order.now) }
@@ -47,7 +47,7 @@ fn not_to_place(
 }
 
 /// Whether the call behind the first `index` ones is judged and answered, and isn't named.
-fn is_missing(history: &KnownCalls<'_>, named: &[bool], index: usize) -> bool
+fn is_missing(history: &LentCalls<'_, '_>, named: &[bool], index: usize) -> bool
     requires { index < length named.now }
     ensures { result ≡ (passes is_wanted (call_at history.now.calls (index + 1)) && not (slice_index_or named.now index false)) }
 {
@@ -55,7 +55,11 @@ fn is_missing(history: &KnownCalls<'_>, named: &[bool], index: usize) -> bool
 }
 
 /// The first answered judged call that isn't named, where `named` tells of each call whether it is.
-fn missing(history: &KnownCalls<'_>, order: &[OrderedPlace], named: &[bool]) -> Option<ShapeFault>
+fn missing(
+    history: &LentCalls<'_, '_>,
+    order: &[OrderedPlace],
+    named: &[bool],
+) -> Option<ShapeFault>
     requires { Marks order.now named.now (length history.now.calls) }
     ensures { result ≡ option_map Missing (first_missing history.now.calls order.now) }
 {
@@ -113,7 +117,7 @@ fn mark_calls(alloc: Global, calls: usize, order: &[OrderedPlace]) -> Result<Mar
 /// The shape of an order whose plan has the right number of eras.
 fn check_places(
     alloc: Global,
-    history: &KnownCalls<'_>,
+    history: &LentCalls<'_, '_>,
     eras: &[EraPlan],
     order: &[OrderedPlace],
 ) -> Result<(), ShapeFault>
@@ -144,19 +148,34 @@ fn check_places(
 /// Whether the plan has the shape that the history asks for.
 pub fn check_shape(
     alloc: Global,
-    history: &KnownCalls<'_>,
+    history: &History,
     certificate: &Certificate,
 ) -> Result<(), ShapeFault>
     // The first fault.
-    ensures exact { IsCheck result (shape_fault history.now.eras history.now.calls certificate.now.eras) }
-    ensures ok { OnOk result (HasShape history.now.eras history.now.calls certificate.now.eras) }
+    ensures exact { IsCheck result (shape_fault history.now.known.eras history.now.known.calls certificate.now.eras) }
+    ensures ok { OnOk result (HasShape history.now.known.eras history.now.known.calls certificate.now.eras) }
     // A plan that has the shape is refused for want of memory alone.
-    ensures only { HasShape history.now.eras history.now.calls certificate.now.eras → IsCheck result None }
+    ensures only { HasShape history.now.known.eras history.now.known.calls certificate.now.eras → IsCheck result None }
+{
+    check_shape_of_calls(alloc, &history.lend(), certificate)
+}
+
+/// The same of a history whose calls these are.
+pub fn check_shape_of_calls(
+    alloc: Global,
+    calls: &LentCalls<'_, '_>,
+    certificate: &Certificate,
+) -> Result<(), ShapeFault>
+    // The first fault.
+    ensures exact { IsCheck result (shape_fault calls.now.eras calls.now.calls certificate.now.eras) }
+    ensures ok { OnOk result (HasShape calls.now.eras calls.now.calls certificate.now.eras) }
+    // A plan that has the shape is refused for want of memory alone.
+    ensures only { HasShape calls.now.eras calls.now.calls certificate.now.eras → IsCheck result None }
 {
     let eras = certificate.eras.as_slice();
-    if eras.len() as u64 != history.eras() {
+    if eras.len() as u64 != calls.eras() {
         return Err(ShapeFault::WrongEras);
     }
     let order = serial_order(alloc, eras)?;
-    check_places(alloc, history, eras, order.as_slice())
+    check_places(alloc, calls, eras, order.as_slice())
 }

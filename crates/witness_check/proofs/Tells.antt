@@ -1,17 +1,22 @@
 -- What the checks behind the shape and the order tell of a plan.
-use Rattle.std.proofs.Common.{◌≡◌, ◌⊎◌, inl, inr, ℕ, Result, Ok, Err, refl, ap, ◌∙◌}
+use Rattle.std.proofs.Common.{◌≡◌, inl, inr, ℕ, Result, Err, refl, subst}
 use Rattle.nfs_history.specs.declared.knowing.KnownCalls.{KnownCalls}
+use Rattle.nfs_history.specs.HistoryValue.{CallsValue}
 use Rattle.certificate.specs.declared.plan.Certificate.{Certificate}
+use Rattle.tree_handles.specs.Binding.{Bindings}
 use Rattle.cut_check.specs.declared.fault.CutFault.{CutFault}
 use Rattle.cut_check.specs.declared.fault.CutFault.TheVariants as cuts
+use Rattle.cut_check.specs.declared.fault.VerifierFault.{VerifierFault}
+use Rattle.cut_check.specs.declared.fault.VerifierFault.TheVariants as verifiers
+use Rattle.cut_check.specs.VerifierFault.{IsVerifierFault}
 use Rattle.cut_check.specs.Places.{bindings_of}
 use Rattle.cut_check.specs.ShortCut.{IsShortCut}
 use Rattle.replay_law.specs.declared.run.RunFault.{RunFault}
 use Rattle.replay_law.specs.declared.run.RunFault.TheVariants as runs
 use Rattle.replay_law.specs.Run.{IsFirstIllegalInEras}
 use Rattle.witness_check.specs.Run.{eras_of, next_of, base_of}
-use Rattle.witness_check.specs.Faults.{of_run, of_cut}
-use Rattle.witness_check.specs.Verdict.{Ordered, Ran}
+use Rattle.witness_check.specs.Faults.{of_run, of_cut, of_verifier}
+use Rattle.witness_check.specs.Verdict.{Ordered, Ran, Cut}
 use Rattle.witness_check.specs.Told.{TellsFault}
 
 module _ (history : KnownCalls) (plan : Certificate) where
@@ -24,3 +29,13 @@ module _ (history : KnownCalls) (plan : Certificate) where
       → ((e needed : ℕ) → r ≡ Err (cuts.ShortCut e needed) → IsShortCut (bindings_of history.head.root plan.binds) history.calls plan.eras e needed) → TellsFault history plan (of_cut fault)
   tells_cut r (cuts.ShortCut e needed) was ran short = inr (inr (inr (inl (ran, (e, needed, short e needed was, refl)))))
   tells_cut r cuts.NoMemory was ran short = tt
+
+  pub tells_verifiers : (r : Result (Unit {0}) VerifierFault) (fault : VerifierFault) → r ≡ Err fault → Cut history plan
+      → ((e : ℕ) → r ≡ Err (verifiers.Verifier e) → IsVerifierFault history.calls plan.eras e) → TellsFault history plan (of_verifier fault)
+  tells_verifiers r (verifiers.Verifier e) was cut first = inr (inr (inr (inr (cut, (e, first e was, refl)))))
+  tells_verifiers r verifiers.NoMemory was cut first = tt
+
+-- what holds of calls that are lent, and of what handles name in a run, holds of the history and of what its plan binds
+module _ (history calls : CallsValue) (binds : Bindings) (plan : Certificate) (same : calls ≡ history) (bound : binds ≡ bindings_of history.head.root plan.binds) where
+  pub lent : (P : Bindings → CallsValue → Type 0) → P binds calls → P (bindings_of history.head.root plan.binds) history
+  lent P h = subst (λ (b : Bindings). P b history) bound (subst (P binds) same h)

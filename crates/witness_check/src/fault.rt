@@ -3,6 +3,7 @@
 use cut_check::{CutFault, VerifierFault};
 use order_check::{OrderFault, ShapeFault};
 use replay_law::RunFault;
+use std::alloc::AllocError;
 use std::fmt;
 use thiserror::Error;
 
@@ -64,6 +65,17 @@ pub enum CheckFault {
     No(Fault),
     /// Memory ran out.
     NoMemory,
+}
+
+impl From<AllocError> for CheckFault {
+    ghost use Rattle.std.specs.Prelude.{◌≡◌};
+    ghost use Rattle.witness_check.specs.declared.fault.CheckFault.TheVariants.{NoMemory};
+
+    ghost from_gives = { λ _ told. told ≡ NoMemory };
+
+    fn from(_error: AllocError) -> CheckFault {
+        CheckFault::NoMemory
+    }
 }
 
 impl From<ShapeFault> for CheckFault {

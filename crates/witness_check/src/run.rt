@@ -3,6 +3,7 @@
 ghost use Rattle.std.specs.Prelude.{◌≡◌, ℕ, List, [], ◌++◌, map, Err, IfOk, IfSome, OnOk, IsSome, length, option_map, take, drop};
 ghost use Rattle.std.specs.Option.{option_to_list};
 ghost use Rattle.certificate.specs.Plan.{cut_of};
+ghost use Rattle.cut_check.specs.Places.{bindings_of};
 ghost use Rattle.replay_law.specs.Run as run;
 ghost use Rattle.replay_law.specs.Run.{EveryEraRuns, IsFirstIllegalInEras};
 ghost use Rattle.tree_starts.specs.Start.{object_made};
@@ -44,8 +45,8 @@ impl Drop for Found {
 
 /// What a plan's run is judged by: what handles name and how strictly replies are judged, and what stood at first, where it lies. A
 /// step reads no start, so that of the setting is empty.
-struct Rule<'h, 'a> {
-    setting: TreeSetting,
+pub(crate) struct Rule<'h, 'a> {
+    pub(crate) setting: TreeSetting,
     start: &'h SeenStart<'a>,
 }
 
@@ -348,19 +349,39 @@ fn run_plans(
     Ok(())
 }
 
-/// Whether every era of a plan runs.
-pub fn run_plan(alloc: Global, history: &KnownCalls<'_>, plan: &Certificate) -> Result<(), RunFault>
-    ensures ok { OnOk result (Runs history.now plan.now) }
-    ensures illegal { (number : ℕ) → result ≡ Err (RunFault.Illegal number)
-        → IsFirstIllegalInEras (next_of history.now plan.now) (base_of history.now) (eras_of history.now plan.now) number }
+/// What a plan's run is judged by: the handles of its binds, and the history's start and profile.
+pub(crate) fn rule_of<'h, 'a>(
+    alloc: Global,
+    history: &'h KnownCalls<'a>,
+    plan: &Certificate,
+) -> Result<Rule<'h, 'a>, AllocError>
+    ensures binds { IfOk result (λ rule. rule.setting.binds ≡ bindings_of history.now.head.root plan.now.binds) }
+    ensures profile { IfOk result (λ rule. rule.setting.profile ≡ history.now.head.profile) }
+    ensures start { IfOk result (λ rule. rule.start.now ≡ history.now.head.start) }
 {
-    let rule = Rule {
+    Ok(Rule {
         setting: TreeSetting {
-            binds: bindings_of_plan(alloc, history, plan)?,
+            binds: bindings_of_plan(alloc, &history.lend(), plan)?,
             start: Start::empty(alloc),
             profile: history.profile(),
         },
         start: history.start(),
-    };
-    run_plans(alloc, &rule, history, plan.eras.as_slice())
+    })
+}
+
+/// Whether every era of a plan runs, by the rule that is the plan's.
+pub(crate) fn run_plan(
+    alloc: Global,
+    history: &KnownCalls<'_>,
+    rule: &Rule<'_, '_>,
+    plan: &Certificate,
+) -> Result<(), RunFault>
+    requires binds { rule.now.setting.binds ≡ bindings_of history.now.head.root plan.now.binds }
+    requires profile { rule.now.setting.profile ≡ history.now.head.profile }
+    requires start { rule.now.start.now ≡ history.now.head.start }
+    ensures ok { OnOk result (Runs history.now plan.now) }
+    ensures illegal { (number : ℕ) → result ≡ Err (RunFault.Illegal number)
+        → IsFirstIllegalInEras (next_of history.now plan.now) (base_of history.now) (eras_of history.now plan.now) number }
+{
+    run_plans(alloc, rule, history, plan.eras.as_slice())
 }

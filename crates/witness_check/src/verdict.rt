@@ -12,11 +12,11 @@ ghost use Rattle.witness_check.specs.declared.verdict.Verdict.{Verdict};
 ghost use Rattle.witness_check.specs.declared.verdict.FileVerdict.{FileVerdict};
 
 use crate::fault::{CheckFault, Fault};
-use crate::run::run_plan;
+use crate::run::{rule_of, run_plan};
 use certificate::{Certificate, TextFault, read_certificate};
-use cut_check::{check_cuts, check_verifiers};
+use cut_check::{check_cuts_of_calls, check_verifiers_of_calls};
 use nfs_history::{History, HistoryFault, KnownCalls, read_calls};
-use order_check::{check_order, check_shape};
+use order_check::{check_order_of_calls, check_shape_of_calls};
 use std::alloc::{AllocError, Global};
 
 /// What is found of a history and a certificate.
@@ -50,11 +50,13 @@ fn check_parts(
     ensures ok { OnOk result (IsWitness history.now certificate.now) }
     ensures fault { IfErr result (TellsFault history.now certificate.now) }
 {
-    check_shape(alloc, history, certificate)?;
-    check_order(history, certificate)?;
-    run_plan(alloc, history, certificate)?;
-    check_cuts(alloc, history, certificate)?;
-    check_verifiers(alloc, history, certificate)?;
+    let calls = history.lend();
+    check_shape_of_calls(alloc, &calls, certificate)?;
+    let rule = rule_of(alloc, history, certificate)?;
+    check_order_of_calls(&calls, certificate)?;
+    run_plan(alloc, history, &rule, certificate)?;
+    check_cuts_of_calls(alloc, &calls, &rule.setting.binds, certificate)?;
+    check_verifiers_of_calls(alloc, &calls, certificate)?;
     Ok(())
 }
 

@@ -1,4 +1,4 @@
-use Rattle.std.proofs.Common.{◌≡◌, ℕ, List, length, map, Err, OnOk, refl, subst}
+use Rattle.std.proofs.Common.{◌≡◌, ℕ, List, length, map, Err, OnOk, subst}
 use Rattle.tree_starts.specs.declared.object.StartObject.{StartObject}
 use Rattle.tree_starts.specs.declared.profile.Profile.{Profile}
 use Rattle.certificate.specs.declared.plan.EraPlan.{EraPlan}
@@ -19,10 +19,10 @@ read P o p s t b d es fs same_profile same_start same_binds same_eras h =
 pub returns-clause-ok : goal.returns-clause-ok
 returns-clause-ok c =
     read (λ p s b es. OnOk c.run_plans.result (EveryEraRuns (next_in p (length s) b) (start_tree s) (map (era_of c.args.history.now.calls) es))) _ _ _ _ _ _ _ _
-    c.profile.ensures c.start.ensures c.in_ok-bindings_of_plan.ensures c.as_slice.ensures c.run_plans.ensures.ok
+    c.requires.profile c.requires.start c.requires.binds c.as_slice.ensures c.run_plans.ensures.ok
 
 pub returns-clause-illegal : goal.returns-clause-illegal
 returns-clause-illegal c =
     read (λ p s b es. (number : ℕ) → c.run_plans.result ≡ Err (Illegal number)
     → IsFirstIllegalInEras (next_in p (length s) b) (start_tree s) (map (era_of c.args.history.now.calls) es) number) _ _ _ _ _ _ _ _
-    c.profile.ensures c.start.ensures c.in_ok-bindings_of_plan.ensures c.as_slice.ensures c.run_plans.ensures.illegal
+    c.requires.profile c.requires.start c.requires.binds c.as_slice.ensures c.run_plans.ensures.illegal
