@@ -5,12 +5,12 @@ ghost use Rattle.std.specs.Prelude.{◌≡◌, List};
 use nfs3_types::FileHandle;
 use std::marker::Model;
 
-/// A handle, and the number of the object that it names: 0 is the root, n what call n made.
+/// A handle, and the number of the object that it names.
 #[derive(Drop)]
 pub struct Bind {
     /// The handle, of 1 to 64 bytes where it is read from a text.
     pub handle: FileHandle,
-    /// The object that it names: 0 is the root, n what call n made.
+    /// The object's number: 0 for the root, k for starting object k, s + n for what call n made where s objects stood at first.
     pub object: u64,
 }
 

@@ -35,7 +35,7 @@ is_in path directory = (length path == length directory + 1) && starts_with (poi
 abbrev pub Tree : Type 0
 Tree = map.FinMap path_cmp Node
 
--- the tree before any call: the root alone, a directory, object 0
+-- the tree before any call where nothing stood at first: the root alone, a directory, object 0
 unfoldable pub opening : Tree
 opening = map.insert map.empty [] (record { object = 0; content = Directory })
 

@@ -7,7 +7,7 @@ use nfs3_types::Verifier;
 /// An object with its number.
 #[derive(Drop)]
 pub struct Node {
-    /// The object's number: 0 for the root, else that of the call that made it.
+    /// The object's number: 0 for the root, k for starting object k, s + n for what call n made where s objects stood at first.
     pub object: u64,
     /// What the object is.
     pub content: Content,
