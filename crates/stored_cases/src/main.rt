@@ -12,6 +12,7 @@ mod again;
 mod built;
 mod case;
 mod lines;
+mod parts;
 mod search;
 mod twice;
 
@@ -22,6 +23,7 @@ use case::{Asked, Case, Kind};
 use cert_search::Host;
 use lines::tell_lines;
 use nfs_judging::judge;
+use parts::words_of_parts;
 use search::search;
 use std::alloc::{AllocError, Global};
 use std::io::{self, BufWriter, Write};
@@ -94,7 +96,7 @@ fn tell_text<R: Host, W: Write>(rt: &R, output: &mut W, case: &Case<'_>) -> Resu
     }
 }
 
-// Tells what is said of a bundle, in a line.
+// Tells what is said of a bundle, in a line, and in another what its verdict's parts say, where that is something else.
 fn tell_bundle<W: Write>(output: &mut W, alloc: Global, name: &str, bundle: &[u8]) -> Result<()> {
     let report = match judge(alloc, bundle) {
         Ok(report) => report,
@@ -102,6 +104,15 @@ fn tell_bundle<W: Write>(output: &mut W, alloc: Global, name: &str, bundle: &[u8
     };
     let answer = report.line();
     write!(output, "{name}: {answer}")?;
+    // What is refused has no verdict.
+    if answer.starts_with("refused") {
+        return Ok(());
+    }
+    if let Some(words) = words_of_parts(alloc, bundle)? {
+        if words.as_str() != answer {
+            write!(output, "{name}, its parts: {words}")?;
+        }
+    }
     Ok(())
 }
 
