@@ -258,6 +258,15 @@ impl Drop for NfsReply {
     }
 }
 
+impl NfsReply {
+    /// A second reply with the same values.
+    pub fn copy(&self) -> Result<NfsReply, AllocError>
+        ensures { IfOk result (λ reply. reply ≡ self.now) }
+    {
+        NfsReply::clone(self)
+    }
+}
+
 /// How a placed call came out: with the reply that was received, or taken as done though no reply came (a
 /// WRITE with its count of bytes written).
 #[derive(Clone)]

@@ -12,6 +12,8 @@ pub mod FirstFaultLaws
 pub mod HistoryLaws
 pub mod OneHistory
 pub mod AppendSteps
+pub mod Asked
+pub mod Replied
 pub mod EitherWay
 pub mod Rereading
 pub mod AskedProcedure

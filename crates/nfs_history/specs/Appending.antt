@@ -1,12 +1,18 @@
 -- What becomes of a history where an event is put behind the others. When events are a history's, and which fault is the first, is
 -- said in History and FirstFault.
-use Rattle.std.specs.Prelude.{◌≡◌, ℕ, ◌<◌, ◌≤◌, List, [], ◌∷◌, ◌++◌, length, slice_set, None, Result, IsOk, OnOk, OnErr}
+use Rattle.std.specs.Prelude.{◌≡◌, ℕ, ◌+◌, ◌<◌, ◌≤◌, List, [], ◌∷◌, ◌++◌, length, slice_get, slice_set, true, Option, Some, None, Result, IsOk, OnOk, OnErr}
+use Rattle.nfs3_types.specs.declared.calls.NfsCall.{NfsCall}
+use Rattle.nfs3_types.specs.declared.replies.NfsReply.{NfsReply}
+use Rattle.nfs3_types.specs.declared.replies.Outcome.{Outcome}
+use Rattle.nfs3_types.specs.declared.replies.Outcome.TheVariants as outcomes
+use Rattle.nfs3_types.specs.Procedures.{is_answered}
 use Rattle.tree_starts.specs.Head.{Head}
 use Rattle.history_file.specs.declared.event.Event as owned
 use Rattle.history_file.specs.Event.{Event, Recording}
 use Rattle.history_file.specs.Event.Event.{call, reply, close, crash}
 use Rattle.history_file.specs.Owning.{happened, all_happened}
 use Rattle.nfs_history.specs.declared.fault.HistoryFault.{HistoryFault}
+use Rattle.nfs_history.specs.declared.history.Meaning.TheVariants as meanings
 use Rattle.nfs_history.specs.declared.history.ReadCalls.{ReadCalls}
 use Rattle.nfs_history.specs.declared.history.RecordedCall.{RecordedCall}
 use Rattle.nfs_history.specs.HistoryValue.{HistoryValue}
@@ -14,7 +20,8 @@ use Rattle.nfs_history.specs.Answers.{IsErrorOf}
 use Rattle.nfs_history.specs.Calls.{CallEvent, calls_of}
 use Rattle.nfs_history.specs.Checking.{Knows}
 use Rattle.nfs_history.specs.FirstFault.{FirstFaultOf}
-use Rattle.nfs_history.specs.History.{AreRecorded, AreCallsOf, IsHistory}
+use Rattle.nfs_history.specs.History.{IsRecorded, AreRecorded, AreCallsOf, IsHistory}
+use Rattle.nfs_history.specs.Outside.{outside}
 
 -- what was recorded, with this event behind the others
 abbrev pub with_event : HistoryValue → owned.Event → Recording
@@ -51,6 +58,37 @@ IsBegun history lane message begun = AreCallsWith history (call lane message) (h
 abbrev pub IsAnswered : HistoryValue → ℕ → List ℕ → ℕ → RecordedCall → Type 0
 IsAnswered history lane message place answered =
     (place < length history.known.calls) × AreCallsWith history (reply lane message) (slice_set history.known.calls place answered)
+
+-- the call with this reply
+abbrev pub replied : ℕ → List ℕ → CallEvent → CallEvent
+replied number message event = record event { answer = Some (record { number = number; message = message }) }
+
+-- the reply answers the call at this place
+pub record IsPlaceFor (history : HistoryValue) (lane : ℕ) (message : List ℕ) (place : ℕ) : Type 0 where
+  pub within : place < length history.known.calls
+  pub event : CallEvent
+  pub asked : RecordedCall
+  pub there : slice_get history.known.calls place ≡ Some asked
+  pub recorded : IsRecorded event asked
+  pub answered : (now : RecordedCall) → IsRecorded (replied (length history.events + 1) message event) now
+      → AreCallsWith history (reply lane message) (slice_set history.known.calls place now)
+
+-- the outcome is one of the call at this place, and lies inside the model
+pub record ComesOut (history : HistoryValue) (place : ℕ) (outcome : Option Outcome) : Type 0 where
+  pub asked : RecordedCall
+  pub call : NfsCall
+  pub reply : NfsReply
+  pub at : slice_get history.known.calls place ≡ Some asked
+  pub judged : asked.meaning ≡ meanings.Judged call
+  pub received : outcome ≡ Some (outcomes.Received reply)
+  pub answered : is_answered call reply ≡ true
+  pub inside : outside call outcome ≡ None
+
+-- these are the calls where the one at this place comes out so
+pub record IsAnsweredSo (history : HistoryValue) (e : Event) (place : ℕ) (outcome : Option Outcome) : Type 0 where
+  pub asked : RecordedCall
+  pub at : slice_get history.known.calls place ≡ Some asked
+  pub recorded : AreCallsWith history e (slice_set history.known.calls place (record asked { «end» = Some (length history.events + 1); outcome = outcome }))
 
 -- the history with the event behind the others
 pub record Follows (old : HistoryValue) (event : owned.Event) (new : HistoryValue) : Type 0 where

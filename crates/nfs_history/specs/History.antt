@@ -5,8 +5,9 @@ use Rattle.nfs3_types.specs.declared.calls.NfsCall.{NfsCall}
 use Rattle.nfs3_types.specs.declared.replies.NfsReply.{NfsReply}
 use Rattle.nfs3_types.specs.declared.replies.Outcome.{Outcome}
 use Rattle.nfs3_types.specs.declared.replies.Outcome.TheVariants as outcomes
-use Rattle.rpc_reader.specs.Values.{CallValue, Body}
-use Rattle.rpc_reader.specs.Messages.{IsCall}
+use Rattle.rpc_reader.specs.Values.{CallValue, ReplyValue, Body}
+use Rattle.rpc_reader.specs.Values.Body.{success}
+use Rattle.rpc_reader.specs.Messages.{IsCall, IsReply}
 use Rattle.nfs3_msgs.specs.Messages.{IsArguments, IsResult}
 use Rattle.nfs_history.specs.declared.history.Meaning.{Meaning}
 use Rattle.nfs_history.specs.declared.history.Meaning.TheVariants as meanings
@@ -18,7 +19,7 @@ use Rattle.nfs_history.specs.Calls.{CallEvent, calls_of, eras_from, xid_of}
 use Rattle.nfs_history.specs.Standing.{EachMayFollow}
 use Rattle.history_file.specs.Owning.{all_happened}
 use Rattle.nfs_history.specs.Outside.{outside}
-use Rattle.nfs3_types.specs.Procedures.{is_judged}
+use Rattle.nfs3_types.specs.Procedures.{is_judged, procedure_answered}
 use Rattle.nfs_history.specs.Effects.{Says, was_refused, results_of, has_no_effect}
 
 -- how a call of a procedure came out: with the result that the reply to it holds
@@ -34,6 +35,21 @@ pub record IsCallOfNfs (head : CallValue) (call : NfsCall) : Type 0 where
   pub procedure : is_judged head.procedure ≡ true
   pub credential : head.flavor ≢ 6
   pub arguments : IsArguments head.procedure head.args call
+
+-- the message is that of this call, which lies inside the model where no reply comes
+pub record Asks (message : List ℕ) (call : NfsCall) : Type 0 where
+  pub head : CallValue
+  pub is_call : IsCall message head
+  pub of_nfs : IsCallOfNfs head call
+  pub inside : outside call None ≡ None
+
+-- the message is that of a reply which accepts its call, with this result
+pub record Returns (message : List ℕ) (reply : NfsReply) : Type 0 where
+  pub value : ReplyValue
+  pub results : List ℕ
+  pub is_reply : IsReply message value
+  pub accepted : value.body ≡ success results
+  pub result : IsResult (procedure_answered reply) results reply
 
 -- a judged call, and how it came out
 pub record IsJudged (head : CallValue) (body : Option Body) (call : NfsCall) (outcome : Option Outcome) : Type 0 where

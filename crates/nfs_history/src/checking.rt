@@ -1,6 +1,6 @@
 //! Whether the events of a recording may follow one another.
 
-ghost use Rattle.std.specs.Prelude.{◌+◌, ◌<◌, ◌^◌, ◌≡◌, [], IsOk, OnOk, OnErr, IfOk};
+ghost use Rattle.std.specs.Prelude.{◌+◌, ◌<◌, ◌^◌, ◌≡◌, false, [], IsOk, OnOk, OnErr, IfOk};
 ghost use Rattle.std.specs.HashMap.{get};
 ghost use Rattle.history_file.specs.Event.Event.{call, reply, crash};
 ghost use Rattle.history_file.specs.Owning.{seen_event, all_seen};
@@ -8,6 +8,7 @@ ghost use Rattle.nfs_history.specs.Answers.{IsErrorOf};
 ghost use Rattle.nfs_history.specs.Calls.{xid_of};
 ghost use Rattle.nfs_history.specs.FirstFault.{FirstFaultOf};
 ghost use Rattle.nfs_history.specs.Matching.{same_key};
+ghost use Rattle.nfs_history.specs.Standing.{CanBeCall, CanBeReply};
 ghost use Rattle.nfs_history.specs.Checking.{is_known_closed, known_state, Knows, IsFaultBehind, KnowsOneMore, KnowsAsMuch, AreKnownToFollow};
 
 use crate::fault::{EventFault, HistoryFault};
@@ -87,6 +88,30 @@ impl OpenCalls {
         }
     }
 
+    /// Why a call whose message can be read may not come next on a lane that isn't closed, as event `number`.
+    fn fault_of_xid_in_use(&self, number: u64, lane: u32, message: &[u8]) -> Option<EventFault>
+        requires lane { is_known_closed self.now lane ≡ false }
+        requires message { CanBeCall message.now }
+        ensures { IsFaultBehind self.now number (call lane message.now) result }
+    {
+        if self.unanswered.contains_key(&(lane, transaction(message))) {
+            return Some(EventFault::XidInUse(number));
+        }
+        None
+    }
+
+    /// Why a reply whose message can be read may not come next on a lane that isn't closed, as event `number`.
+    fn fault_of_no_such_call(&self, number: u64, lane: u32, message: &[u8]) -> Option<EventFault>
+        requires lane { is_known_closed self.now lane ≡ false }
+        requires message { CanBeReply message.now }
+        ensures { IsFaultBehind self.now number (reply lane message.now) result }
+    {
+        if !self.unanswered.contains_key(&(lane, transaction(message))) {
+            return Some(EventFault::NoSuchCall(number));
+        }
+        None
+    }
+
     /// Why a call may not come next, as event `number`.
     fn fault_of_call(&self, number: u64, lane: u32, message: &[u8]) -> Option<EventFault>
         ensures { IsFaultBehind self.now number (call lane message.now) result }
@@ -97,10 +122,23 @@ impl OpenCalls {
         if read_call(message).is_err() {
             return Some(EventFault::BadRpc(number));
         }
-        if self.unanswered.contains_key(&(lane, transaction(message))) {
-            return Some(EventFault::XidInUse(number));
+        self.fault_of_xid_in_use(number, lane, message)
+    }
+
+    /// Why a call whose message was read already may not come next, as event `number`.
+    pub(crate) fn fault_of_read_call(
+        &self,
+        number: u64,
+        lane: u32,
+        message: &[u8],
+    ) -> Option<EventFault>
+        requires { CanBeCall message.now }
+        ensures { IsFaultBehind self.now number (call lane message.now) result }
+    {
+        if self.is_closed(lane) {
+            return Some(EventFault::LaneClosed(number));
         }
-        None
+        self.fault_of_xid_in_use(number, lane, message)
     }
 
     /// Why a reply may not come next, as event `number`.
@@ -113,10 +151,23 @@ impl OpenCalls {
         if read_reply(message).is_err() {
             return Some(EventFault::BadRpc(number));
         }
-        if !self.unanswered.contains_key(&(lane, transaction(message))) {
-            return Some(EventFault::NoSuchCall(number));
+        self.fault_of_no_such_call(number, lane, message)
+    }
+
+    /// Why a reply whose message was read already may not come next, as event `number`.
+    pub(crate) fn fault_of_read_reply(
+        &self,
+        number: u64,
+        lane: u32,
+        message: &[u8],
+    ) -> Option<EventFault>
+        requires { CanBeReply message.now }
+        ensures { IsFaultBehind self.now number (reply lane message.now) result }
+    {
+        if self.is_closed(lane) {
+            return Some(EventFault::LaneClosed(number));
         }
-        None
+        self.fault_of_no_such_call(number, lane, message)
     }
 
     /// Why event `number` may not come next.

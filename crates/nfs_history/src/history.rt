@@ -1,6 +1,6 @@
 //! What a history means: its calls, with what each one was, when it began and ended, and how it came out.
 
-ghost use Rattle.std.specs.Prelude.{◌≡◌, ◌+◌, ◌≤◌, ◌<◌, ◌^◌, [], ◌∷◌, ◌++◌, length, slice_get, slice_set, vec_len, vec_capacity, IfOk, IfErr, IsOk, OnOk, OnErr, Some, option_map, option_and_then};
+ghost use Rattle.std.specs.Prelude.{◌≡◌, ◌+◌, ◌≤◌, ◌<◌, ◌^◌, [], ◌∷◌, ◌++◌, length, slice_get, slice_set, vec_len, vec_capacity, true, IfOk, IfErr, IsOk, OnOk, OnErr, Some, option_map, option_and_then};
 ghost use Rattle.std.specs.Option.{option_copied};
 ghost use Rattle.tree_starts.specs.Head.{plain_head};
 ghost use Rattle.history_file.specs.Event.Event.{call, reply, crash};
@@ -10,26 +10,27 @@ ghost use Rattle.nfs_history.specs.declared.fault.HistoryFault.{HistoryFault};
 ghost use Rattle.nfs_history.specs.declared.history.History.{History};
 ghost use Rattle.nfs_history.specs.Precedence.{call_at, begin_of, end_of};
 ghost use Rattle.nfs_history.specs.Reread.{failure_of};
-ghost use Rattle.nfs_history.specs.History.{recording_of, AreRecorded, AreCallsOf, IsHistory};
+ghost use Rattle.nfs_history.specs.History.{recording_of, Asks, Returns, AreRecorded, AreCallsOf, IsHistory};
 ghost use Rattle.nfs_history.specs.FirstFault.{FirstFaultOf};
 ghost use Rattle.nfs_history.specs.Answers.{IsFineOrNoMemory, IsErrorOf, IsThatOrNoMemory};
-ghost use Rattle.nfs_history.specs.Appending.{with_event, unanswered, IsReadOf, IsQuiet, IsBegun, IsAnswered, Follows, Appends};
+ghost use Rattle.nfs_history.specs.Appending.{with_event, unanswered, IsReadOf, IsQuiet, IsBegun, IsAnswered, IsPlaceFor, ComesOut, IsAnsweredSo, Follows, Appends};
 ghost use Rattle.nfs_history.specs.Calls.{calls_of};
 ghost use Rattle.nfs_history.specs.CallFaults.{FirstCallFault};
 ghost use Rattle.nfs_history.specs.Checking.{KnowsOneMore, KnowsAsMuch};
 ghost use Rattle.nfs_history.specs.EventFaults.{IsAtFault};
 ghost use Rattle.nfs_history.specs.Judging.{IsStopFor};
 ghost use Rattle.nfs_history.specs.Matching.{seen_call};
-ghost use Rattle.nfs_history.specs.Standing.{IsLaneState, MayFollow, EachMayFollow};
+ghost use Rattle.nfs_history.specs.Standing.{CanBeCall, CanBeReply, IsLaneState, MayFollow, EachMayFollow};
 
 use crate::checking::{LaneState, OpenCalls, follow_all};
 use crate::fault::{EventFault, HistoryFault};
 use crate::head::{LentHead, OwnedHead};
 use crate::judging::{Stop, judged_call};
 use crate::knowing::KnownCalls;
-use crate::matching::{SeenCall, SeenReply};
+use crate::limits::outside_model;
+use crate::matching::{SeenCall, SeenReply, transaction};
 use history_file::{Event, Message, lend_events};
-use nfs3_types::{Failure, FileHandle, NfsCall, Outcome, Procedure};
+use nfs3_types::{Failure, FileHandle, NfsCall, NfsReply, Outcome, Procedure};
 use std::alloc::{AllocError, Global};
 use std::marker::Model;
 use tree_starts::{Profile, Start};
@@ -83,7 +84,7 @@ fn failure_of(outcome: &Outcome) -> Option<Failure>
 }
 
 impl RecordedCall {
-    ghost use Rattle.std.specs.Prelude.{◌≡◌};
+    ghost use Rattle.std.specs.Prelude.{◌≡◌, Some};
     ghost use Rattle.nfs_history.specs.Reread.{call_kind, judged_in};
 
     /// What it is for a plan.
@@ -97,6 +98,14 @@ impl RecordedCall {
             Some(outcome) => CallKind::Answered(call.procedure(), failure_of(outcome)),
             None => CallKind::Unanswered(call.procedure()),
         }
+    }
+
+    /// Takes in its outcome, and the number of the event of its reply.
+    fn come_out(&mut self, number: u64, outcome: Option<Outcome>)
+        ensures { self.new ≡ record self.old { «end» = Some number; outcome = outcome } }
+    {
+        self.end = Some(number);
+        self.outcome = outcome;
     }
 
     /// The call, where it is a judged one, and how it came out.
@@ -329,6 +338,20 @@ impl History {
         }
     }
 
+    // Why a call whose message was read already may not come next.
+    fn check_read_call(&self, lane: u32, message: &[u8]) -> Result<(), EventFault>
+        requires { CanBeCall message.now }
+        ensures all { EachMayFollow [] (all_happened self.now.events) }
+        ensures follows { OnOk result (MayFollow (all_happened self.now.events) (call lane message.now)) }
+        ensures fault { IfErr result (IsAtFault (length (all_happened self.now.events) + 1) (all_happened self.now.events) (call lane message.now)) }
+    {
+        let number = self.events.len() as u64 + 1;
+        if let Some(fault) = self.open_calls.fault_of_read_call(number, lane, message) {
+            return Err(fault);
+        }
+        Ok(())
+    }
+
     // The call that comes next, without a reply.
     fn begun_call(&self, lane: u32, message: &[u8]) -> Result<RecordedCall, Stop>
         requires { MayFollow (all_happened self.now.events) (call lane message.now) }
@@ -343,6 +366,23 @@ impl History {
             answer: None,
         };
         judged_call(*self.events.allocator(), self.calls.len() as u64 + 1, &seen)
+    }
+
+    // The call that comes next, without a reply, whose message was read already.
+    fn asked_call(&self, lane: u32, message: &[u8], call: NfsCall) -> RecordedCall
+        requires { Asks message.now call }
+        ensures { IsBegun self.now lane message.now result }
+    {
+        let begin = self.events.len() as u64 + 1;
+        RecordedCall {
+            lane,
+            xid: transaction(message),
+            meaning: Meaning::Judged(call),
+            begin,
+            end: None,
+            era: self.open_calls.era(),
+            outcome: None,
+        }
     }
 
     // A call, from 0 on, where its message stands, without a reply.
@@ -385,6 +425,41 @@ impl History {
         Ok((place as usize, call))
     }
 
+    // The place of the call that a reply answers, or why it may not come next. Its message was read already.
+    fn place_answered(&self, lane: u32, message: &[u8]) -> Result<usize, EventFault>
+        requires { CanBeReply message.now }
+        ensures all { EachMayFollow [] (all_happened self.now.events) }
+        ensures follows { OnOk result (MayFollow (all_happened self.now.events) (reply lane message.now)) }
+        ensures place { IfOk result (IsPlaceFor self.now lane message.now) }
+        ensures fault { IfErr result (IsAtFault (length (all_happened self.now.events) + 1) (all_happened self.now.events) (reply lane message.now)) }
+    {
+        let number = self.events.len() as u64 + 1;
+        if let Some(fault) = self.open_calls.fault_of_read_reply(number, lane, message) {
+            return Err(fault);
+        }
+        let Some(place) = self.open_calls.place_of(lane, message) else {
+            unreachable!();
+        };
+        Ok(place as usize)
+    }
+
+    // Whether the call at a place can come out so, inside the model.
+    fn comes_out(&self, place: usize, outcome: &Option<Outcome>) -> bool
+        requires { place < length self.now.known.calls }
+        ensures { result ≡ true → ComesOut self.now place outcome.now }
+    {
+        let Meaning::Judged(call) = &self.calls[place].meaning else {
+            return false;
+        };
+        let Some(Outcome::Received(reply)) = outcome else {
+            return false;
+        };
+        if !call.is_answered_by(reply) {
+            return false;
+        }
+        outside_model(call, outcome).is_none()
+    }
+
     // Puts a call behind the other events.
     fn take_call(&mut self, event: Event, call: RecordedCall) -> Result<(), AllocError>
         requires follows { MayFollow (all_happened self.old.events) (happened event) }
@@ -414,6 +489,26 @@ impl History {
     {
         put_event(&mut self.events, &mut self.open_calls, event)?;
         self.calls[place] = call;
+        self.spare = 0;
+        Ok(())
+    }
+
+    // Puts a reply behind the other events, with which the call at this place comes out so.
+    fn take_answer(
+        &mut self,
+        event: Event,
+        place: usize,
+        outcome: Option<Outcome>,
+    ) -> Result<(), AllocError>
+        requires follows { MayFollow (all_happened self.old.events) (happened event) }
+        requires within { place < length self.old.known.calls }
+        requires recorded { IsAnsweredSo self.old (happened event) place outcome }
+        ensures taken { OnOk result (Follows self.old event self.new) }
+        ensures kept { OnErr result (self.new ≡ self.old) }
+    {
+        let number = self.events.len() as u64 + 1;
+        put_event(&mut self.events, &mut self.open_calls, event)?;
+        self.calls[place].come_out(number, outcome);
         self.spare = 0;
         Ok(())
     }
@@ -448,6 +543,41 @@ impl History {
     {
         let (place, call) = self.answered_call(lane, message.as_slice())?;
         self.take_reply(Event::Reply { lane, message }, place, call)?;
+        Ok(())
+    }
+
+    // Puts a call behind the other events. Its message isn't read again.
+    fn append_asked(
+        &mut self,
+        lane: u32,
+        message: Message,
+        call: NfsCall,
+    ) -> Result<(), HistoryFault>
+        requires { Asks message call }
+        ensures { Appends self.old (events.Call lane message) result self.new }
+    {
+        self.check_read_call(lane, message.as_slice())?;
+        let begun = self.asked_call(lane, message.as_slice(), call);
+        self.take_call(Event::Call { lane, message }, begun)?;
+        Ok(())
+    }
+
+    // Puts a reply behind the other events. Its message is read again where it is one to another procedure, or lies outside the model.
+    fn append_answer(
+        &mut self,
+        lane: u32,
+        message: Message,
+        reply: NfsReply,
+    ) -> Result<(), HistoryFault>
+        requires { Returns message reply }
+        ensures { Appends self.old (events.Reply lane message) result self.new }
+    {
+        let place = self.place_answered(lane, message.as_slice())?;
+        let outcome = Some(Outcome::Received(reply));
+        if !self.comes_out(place, &outcome) {
+            return self.append_reply(lane, message);
+        }
+        self.take_answer(Event::Reply { lane, message }, place, outcome)?;
         Ok(())
     }
 
@@ -491,6 +621,57 @@ impl History {
         ensures taken { OnOk result (self.new.spare ≡ 0) }
     {
         self.append_next(event)
+    }
+
+    /// Puts a call behind the other events, and answers as `append` does. `call` is what its message was read to: nothing is read again.
+    pub fn append_read_call(
+        &mut self,
+        lane: u32,
+        message: Message,
+        call: NfsCall,
+    ) -> Result<(), HistoryFault>
+        requires { Asks message call }
+        // It is the history of the events with this one behind them.
+        ensures found { OnOk result (IsHistory (with_event self.old (events.Call lane message)) self.new) }
+        ensures behind { OnOk result (self.new.events ≡ self.old.events ++ events.Call lane message ∷ []) }
+        // Else it stays as it was.
+        ensures kept { OnErr result (self.new ≡ self.old) }
+        // Where the events are a history's, it is put there, memory aside.
+        ensures only { (history : History) → IsHistory (with_event self.old (events.Call lane message)) history → IsFineOrNoMemory result }
+        ensures fault { IsErrorOf (FirstFaultOf (with_event self.old (events.Call lane message)).events) result }
+        // The first fault is named, memory aside.
+        ensures named { (fault : HistoryFault) → FirstFaultOf (with_event self.old (events.Call lane message)).events fault
+            → IsThatOrNoMemory fault result }
+        // It takes the room.
+        ensures taken { OnOk result (self.new.spare ≡ 0) }
+    {
+        self.append_asked(lane, message, call)
+    }
+
+    /// Puts a reply behind the other events, and answers as `append` does. `reply` is what its message was read to. The message is read
+    /// again only where it replies to another procedure than its call's, or where the call lies outside the model with it.
+    pub fn append_read_reply(
+        &mut self,
+        lane: u32,
+        message: Message,
+        reply: NfsReply,
+    ) -> Result<(), HistoryFault>
+        requires { Returns message reply }
+        // It is the history of the events with this one behind them.
+        ensures found { OnOk result (IsHistory (with_event self.old (events.Reply lane message)) self.new) }
+        ensures behind { OnOk result (self.new.events ≡ self.old.events ++ events.Reply lane message ∷ []) }
+        // Else it stays as it was.
+        ensures kept { OnErr result (self.new ≡ self.old) }
+        // Where the events are a history's, it is put there, memory aside.
+        ensures only { (history : History) → IsHistory (with_event self.old (events.Reply lane message)) history → IsFineOrNoMemory result }
+        ensures fault { IsErrorOf (FirstFaultOf (with_event self.old (events.Reply lane message)).events) result }
+        // The first fault is named, memory aside.
+        ensures named { (fault : HistoryFault) → FirstFaultOf (with_event self.old (events.Reply lane message)).events fault
+            → IsThatOrNoMemory fault result }
+        // It takes the room.
+        ensures taken { OnOk result (self.new.spare ≡ 0) }
+    {
+        self.append_answer(lane, message, reply)
     }
 
     /// Sets room aside for a crash, until the next event is put behind the others.

@@ -22,8 +22,8 @@ pub(crate) enum Kept<'h, 'a> {
     Recorded(&'h History),
 }
 
-/// The calls of a history, lent: what a plan is judged by but for its run. It copies nothing, and no call's bytes are copied by
-/// its look-ups.
+/// The calls of a history, lent: what a plan is judged by but for its run. To lend them copies nothing. No look-up copies a call's
+/// bytes but `succeeded`: it reads the call again where the calls stand as messages, in `KnownCalls`.
 #[derive(Drop)]
 pub struct LentCalls<'h, 'a> {
     kept: Kept<'h, 'a>,
@@ -170,7 +170,7 @@ impl<'h, 'a> LentCalls<'h, 'a> {
         }
     }
 
-    /// Whether call `number` is a judged one that was answered by a success.
+    /// Whether call `number` is a judged one that was answered by a success. A call of `KnownCalls` is read again, with its bytes.
     pub fn succeeded(&self, alloc: Global, number: u64) -> Result<bool, AllocError>
         ensures { IfOk result (λ fine. fine ≡ option_map_or has_succeeded (call_at self.now.calls number) false) }
     {

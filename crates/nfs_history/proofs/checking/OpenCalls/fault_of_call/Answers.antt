@@ -15,16 +15,5 @@ returns-then-is_err c = λ before knows.
     let open_lane = open_is c.args.lane before (sym (knows.closed c.args.lane) ∙ sym c.is_closed.ensures ∙ c.if-is_closed.false) in
     inr (inl (open_lane, none, refl))
 
-pub returns-then-contains_key : goal.returns-then-contains_key
-returns-then-contains_key c = λ before knows.
-    let value = read_value call_value (IsCall c.args.message.now) c.read_call.result (sym c.is_err.ensures.value ∙ c.if-is_err.false) c.read_call.ensures.found in
-    let known = sym (knows.unanswered c.args.lane c.transaction.result) ∙ sym c.contains_key.ensures ∙ c.if-contains_key.true in
-    let open_lane = open_is c.args.lane before (sym (knows.closed c.args.lane) ∙ sym c.is_closed.ensures ∙ c.if-is_closed.false) in
-    inr (inr (open_lane, value, rw c.transaction.ensures at known, refl))
-
-pub returns : goal.returns
-returns c = λ before knows.
-    let value = read_value call_value (IsCall c.args.message.now) c.read_call.result (sym c.is_err.ensures.value ∙ c.if-is_err.false) c.read_call.ensures.found in
-    let known = sym (knows.unanswered c.args.lane c.transaction.result) ∙ sym c.contains_key.ensures ∙ c.if-contains_key.false in
-    let open_lane = open_is c.args.lane before (sym (knows.closed c.args.lane) ∙ sym c.is_closed.ensures ∙ c.if-is_closed.false) in
-    (open_lane, value, rw c.transaction.ensures at known)
+pub fault_of_xid_in_use-requires-clause-message : goal.fault_of_xid_in_use-requires-clause-message
+fault_of_xid_in_use-requires-clause-message c = read_value call_value (IsCall c.args.message.now) c.read_call.result (sym c.is_err.ensures.value ∙ c.if-is_err.false) c.read_call.ensures.found

@@ -15,16 +15,5 @@ returns-then-is_err c = λ before knows.
     let open_lane = open_is c.args.lane before (sym (knows.closed c.args.lane) ∙ sym c.is_closed.ensures ∙ c.if-is_closed.false) in
     inr (inl (open_lane, none, refl))
 
-pub returns-then-not-contains_key : goal.returns-then-not-contains_key
-returns-then-not-contains_key c = λ before knows.
-    let value = read_value reply_value (IsReply c.args.message.now) c.read_reply.result (sym c.is_err.ensures.value ∙ c.if-is_err.false) c.read_reply.ensures.found in
-    let known = sym (knows.unanswered c.args.lane c.transaction.result) ∙ sym c.contains_key.ensures ∙ c.if-not-contains_key.true in
-    let open_lane = open_is c.args.lane before (sym (knows.closed c.args.lane) ∙ sym c.is_closed.ensures ∙ c.if-is_closed.false) in
-    inr (inr (open_lane, value, rw c.transaction.ensures at known, refl))
-
-pub returns : goal.returns
-returns c = λ before knows.
-    let value = read_value reply_value (IsReply c.args.message.now) c.read_reply.result (sym c.is_err.ensures.value ∙ c.if-is_err.false) c.read_reply.ensures.found in
-    let known = sym (knows.unanswered c.args.lane c.transaction.result) ∙ sym c.contains_key.ensures ∙ c.if-not-contains_key.false in
-    let open_lane = open_is c.args.lane before (sym (knows.closed c.args.lane) ∙ sym c.is_closed.ensures ∙ c.if-is_closed.false) in
-    (open_lane, value, rw c.transaction.ensures at known)
+pub fault_of_no_such_call-requires-clause-message : goal.fault_of_no_such_call-requires-clause-message
+fault_of_no_such_call-requires-clause-message c = read_value reply_value (IsReply c.args.message.now) c.read_reply.result (sym c.is_err.ensures.value ∙ c.if-is_err.false) c.read_reply.ensures.found
