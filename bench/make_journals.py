@@ -2,7 +2,7 @@
 """Writes what crates/stored_journals is run on, and what it has to answer: make_journals.py FOLDER [BOOKS [SERVERS [SEED]]].
 
 First come the commands of books, then those of servers: make_books.py and make_servers.py say of what kinds. BOOKS and SERVERS are
-about how many are drawn of each, 5,000 and 6,000 if they are left out. The status is 1 where an answer was never reached.
+about how many are drawn of each, 3,800 and 6,300 if they are left out. The status is 1 where an answer was never reached.
 """
 import pathlib
 import sys
@@ -14,7 +14,7 @@ import make_servers
 def main() -> int:
     folder = pathlib.Path(sys.argv[1])
     numbers = [int(word) for word in sys.argv[2:]]
-    books, servers, seed = numbers + [5_000, 6_000, 1][len(numbers):]
+    books, servers, seed = numbers + [3_800, 6_300, 1][len(numbers):]
     of_books, of_servers = make_books.make(books, seed), make_servers.make(servers, seed)
     (folder / "stdin").write_text("\n".join(of_books.given) + "\n\n" + of_servers.stdin())
     (folder / "stdout").write_text("\n".join(of_books.wanted) + "\n" + of_servers.stdout())

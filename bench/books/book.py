@@ -5,7 +5,9 @@ applies is found, so that a run can be told in which pairs the order of the refu
 """
 from dataclasses import dataclass, field
 
-from books.tree import Sight, Tree, opening, outcome
+from books.starts import Opening
+from books.strict import agrees
+from books.tree import Sight, Tree, opening_tree, outcome
 from books.wire import COMMIT, CREATE, MKDIR, MODIFYING, RECORD_LIMIT, SYMLINK, WRITE, reply_message, tell
 
 RUNNING, DOWN, DEAD = "running", "down", "dead"
@@ -55,12 +57,14 @@ class Device:
 
 
 class Book:
-    def __init__(self, fail_append: int = 0, fail_barrier: int = 0, fail_recover: int = 0):
+    def __init__(self, fail_append: int = 0, fail_barrier: int = 0, fail_recover: int = 0, opening: Opening = Opening()):
+        self.opening = opening
         self.device = Device(fail_append, fail_barrier, fail_recover)
         self.era = 1
         self.condition = RUNNING
-        self.tree: Tree = opening()
-        self.made: set[int] = set()
+        self.tree: Tree = opening_tree(opening.start)
+        # The objects that have a handle: those that stood at first, and those that calls made.
+        self.made: set[int] = set(range(1, len(opening.start) + 1))
         self.calls: list[Begun] = []
         self.events = 0
         # The lanes and transaction numbers of unanswered calls.
@@ -76,6 +80,10 @@ class Book:
 
     def sight(self) -> Sight:
         return Sight(self.tree, self.made)
+
+    def object_of(self, number: int) -> int:
+        """The object that the call with this number makes, if it makes one."""
+        return len(self.opening.start) + number
 
     def lane_refusals(self, lane: int) -> list[str]:
         out = []
@@ -108,8 +116,11 @@ class Book:
         """The tree behind a place with this reply, where the call may be placed so."""
         if reply["status"] == 0 and reply["procedure"] in (WRITE, COMMIT) and reply["verifier"] != self.era:
             return None
-        after = outcome(self.sight(), begun.number, begun.call, reply)
-        if after is not None and len(reply_message(begun.xid, reply)) > RECORD_LIMIT:
+        sight, own = self.sight(), self.object_of(begun.number)
+        after = outcome(sight, own, begun.call, reply)
+        if after is None or len(reply_message(begun.xid, reply)) > RECORD_LIMIT:
+            return None
+        if self.opening.strict and not agrees(sight, Sight(after, self.made | {own}), begun.call, reply):
             return None
         return after
 
@@ -201,7 +212,7 @@ class Book:
             self.device.appends += 1
             self.device.trees.append(self.tree)
             if reply["procedure"] in (CREATE, MKDIR, SYMLINK) and len(self.tree.nodes) > len(before.nodes):
-                self.made.add(begun.number)
+                self.made.add(self.object_of(begun.number))
         begun.place = Placed(begun.number, reply, len(self.device.trees), is_change(reply))
         self.placed[-1].append(begun.place)
 
@@ -247,7 +258,7 @@ class Book:
             return refusals, None
         del self.device.trees[keep:]
         self.device.mark = keep
-        self.tree = self.device.trees[-1] if self.device.trees else opening()
+        self.tree = self.device.trees[-1] if self.device.trees else opening_tree(self.opening.start)
         self.era += 1
         self.events += 1
         self.condition = RUNNING

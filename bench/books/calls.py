@@ -2,8 +2,10 @@
 import random
 
 from books.book import Book
+from books.strict import told_nodes
 from books.tree import (
-    DIRECTORY, EXCUSED, FILE, LINK, TOOSMALL, TRANSFER_LIMIT, allows, asked_bytes, created, handle_of, permitted,
+    DIRECTORY, EXCUSED, FILE, LINK, TOOSMALL, TRANSFER_LIMIT, Sight, allows, asked_bytes, created, handle_of, outcome,
+    permitted,
 )
 from books.wire import (
     COMMIT, CREATE, EXCLUSIVE, GETATTR, GUARDED, LOOKUP, MKDIR, READ, READDIR, READDIRPLUS, READLINK, REMOVE, RENAME,
@@ -41,7 +43,7 @@ class Calls:
         if draw < 0.97 and book.made:
             return handle_of(self.dice.choice(sorted(book.made)[-40:]))
         if draw < 0.99:
-            return handle_of(len(book.calls) + self.dice.randrange(-3, 4) if len(book.calls) > 3 else 1)
+            return handle_of(book.object_of(len(book.calls) + self.dice.randrange(-3, 4)) if len(book.calls) > 3 else 1)
         return self.dice.choice(ODD_HANDLES)
 
     def present_name(self, book: Book, handle: bytes, kinds: tuple) -> bytes | None:
@@ -149,11 +151,14 @@ class Calls:
 
     # Replies.
 
+    def any_attributes(self) -> list[int]:
+        return [self.dice.choice((1, 2, 5)), *(self.dice.randrange(3) for _ in range(20))]
+
     def attributes(self) -> list[int] | None:
-        return [self.dice.choice((1, 2, 5)), *(self.dice.randrange(3) for _ in range(20))] if self.chance(3) else None
+        return self.any_attributes() if self.chance(3) else None
 
     def around(self, procedure: int) -> dict:
-        """Optional attributes. They are judged for no reply."""
+        """Optional attributes of a reply whose attributes aren't judged."""
         out = {"after": self.attributes()}
         if procedure in (LOOKUP, CREATE, MKDIR, SYMLINK):
             out["object"] = self.attributes()
@@ -163,13 +168,45 @@ class Calls:
             out["after_to"] = self.attributes()
         return out
 
-    def failure(self, call: dict, status: int) -> dict:
-        return {"procedure": call["procedure"], "status": status, **self.around(call["procedure"])}
+    def told(self, name: str, node: tuple) -> list[int]:
+        """Attributes of an object, right in all that is judged."""
+        _, kind, content, _ = node
+        size = len(content) if kind == FILE else self.dice.choice((0, 4096, len(content)))
+        size_halves = [size >> 32, size & (2 ** 32 - 1)]
+        if name.startswith("before"):
+            return [*size_halves, *(self.dice.randrange(3) for _ in range(4))]
+        return [kind, *(self.dice.randrange(3) for _ in range(4)), *size_halves, *(self.dice.randrange(3) for _ in range(14))]
+
+    def judged_around(self, book: Book, number: int, call: dict, reply: dict) -> dict:
+        """Optional attributes of a reply whose attributes are judged: of what stands right ones, of what doesn't any."""
+        before, own = book.sight(), book.object_of(number)
+        after = outcome(before, own, call, reply) or before.tree
+        nodes = told_nodes(before, Sight(after, before.made | {own}), call, reply["status"])
+        out = {}
+        for name, node in nodes.items():
+            if node is not None and self.chance(60):
+                out[name] = self.told(name, node)
+            elif node is None and self.chance(20):
+                out[name] = self.any_attributes()[:6 if name.startswith("before") else 21]
+        return out
+
+    def with_attributes(self, book: Book, number: int, call: dict, reply: dict) -> dict:
+        """A reply with optional attributes."""
+        if book.opening.strict:
+            return reply | self.judged_around(book, number, call, reply)
+        return reply | self.around(call["procedure"])
+
+    def failure(self, book: Book, number: int, call: dict, status: int) -> dict:
+        return self.with_attributes(book, number, call, {"procedure": call["procedure"], "status": status})
 
     def success(self, book: Book, number: int, call: dict) -> dict:
         """A success that is right, where some success is."""
+        return self.with_attributes(book, number, call, self.bare_success(book, number, call))
+
+    def bare_success(self, book: Book, number: int, call: dict) -> dict:
+        """One without the attributes that are optional but for those of entries."""
         procedure = call["procedure"]
-        reply = {"procedure": procedure, "status": 0, **self.around(procedure)}
+        reply = {"procedure": procedure, "status": 0}
         if procedure == SETATTR or procedure in (REMOVE, RMDIR, RENAME):
             return reply
         if procedure in (GETATTR, READLINK, READ):
@@ -200,7 +237,7 @@ class Calls:
         sight = book.sight()
         if call["procedure"] == CREATE and created(sight, call) in ("size", "same"):
             return handle_of(sight.tree.entry(sight.directory_of(call["handle"]), call["name"])[0])
-        return handle_of(number)
+        return handle_of(book.object_of(number))
 
     def listing(self, book: Book, call: dict) -> dict:
         directory = book.sight().directory_of(call["handle"])
@@ -216,17 +253,20 @@ class Calls:
         entry = book.tree.entry(directory, name)
         handle = self.dice.choice((None, b"odd")) if entry is None else handle_of(entry[0])
         fileid = 0 if entry is None else entry[0]
-        shown = {"name": name, "fileid": fileid, "cookie": cookie, "attributes": self.attributes()}
+        attributes = self.attributes()
+        if book.opening.strict and entry is not None:
+            attributes = self.told("entry", entry) if self.chance(50) else None
+        shown = {"name": name, "fileid": fileid, "cookie": cookie, "attributes": attributes}
         return shown | {"handle": None if self.chance(20) else handle}
 
     def right_reply(self, book: Book, number: int, call: dict) -> dict:
         """A reply that the server may give."""
         sight = book.sight()
         if call["procedure"] in (READDIR, READDIRPLUS) and self.chance(10):
-            return self.failure(call, TOOSMALL)
+            return self.failure(book, number, call, TOOSMALL)
         if allows(sight, call):
             return self.success(book, number, call)
         judged = sorted(permitted(sight, call))
         if judged and self.chance(75):
-            return self.failure(call, self.dice.choice(judged))
-        return self.failure(call, self.dice.choice(EXCUSED))
+            return self.failure(book, number, call, self.dice.choice(judged))
+        return self.failure(book, number, call, self.dice.choice(EXCUSED))

@@ -4,9 +4,10 @@ from collections import Counter
 from books.book import RUNNING, Book
 from books.calls import Calls
 from books.odd import BAD, bad_message, odd_message
+from books.starts import Opening
 from books.tree import handle_of
 from books.wire import MKDIR, NAMES, READ, arguments, result, spell
-from books.wrong import KINDS, wrong_reply
+from books.wrong import ALL_KINDS, wrong_reply
 
 
 class Run:
@@ -19,6 +20,8 @@ class Run:
         self.tokens = 0
         self.refused, self.pairs, self.wrong, self.done = Counter(), Counter(), Counter(), Counter()
         self.bad = Counter()
+        # How many books began with something or nothing, and were strict or plain.
+        self.openings = Counter()
         self.eras = 0
         self.lanes: list[int] = []
         self.next_lane, self.next_xid = 0, 0
@@ -45,9 +48,10 @@ class Run:
         self.done[word] += 1
         return self.say(line, answer)
 
-    def new_book(self, faults: tuple[int, int, int]) -> None:
-        self.book = Book(*faults)
-        self.say(f"new {faults[0]} {faults[1]} {faults[2]}", "ok")
+    def new_book(self, faults: tuple[int, int, int], opening: Opening = Opening()) -> None:
+        self.book = Book(*faults, opening)
+        self.say(f"new {faults[0]} {faults[1]} {faults[2]}{opening.spelled()}", "ok")
+        self.openings[bool(opening.start), opening.strict] += 1
         self.next_lane, self.next_xid = 0, 0
         self.begin_era()
 
@@ -210,7 +214,7 @@ class Run:
         call = self.calls.call(self.book) if begun is None else begun.call
         reply = self.calls.right_reply(self.book, number, call)
         if self.calls.chance(40):
-            reply = self.calls.failure(call, 5)
+            reply = self.calls.failure(self.book, number, call, 5)
         refusals = self.book.place_refusals(number, reply)
         if refusals and refusals[0] not in ("NotLegal", "DeviceFault"):
             self.place(number, reply)
@@ -248,7 +252,7 @@ class Run:
 
     def begin_one(self, kind: str) -> int | None:
         """Begins a call that a reply of this kind may be of, or another one, which makes the tree richer."""
-        procedure = self.dice.choice(KINDS[kind][1]) if self.calls.chance(60) else None
+        procedure = self.dice.choice(ALL_KINDS[kind][1]) if self.calls.chance(60) else None
         return self.begin(self.lane(), self.xid(), self.calls.call(self.book, procedure))
 
     def found_wrong(self, kind: str, number: int) -> dict | None:
@@ -280,7 +284,7 @@ class Run:
         then a right one."""
         call = {"procedure": MKDIR, "handle": handle_of(0), "name": b"d", "size": None}
         number = self.begin(self.lane(), self.new_xid(), call)
-        reply = {"procedure": MKDIR, "status": 0, "handle": handle_of(number)}
+        reply = {"procedure": MKDIR, "status": 0, "handle": handle_of(self.book.object_of(number))}
         self.close(self.book.begun(number).lane)
         self.place(number, reply)
         self.end_era()
@@ -307,7 +311,7 @@ class Run:
             begun = self.book.begun(number)
             call = self.calls.call(self.book) if begun is None else begun.call
             reply = self.calls.right_reply(self.book, number, call)
-            self.place(number, reply if self.calls.chance(70) else self.calls.failure(call, 5))
+            self.place(number, reply if self.calls.chance(70) else self.calls.failure(self.book, number, call, 5))
 
     def crash_drawn(self) -> None:
         """A crash that as many records outlive as is drawn."""

@@ -2,12 +2,12 @@
 
 It is written from the rules in docs/PROFILE.md and docs/FORMATS.md, apart from the crates' code.
 """
+from books.starts import DIRECTORY, FILE, LINK
 from books.wire import (
     COMMIT, CREATE, EXCLUSIVE, GETATTR, GUARDED, LOOKUP, MKDIR, READ, READDIR, READDIRPLUS, READLINK, REMOVE, RENAME,
     RMDIR, SETATTR, SYMLINK, UNCHECKED, WRITE, long, opaque, words,
 )
 
-FILE, DIRECTORY, LINK = 1, 2, 5
 FILE_LIMIT = 16_777_216
 TRANSFER_LIMIT = 1_048_576
 ROOT = bytes(8)
@@ -32,6 +32,11 @@ class Tree:
 
     def entry(self, directory: tuple, name: bytes):
         return self.nodes.get(directory + (name,))
+
+    def node(self, number: int | None):
+        """The node of an object, where it stands."""
+        path = self.paths.get(number)
+        return None if path is None else self.nodes[path]
 
     def names_in(self, directory: tuple) -> list[bytes]:
         depth = len(directory)
@@ -66,8 +71,13 @@ class Tree:
         return b"".join(out)
 
 
-def opening() -> Tree:
-    return Tree({(): (0, DIRECTORY, b"", None)})
+def opening_tree(start: tuple) -> Tree:
+    """The root, and what a server held at first."""
+    nodes, paths = {(): (0, DIRECTORY, b"", None)}, [()]
+    for number, (directory, name, kind, content) in enumerate(start, 1):
+        paths.append(paths[directory] + (name,))
+        nodes[paths[number]] = (number, kind, content, None)
+    return Tree(nodes)
 
 
 def is_plain(name: bytes) -> bool:
@@ -269,7 +279,7 @@ def next_made(sight: Sight, number: int, path: tuple, node: tuple, reply: dict):
 
 
 def next_tree(sight: Sight, number: int, call: dict, reply: dict) -> Tree | None:
-    """The tree behind a success of call `number`, where it has one."""
+    """The tree behind a success of a call, where it has one. What the call makes has this number."""
     procedure, tree = call["procedure"], sight.tree
     if procedure in (GETATTR, LOOKUP, READLINK, READ, READDIR, READDIRPLUS, COMMIT):
         return next_looked(sight, call, reply)

@@ -26,7 +26,8 @@ def success_for_failure(calls: Calls, book: Book, number: int, call: dict) -> di
         return None
     reply = {"procedure": call["procedure"], "status": 0}
     reply |= {"attributes": [1] + [0] * 20, "text": b"a", "data": b"", "eof": 1, "entries": [], "verifier": book.era}
-    reply |= {"count": len(call.get("data", b"")), "level": call.get("level", 0), "handle": handle_of(number)}
+    reply |= {"count": len(call.get("data", b"")), "level": call.get("level", 0)}
+    reply["handle"] = handle_of(book.object_of(number))
     if call["procedure"] in (READ, READDIR, READDIRPLUS):
         del reply["count"]
     return reply
@@ -37,22 +38,22 @@ def failure_for_success(calls: Calls, book: Book, number: int, call: dict) -> di
     judged = sorted(permitted(book.sight(), call) - {TOOSMALL})
     if not judged or not allows(book.sight(), call):
         return None
-    return calls.failure(call, calls.dice.choice(judged))
+    return calls.failure(book, number, call, calls.dice.choice(judged))
 
 
 def excused_for_success(calls: Calls, book: Book, number: int, call: dict) -> dict | None:
-    return calls.failure(call, calls.dice.choice(EXCUSED)) if allows(book.sight(), call) else None
+    return calls.failure(book, number, call, calls.dice.choice(EXCUSED)) if allows(book.sight(), call) else None
 
 
 def judged_without_cause(calls: Calls, book: Book, number: int, call: dict) -> dict | None:
     """A judged failure that no cause permits, where no success is possible."""
     if allows(book.sight(), call):
         return None
-    return calls.failure(call, calls.dice.choice(sorted(CAUSED - permitted(book.sight(), call))))
+    return calls.failure(book, number, call, calls.dice.choice(sorted(CAUSED - permitted(book.sight(), call))))
 
 
 def too_small(calls: Calls, book: Book, number: int, call: dict) -> dict:
-    return calls.failure(call, NAMETOOLONG if call["procedure"] in (SYMLINK, READDIR) else TOOSMALL)
+    return calls.failure(book, number, call, NAMETOOLONG if call["procedure"] in (SYMLINK, READDIR) else TOOSMALL)
 
 
 def changed(change):
@@ -76,7 +77,7 @@ def other_size(calls, book, call, reply):
 
 
 def other_handle(calls, book, call, reply):
-    wrong = [len(book.calls), len(book.calls) + 1, *sorted(book.made)[-9:], 0]
+    wrong = [book.object_of(len(book.calls)), book.object_of(len(book.calls) + 1), *sorted(book.made)[-9:], 0]
     return reply | {"handle": calls.dice.choice([handle_of(number) for number in wrong] + [b"", b"odd"])}
 
 
@@ -135,8 +136,48 @@ def listed_less(calls, book, call, reply):
 
 
 def listed_other_handle(calls, book, call, reply):
-    handle = calls.dice.choice((handle_of(0), b"", handle_of(len(book.calls) + 9)))
+    handle = calls.dice.choice((handle_of(0), b"", handle_of(book.object_of(len(book.calls) + 9))))
     return reply | {"entries": [entry | {"handle": handle} for entry in reply["entries"]]}
+
+
+def changed_attributes(name: str, change, is_success: bool = True):
+    """A success, or a failure, that is right, also in its attributes, but for one of these."""
+    def make(calls: Calls, book: Book, number: int, call: dict) -> dict | None:
+        reply = calls.right_reply(book, number, call)
+        attributes = reply.get(name)
+        if attributes is None or (reply["status"] == 0) != is_success:
+            return None
+        return reply | {name: change(calls, attributes)}
+    return make
+
+
+def changed_entry(change):
+    """A list that is right but for the attributes of an entry."""
+    def make(calls: Calls, book: Book, number: int, call: dict) -> dict | None:
+        reply = calls.right_reply(book, number, call)
+        told = [at for at, entry in enumerate(reply.get("entries", ())) if entry.get("attributes") is not None]
+        if not told:
+            return None
+        entries, at = list(reply["entries"]), calls.dice.choice(told)
+        entries[at] = entries[at] | {"attributes": change(calls, entries[at]["attributes"])}
+        return reply | {"entries": entries}
+    return make
+
+
+def type_told(calls: Calls, attributes: list[int]) -> list[int]:
+    return [calls.dice.choice([kind for kind in (1, 2, 5, 3, 7) if kind != attributes[0]]), *attributes[1:]]
+
+
+def size_told(calls: Calls, attributes: list[int]) -> list[int]:
+    return increased(attributes, calls.dice.choice((5, 6)))
+
+
+def size_told_ahead(calls: Calls, attributes: list[int]) -> list[int]:
+    return increased(attributes, calls.dice.choice((0, 1)))
+
+
+def increased(attributes: list[int], at: int) -> list[int]:
+    return [word + (place == at) for place, word in enumerate(attributes)]
 
 
 ALL = JUDGED
@@ -178,11 +219,34 @@ KINDS = {
     "a name left out": (changed(listed_less), LISTS),
     "another handle in a list": (changed(listed_other_handle), (READDIRPLUS,)),
 }
+# These are wrong under the strict profile alone.
+STRICT_KINDS = {
+    "another type of what was looked at": (changed_attributes("after", type_told), (LOOKUP, READLINK, READ, *LISTS)),
+    "another type of what was changed": (changed_attributes("after", type_told), (SETATTR, WRITE, COMMIT)),
+    "another type of a directory": (changed_attributes("after", type_told), (*MAKERS, REMOVE, RMDIR, RENAME)),
+    "another type in a failure": (changed_attributes("after", type_told, False), [it for it in ALL if it != GETATTR]),
+    "another size of what was read": (changed_attributes("after", size_told), (READ,)),
+    "another size of what was changed": (changed_attributes("after", size_told), (SETATTR, WRITE, COMMIT)),
+    "another size ahead": (changed_attributes("before", size_told_ahead), (SETATTR, WRITE, COMMIT)),
+    "a found object of another type": (changed_attributes("object", type_told), (LOOKUP,)),
+    "a found object of another size": (changed_attributes("object", size_told), (LOOKUP,)),
+    "a made object of another type": (changed_attributes("object", type_told), MAKERS),
+    "a made object of another size": (changed_attributes("object", size_told), (CREATE,)),
+    "a second directory of another type": (changed_attributes("after_to", type_told), (RENAME,)),
+    "an entry of another type": (changed_entry(type_told), (READDIRPLUS,)),
+    "an entry of another size": (changed_entry(size_told), (READDIRPLUS,)),
+}
+ALL_KINDS = {**KINDS, **STRICT_KINDS}
+
+
+def kinds_of(book: Book) -> list[str]:
+    """The kinds of replies that a book refuses."""
+    return list(ALL_KINDS if book.opening.strict else KINDS)
 
 
 def wrong_reply(calls: Calls, book: Book, kind: str, number: int, call: dict) -> dict | None:
     """A reply of this kind to a call that began, where it is wrong."""
-    make, procedures = KINDS[kind]
+    make, procedures = ALL_KINDS[kind]
     if call["procedure"] not in procedures:
         return None
     reply = make(calls, book, number, call)

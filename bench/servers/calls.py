@@ -3,9 +3,9 @@ from books.book import Book
 from books.calls import Calls
 from books.odd import BAD, bad_message, headed, odd_message
 from books.tree import FILE_LIMIT, TRANSFER_LIMIT, handle_of
-from books.wire import READ, READDIR, READDIRPLUS, SETATTR, WRITE, arguments, call_message, opaque, result, words
+from books.wire import READ, READDIR, READDIRPLUS, SETATTR, WRITE, arguments, call_message, opaque, words
 from servers.messages import UNSERVED
-from servers.replies import list_of, listed
+from servers.replies import list_length, listed
 
 ODD_WORDS = (0, 1, 2, 3, 4, 5, 65, 400, 401, 2 ** 31, 2 ** 32 - 1)
 FAR = 70_000
@@ -21,7 +21,7 @@ def page_size(book: Book, call: dict, shown: int) -> int:
     """How long a reply is that lists so many names behind the cookie."""
     directory, names = directory_names(book, call)
     front = names[call["cookie"]:][:shown]
-    return len(result(list_of(call, [listed(book.sight(), directory, name, 1) for name in front], False)))
+    return list_length(book, call, [listed(book.sight(), directory, name, 1) for name in front])
 
 
 class ServerCalls(Calls):

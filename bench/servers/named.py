@@ -1,5 +1,6 @@
 """Servers whose commands aren't drawn: each tries one rule in every way."""
 from books.odd import headed
+from books.starts import DIRECTORY, FILE, LINK, Opening
 from books.tree import FILE_LIMIT, TRANSFER_LIMIT, handle_of
 from books.wire import (
     COMMIT, CREATE, EXCLUSIVE, GETATTR, GUARDED, LOOKUP, MKDIR, READ, READDIR, READDIRPLUS, READLINK, RECORD_LIMIT,
@@ -72,6 +73,7 @@ def run_short_life(run: Run, count: int = 10) -> list[int]:
         run.record(first, call)
     run.crash(0)
     run.record(first, named(LOOKUP, b"a"))
+    run.xid = 0
     for call in (read(handle_of(1)), listing()):
         run.record(second, call)
     return [first, second]
@@ -403,6 +405,81 @@ def run_many_lanes(run: Run) -> None:
     run.close([given[-1]])
 
 
+ONE_FILE = ((0, b"a", FILE, b"abc"),)
+HELD = ((0, b"held", DIRECTORY, b""), (1, b"text", FILE, b"abc"), (1, b"way", LINK, b"text"))
+OPENINGS = (Opening((), True), Opening(HELD, False), Opening(HELD, True))
+
+
+def run_one_file(run: Run) -> None:
+    """A server that holds a file at first: it is found and read, a file is made beside it, and what a crash takes is what came later."""
+    first, second = run.new_server(lanes=2)
+    for call in (
+            read(handle_of(1)), named(LOOKUP, b"a"), show(handle_of(1)), listing(), create(b"b"), show(handle_of(2)),
+            write(handle_of(1), b"xyz"), read(handle_of(1)), create(b"a", mode=GUARDED), create(b"a", mode=EXCLUSIVE)):
+        run.record(first, call)
+    run.crash(0)
+    for call in (read(handle_of(1)), listing_plus(), named(REMOVE, b"a"), show(handle_of(1)), listing()):
+        run.record(second, call)
+    run.close([first, second])
+
+
+def run_held_tree(run: Run) -> None:
+    """A directory that stood at first is renamed with what is in it, emptied and removed."""
+    first = run.new_server(lanes=1)[0]
+    held, text, way = map(handle_of, (1, 2, 3))
+    for call in (
+            listing_plus(held), follow(way), follow(text), named(RMDIR, b"held"), rename(b"held", b"moved"), named(LOOKUP, b"..", held),
+            write(text, b"z", 2, 5), commit(text), rename(b"text", b"text", held, ROOT), resize(text, 2), read(text),
+            rename(b"moved", b"in", ROOT, held), named(REMOVE, b"way", held), follow(way), named(RMDIR, b"moved"),
+            named(LOOKUP, b"a", held), make_directory(b"held")):
+        run.record(first, call)
+    run.crash(0)
+    run.record(run.join()[0], listing_plus())
+    run.close([number for number in run.own if run.passes[number].exchanges])
+
+
+def run_long_text(run: Run) -> None:
+    """A link's text that is too long."""
+    first = run.new_server(lanes=1)[0]
+    run.record(first, link(b"l", b"t" * (TRANSFER_LIMIT + 1)))
+    run.close([first])
+
+
+def run_first_faults(run: Run) -> None:
+    """The first call of each kind to a device fails."""
+    for faults in ((1, 0, 0), (0, 1, 0), (0, 0, 1)):
+        run_fault(run, faults, 1)
+
+
+def run_from(run: Run, opening: Opening, case) -> None:
+    """A case of servers that begin so. The objects of the calls that it makes have higher numbers there."""
+    run.opening, run.moved = opening, len(opening.start)
+    case(run)
+    run.opening, run.moved = Opening(), 0
+
+
+def run_openings(run: Run) -> None:
+    """Servers that hold something at first or are strict, by calls that plain ones with an empty root got ahead of them, and others."""
+    for opening in OPENINGS:
+        for case in OPENED_CASES:
+            run_from(run, opening, case)
+    for case in (run_pages, run_creates, run_long_text):
+        run_from(run, OPENINGS[-1], case)
+    for start, case in ((ONE_FILE, run_one_file), (HELD, run_held_tree)):
+        for strict in (False, True):
+            run.opening = Opening(start, strict)
+            case(run)
+    run.opening = Opening()
+
+
+def run_other_openings(run: Run) -> None:
+    """The other cases on such servers."""
+    for opening in OPENINGS:
+        for case in (run_torn, run_faults, run_renames, run_pages, run_odd_names, run_creates, run_limits):
+            run_from(run, opening, case)
+
+
+OPENED_CASES = (run_short_lives, run_odd_lane, run_failed_recovery, run_first_faults)
 CASES = (run_short_lives, run_odd_lane, run_torn, run_failed_recovery, run_faults, run_unserved, run_unreadable, run_renames,
          run_pages, run_odd_names, run_creates)
 LAST_CASES = (run_limits, run_many_lanes)

@@ -3,9 +3,10 @@
 It is written from the rules in words, apart from the crates' code.
 """
 from books.book import Book
+from books.strict import told_nodes
 from books.tree import (
     DIRECTORY, EXIST, FILE, INVAL, ISDIR, LINK, NAMED, NAMETOOLONG, NOENT, NOSPC, NOTDIR, NOTEMPTY, STALE, Sight,
-    TOOSMALL, TRANSFER_LIMIT, allows, asked_bytes, created, handle_of, is_plain,
+    TOOSMALL, TRANSFER_LIMIT, allows, asked_bytes, created, handle_of, is_plain, outcome,
 )
 from books.wire import (
     COMMIT, CREATE, EXCLUSIVE, GETATTR, GUARDED, LOOKUP, MKDIR, READ, READDIR, READDIRPLUS, READLINK, REMOVE, RENAME,
@@ -175,10 +176,18 @@ def causes(sight: Sight, call: dict) -> list[tuple[str, int]]:
 
 # Successes.
 
+def size_of(node: tuple) -> list[int]:
+    return halves(0 if node[1] == DIRECTORY else len(node[2]))
+
+
 def attributes(node: tuple) -> list[int]:
-    number, kind, content, _ = node
-    size = 0 if kind == DIRECTORY else len(content)
-    return [kind, MODE, 1, 0, 0, *halves(size), *[0] * 6, *halves(number), *[0] * 6]
+    number, kind, _, _ = node
+    return [kind, MODE, 1, 0, 0, *size_of(node), *[0] * 6, *halves(number), *[0] * 6]
+
+
+def attributes_ahead(node: tuple) -> list[int]:
+    """The size, and times of 0."""
+    return [*size_of(node), *[0] * 4]
 
 
 def listed(sight: Sight, directory: tuple, name: bytes, cookie: int) -> dict:
@@ -190,14 +199,22 @@ def list_of(call: dict, entries: list[dict], is_whole: bool) -> dict:
     return {"procedure": call["procedure"], "status": 0, "entries": entries, "eof": int(is_whole), "verifier": 0}
 
 
-def listing(sight: Sight, call: dict) -> dict:
+def list_length(book: Book, call: dict, entries: list[dict]) -> int:
+    """How many bytes a list has with its attributes."""
+    node = book.sight().node_of(call["handle"])
+    after = {"after": attributes(node)} if book.opening.strict and node is not None else {}
+    return len(result(list_of(call, entries, False) | after))
+
+
+def listing(book: Book, call: dict) -> dict:
     """As many names behind the cookie as the reply has room for."""
+    sight = book.sight()
     directory = sight.directory_of(call["handle"])
     names = sorted(sight.tree.names_in(directory))
     left = [listed(sight, directory, name, at + 1) for at, name in enumerate(names)][call["cookie"]:]
     most = min(call["count"] if call["procedure"] == READDIR else call["most"], TRANSFER_LIMIT)
     shown = 0
-    while shown < len(left) and len(result(list_of(call, left[:shown + 1], False))) <= most:
+    while shown < len(left) and list_length(book, call, left[:shown + 1]) <= most:
         shown += 1
     if left and not shown:
         return {"procedure": call["procedure"], "status": TOOSMALL}
@@ -209,10 +226,11 @@ def read_reply(node: tuple, call: dict) -> dict:
     return {"data": data, "eof": int(call["offset"] + len(data) >= len(node[2]))}
 
 
-def made_handle(sight: Sight, number: int, call: dict) -> bytes:
+def made_handle(book: Book, number: int, call: dict) -> bytes:
+    sight = book.sight()
     if call["procedure"] == CREATE and created(sight, call) != "new":
         return handle_of(entry_of(sight, call["handle"], call["name"])[0])
-    return handle_of(number)
+    return handle_of(book.object_of(number))
 
 
 def success(book: Book, number: int, call: dict) -> dict:
@@ -231,17 +249,32 @@ def success(book: Book, number: int, call: dict) -> dict:
     if procedure == WRITE:
         return reply | {"count": len(call["data"]), "level": call["level"], "verifier": book.era}
     if procedure in (CREATE, MKDIR, SYMLINK):
-        return reply | {"handle": made_handle(sight, number, call)}
+        return reply | {"handle": made_handle(book, number, call)}
     if procedure in (READDIR, READDIRPLUS):
-        return listing(sight, call)
+        return listing(book, call)
     if procedure == COMMIT:
         return reply | {"verifier": book.era}
     assert procedure in (SETATTR, REMOVE, RMDIR, RENAME)
     return reply
 
 
+def optional_attributes(book: Book, number: int, call: dict, reply: dict) -> dict:
+    """The attributes that a reply carries under the strict profile: of each object that stands (docs/SERVER.md)."""
+    before, own = book.sight(), book.object_of(number)
+    after = Sight(outcome(before, own, call, reply), before.made | {own})
+    nodes = told_nodes(before, after, call, reply["status"])
+    return {name: attributes_ahead(node) if name.startswith("before") else attributes(node)
+            for name, node in nodes.items() if node is not None}
+
+
 def reply_to(book: Book, number: int, call: dict) -> dict:
     """The reply to call `number` where the book is now."""
+    reply = bare_reply(book, number, call)
+    return reply | optional_attributes(book, number, call, reply) if book.opening.strict else reply
+
+
+def bare_reply(book: Book, number: int, call: dict) -> dict:
+    """The same without the attributes that are optional."""
     sight, procedure = book.sight(), call["procedure"]
     if procedure == SYMLINK and len(call["text"]) > TRANSFER_LIMIT:
         return {"procedure": procedure, "status": NAMETOOLONG}

@@ -1,4 +1,5 @@
 """What a run reached."""
+from books.strict import carried
 from books.tree import NAMED, NAMETOOLONG, TOOSMALL
 from books.wire import (
     COMMIT, CREATE, JUDGED, LOOKUP, MKDIR, NAMES, READ, READDIR, READDIRPLUS, READLINK, REMOVE, RENAME, RMDIR, SETATTR,
@@ -76,10 +77,29 @@ def print_causes(run: Run) -> list[str]:
     return missing
 
 
+def print_openings(run: Run) -> list[str]:
+    counts = [(f"{how} {what}", run.openings[start, strict]) for start, how in ((False, "from nothing"), (True, "from a start"))
+              for strict, what in ((False, "plain"), (True, "strict"))]
+    print(f"servers: {counted(counts)}")
+    return [f"servers {name}" for name, count in counts if not count]
+
+
+def print_attributes(run: Run) -> list[str]:
+    """In how many replies each of the optional attributes stood."""
+    missing = []
+    for procedure in JUDGED:
+        for status, how in ((0, "success"), (1, "failure")):
+            counts = [(name, run.attributes[procedure, status == 0, name]) for name in carried(procedure, status)]
+            if counts:
+                print(f"attributes of {NAMES[procedure]}, {how}: {counted(counts)}")
+            missing += [f"{name} of {NAMES[procedure]}, {how}" for name, count in counts if not count]
+    return missing
+
+
 def print_report(run: Run) -> int:
     """Tells how often each answer was reached, and gives 1 where one never was."""
     print(f"{run.commands()} commands, {len(run.blocks)} servers, {run.eras} eras")
-    missing = print_faults(run) + print_replies(run) + print_causes(run)
+    missing = print_openings(run) + print_attributes(run) + print_faults(run) + print_replies(run) + print_causes(run)
     print(f"messages: {counted((kind, run.kinds[kind]) for kind in KINDS)}")
     missing += [kind for kind in KINDS if not run.kinds[kind]]
     if missing:

@@ -3,6 +3,8 @@ import random
 from collections import Counter
 
 from books.book import RUNNING
+from books.starts import Opening
+from books.tree import handle_of
 from books.wire import READDIR, READDIRPLUS, call_message, spell
 from servers.calls import ServerCalls
 from servers.replies import causes, reply_to
@@ -11,6 +13,17 @@ from servers.server import Pass, Server
 # Of so many calls the one is taken that shows what was shown least often.
 DRAWN = 4
 LANES = 4
+ATTRIBUTES = ("after", "before", "after_to", "before_to", "object")
+
+
+def move_handle(handle: bytes, by: int) -> bytes:
+    """The handle of an object with a higher number. The root stays, and what is none of a number."""
+    number = int.from_bytes(handle, "big")
+    return handle_of(number + by) if len(handle) == 8 and 0 < number < 2 ** 63 else handle
+
+
+def move_call(call: dict, by: int) -> dict:
+    return call | {name: move_handle(call[name], by) for name in ("handle", "to_handle") if name in call}
 
 
 class Run:
@@ -29,6 +42,10 @@ class Run:
         self.kinds, self.replies, self.causes, self.pairs = Counter(), Counter(), Counter(), Counter()
         self.faults, self.fault_pairs, self.done = Counter(), Counter(), Counter()
         self.eras = 0
+        # How the next server begins, and by how much the objects are moved that calls by hand name; how many servers began with something or nothing and were strict or plain, and in replies of
+        # which procedures, failures and successes, each of the optional attributes stood.
+        self.opening, self.moved = Opening(), 0
+        self.openings, self.attributes = Counter(), Counter()
 
     # Commands.
 
@@ -48,8 +65,9 @@ class Run:
 
     def new_server(self, faults: tuple[int, int, int] = (0, 0, 0), lanes: int = 0) -> list[int]:
         """Another server, and the passes that it gives."""
-        self.server = Server(*faults)
-        self.blocks.append([f"server {faults[0]} {faults[1]} {faults[2]}"])
+        self.server = Server(*faults, self.opening)
+        self.blocks.append([f"server {faults[0]} {faults[1]} {faults[2]}{self.opening.spelled()}"])
+        self.openings[bool(self.opening.start), self.opening.strict] += 1
         self.own, self.xid = [], 0
         self.eras += 1
         return self.join(lanes)
@@ -84,13 +102,18 @@ class Run:
                 refusals = ["Down"]
             self.count("call", refusals)
         if server.reply is not None:
-            self.replies[server.reply["procedure"], server.reply["status"]] += 1
+            self.count_reply(server.reply)
         return self.say(f"call {number} {spell(message)}".rstrip(), answer)
+
+    def count_reply(self, reply: dict) -> None:
+        self.replies[reply["procedure"], reply["status"]] += 1
+        for name in ATTRIBUTES:
+            self.attributes[reply["procedure"], reply["status"] == 0, name] += name in reply
 
     def record(self, number: int, call: dict, odd: bool = False) -> dict | None:
         """A call of a judged procedure, and the reply to it, if there was one."""
         self.xid += 1
-        book = self.server.book
+        book, call = self.server.book, move_call(call, self.moved)
         held = [name for name, _ in causes(book.sight(), call)]
         message = self.calls.message(self.xid, call) if odd else call_message(self.xid, call)
         self.call(number, message)

@@ -6,7 +6,7 @@ import hashlib
 from dataclasses import dataclass, field
 
 from books.book import DEAD, Book
-from books.tree import ROOT
+from books.starts import Opening
 from books.wire import opaque, reply_message, tell, words
 from servers.messages import Request, read_request
 from servers.replies import reply_to
@@ -32,8 +32,8 @@ class Pass:
 
 
 class Server:
-    def __init__(self, fail_append: int = 0, fail_barrier: int = 0, fail_recover: int = 0):
-        self.book = Book(fail_append, fail_barrier, fail_recover)
+    def __init__(self, fail_append: int = 0, fail_barrier: int = 0, fail_recover: int = 0, opening: Opening = Opening()):
+        self.book = Book(fail_append, fail_barrier, fail_recover, opening)
         self.joined = 0
         self.events: list[bytes] = []
         # Of each lane the answered calls in the order of their numbers.
@@ -113,7 +113,7 @@ class Server:
         return f"Torn {min(torn)}" if torn else None
 
     def history(self) -> bytes:
-        return b"NFSHIST1" + opaque(ROOT) + words(len(self.events)) + b"".join(self.events)
+        return self.book.opening.head() + words(len(self.events)) + b"".join(self.events)
 
     def close(self, passes: list[Pass]) -> str:
         """The certificate, what the file of the history is, and the verdict on both, or why the passes don't tell of it."""

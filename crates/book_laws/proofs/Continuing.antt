@@ -39,6 +39,7 @@ pub record IsSame (one other : RecordedCall) : Type 0 where
 
 -- a history goes on
 pub record Continues (old new : Book) : Type 0 where
+  pub head : new.history.known.head ≡ old.history.known.head
   pub calls : (n : ℕ) (call : RecordedCall) → call_at old.history.known.calls n ≡ Some call
       → (other : RecordedCall) × (call_at new.history.known.calls n ≡ Some other) × IsSame call other
   pub events : (k : ℕ) (event : Event) → slice_get old.history.events k ≡ Some event → slice_get new.history.events k ≡ Some event
@@ -73,9 +74,10 @@ same_itself call = record { lane = refl; xid = refl; begin = refl; meaning = ref
 -- ---- the steps
 
 -- an event more, of no call
-module _ (book new : Book) (event : Event) (calls : new.history.known.calls ≡ book.history.known.calls) (more : new.history.events ≡ book.history.events ++ event ∷ []) where
+module _ (book new : Book) (event : Event) (calls : new.history.known.calls ≡ book.history.known.calls) (more : new.history.events ≡ book.history.events ++ event ∷ []) (head : new.history.known.head ≡ book.history.known.head) where
   pub continues_event : Continues book new
   continues_event = record {
+    head = head;
     calls = λ n call at. (call, ap (λ cs. call_at cs n) calls ∙ at, same_itself call);
     events = λ k e at. ap (λ es. slice_get es k) more ∙ get_stays book.history.events (event ∷ []) k e at;
   }
@@ -84,9 +86,10 @@ module _ (book new : Book) (event : Event) (calls : new.history.known.calls ≡ 
   sent_event sent n call at = sent_stays book new call call continues_event (same_itself call) (sent n call (ap (λ cs. call_at cs n) (sym calls) ∙ at))
 
 -- the same history
-module _ (book new : Book) (calls : new.history.known.calls ≡ book.history.known.calls) (same : new.history.events ≡ book.history.events) where
+module _ (book new : Book) (calls : new.history.known.calls ≡ book.history.known.calls) (same : new.history.events ≡ book.history.events) (head : new.history.known.head ≡ book.history.known.head) where
   pub continues_same : Continues book new
   continues_same = record {
+    head = head;
     calls = λ n call at. (call, ap (λ cs. call_at cs n) calls ∙ at, same_itself call);
     events = λ k e at. ap (λ es. slice_get es k) same ∙ at;
   }
@@ -101,6 +104,7 @@ module _ (book : Book) (lane : ℕ) (message : List ℕ) (asked : NfsCall) (reco
 
   pub continues_begin : Continues book begins_so
   continues_begin = record {
+    head = refl;
     calls = λ n call at. (call, call_stays book.history.known.calls (begun book.history lane message asked) n call at, same_itself call);
     events = λ k e at. get_stays book.history.events (events.Call lane message ∷ []) k e at;
   }
@@ -159,6 +163,7 @@ module _ (book : Book) (place lane : ℕ) (message : List ℕ) (outcome : Outcom
 
   pub continues_answer : Continues book answers_so
   continues_answer = record {
+    head = refl;
     calls = λ n call at. at_place n call at (nat_decide n (suc (place - 1)));
     events = λ k e at. get_stays book.history.events (events.Reply lane message ∷ []) k e at;
   }

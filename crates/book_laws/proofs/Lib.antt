@@ -1,5 +1,4 @@
 pub mod Walks
-pub mod Newcomer
 pub mod Rising
 pub mod Continuing
 pub mod Recording

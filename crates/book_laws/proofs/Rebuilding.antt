@@ -1,24 +1,28 @@
 -- a book's records lead to its tree
-use Rattle.std.proofs.Common.{◌≡◌, ◌⊎◌, inl, inr, ℕ, zero, suc, ◌+◌, ◌<◌, ◌^◌, Bool, true, false, cond, List, [], ◌∷◌, ◌++◌, map, take, refl, ap, ◌∙◌}
-use Rattle.std.specs.Prelude.{filter, IsSome}
+use Rattle.std.proofs.Common.{◌≡◌, ◌⊎◌, inl, inr, ℕ, zero, suc, ◌+◌, ◌<◌, ◌≤◌, ◌^◌, Bool, true, false, cond, List, [], ◌∷◌, ◌++◌, length, map, take, refl, sym, ap, ◌∙◌, subst, arith}
+use Rattle.std.specs.Prelude.{filter, IsSome, is_some, if◌then◌else◌}
+use Rattle.std.specs.List.{range_with_len}
 use Rattle.std.specs.List.{AllByRecursion}
 use Rattle.nfs_history.specs.declared.history.RecordedCall.{RecordedCall}
 use Rattle.replay_law.specs.Run.{state_after, kept_steps}
-use Rattle.tree_nodes.specs.Tree.{opening, entry_of}
-use Rattle.file_tree.specs.Success.{next_tree}
+use Rattle.tree_starts.specs.Start.{object_made}
+use Rattle.tree_nodes.specs.Tree.{entry_of}
+use Rattle.file_tree.proofs.Starts.{few}
 use Rattle.book_machine.specs.Placing.{Placed, is_recorded}
-use Rattle.book_machine.specs.Book.{Book}
-use Rattle.book_machine.specs.Steps.{Steps}
+use Rattle.book_machine.specs.Book.{Book, setting_made, object_in, next_by, tree_at_first}
+use Rattle.book_machine.specs.Steps.{Steps, with_object}
+use Rattle.book_machine.specs.Steps.Steps.{begins, places, flushes, answers, closes, crashes, refuses}
+use Rattle.book_machine.proofs.Starting.{all_numbers}
 use Rattle.book_machine.proofs.Invariant.{Over, AreKnown, AllKnown, IsInvariant}
 use Rattle.book_machine.proofs.Lists.{all_append, all_each}
-use Rattle.journal_rebuild.specs.Rebuilding.{bindings_made, step_in}
-use Rattle.journal_rebuild.proofs.Numbers.{Among}
-use Rattle.journal_rebuild.proofs.Growing.{known_opening}
+use Rattle.journal_rebuild.specs.Rebuilding.{step_in}
+use Rattle.journal_rebuild.proofs.Numbers.{Among, among_more}
+use Rattle.journal_rebuild.proofs.Growing.{known_start}
 use Rattle.book_laws.specs.Recorded.{changes_of}
 use Rattle.book_laws.specs.Alone.{GivesTheTree, AJournalAloneGivesTheTree}
 use Rattle.book_laws.proofs.Walks.{from_opening}
 use Rattle.book_laws.proofs.Recording.{KeepsRecords, AreKept, records_on, keeps_at_first}
-use Rattle.book_laws.proofs.Standing.{RunStands, stands_on}
+use Rattle.book_laws.proofs.Standing.{RunStands, stands_on, among_with}
 use Rattle.book_laws.proofs.Renaming.{AreSmall}
 use Rattle.book_laws.proofs.Replaying.{IsReceived, replayed}
 use Rattle.book_laws.proofs.Saying.{are_said}
@@ -49,14 +53,19 @@ recorded_all (step ∷ steps) = go (is_recorded step) refl (recorded_all steps) 
   go true is rest = (is, rest)
   go false is rest = rest
 
-abbrev number_of : Placed → ℕ
-number_of step = step.number
+abbrev number_of : ℕ → Placed → ℕ
+number_of first step = object_made first step.number
 
-among_all : (steps : List Placed) → AllByRecursion (λ step. Among (map number_of steps) step.number) steps
-among_all [] = tt
-among_all (step ∷ steps) = (inl refl, all_each (λ s. Among (map number_of steps) s.number) (λ s. Among (step.number ∷ map number_of steps) s.number) steps (λ s a. inr a) (among_all steps))
+among_all : (first : ℕ) (steps : List Placed) → AllByRecursion (λ step. Among (map (number_of first) steps) (number_of first step)) steps
+among_all first [] = tt
+among_all first (step ∷ steps) =
+    (inl refl, all_each (λ s. Among (map (number_of first) steps) (number_of first s)) (λ s. Among (number_of first step ∷ map (number_of first) steps) (number_of first s)) steps (λ s a. inr a) (among_all first steps))
 
-small_all : (book : Book) (records : List (List ℕ)) (steps : List Placed) → AreKept book records steps → AreSmall (map number_of steps)
+behind_these : (xs ys : List ℕ) (object : ℕ) → Among ys object → Among (xs ++ ys) object
+behind_these [] ys object a = a
+behind_these (x ∷ xs) ys object a = inr (behind_these xs ys object a)
+
+small_all : (book : Book) (records : List (List ℕ)) (steps : List Placed) → AreKept book records steps → AreSmall (map (number_of (length book.history.known.head.start)) steps)
 small_all book [] [] k = tt
 small_all book [] (step ∷ steps) k = absurd k
 small_all book (bytes ∷ records) [] k = absurd k
@@ -64,32 +73,68 @@ small_all book (bytes ∷ records) (step ∷ steps) k = (k.0.numbered, small_all
 
 -- ---- the tree
 
+known_with : (n : ℕ) (b : Bool) (made : List ℕ) (object : ℕ) → (object ≡ 0) ⊎ Among made object → (object ≡ 0) ⊎ Among (if b then with_object n made else made) object
+known_with n true made object (inl root) = inl root
+known_with n true made object (inr a) = inr (among_with n made object a)
+known_with n false made object k = k
+
+abbrev KnownAt : Book → Type 0
+KnownAt book = (object : ℕ) → IsSome (entry_of (tree_at_first book) object) → (object ≡ 0) ⊎ Among book.made object
+
+known_on : (book new : Book) → KnownAt book → Steps book new → KnownAt new
+known_on book new k (begins lane message b) = subst KnownAt (sym b.done) k
+known_on book new k (places number reply p) =
+    subst KnownAt (sym p.done) (λ object stands. known_with (object_in book number) (is_some (entry_of p.after (object_in book number))) book.made object (k object stands))
+known_on book new k (flushes f) = subst KnownAt (sym f.done) k
+known_on book new k (answers number t) = subst KnownAt (sym t.done) k
+known_on book new k (closes lane c) = subst KnownAt (sym c.done) k
+known_on book new k (crashes keep c) = subst KnownAt (sym c.done) k
+known_on book new k (refuses r) = subst KnownAt (sym r.done) k
+
 record Remembers (book : Book) : Type 0 where
   records : KeepsRecords book
   stands : RunStands book
+  -- each object at first is among the made
+  known : KnownAt book
 
 remembers_on : (book new : Book) → IsInvariant book → Remembers book → Steps book new → Remembers new
-remembers_on book new i r step = record { records = records_on book new i r.records step; stands = stands_on book new i r.stands step }
+remembers_on book new i r step = record { records = records_on book new i r.records step; stands = stands_on book new i r.stands step; known = known_on book new r.known step }
 
 gives_the_tree : (book : Book) → IsInvariant book → Remembers book → GivesTheTree book
 gives_the_tree book i r tree is =
+    let head = book.history.known.head in
+    let first = length head.start in
     let steps = kept_steps book.over ++ book.placed in
     let said = are_said book book.device.records (changes_of book) r.records.kept (recorded_all steps) in
     let came = received book.history.known.calls 1 book.over book.placed i.known in
-    let journal = map number_of (changes_of book) in
-    let run = replayed book.made journal (all_each _ (λ object. object < 2 ^ 64) book.made (λ object has. has.1) i.made)
-    (small_all book book.device.records (changes_of book) r.records.kept) opening tree steps (first_known book.made) (first_known journal) r.stands
-    (all_append IsReceived (kept_steps book.over) book.placed came.0 came.1) (among_all (changes_of book)) is in
+    let firsts = range_with_len 1 first in
+    let own = map (number_of first) (changes_of book) in
+    let journal = firsts ++ own in
+    let run = replayed head book.made journal (all_each _ (λ object. object < 2 ^ 64) book.made (λ object has. has.1) i.made)
+    (all_append (λ n. n < 2 ^ 64) firsts own (all_numbers (λ n. n < 2 ^ 64) 1 first (λ k from below. small k first below (few head.start i.start)))
+    (small_all book book.device.records (changes_of book) r.records.kept))
+    (tree_at_first book) tree steps r.known (λ object stands. first_known own object stands) r.stands
+    (all_append IsReceived (kept_steps book.over) book.placed came.0 came.1)
+    (all_each _ (λ s. Among journal (number_of first s)) (changes_of book) (λ s a. behind_these firsts own (number_of first s) a) (among_all first (changes_of book))) is in
     record {
       changes = said.changes;
       are = said.are;
-      leads = ap (λ numbers. state_after (next_tree (bindings_made numbers)) opening (map step_in said.changes)) said.numbers_are ∙ ap (state_after (next_tree (bindings_made journal)) opening) said.steps_are ∙ run;
+      numbered = said.numbered;
+      leads = ap (λ numbers. state_after (next_by (setting_made head (firsts ++ numbers))) (tree_at_first book) (map step_in said.changes)) said.numbers_are
+          ∙ ap (state_after (next_by (setting_made head journal)) (tree_at_first book)) said.steps_are ∙ run;
     } where
-      first_known : (numbers : List ℕ) (object : ℕ) → IsSome (entry_of opening object) → (object ≡ 0) ⊎ Among numbers object
-      first_known numbers object stands = go (known_opening object stands) where
-        go : (object ≡ 0) ⊎ Among [] object → (object ≡ 0) ⊎ Among numbers object
+      small : (k n : ℕ) → k < 1 + n → n ≤ 1000000 → k < 2 ^ 64
+      small k n below le = omega (arith, below, le)
+
+      first_known : (own : List ℕ) (object : ℕ) → IsSome (entry_of (tree_at_first book) object) → (object ≡ 0) ⊎ Among (range_with_len 1 (length book.history.known.head.start) ++ own) object
+      first_known own object stands = go (known_start book.history.known.head.start i.start object stands) where
+        firsts : List ℕ
+        firsts = range_with_len 1 (length book.history.known.head.start)
+
+        go : (object ≡ 0) ⊎ Among (range_with_len 1 (length book.history.known.head.start)) object → (object ≡ 0) ⊎ Among (range_with_len 1 (length book.history.known.head.start) ++ own) object
         go (inl root) = inl root
-        go (inr among) = absurd among
+        go (inr among) = inr (among_more firsts own object among)
 
 pub alone : AJournalAloneGivesTheTree
-alone = from_opening Remembers GivesTheTree remembers_on gives_the_tree (λ faults. record { records = keeps_at_first faults; stands = tt })
+alone = from_opening Remembers GivesTheTree remembers_on gives_the_tree
+    (λ profile start faults is. record { records = keeps_at_first profile start faults is; stands = tt; known = known_start start is })

@@ -1,4 +1,8 @@
 -- each step keeps the records of a book's changes
+use Rattle.tree_starts.specs.Head.{Head}
+use Rattle.tree_starts.specs.Start.{IsStart, object_made}
+use Rattle.tree_starts.specs.declared.object.StartObject.{StartObject}
+use Rattle.tree_starts.specs.declared.profile.Profile.{Profile}
 use Rattle.std.proofs.Common.{◌≡◌, ℕ, zero, suc, ◌-◌, ◌<◌, ◌≤◌, ◌^◌, Bool, true, false, cond, List, [], ◌∷◌, ◌++◌, length, take, Some, refl, sym, ap, ◌∙◌, subst, arith, append-nil}
 use Rattle.std.specs.Prelude.{filter, if◌then◌else◌}
 use Rattle.std.proofs.lemmas.List.{append_assoc}
@@ -13,7 +17,7 @@ use Rattle.nfs_history.specs.declared.history.RecordedCall.{RecordedCall}
 use Rattle.nfs_history.specs.Precedence.{call_at}
 use Rattle.replay_law.specs.Run.{kept_steps}
 use Rattle.book_machine.specs.Placing.{Placed, is_recorded, records_in, front_with}
-use Rattle.book_machine.specs.Book.{Book}
+use Rattle.book_machine.specs.Book.{Book, object_in}
 use Rattle.book_machine.specs.Steps.{HasMessage, IsRecordable, IsAnswerTo, journal_record, reply_message, step_of, with_record, Places, Steps, opening_book}
 use Rattle.book_machine.specs.Steps.Steps.{begins, places, flushes, answers, closes, crashes, refuses}
 use Rattle.book_machine.proofs.Invariant.{Over, IsInvariant}
@@ -33,7 +37,7 @@ pub record IsKept (book : Book) (bytes : List ℕ) (step : Placed) : Type 0 wher
   pub reply : NfsReply
   pub received : step.outcome ≡ Received reply
   pub written : bytes ≡ journal_record step.number message (reply_message call.xid reply)
-  pub numbered : step.number < 2 ^ 64
+  pub numbered : object_in book step.number < 2 ^ 64
   pub answers : IsAnswerTo message (reply_message call.xid reply) reply
   pub within : length (reply_message call.xid reply) ≤ record_limit
 
@@ -54,7 +58,7 @@ is_kept_on old new bytes step c k =
       reply = k.reply;
       received = k.received;
       written = k.written ∙ ap (λ x. journal_record step.number k.message (reply_message x k.reply)) (sym stays.2.xid);
-      numbered = k.numbered;
+      numbered = subst (λ (head : Head). object_made (length head.start) step.number < 2 ^ 64) (sym c.head) k.numbered;
       answers = subst (λ (x : ℕ). IsAnswerTo k.message (reply_message x k.reply) k.reply) (sym stays.2.xid) k.answers;
       within = subst (λ (x : ℕ). length (reply_message x k.reply) ≤ record_limit) (sym stays.2.xid) k.within;
     }
@@ -216,30 +220,30 @@ module _ (book : Book) (number : ℕ) (reply : NfsReply) (new : Book) (p : Place
 
   placed_so : KeepsRecords after
   placed_so = record {
-    sent = sent_same book after refl refl k.sent;
+    sent = sent_same book after refl refl refl k.sent;
     kept = subst (AreKept after after.device.records) (sym changes_more)
-        (kept_on book after after.device.records (changes_of book ++ filter is_recorded (this ∷ [])) (continues_same book after refl refl) (more (is_recorded this)));
+        (kept_on book after after.device.records (changes_of book ++ filter is_recorded (this ∷ [])) (continues_same book after refl refl refl) (more (is_recorded this)));
   }
 
 pub records_on : (book new : Book) → IsInvariant book → KeepsRecords book → Steps book new → KeepsRecords new
 records_on book new i k (begins lane message b) =
     subst KeepsRecords (sym b.done) (left book _ (continues_begin book lane message b.call b.recordable) (sent_begin book lane message b.call b.recordable) refl refl k)
 records_on book new i k (places number reply p) = subst KeepsRecords (sym p.done) (placed_so book number reply new p k _)
-records_on book new i k (flushes f) = subst KeepsRecords (sym f.done) (left book _ (continues_same book _ refl refl) (sent_same book _ refl refl) refl refl k)
+records_on book new i k (flushes f) = subst KeepsRecords (sym f.done) (left book _ (continues_same book _ refl refl refl) (sent_same book _ refl refl refl) refl refl k)
 records_on book new i k (answers number a) =
     subst KeepsRecords (sym a.done)
     (left book _ (continues_answer book number a.recorded.lane a.answer a.step.outcome) (sent_answer book number a.recorded.lane a.answer a.step.outcome) refl refl k)
 records_on book new i k (closes lane c) =
-    subst KeepsRecords (sym c.done) (left book _ (continues_event book _ (events.Close lane) refl refl) (sent_event book _ (events.Close lane) refl refl) refl refl k)
+    subst KeepsRecords (sym c.done) (left book _ (continues_event book _ (events.Close lane) refl refl refl) (sent_event book _ (events.Close lane) refl refl refl) refl refl k)
 records_on book new i k (crashes keep c) =
     subst KeepsRecords (sym c.done)
-    (ended book _ keep (continues_event book _ events.Crash refl refl) (sent_event book _ events.Crash refl refl) refl (changes_front book.over book.placed keep (further i.mark.0 c.least)) k) where
+    (ended book _ keep (continues_event book _ events.Crash refl refl refl) (sent_event book _ events.Crash refl refl refl) refl (changes_front book.over book.placed keep (further i.mark.0 c.least)) k) where
       further : {x y z : ℕ} → x ≤ y → y ≤ z → x ≤ z
       further f g = omega (arith, f, g)
-records_on book new i k (refuses r) = subst KeepsRecords (sym r.done) (left book _ (continues_same book _ refl refl) (sent_same book _ refl refl) refl refl k)
+records_on book new i k (refuses r) = subst KeepsRecords (sym r.done) (left book _ (continues_same book _ refl refl refl) (sent_same book _ refl refl refl) refl refl k)
 
-pub keeps_at_first : (faults : ℕ) → KeepsRecords (opening_book faults)
-keeps_at_first faults = record { sent = λ n call at. absurd (none n at); kept = tt } where
+pub keeps_at_first : (profile : Profile) (start : List StartObject) (faults : ℕ) → IsStart start → KeepsRecords (opening_book profile start faults)
+keeps_at_first profile start faults is = record { sent = λ n call at. absurd (none n at); kept = tt } where
   none : (n : ℕ) {call : RecordedCall} → call_at [] n ≡ Some call → ⊥
   none zero e = cc
   none (suc n) e = cc

@@ -1,5 +1,5 @@
 -- the changes of a book's run lead to the same tree where the handles are those of the changes' numbers
-use Rattle.std.proofs.Common.{◌≡◌, ◌⊎◌, inl, inr, ℕ, Bool, true, false, cond, List, [], ◌∷◌, ◌++◌, Option, Some, None, refl, sym, ap, ◌∙◌, subst, eq-eqb}
+use Rattle.std.proofs.Common.{◌≡◌, ◌⊎◌, inl, inr, ℕ, Bool, true, false, cond, List, [], ◌∷◌, ◌++◌, length, Option, Some, None, refl, sym, ap, ◌∙◌, subst, eq-eqb}
 use Rattle.std.specs.Prelude.{IsSome, ◌==◌, ◌&&◌, not, is_none, filter, if◌then◌else◌, option_and_then, option_map}
 use Rattle.std.specs.Option.{option_map_or}
 use Rattle.std.specs.List.{AllByRecursion}
@@ -24,7 +24,14 @@ use Rattle.tree_nodes.proofs.Chains.{chained, mapped, passed, same_some, both_pa
 use Rattle.tree_nodes.proofs.Found.{some_found}
 use Rattle.tree_handles.specs.Binding.{Bindings, object_of, is_bound}
 use Rattle.tree_handles.specs.Live.{live_entry, as_directory, directory_of}
+use Rattle.tree_starts.specs.Head.{Head}
 use Rattle.tree_starts.specs.Names.{is_plain}
+use Rattle.tree_starts.specs.Start.{object_made}
+use Rattle.tree_starts.specs.declared.profile.Profile.{Profile}
+use Rattle.tree_starts.specs.declared.profile.Profile.TheVariants.{Plain, Strict}
+use Rattle.file_tree.specs.Setting.{under}
+use Rattle.file_tree.specs.Strict.{judged}
+use Rattle.file_tree.proofs.Profiles.{comes_out_plain, same_judgement}
 use Rattle.file_tree.specs.Change.{Change}
 use Rattle.file_tree.specs.Change.Change.{Put}
 use Rattle.file_tree.specs.Made.{create_at, make_entry}
@@ -35,8 +42,8 @@ use Rattle.tree_laws.proofs.Agreeing.{others_dont_matter}
 use Rattle.tree_laws.proofs.Keeping.{put_there}
 use Rattle.tree_laws.proofs.Newcomers.{only_its_own_is_new}
 use Rattle.book_machine.specs.Placing.{Placed, is_recorded}
-use Rattle.book_machine.specs.Book.{bindings_made}
-use Rattle.book_machine.proofs.Running.{unrecorded_leaves}
+use Rattle.book_machine.specs.Book.{Setting, bindings_made, setting_made, next_by}
+use Rattle.book_machine.proofs.Running.{unrecorded_leaves_by}
 use Rattle.nfs_history.specs.Success.{succeeded}
 use Rattle.journal_rebuild.proofs.Numbers.{Among}
 use Rattle.book_laws.proofs.Standing.{AllStand}
@@ -174,51 +181,76 @@ module _ (made journal : List ℕ) (small : AreSmall made) (small' : AreSmall jo
                 agree handle object (inl s) = agree_in handle object s
                 agree handle object (inr root) = alike_bound made journal small small' handle object (inl root)
 
+  module _ (number : ℕ) (call : NfsCall) (reply : NfsReply) (after : Tree) (success : failure_in reply ≡ None) (its_own : IsSome (entry_of after number) → Among made number) (its_record : Among journal number) where
+    -- what stands after the call is named the same
+    agree_after : next_tree (bindings_made made) tree number call (Received reply) ≡ Some after → AgreeIn (bindings_made made) (bindings_made journal) after
+    agree_after next handle object stands = go (only_its_own_is_new (bindings_made made) tree after number call (Received reply) object next stands) where
+      go : IsSome (entry_of tree object) ⊎ (object ≡ number) → is_bound (bindings_made made) handle object ≡ is_bound (bindings_made journal) handle object
+      go (inl stood) = agree_in handle object stood
+      go (inr is) =
+          alike_bound made journal small small' handle object
+          (inr ((λ a. subst (Among journal) (sym is) its_record), (λ a. subst (Among made) (sym is) (its_own (subst (λ (n : ℕ). IsSome (entry_of after n)) is stands)))))
+
+    -- so too under a profile
+    under_over : (profile : Profile) → under profile (bindings_made made) tree number call (Received reply) ≡ Some after → under profile (bindings_made journal) tree number call (Received reply) ≡ Some after
+    under_over Plain next = step_over number call reply after next success its_own its_record
+    under_over Strict next =
+        let found = chained (judged (bindings_made made) tree call (Received reply)) (next_tree (bindings_made made) tree number call (Received reply)) after next in
+        let plain : next_tree (bindings_made made) tree number call (Received reply) ≡ Some after = comes_out_plain Strict (bindings_made made) tree after number call (Received reply) next in
+        let same : found.0 ≡ after = same_some found.0 after (sym found.1 ∙ plain) in
+        let agreed : judged (bindings_made made) tree call (Received reply) after ≡ Some after = subst (λ (t : Tree). judged (bindings_made made) tree call (Received reply) t ≡ Some after) same found.2 in
+        ap (option_and_then (judged (bindings_made journal) tree call (Received reply))) (step_over number call reply after plain success its_own its_record)
+        ∙ sym (same_judgement (bindings_made made) (bindings_made journal) tree after (same_live (bindings_made made) (bindings_made journal) tree agree_in)
+        (same_live (bindings_made made) (bindings_made journal) after (agree_after plain)) call (Received reply)) ∙ agreed
+
 -- ---- all steps
 
 abbrev pub IsReceived : Placed → Type 0
 IsReceived step = (reply : NfsReply) × (step.outcome ≡ Received reply)
 
-module _ (made journal : List ℕ) (small : AreSmall made) (small' : AreSmall journal) where
-  abbrev M : Bindings
-  M = bindings_made made
+module _ (head : Head) (made journal : List ℕ) (small : AreSmall made) (small' : AreSmall journal) where
+  abbrev M : Setting
+  M = setting_made head made
 
-  abbrev J : Bindings
-  J = bindings_made journal
+  abbrev J : Setting
+  J = setting_made head journal
+
+  abbrev its : Placed → ℕ
+  its step = object_made (length head.start) step.number
 
   -- with the object of a call that was made
-  stands_behind : (tree after : Tree) (step : Placed) (numbers : List ℕ) → next_tree M tree step.number step.call step.outcome ≡ Some after → StandIn numbers tree
-      → (IsSome (entry_of after step.number) → Among numbers step.number) → StandIn numbers after
-  stands_behind tree after step numbers next in_tree own object stands = go (only_its_own_is_new M tree after step.number step.call step.outcome object next stands) where
-    go : IsSome (entry_of tree object) ⊎ (object ≡ step.number) → (object ≡ 0) ⊎ Among numbers object
+  stands_behind : (tree after : Tree) (step : Placed) (numbers : List ℕ) → next_by M tree step.number step.call step.outcome ≡ Some after → StandIn numbers tree
+      → (IsSome (entry_of after (its step)) → Among numbers (its step)) → StandIn numbers after
+  stands_behind tree after step numbers next in_tree own object stands = go (only_its_own_is_new M.binds tree after (its step) step.call step.outcome object (comes_out_plain head.profile M.binds tree after (its step) step.call step.outcome next) stands) where
+    go : IsSome (entry_of tree object) ⊎ (object ≡ its step) → (object ≡ 0) ⊎ Among numbers object
     go (inl stood) = in_tree object stood
     go (inr is) = inr (subst (Among numbers) (sym is) (own (subst (λ (n : ℕ). IsSome (entry_of after n)) is stands)))
 
-  pub replayed : (tree final : Tree) (steps : List Placed) → StandIn made tree → StandIn journal tree → AllStand (bindings_made made) made tree steps → AllByRecursion IsReceived steps
-      → AllByRecursion (λ step. Among journal step.number) (filter is_recorded steps) → state_after (next_tree (bindings_made made)) tree steps ≡ Some final
-      → state_after (next_tree (bindings_made journal)) tree (filter is_recorded steps) ≡ Some final
+  pub replayed : (tree final : Tree) (steps : List Placed) → StandIn made tree → StandIn journal tree → AllStand M made tree steps → AllByRecursion IsReceived steps
+      → AllByRecursion (λ step. Among journal (its step)) (filter is_recorded steps) → state_after (next_by M) tree steps ≡ Some final
+      → state_after (next_by J) tree (filter is_recorded steps) ≡ Some final
   replayed tree final [] in_made in_journal a r n e = e
   replayed tree final (step ∷ steps) in_made in_journal a r n e =
       go (is_recorded step) refl n (λ j m. replayed a.0 final steps m j a.3 r.1) where
-        rest : state_after (next_tree M) a.0 steps ≡ Some final
-        rest = sym (ap (option_and_then (λ t. state_after (next_tree M) t steps)) a.1) ∙ e
+        rest : state_after (next_by M) a.0 steps ≡ Some final
+        rest = sym (ap (option_and_then (λ t. state_after (next_by M) t steps)) a.1) ∙ e
 
-        next_so : next_tree M tree step.number step.call (Received r.0.0) ≡ Some a.0
-        next_so = ap (next_tree M tree step.number step.call) (sym r.0.1) ∙ a.1
+        next_so : next_by M tree step.number step.call (Received r.0.0) ≡ Some a.0
+        next_so = ap (next_by M tree step.number step.call) (sym r.0.1) ∙ a.1
 
         told : (not (only_looks step.call) && (is_answered step.call r.0.0 && is_none (failure_in r.0.0))) ≡ is_recorded step
         told = ap (λ o. not (only_looks step.call) && succeeded step.call o) (sym r.0.1)
 
-        go : (b : Bool) → is_recorded step ≡ b → AllByRecursion (λ s. Among journal s.number) (cond b (step ∷ filter is_recorded steps) (filter is_recorded steps))
-            → (StandIn journal a.0 → StandIn made a.0 → AllByRecursion (λ s. Among journal s.number) (filter is_recorded steps) → state_after (next_tree M) a.0 steps ≡ Some final
-            → state_after (next_tree J) a.0 (filter is_recorded steps) ≡ Some final)
-            → state_after (next_tree J) tree (cond b (step ∷ filter is_recorded steps) (filter is_recorded steps)) ≡ Some final
+        go : (b : Bool) → is_recorded step ≡ b → AllByRecursion (λ s. Among journal (its s)) (cond b (step ∷ filter is_recorded steps) (filter is_recorded steps))
+            → (StandIn journal a.0 → StandIn made a.0 → AllByRecursion (λ s. Among journal (its s)) (filter is_recorded steps) → state_after (next_by M) a.0 steps ≡ Some final
+            → state_after (next_by J) a.0 (filter is_recorded steps) ≡ Some final)
+            → state_after (next_by J) tree (cond b (step ∷ filter is_recorded steps) (filter is_recorded steps)) ≡ Some final
         go true is all later =
             let parts = both_pass (not (only_looks step.call)) (is_answered step.call r.0.0 && is_none (failure_in r.0.0)) (told ∙ is) in
             let success = none_is (failure_in r.0.0) (both_pass (is_answered step.call r.0.0) (is_none (failure_in r.0.0)) parts.1).1 in
-            let over = step_over made journal small small' tree in_made in_journal step.number step.call r.0.0 a.0 next_so success a.2 all.0 in
-            ap (option_and_then (λ t. state_after (next_tree J) t (filter is_recorded steps))) (ap (next_tree J tree step.number step.call) r.0.1 ∙ over)
+            let over = under_over made journal small small' tree in_made in_journal (its step) step.call r.0.0 a.0 success a.2 all.0 head.profile next_so in
+            ap (option_and_then (λ t. state_after (next_by J) t (filter is_recorded steps))) (ap (next_by J tree step.number step.call) r.0.1 ∙ over)
             ∙ later (stands_behind tree a.0 step journal a.1 in_journal (λ s. all.0)) (stands_behind tree a.0 step made a.1 in_made a.2) all.1 rest
         go false is all later =
-            let same : a.0 ≡ tree = unrecorded_leaves M tree a.0 step.number step.call r.0.0 next_so (told ∙ is) in
-            ap (λ t. state_after (next_tree J) t (filter is_recorded steps)) (sym same) ∙ later (subst (StandIn journal) (sym same) in_journal) (subst (StandIn made) (sym same) in_made) all rest
+            let same : a.0 ≡ tree = unrecorded_leaves_by M tree a.0 step.number step.call r.0.0 next_so (told ∙ is) in
+            ap (λ t. state_after (next_by J) t (filter is_recorded steps)) (sym same) ∙ later (subst (StandIn journal) (sym same) in_journal) (subst (StandIn made) (sym same) in_made) all rest

@@ -1,4 +1,5 @@
 -- the objects of a book rise, and so do their handles
+use Rattle.std.specs.List.{range_with_len}
 use Rattle.std.proofs.Common.{◌≡◌, ◌≢◌, ◌⊎◌, inl, inr, ℕ, zero, suc, ◌+◌, ◌*◌, ◌/◌, ◌<◌, ◌≤◌, ◌^◌, Bool, true, false, cond, List, [], ◌∷◌, length, map, refl, sym, ap, ◌∙◌, subst, arith, append-nil, eq-eqb}
 use Rattle.std.specs.Prelude.{◌==◌, nat_lt, if◌then◌else◌, is_some}
 use Rattle.std.specs.List.{AllByRecursion}
@@ -17,7 +18,7 @@ use Rattle.certificate.specs.CertificateText.{AreRising, HasHandle, AreEras}
 use Rattle.nfs_history.specs.declared.history.RecordedCall.{RecordedCall}
 use Rattle.tree_nodes.specs.Tree.{entry_of}
 use Rattle.book_machine.specs.Placing.{Placed}
-use Rattle.book_machine.specs.Book.{Book, handle_of}
+use Rattle.book_machine.specs.Book.{Book, handle_of, object_in}
 use Rattle.book_machine.specs.Plan.{bind_of}
 use Rattle.book_machine.specs.Steps.{with_object, Steps}
 use Rattle.book_machine.specs.Steps.Steps.{begins, places, flushes, answers, closes, crashes, refuses}
@@ -27,7 +28,8 @@ use Rattle.book_machine.proofs.Moving.{all_with_object}
 use Rattle.book_machine.proofs.Shaped.{plans}
 use Rattle.book_laws.specs.Writing.{CanBeWritten, EveryCertificateCanBeWritten}
 use Rattle.book_laws.proofs.Walks.{from_opening}
-use Rattle.book_laws.proofs.Newcomer.{others}
+use Rattle.book_machine.proofs.Newcomer.{others}
+use Rattle.book_machine.proofs.Starting.{all_numbers}
 
 -- ---- numbers that rise
 
@@ -164,9 +166,9 @@ written_so book i up =
 
 up_on : (book new : Book) → IsInvariant book → AreUp book.made → Steps book new → AreUp new.made
 up_on book new i up (begins lane message b) = subst (λ (x : Book). AreUp x.made) (sym b.done) up
-up_on book new i up (places number reply p) = subst (λ (x : Book). AreUp x.made) (sym p.done) (go (is_some (entry_of p.after number))) where
-  go : (b : Bool) → AreUp (if b then with_object number book.made else book.made)
-  go true = up_with number book.made (all_each _ (λ other. other ≢ number) book.made (λ other has. has.0) (others book i number reply new p)) up
+up_on book new i up (places number reply p) = subst (λ (x : Book). AreUp x.made) (sym p.done) (go (is_some (entry_of p.after (object_in book number)))) where
+  go : (b : Bool) → AreUp (if b then with_object (object_in book number) book.made else book.made)
+  go true = up_with (object_in book number) book.made (all_each _ (λ other. other ≢ object_in book number) book.made (λ other has. has.0) (others book i number reply new p)) up
   go false = up
 up_on book new i up (flushes f) = subst (λ (x : Book). AreUp x.made) (sym f.done) up
 up_on book new i up (answers number a) = subst (λ (x : Book). AreUp x.made) (sym a.done) up
@@ -174,5 +176,9 @@ up_on book new i up (closes lane c) = subst (λ (x : Book). AreUp x.made) (sym c
 up_on book new i up (crashes keep c) = subst (λ (x : Book). AreUp x.made) (sym c.done) up
 up_on book new i up (refuses r) = subst (λ (x : Book). AreUp x.made) (sym r.done) up
 
+first_up : (a n : ℕ) → AreUp (range_with_len a n)
+first_up a zero = tt
+first_up a (suc n) = (all_numbers (λ k. a < k) (a + 1) n (λ k from below. omega (arith, from)), first_up (a + 1) n)
+
 pub can_be_written : EveryCertificateCanBeWritten
-can_be_written = from_opening (λ book. AreUp book.made) CanBeWritten up_on written_so (λ faults. tt)
+can_be_written = from_opening (λ book. AreUp book.made) CanBeWritten up_on written_so (λ profile start faults is. first_up 1 (length start))

@@ -1,4 +1,5 @@
 -- the laws' premises are met by the example
+use Rattle.tree_starts.specs.declared.profile.Profile.TheVariants.{Plain}
 use Rattle.std.proofs.Common.{◌≡◌, inl, inr, ℕ, zero, suc, ◌+◌, ◌<◌, ◌≤◌, ◌^◌, List, [], ◌∷◌, ◌++◌, length, Some, refl, sym, ap, ◌∙◌, subst, arith, lit<, lit≤, eq-eqb}
 use Rattle.std.specs.Prelude.{IsSome, Bool, true, false, is_some, nat_lt, slice_index_or, ◌==◌, if◌then◌else◌, option_and_then}
 use Rattle.std.specs.FinMap as map
@@ -170,9 +171,9 @@ answers_asked = record {
 -- ---- the steps
 
 abbrev recorded : RecordedCall
-recorded = begun (opening_book 0).history 1 asked create
+recorded = begun (opening_book Plain [] 0).history 1 asked create
 
-begin_step : Begins (opening_book 0) 1 asked after_begin
+begin_step : Begins (opening_book Plain [] 0) 1 asked after_begin
 begin_step = record { running = refl; is_open = nothing_open; free = refl; call = create; recordable = recordable; done = refl }
 
 place_step : Places after_begin 1 created after_place

@@ -1,5 +1,6 @@
 -- the record that a book keeps of a change reads as that change
-use Rattle.std.proofs.Common.{◌≡◌, ℕ, ◌<◌, ◌≤◌, ◌^◌, true, false, List, [], ◌∷◌, length, map, None, refl, sym, ap, ◌∙◌, subst, arith}
+use Rattle.tree_starts.specs.Start.{object_made}
+use Rattle.std.proofs.Common.{◌≡◌, ℕ, zero, suc, ◌<◌, ◌≤◌, ◌^◌, true, false, List, [], ◌∷◌, length, map, None, refl, sym, ap, ◌∙◌, subst, arith}
 use Rattle.std.specs.Prelude.{◌&&◌, not, is_none}
 use Rattle.std.specs.List.{AllByRecursion}
 use Rattle.xdr_records.specs.Spelling.{Spells}
@@ -20,7 +21,7 @@ use Rattle.nfs_history.proofs.AskedProcedure.{procedure_is}
 use Rattle.book_machine.specs.Placing.{Placed, is_recorded}
 use Rattle.book_machine.specs.Book.{Book}
 use Rattle.book_machine.specs.Steps.{reply_message}
-use Rattle.journal_rebuild.specs.Rebuilding.{AreJournalRecords, step_in, numbers_in}
+use Rattle.journal_rebuild.specs.Rebuilding.{AreJournalRecords, step_in, object_in, IsNumbered}
 use Rattle.book_laws.proofs.Recording.{IsKept, AreKept}
 
 changing_called : (call : NfsCall) → only_looks call ≡ false → changes_the_tree (procedure_called call) ≡ true
@@ -54,6 +55,10 @@ module _ (book : Book) (bytes : List ℕ) (step : Placed) (k : IsKept book bytes
   of_nfs : IsCallOfNfs k.answers.head step.call
   of_nfs = subst (λ (head : CallValue). IsCallOfNfs head step.call) (one_head k.message k.recordable.head k.answers.head k.recordable.is_call k.answers.is_call) k.recordable.of_nfs
 
+  low : (first n : ℕ) → object_made first n < 2 ^ 64 → n < 2 ^ 64
+  low zero n lt = lt
+  low (suc first) n lt = omega (arith, lt)
+
   limit : (n : ℕ) → n ≤ record_limit → n < 2 ^ 32
   limit n le = omega (arith, le)
 
@@ -74,20 +79,21 @@ module _ (book : Book) (bytes : List ℕ) (step : Placed) (k : IsKept book bytes
   is_record : IsJournalRecord bytes (record { written = record { number = step.number; call = k.message; reply = reply_message k.call.xid k.reply }; call = step.call; reply = k.reply })
   is_record = record {
     spelled = subst (λ (xs : List ℕ). Spells journal_record xs (record { number = step.number; call = k.message; reply = reply_message k.call.xid k.reply })) (sym k.written)
-        (spelled_so step.number k.message (reply_message k.call.xid k.reply) k.numbered (limit (length k.message) k.recordable.within) (limit (length (reply_message k.call.xid k.reply)) k.within));
+        (spelled_so step.number k.message (reply_message k.call.xid k.reply) (low (length book.history.known.head.start) step.number k.numbered) (limit (length k.message) k.recordable.within) (limit (length (reply_message k.call.xid k.reply)) k.within));
     changed = is_change;
   }
 
 -- ---- all records
 
-pub record AreSaid (records : List (List ℕ)) (steps : List Placed) : Type 0 where
+pub record AreSaid (first : ℕ) (records : List (List ℕ)) (steps : List Placed) : Type 0 where
   pub changes : List Change
   pub are : AreJournalRecords records changes
   pub steps_are : map step_in changes ≡ steps
-  pub numbers_are : numbers_in changes ≡ map (λ (step : Placed). step.number) steps
+  pub numbers_are : map (object_in first) changes ≡ map (λ (step : Placed). object_made first step.number) steps
+  pub numbered : AllByRecursion (IsNumbered first) changes
 
-pub are_said : (book : Book) (records : List (List ℕ)) (steps : List Placed) → AreKept book records steps → AllByRecursion (λ step. is_recorded step ≡ true) steps → AreSaid records steps
-are_said book [] [] k r = record { changes = []; are = tt; steps_are = refl; numbers_are = refl }
+pub are_said : (book : Book) (records : List (List ℕ)) (steps : List Placed) → AreKept book records steps → AllByRecursion (λ step. is_recorded step ≡ true) steps → AreSaid (length book.history.known.head.start) records steps
+are_said book [] [] k r = record { changes = []; are = tt; steps_are = refl; numbers_are = refl; numbered = tt }
 are_said book [] (step ∷ steps) k r = absurd k
 are_said book (bytes ∷ records) [] k r = absurd k
 are_said book (bytes ∷ records) (step ∷ steps) k r =
@@ -96,5 +102,6 @@ are_said book (bytes ∷ records) (step ∷ steps) k r =
       changes = record { written = record { number = step.number; call = k.0.message; reply = reply_message k.0.call.xid k.0.reply }; call = step.call; reply = k.0.reply } ∷ rest.changes;
       are = (is_record book bytes step k.0 r.0, rest.are);
       steps_are = λ i. record { number = step.number; call = step.call; outcome = sym k.0.received i } ∷ rest.steps_are i;
-      numbers_are = ap (λ ns. step.number ∷ ns) rest.numbers_are;
+      numbers_are = ap (λ ns. object_made (length book.history.known.head.start) step.number ∷ ns) rest.numbers_are;
+      numbered = (k.0.numbered, rest.numbered);
     }

@@ -1,4 +1,7 @@
 -- what each step keeps holds after all of them
+use Rattle.tree_starts.specs.Start.{IsStart}
+use Rattle.tree_starts.specs.declared.object.StartObject.{StartObject}
+use Rattle.tree_starts.specs.declared.profile.Profile.{Profile}
 use Rattle.std.proofs.Common.{ℕ, List, [], ◌∷◌}
 use Rattle.std.specs.List.{AllByRecursion}
 use Rattle.book_machine.specs.Book.{Book}
@@ -15,6 +18,9 @@ module _ (P Q : Book → Type 0) (on : (book new : Book) → IsInvariant book �
       let more = on book next i p run.0 in
       (so next after more, along next books after more run.1)
 
-  pub from_opening : ((faults : ℕ) → P (opening_book faults)) → (faults : ℕ) (books : List Book) → IsRun (opening_book faults) books → Q (opening_book faults) × AllByRecursion Q books
-  from_opening opens faults books run =
-      (so (opening_book faults) (opening_holds faults) (opens faults), along (opening_book faults) books (opening_holds faults) (opens faults) run)
+  pub from_opening : ((profile : Profile) (start : List StartObject) (faults : ℕ) → IsStart start → P (opening_book profile start faults))
+      → (profile : Profile) (start : List StartObject) (faults : ℕ) (books : List Book) → IsStart start → IsRun (opening_book profile start faults) books → Q (opening_book profile start faults) × AllByRecursion Q books
+  from_opening opens profile start faults books is run = (
+    so (opening_book profile start faults) (opening_holds profile start faults is) (opens profile start faults is),
+    along (opening_book profile start faults) books (opening_holds profile start faults is) (opens profile start faults is) run,
+  )

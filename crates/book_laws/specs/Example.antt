@@ -1,4 +1,5 @@
 -- A book to which the laws apply: a CREATE begins, is placed, is put on stable storage and is answered.
+use Rattle.tree_starts.specs.declared.profile.Profile.TheVariants.{Plain}
 use Rattle.std.specs.Prelude.{ℕ, List, [], ◌∷◌, Some, None, IsSome}
 use Rattle.nfs3_types.specs.declared.calls.CreateMode.TheVariants.{Exclusive}
 use Rattle.nfs3_types.specs.declared.calls.NfsCall.{NfsCall}
@@ -29,7 +30,7 @@ answer = reply_message (xid_of asked) created
 
 -- the call begins on lane 1
 abbrev pub after_begin : Book
-after_begin = record (opening_book 0) { history = with_call (opening_book 0).history 1 asked create }
+after_begin = record (opening_book Plain [] 0) { history = with_call (opening_book Plain [] 0).history 1 asked create }
 
 -- is placed, with its record
 abbrev pub after_place : Book
@@ -53,5 +54,5 @@ books = after_begin ∷ after_place ∷ after_flush ∷ after_answer ∷ []
 
 -- these are a run, and its end has a tree
 pub record PremisesAreMet : Type 0 where
-  pub run : IsRun (opening_book 0) books
+  pub run : IsRun (opening_book Plain [] 0) books
   pub tree : IsSome (tree_of after_answer)

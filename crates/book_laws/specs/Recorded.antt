@@ -1,4 +1,7 @@
 -- The records of a journal are those of the calls that changed the tree.
+use Rattle.tree_starts.specs.Start.{IsStart}
+use Rattle.tree_starts.specs.declared.object.StartObject.{StartObject}
+use Rattle.tree_starts.specs.declared.profile.Profile.{Profile}
 use Rattle.std.specs.Prelude.{◌≡◌, ℕ, List, [], ◌∷◌, ◌++◌, filter, Some}
 use Rattle.std.specs.List.{AllByRecursion}
 use Rattle.nfs3_types.specs.declared.replies.NfsReply.{NfsReply}
@@ -36,4 +39,5 @@ HasItsChanges book = AreRecordsOf book book.device.records (changes_of book)
 
 abbrev pub ItsRecordsAreItsChanges : Type 0
 ItsRecordsAreItsChanges =
-    (faults : ℕ) (books : List Book) → IsRun (opening_book faults) books → HasItsChanges (opening_book faults) × AllByRecursion HasItsChanges books
+    (profile : Profile) (start : List StartObject) (faults : ℕ) (books : List Book) → IsStart start → IsRun (opening_book profile start faults) books
+    → HasItsChanges (opening_book profile start faults) × AllByRecursion HasItsChanges books

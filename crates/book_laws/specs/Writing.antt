@@ -1,4 +1,7 @@
 -- The certificate of a book is one that can be written (what a certificate keeps to is this project's own format).
+use Rattle.tree_starts.specs.Start.{IsStart}
+use Rattle.tree_starts.specs.declared.object.StartObject.{StartObject}
+use Rattle.tree_starts.specs.declared.profile.Profile.{Profile}
 use Rattle.std.specs.Prelude.{ℕ, List}
 use Rattle.std.specs.List.{AllByRecursion}
 use Rattle.certificate.specs.CertificateText.{IsCertificate}
@@ -13,4 +16,5 @@ CanBeWritten book = IsCertificate (plan_of book)
 -- ahead of all steps and after each
 abbrev pub EveryCertificateCanBeWritten : Type 0
 EveryCertificateCanBeWritten =
-    (faults : ℕ) (books : List Book) → IsRun (opening_book faults) books → CanBeWritten (opening_book faults) × AllByRecursion CanBeWritten books
+    (profile : Profile) (start : List StartObject) (faults : ℕ) (books : List Book) → IsStart start → IsRun (opening_book profile start faults) books
+    → CanBeWritten (opening_book profile start faults) × AllByRecursion CanBeWritten books

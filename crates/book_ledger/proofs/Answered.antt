@@ -16,6 +16,7 @@ use Rattle.nfs_history.specs.declared.history.Meaning.TheVariants as meanings
 use Rattle.nfs_history.specs.declared.history.RecordedCall.{RecordedCall}
 use Rattle.nfs_history.specs.HistoryValue.{HistoryValue}
 use Rattle.nfs_history.specs.Appending.{Follows}
+use Rattle.nfs_history.specs.History.{Returns}
 use Rattle.nfs_history.specs.Precedence.{call_at, end_of}
 use Rattle.journal_device.specs.Device.{Device}
 use Rattle.std.proofs.Common.{get_or, not, Result, Ok, Err}
@@ -49,7 +50,7 @@ use Rattle.book_ledger.specs.declared.placed.PlacedCall.{PlacedCall}
 use Rattle.book_ledger.specs.declared.placed.EraOver.{EraOver}
 use Rattle.book_ledger.specs.declared.placed.Condition.TheVariants as codes
 use Rattle.book_ledger.specs.declared.ledger.Ledger.{Ledger}
-use Rattle.book_ledger.specs.Inside.{asked_by, placed_in, era_in, made_from, condition_of, book_of, ArePlaced, IsShort, AreTied, OnlyHistory, StandsAt}
+use Rattle.book_ledger.specs.Inside.{asked_by, placed_in, era_in, made_in, condition_of, book_of, ArePlaced, IsShort, AreTied, OnlyHistory, StandsAt}
 use Rattle.book_ledger.specs.Refusals.{IsNow, IsAnswerable}
 use Rattle.book_ledger.specs.Turns.{IsDurableAt, IsAnswerAt}
 use Rattle.book_ledger.proofs.Runs.{IsReplyTo, IsSound, sound}
@@ -245,11 +246,11 @@ module _ (old : Ledger) (device : Device) (t : AreTied old device) (number place
 
     pub answers_tied : AreTied new device
     answers_tied =
-        tied_with old new device t only target history_so over_so placed_so (ap (made_from 1) (sym states)) (answers number answer_step) places_so
+        tied_with old new device t only target history_so over_so placed_so (ap (made_in (length old.history.known.head.start)) (sym states)) refl (answers number answer_step) places_so
         (all_append IsShort old.history.events (owns.Reply this.lane answer ∷ []) t.short (tt, tt))
 
     pub answers_so : Answers book number (book_of new device)
-    answers_so = subst (λ (b : Book). Answers book number b) (sym (book_with old new device t only target history_so over_so placed_so (ap (made_from 1) (sym states)))) answer_step
+    answers_so = subst (λ (b : Book). Answers book number b) (sym (book_with old new device t only target history_so over_so placed_so (ap (made_in (length old.history.known.head.start)) (sym states)) refl)) answer_step
 
 -- ---- it may not go out yet
 
@@ -446,6 +447,15 @@ answer_so (Ok m) items ledger number place p call reply stands at received text 
   is_result = spelled.1;
 }
 answer_so (Err e) items ledger number place p call reply stands at received text spelled = tt
+
+pub returns_by : {E : Type 0} (r : Result NfsReply E) (ledger : Ledger) (number place : ℕ) (answer : List ℕ) (item : PlacedCall) (said : NfsReply) → (given : IsAnswerAt ledger number place answer) → item ≡ given.placed → item.outcome ≡ outcomes.Received said
+    → IfOk r (λ m. m ≡ said) → IfOk r (λ m. Returns answer m)
+returns_by (Err e) ledger number place answer item said given is out same = tt
+returns_by (Ok m) ledger number place answer item said given is out same =
+    subst (λ (s : NfsReply). Returns answer s) (sym (same ∙ its said (sym out ∙ ap (λ (p : PlacedCall). p.outcome) is ∙ given.received)))
+    (record { value = record { xid = given.call.xid; body = success (result_text given.reply) }; results = result_text given.reply; is_reply = given.is_reply; accepted = refl; result = given.is_result }) where
+      its : (s : NfsReply) → outcomes.Received s ≡ outcomes.Received given.reply → s ≡ given.reply
+      its s e = cc
 
 pub put_so : (old new : HistoryValue) (given call : RecordedCall) (o : Option RecordedCall) (message answer : List ℕ) → o ≡ Some given → o ≡ Some call → message ≡ answer → Follows old (owns.Reply given.lane message) new
     → Follows old (owns.Reply call.lane answer) new

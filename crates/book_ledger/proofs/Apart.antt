@@ -4,13 +4,14 @@ use Rattle.std.specs.List.{AllByRecursion}
 use Rattle.nfs_history.specs.declared.history.RecordedCall.{RecordedCall}
 use Rattle.nfs_history.specs.Precedence.{call_at}
 use Rattle.replay_law.specs.Run.{kept_steps}
-use Rattle.tree_nodes.specs.Tree.{Tree, opening, entry_of}
+use Rattle.tree_nodes.specs.Tree.{Tree, entry_of}
+use Rattle.tree_laws.proofs.Numbered.{one_number, past}
 use Rattle.book_machine.specs.Placing.{Placed}
-use Rattle.book_machine.specs.Book.{Book, bindings, tree_of}
+use Rattle.book_machine.specs.Book.{Book, setting, object_in, tree_at_first, tree_of}
 use Rattle.book_machine.specs.Steps.{IsUnplaced}
-use Rattle.book_machine.proofs.Invariant.{Over, IsKnown, AreKnown, AllKnown, IsPlacedIn, IsPlaced, IsInvariant}
+use Rattle.book_machine.proofs.Invariant.{Over, IsKnown, AreKnown, AllKnown, IsPlacedIn, IsPlaced, IsMade, IsInvariant}
 use Rattle.book_machine.proofs.Lists.{all_append, all_each}
-use Rattle.book_machine.proofs.Legal.{opening_alone}
+use Rattle.book_machine.proofs.Starting.{call_alone}
 use Rattle.book_machine.proofs.Bound.{AreApart, AllApart, kept_apart, run_absent}
 
 module _ (book : Book) (i : IsInvariant book) (number : ℕ) (recorded : RecordedCall) (at : call_at book.history.known.calls number ≡ Some recorded)
@@ -57,13 +58,25 @@ module _ (book : Book) (i : IsInvariant book) (number : ℕ) (recorded : Recorde
     none : None ≡ Some recorded → ⊥
     none f = cc
 
+  abbrev first : ℕ
+  first = length book.history.known.head.start
+
+  abbrev own : ℕ
+  own = object_in book number
+
+  pub past_first : first < own
+  past_first = past first number isnt_zero
+
   -- no object was made with its number
-  pub others : AllByRecursion (λ other. (other ≢ number) × (other < 2 ^ 64)) book.made
-  others = all_each _ _ book.made (λ other has. ((λ same. not_placed (subst (IsPlaced book.over book.placed) same has.0)), has.1)) i.made
+  pub others : AllByRecursion (λ other. (other ≢ own) × (other < 2 ^ 64)) book.made
+  others = all_each _ _ book.made (λ other has. (differs other has.0, has.1)) i.made where
+    differs : (other : ℕ) → IsMade first book.over book.placed other → other ≢ own
+    differs other (inl stood) same = let lt = past_first in omega (arith, lt, stood.1, same)
+    differs other (inr call) same = not_placed (subst (IsPlaced book.over book.placed) (one_number first call.0 number (call.2 ∙ same)) call.1)
 
   pub apart_all : AreApart number (kept_steps book.over ++ book.placed)
   apart_all = all_append _ (kept_steps book.over) book.placed (kept_apart number book.over apart_eras) unplaced
 
   -- and none stands in the tree
-  pub absent : (before : Tree) → tree_of book ≡ Some before → entry_of before number ≡ None
-  absent before stood = run_absent (bindings book) number (kept_steps book.over ++ book.placed) apart_all opening before (opening_alone number isnt_zero) stood
+  pub absent : (before : Tree) → tree_of book ≡ Some before → entry_of before own ≡ None
+  absent before stood = run_absent (setting book) number (kept_steps book.over ++ book.placed) apart_all (tree_at_first book) before (call_alone book.history.known.head.start i.start number isnt_zero) stood

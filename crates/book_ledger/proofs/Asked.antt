@@ -14,6 +14,7 @@ use Rattle.nfs_history.specs.Outside.{outside}
 use Rattle.journal_records.specs.Exactly.{IsOnly, MeansNothing}
 use Rattle.book_ledger.specs.declared.fault.BeginFault.{BeginFault}
 use Rattle.book_ledger.specs.declared.fault.BeginFault.TheVariants as faults
+use Rattle.book_machine.specs.Steps.{IsRecordable}
 use Rattle.book_ledger.specs.Recordable.{CanBeRecorded, asks_judged, AsksJudged, IsKeptInside, AreKeptArguments, IsKeptAsked}
 
 both_pass : (a b : Bool) → (a && b) ≡ true → (a ≡ true) × (b ≡ true)
@@ -66,14 +67,15 @@ none_inside call is = go (outside call None) is where
 some_outside : (call : NfsCall) → is_none (outside call None) ≡ false → ¬ (outside call None ≡ None)
 some_outside call is e = differ (is_none (outside call None)) (ap is_none e) is
 
-pub inside_so : (call : NfsCall) → is_none (outside call None) ≡ true → IsKeptInside {A = Unit {0}} call (Ok tt)
-inside_so call is = none_inside call is
+pub inside_so : (call : NfsCall) → is_none (outside call None) ≡ true → IsKeptInside call (Ok call)
+inside_so call is = (refl, none_inside call is)
 
-pub outside_so : (call : NfsCall) → is_none (outside call None) ≡ false → IsKeptInside {A = Unit {0}} call (Err faults.BadRecord)
+pub outside_so : (call : NfsCall) → is_none (outside call None) ≡ false → IsKeptInside call (Err faults.BadRecord)
 outside_so call is = some_outside call is
 
-pub arguments_kept : (procedure : ℕ) (bytes : List ℕ) (call : NfsCall) → IsOnly (IsArguments procedure bytes) call → (r : Result (Unit {0}) BeginFault) → IsKeptInside call r → AreKeptArguments procedure bytes r
-arguments_kept procedure bytes call is (Ok _) inside = (call, is.means, inside)
+pub arguments_kept : (procedure : ℕ) (bytes : List ℕ) (call : NfsCall) → IsOnly (IsArguments procedure bytes) call → (r : Result NfsCall BeginFault) → IsKeptInside call r → AreKeptArguments procedure bytes r
+arguments_kept procedure bytes call is (Ok kept) inside =
+    (subst (IsArguments procedure bytes) (sym inside.0) is.means, subst (λ (c : NfsCall). outside c None ≡ None) (sym inside.0) inside.1)
 arguments_kept procedure bytes call is (Err faults.BadRecord) out = λ other means inside. out (subst (λ (c : NfsCall). outside c None ≡ None) (is.only other means) inside)
 arguments_kept procedure bytes call is (Err _) never = absurd never
 
@@ -96,35 +98,31 @@ module _ (message : List ℕ) where
   none_judged none r = none r.recordable.head (asks r)
 
   module _ (head : CallValue) (is : IsOnly (AsksJudged message) head) where
-    record_so : (call : NfsCall) → IsArguments head.procedure head.args call → outside call None ≡ None → length message ≤ record_limit → CanBeRecorded message
+    record_so : (call : NfsCall) → IsArguments head.procedure head.args call → outside call None ≡ None → length message ≤ record_limit → IsRecordable message call
     record_so call arguments inside fits =
         let all = both_pass _ _ is.means.judged in
         let three = both_pass _ _ all.0 in
         let two = both_pass _ _ three.0 in
         record {
-          call = call;
-          recordable = record {
-            within = fits;
-            head = head;
-            is_call = is.means.asked;
-            of_nfs = record {
-              program = eqb-true head.program 100003 two.0;
-              version = eqb-true head.version 3 two.1;
-              procedure = all.1;
-              credential = eq_isnt head.flavor 6 three.1;
-              arguments = arguments;
-            };
-            inside = inside;
-          };
           within = fits;
+          head = head;
+          is_call = is.means.asked;
+          of_nfs = record {
+            program = eqb-true head.program 100003 two.0;
+            version = eqb-true head.version 3 two.1;
+            procedure = all.1;
+            credential = eq_isnt head.flavor 6 three.1;
+            arguments = arguments;
+          };
+          inside = inside;
         }
 
     no_record : ((call : NfsCall) → IsArguments head.procedure head.args call → ¬ (outside call None ≡ None)) → ¬ CanBeRecorded message
     no_record none r =
         none r.call (subst (λ (h : CallValue). IsArguments h.procedure h.args r.call) (is.only r.recordable.head (asks r)) r.recordable.of_nfs.arguments) r.recordable.inside
 
-    pub kept_so : length message ≤ record_limit → (r : Result (Unit {0}) BeginFault) → AreKeptArguments head.procedure head.args r → IsKeptAsked message r
-    kept_so fits (Ok _) kept = record_so kept.0 kept.1 kept.2 fits
+    pub kept_so : length message ≤ record_limit → (r : Result NfsCall BeginFault) → AreKeptArguments head.procedure head.args r → IsKeptAsked message r
+    kept_so fits (Ok call) kept = record_so call kept.0 kept.1 fits
     kept_so fits (Err faults.BadRecord) none = no_record none
     kept_so fits (Err faults.NoMemory) none = none
     kept_so fits (Err _) never = absurd never

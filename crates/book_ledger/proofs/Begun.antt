@@ -1,7 +1,10 @@
 -- why a call doesn't begin
 use Rattle.std.proofs.Common.{◌≡◌, ◌⊎◌, inl, inr, ℕ, ◌+◌, Bool, true, List, [], ◌∷◌, ◌++◌, length, Result, Ok, Err, sym, ap, ◌∙◌, subst, append-nil}
-use Rattle.std.specs.Prelude.{IfErr, OnOk, if◌then◌else◌}
+use Rattle.std.specs.Prelude.{IfErr, IfOk, if◌then◌else◌}
 use Rattle.std.proofs.lemmas.List.{append_assoc}
+use Rattle.nfs3_types.specs.declared.calls.NfsCall.{NfsCall}
+use Rattle.nfs_history.specs.History.{Asks}
+use Rattle.book_machine.specs.Steps.{IsRecordable}
 use Rattle.history_file.specs.declared.event.Event.TheVariants as owns
 use Rattle.history_file.specs.Event.{Event}
 use Rattle.history_file.specs.Event.Event.{call}
@@ -28,6 +31,13 @@ use Rattle.book_ledger.specs.Recordable.{CanBeRecorded, IsKeptAsked, TakeStops, 
 use Rattle.book_ledger.specs.Refusals.{BeginStops}
 use Rattle.book_ledger.specs.Inside.{condition_of, book_of, AreTied, Holds}
 use Rattle.book_ledger.proofs.Runs.{sound}
+
+-- what is asked of the history
+pub asks_so : (message : List ℕ) (asked : NfsCall) → IsRecordable message asked → Asks message asked
+asks_so message asked is = record { head = is.head; is_call = is.is_call; of_nfs = is.of_nfs; inside = is.inside }
+
+pub recordable_so : (message : List ℕ) (asked : NfsCall) → IsRecordable message asked → CanBeRecorded message
+recordable_so message asked is = record { call = asked; recordable = is; within = is.within }
 
 pub pushed_within : {X : Type 0} (items before after : List X) (one : X) (fits : Bool) → before ≡ items → after ≡ (if fits then before ++ one ∷ [] else before) → fits ≡ true → after ≡ items ++ one ∷ []
 pushed_within {X} items before after one fits e f is = f ∙ ap (λ (b : Bool). if b then before ++ one ∷ [] else before) is ∙ ap (λ (xs : List X). xs ++ one ∷ []) e
@@ -75,11 +85,11 @@ module _ (old : Ledger) (lane : ℕ) (message : List ℕ) (runs : old.condition 
   taken_stops device t r faults.NoMemory stop = (ap condition_of runs, is_open)
   taken_stops device t r _ never = absurd never
 
-  pub kept_ok : (r : Result (Unit {0}) BeginFault) → IsKeptAsked message r → OnOk r ((old.condition ≡ codes.Running) × (¬ IsClosed lane (all_happened old.history.events)) × CanBeRecorded message)
+  pub kept_ok : (r : Result NfsCall BeginFault) → IsKeptAsked message r → IfOk r (λ call. (old.condition ≡ codes.Running) × (¬ IsClosed lane (all_happened old.history.events)) × IsRecordable message call)
   kept_ok (Ok x) is = (runs, is_open, is)
   kept_ok (Err fault) is = tt
 
-  pub kept_err : (r : Result (Unit {0}) BeginFault) → IsKeptAsked message r → IfErr r (λ fault. Holds (λ book. BeginStops book lane message fault) old)
+  pub kept_err : (r : Result NfsCall BeginFault) → IsKeptAsked message r → IfErr r (λ fault. Holds (λ book. BeginStops book lane message fault) old)
   kept_err (Ok x) is = tt
   kept_err (Err faults.BadRecord) is = λ device t. (ap condition_of runs, is_open, is)
   kept_err (Err faults.NoMemory) is = λ device t. (ap condition_of runs, is_open)

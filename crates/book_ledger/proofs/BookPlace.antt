@@ -1,5 +1,5 @@
 -- what a place leaves of a book, from what each of its calls ensures
-use Rattle.std.proofs.Common.{◌≡◌, ℕ, ◌≤◌, Bool, length, Option, Err, sym, subst}
+use Rattle.std.proofs.Common.{◌≡◌, ℕ, ◌<◌, ◌≤◌, ◌^◌, Bool, length, Option, Err, sym, subst}
 use Rattle.std.specs.Prelude.{is_some}
 use Rattle.std.specs.declared.vec.Vec.{Vec}
 use Rattle.std.specs.declared.alloc.Global.{Global}
@@ -15,20 +15,20 @@ use Rattle.book_ledger.specs.JoinedFaults.{of_device}
 use Rattle.book_ledger.specs.declared.placing.TreeStep.{TreeStep}
 use Rattle.book_ledger.specs.declared.ledger.Ledger.{Ledger}
 use Rattle.book_ledger.specs.declared.fault.PlaceFault.TheVariants as place
-use Rattle.book_ledger.specs.Inside.{book_of, AreTied}
-use Rattle.book_ledger.specs.PlaceSteps.{HasStepped, ShowsNow, GivesAllowed, IsShortAnswer, IsSayable, IsEntry, HasPlaced, HasLost, IsSame, IsLeft, entry_put}
+use Rattle.book_ledger.specs.Inside.{object_in, book_of, AreTied}
+use Rattle.book_ledger.specs.PlaceSteps.{HasStepped, IsNumbered, ShowsNow, GivesAllowed, IsShortAnswer, IsSayable, IsEntry, HasPlaced, HasLost, IsSame, IsLeft, entry_put}
 use Rattle.book_ledger.proofs.Parts.{parts_of}
 use Rattle.book_ledger.proofs.NewPlace.{within_calls}
 use Rattle.book_ledger.proofs.BookSteps.{IsTurn, ready_then, place_done, place_lost, place_unkept, place_failed}
 
 module _ (old prepared : Ledger) (device : Device) (number : ℕ) (turn : IsTurn old device number) (same : IsSame old prepared) (stepped : Ledger) (step : TreeStep) where
-  pub within_so : (reply : NfsReply) (outcome : Outcome) → HasStepped prepared number outcome step stepped → number ≤ length stepped.calls.items
-  within_so reply outcome s =
-      subst (λ (l : Ledger). number ≤ length l.calls.items) (sym s.parts) (within_calls (parts_of prepared) device number s.before (ready_then old prepared device number reply turn same s.before s.stood))
+  pub within_so : object_in prepared number < 2 ^ 64 → (reply : NfsReply) (outcome : Outcome) → HasStepped prepared number outcome step stepped → number ≤ length stepped.calls.items
+  within_so lt reply outcome s =
+      subst (λ (l : Ledger). number ≤ length l.calls.items) (sym s.parts) (within_calls (parts_of prepared) device number s.before (ready_then old prepared device number reply turn same lt s.before s.stood))
 
   -- what is known of the reply once the step is taken
   abbrev pub Fits : Outcome → Type 0
-  Fits outcome = ShowsNow prepared number outcome × GivesAllowed prepared number outcome × IsShortAnswer prepared number outcome × IsSayable prepared number outcome
+  Fits outcome = IsNumbered prepared number × ShowsNow prepared number outcome × GivesAllowed prepared number outcome × IsShortAnswer prepared number outcome × IsSayable prepared number outcome
 
   pub placed_then : (outcome : Outcome) (reply : NfsReply) → outcome ≡ outcomes.Received reply → HasStepped prepared number outcome step stepped → Fits outcome → (new : Ledger) (entry : Option (Vec ℕ Global)) (flag : Bool) (records : ℕ) (after : Device)
       → flag ≡ is_some entry → IsEntry prepared number outcome entry → HasPlaced stepped number outcome step flag records new → after ≡ entry_put entry device → records ≡ length after.records

@@ -27,9 +27,9 @@ use Rattle.book_ledger.specs.declared.fault.PlaceFault.{PlaceFault}
 use Rattle.book_ledger.specs.declared.fault.PlaceFault.TheVariants as place
 use Rattle.book_ledger.specs.declared.fault.CrashFault.TheVariants as crash
 use Rattle.book_ledger.specs.JoinedFaults.{of_step}
-use Rattle.book_ledger.specs.Inside.{IsAsked, asked_by, book_of, tree_behind, AreTied, Goes}
+use Rattle.book_ledger.specs.Inside.{object_in, IsAsked, asked_by, book_of, tree_behind, AreTied, Goes}
 use Rattle.book_ledger.specs.Undoing.{GoesDown, IsReady, Restarts}
-use Rattle.book_ledger.specs.PlaceSteps.{HoldsBytes, TakesStep, HasStepped, HasNoStep, HasStayed, ShowsNow, MayGive, GivesAllowed, IsShortAnswer, IsSayable, IsEntry, HasPlaced, HasLost, IsSame, IsLeft, StopsWhere, entry_put}
+use Rattle.book_ledger.specs.PlaceSteps.{HoldsBytes, TakesStep, HasStepped, HasNoStep, HasStayed, IsNumbered, ShowsNow, MayGive, GivesAllowed, IsShortAnswer, IsSayable, IsEntry, HasPlaced, HasLost, IsSame, IsLeft, StopsWhere, entry_put}
 use Rattle.book_ledger.proofs.Parts.{parts_of, to_parts, from_parts, failed_tied}
 use Rattle.book_ledger.proofs.Reaching.{reached_asked}
 use Rattle.book_ledger.proofs.NewPlace.{IsReadyFor, IsGiven, is_free, placed_so}
@@ -102,7 +102,6 @@ as_some {new = n} p = (n, p)
 pub record IsTurn (old : Ledger) (device : Device) (number : ℕ) : Type 0 where
   pub tied : AreTied old device
   pub running : (book_of old device).condition ≡ is_running
-  pub lt : number < 2 ^ 64
   pub now : IsNow (book_of old device) number
   pub unplaced : IsUnplaced (book_of old device).placed number
 
@@ -110,9 +109,9 @@ module _ (old prepared : Ledger) (device : Device) (number : ℕ) (reply : NfsRe
   abbrev both : AreTied prepared device × (book_of prepared device ≡ book_of old device)
   both = same_tied old prepared device same turn.tied
 
-  pub ready_then : (before : Tree) → prepared.tree ≡ Some before → IsReadyFor (parts_of prepared) device number before
-  ready_then before stood =
-      ready prepared device number before both.0 (ap (λ (b : Book). b.condition) both.1 ∙ turn.running) turn.lt (subst (λ (b : Book). IsNow b number) (sym both.1) turn.now)
+  pub ready_then : object_in prepared number < 2 ^ 64 → (before : Tree) → prepared.tree ≡ Some before → IsReadyFor (parts_of prepared) device number before
+  ready_then lt before stood =
+      ready prepared device number before both.0 (ap (λ (b : Book). b.condition) both.1 ∙ turn.running) lt (subst (λ (b : Book). IsNow b number) (sym both.1) turn.now)
       (subst (λ (b : Book). IsUnplaced b.placed number) (sym both.1) turn.unplaced) stood
 
   pub still_tied : AreTied prepared device
@@ -127,17 +126,17 @@ module _ (old prepared : Ledger) (device : Device) (number : ℕ) (reply : NfsRe
     clash e = cc
 
   module _ (stepped : Ledger) (step : TreeStep) (s : HasStepped prepared number (outcomes.Received reply) step stepped)
-      (fits : ShowsNow prepared number (outcomes.Received reply) × GivesAllowed prepared number (outcomes.Received reply) × IsShortAnswer prepared number (outcomes.Received reply) × IsSayable prepared number (outcomes.Received reply)) where
+      (fits : IsNumbered prepared number × ShowsNow prepared number (outcomes.Received reply) × GivesAllowed prepared number (outcomes.Received reply) × IsShortAnswer prepared number (outcomes.Received reply) × IsSayable prepared number (outcomes.Received reply)) where
     abbrev r : IsReadyFor (parts_of prepared) device number s.before
-    r = ready_then s.before s.stood
+    r = ready_then fits.0 s.before s.stood
 
     given_so : IsGiven (parts_of prepared) device number s.before reply r.call
-    given_so = record { verifier = fits.0; gives = fits.1 s.before reply s.stood refl; within = fits.2 r.call reply r.of_now.recorded refl; said = fits.3 r.call reply r.of_now.recorded refl }
+    given_so = record { verifier = fits.1; gives = fits.2 s.before reply s.stood refl; within = fits.3 r.call reply r.of_now.recorded refl; said = fits.4 r.call reply r.of_now.recorded refl }
 
     -- it can be placed
     pub may_be_placed : (new : Book) × Places (book_of old device) number reply new
     may_be_placed =
-        let takes = subst (λ (tree : Tree). TakesStep (may_make (asked_by prepared.history.known.calls number)) prepared.binds tree number (asked_by prepared.history.known.calls number) (outcomes.Received reply) stepped.binds s.after step)
+        let takes = subst (λ (tree : Tree). TakesStep prepared.history.known.head.profile (may_make (asked_by prepared.history.known.calls number)) prepared.binds tree (object_in prepared number) (asked_by prepared.history.known.calls number) (outcomes.Received reply) stepped.binds s.after step)
         (same_tree_there s.stood r.stood) s.takes in
         let p = placed_so (parts_of prepared) device number s.before r reply given_so stepped.binds s.after step takes in
         subst (λ (b : Book). (new : Book) × Places b number reply new) both.1 (as_some p)
@@ -189,7 +188,7 @@ module _ (old prepared : Ledger) (device : Device) (number : ℕ) (reply : NfsRe
   }
 
   pub refused_early : (before : Tree) → prepared.tree ≡ Some before → (fault : PlaceFault)
-      → StopsWhere (¬ (ShowsNow prepared number (outcomes.Received reply) × MayGive prepared number (outcomes.Received reply) × IsShortAnswer prepared number (outcomes.Received reply))) fault
+      → StopsWhere (¬ (IsNumbered prepared number × ShowsNow prepared number (outcomes.Received reply) × MayGive prepared number (outcomes.Received reply) × IsShortAnswer prepared number (outcomes.Received reply))) fault
       → PlaceStops (book_of old device) number reply fault × IsLeft (book_of old device) fault (book_of prepared device)
   refused_early before stood place.NotLegal stops = (
     (
@@ -198,8 +197,8 @@ module _ (old prepared : Ledger) (device : Device) (number : ℕ) (reply : NfsRe
       turn.unplaced,
       (λ p.
           let there = subst (λ (b : Book). Places b number reply p.0) (sym both.1) p.1 in
-          let r = ready_then before stood in
-          stops (shows prepared device number reply before r p.0 there, gives prepared device number reply before r p.0 there, is_short prepared device number reply before r p.0 there)),
+          let r = ready_then there.numbered before stood in
+          stops (there.numbered, shows prepared device number reply before r p.0 there, gives prepared device number reply before r p.0 there, is_short prepared device number reply before r p.0 there)),
     ),
     left_so prepared place.NotLegal both.1 refl,
   )
@@ -222,7 +221,8 @@ module _ (old prepared : Ledger) (device : Device) (number : ℕ) (reply : NfsRe
             turn.now,
             turn.unplaced,
             (λ p.
-                not_without_step prepared device number reply before (ready_then before stood) p.0 (subst (λ (b : Book). Places b number reply p.0) (sym both.1) p.1) none),
+                let there = subst (λ (b : Book). Places b number reply p.0) (sym both.1) p.1 in
+                not_without_step prepared device number reply before (ready_then there.numbered before stood) p.0 there none),
           ),
           left_so new place.NotLegal (left.1 ∙ both.1) refl,
         ),
@@ -236,12 +236,11 @@ module _ (old prepared : Ledger) (device : Device) (number : ℕ) (reply : NfsRe
 
 -- ---- the turns of a place, from what each call ensures
 
-pub turn_so : (old : Ledger) (device : Device) (book : Book) (number : ℕ) → AreTied old device → book_of old device ≡ book → book.condition ≡ is_running → number < 2 ^ 64 → IsNow book number → IsUnplaced book.placed number
+pub turn_so : (old : Ledger) (device : Device) (book : Book) (number : ℕ) → AreTied old device → book_of old device ≡ book → book.condition ≡ is_running → IsNow book number → IsUnplaced book.placed number
     → IsTurn old device number
-turn_so old device book number t is runs lt now unplaced = record {
+turn_so old device book number t is runs now unplaced = record {
   tied = t;
   running = ap (λ (b : Book). b.condition) is ∙ runs;
-  lt = lt;
   now = subst (λ (b : Book). IsNow b number) (sym is) now;
   unplaced = subst (λ (b : Book). IsUnplaced b.placed number) (sym is) unplaced;
 }
@@ -259,15 +258,15 @@ module _ (old prepared : Ledger) (device : Device) (number : ℕ) (turn : IsTurn
   tree_then : (before : Tree) × (prepared.tree ≡ Some before)
   tree_then = value_of prepared.tree (tied_then.stands (same.condition ∙ runs_now old.condition turn.running))
 
-  pub free_then : (reply : NfsReply) → object_of prepared.binds (handle_of number) ≡ None
-  free_then reply = is_free (parts_of prepared) device number tree_then.0 (ready_then old prepared device number reply turn same tree_then.0 tree_then.1)
+  pub free_then : object_in prepared number < 2 ^ 64 → (reply : NfsReply) → object_of prepared.binds (handle_of (object_in prepared number)) ≡ None
+  free_then lt reply = is_free (parts_of prepared) device number tree_then.0 (ready_then old prepared device number reply turn same lt tree_then.0 tree_then.1)
 
   pub early : (outcome : Outcome) (reply : NfsReply) (fault : PlaceFault) → outcome ≡ outcomes.Received reply
-      → StopsWhere (¬ (ShowsNow prepared number outcome × MayGive prepared number outcome × IsShortAnswer prepared number outcome)) fault
+      → StopsWhere (¬ (IsNumbered prepared number × ShowsNow prepared number outcome × MayGive prepared number outcome × IsShortAnswer prepared number outcome)) fault
       → PlaceStops (book_of old device) number reply fault × IsLeft (book_of old device) fault (book_of prepared device)
   early outcome reply fault is stops =
       refused_early old prepared device number reply turn same tree_then.0 tree_then.1 fault
-      (subst (λ (o : Outcome). StopsWhere (¬ (ShowsNow prepared number o × MayGive prepared number o × IsShortAnswer prepared number o)) fault) is stops)
+      (subst (λ (o : Outcome). StopsWhere (¬ (IsNumbered prepared number × ShowsNow prepared number o × MayGive prepared number o × IsShortAnswer prepared number o)) fault) is stops)
 
   pub stayed_then : (new : Ledger) → HasStayed prepared new → AreTied new device
   stayed_then new stayed = (stayed_tied prepared new device stayed tied_then).0

@@ -6,19 +6,17 @@ use Rattle.nfs3_types.specs.declared.replies.Outcome.{Outcome}
 use Rattle.replay_law.specs.Run.{state_after, kept_steps}
 use Rattle.replay_law.proofs.Runs.{state_after-append}
 use Rattle.tree_nodes.specs.declared.undo.Undo.{Undo}
-use Rattle.tree_nodes.specs.Tree.{Tree, opening}
+use Rattle.tree_nodes.specs.Tree.{Tree}
 use Rattle.tree_nodes.specs.Undo.{TakesBack}
 use Rattle.tree_nodes.proofs.Chains.{chained, decide}
 use Rattle.replay_law.specs.Undone.{UndoesAll}
-use Rattle.tree_handles.specs.Binding.{Bindings}
-use Rattle.file_tree.specs.Success.{next_tree}
 use Rattle.journal_device.specs.Device.{Device, settled, with_fault}
 use Rattle.book_machine.specs.Placing.{Placed, is_recorded, records_in, front_with}
-use Rattle.book_machine.specs.Book.{Book, Condition, bindings, tree_of, records_kept}
+use Rattle.book_machine.specs.Book.{Book, Condition, tree_of, records_kept, Setting, next_by, setting, tree_at_first}
 use Rattle.book_machine.specs.Book.Condition.{running, down, dead}
 use Rattle.book_machine.specs.Steps.{MayBecome}
 use Rattle.book_machine.specs.Steps.Steps.{flushes, refuses}
-use Rattle.book_machine.proofs.Running.{unrecorded_leaves}
+use Rattle.book_machine.proofs.Running.{unrecorded_leaves_by}
 use Rattle.book_ledger.specs.declared.placed.Condition as code
 use Rattle.book_ledger.specs.declared.placed.Condition.TheVariants as codes
 use Rattle.book_ledger.specs.declared.ledger.Ledger.{Ledger}
@@ -99,12 +97,12 @@ fails ledger device t isnt = record {
 
 -- ---- all records are on stable storage
 
-module _ (binds : Bindings) where
+module _ (s : Setting) where
   -- a call that isn't recorded leaves the tree
-  leaves : (step : Placed) (before after : Tree) → IsReplyTo step → is_recorded step ≡ false → next_tree binds before step.number step.call step.outcome ≡ Some after → after ≡ before
+  leaves : (step : Placed) (before after : Tree) → IsReplyTo step → is_recorded step ≡ false → next_by s before step.number step.call step.outcome ≡ Some after → after ≡ before
   leaves step before after r isnt next =
-      unrecorded_leaves binds before after step.number step.call r.reply
-      (subst (λ (o : Outcome). next_tree binds before step.number step.call o ≡ Some after) r.received next)
+      unrecorded_leaves_by s before after step.number step.call r.reply
+      (subst (λ (o : Outcome). next_by s before step.number step.call o ≡ Some after) r.received next)
       (ap (λ (o : Outcome). is_recorded (record { number = step.number; call = step.call; outcome = o })) (sym r.received) ∙ isnt)
 
   more : (b : Bool) (n : ℕ) → b ≡ true → (if b then suc n else n) ≡ 0 → ⊥
@@ -115,33 +113,33 @@ module _ (binds : Bindings) where
   fewer false n e f = f
   fewer true n e f = absurd (cc)
 
-  none_leaves : (steps : List Placed) (tree final : Tree) → AllByRecursion IsReplyTo steps → records_in steps ≡ 0 → state_after (next_tree binds) tree steps ≡ Some final → final ≡ tree
+  none_leaves : (steps : List Placed) (tree final : Tree) → AllByRecursion IsReplyTo steps → records_in steps ≡ 0 → state_after (next_by s) tree steps ≡ Some final → final ≡ tree
   none_leaves [] tree final r none runs = is runs where
     is : Some tree ≡ Some final → final ≡ tree
     is e = cc
   none_leaves (step ∷ steps) tree final r none runs =
-      let first = chained (λ after. state_after (next_tree binds) after steps) (next_tree binds tree step.number step.call step.outcome) final runs in
+      let first = chained (λ after. state_after (next_by s) after steps) (next_by s tree step.number step.call step.outcome) final runs in
       go first.0 first.1 (decide (is_recorded step)) (λ e. none_leaves steps first.0 final r.1 e first.2) where
-        go : (middle : Tree) → next_tree binds tree step.number step.call step.outcome ≡ Some middle → (is_recorded step ≡ true) ⊎ (is_recorded step ≡ false) → (records_in steps ≡ 0 → final ≡ middle) → final ≡ tree
+        go : (middle : Tree) → next_by s tree step.number step.call step.outcome ≡ Some middle → (is_recorded step ≡ true) ⊎ (is_recorded step ≡ false) → (records_in steps ≡ 0 → final ≡ middle) → final ≡ tree
         go middle next (inl is) rest = absurd (more (is_recorded step) (records_in steps) is none)
         go middle next (inr isnt) rest = rest (fewer (is_recorded step) (records_in steps) isnt none) ∙ leaves step tree middle r.0 isnt next
 
   -- behind the last record nothing changes
-  front_leaves : (count : ℕ) (steps : List Placed) (tree final : Tree) → AllByRecursion IsReplyTo steps → count ≡ records_in steps → state_after (next_tree binds) tree steps ≡ Some final
-      → state_after (next_tree binds) tree (take (front_with count steps) steps) ≡ Some final
+  front_leaves : (count : ℕ) (steps : List Placed) (tree final : Tree) → AllByRecursion IsReplyTo steps → count ≡ records_in steps → state_after (next_by s) tree steps ≡ Some final
+      → state_after (next_by s) tree (take (front_with count steps) steps) ≡ Some final
   front_leaves zero steps tree final r is runs = ap Some (sym (none_leaves steps tree final r (sym is) runs))
   front_leaves (suc count) [] tree final r is runs = absurd (cc)
   front_leaves (suc count) (step ∷ steps) tree final r is runs =
-      let first = chained (λ after. state_after (next_tree binds) after steps) (next_tree binds tree step.number step.call step.outcome) final runs in
+      let first = chained (λ after. state_after (next_by s) after steps) (next_by s tree step.number step.call step.outcome) final runs in
       go first.0 first.1 (is_recorded step) is (λ n e. front_leaves n steps first.0 final r.1 e first.2) where
         one_less : {m n : ℕ} → suc m ≡ suc n → m ≡ n
         one_less f = omega (arith, f)
 
-        go : (middle : Tree) → next_tree binds tree step.number step.call step.outcome ≡ Some middle → (b : Bool) → suc count ≡ (if b then suc (records_in steps) else records_in steps)
-            → ((n : ℕ) → n ≡ records_in steps → state_after (next_tree binds) middle (take (front_with n steps) steps) ≡ Some final)
-            → option_and_then (λ after. state_after (next_tree binds) after (take (front_with (if b then count else suc count) steps) steps)) (next_tree binds tree step.number step.call step.outcome) ≡ Some final
-        go middle next true e rest = ap (option_and_then (λ after. state_after (next_tree binds) after (take (front_with count steps) steps))) next ∙ rest count (one_less e)
-        go middle next false e rest = ap (option_and_then (λ after. state_after (next_tree binds) after (take (front_with (suc count) steps) steps))) next ∙ rest (suc count) e
+        go : (middle : Tree) → next_by s tree step.number step.call step.outcome ≡ Some middle → (b : Bool) → suc count ≡ (if b then suc (records_in steps) else records_in steps)
+            → ((n : ℕ) → n ≡ records_in steps → state_after (next_by s) middle (take (front_with n steps) steps) ≡ Some final)
+            → option_and_then (λ after. state_after (next_by s) after (take (front_with (if b then count else suc count) steps) steps)) (next_by s tree step.number step.call step.outcome) ≡ Some final
+        go middle next true e rest = ap (option_and_then (λ after. state_after (next_by s) after (take (front_with count steps) steps))) next ∙ rest count (one_less e)
+        go middle next false e rest = ap (option_and_then (λ after. state_after (next_by s) after (take (front_with (suc count) steps) steps))) next ∙ rest (suc count) e
 
 module _ (ledger : Ledger) (device : Device) (t : AreTied ledger device) where
   abbrev book : Book
@@ -153,13 +151,13 @@ module _ (ledger : Ledger) (device : Device) (t : AreTied ledger device) where
   -- the tree behind all records is the tree
   pub behind_all : (tree : Tree) → tree_of book ≡ Some tree → tree_behind book (length device.records) ≡ Some tree
   behind_all tree is =
-      let next = next_tree (bindings book) in
+      let next = next_by (setting book) in
       let kept = kept_steps book.over in
-      let base = chained (λ at. state_after next at book.placed) (state_after next opening kept) tree (sym (state_after-append next opening kept book.placed) ∙ is) in
+      let base = chained (λ at. state_after next at book.placed) (state_after next (tree_at_first book) kept) tree (sym (state_after-append next (tree_at_first book) kept book.placed) ∙ is) in
       let count : length device.records - records_kept book ≡ records_in book.placed = omega (arith, s.invariant.records) in
-      state_after-append next opening kept (take (front_with (length device.records - records_kept book) book.placed) book.placed)
+      state_after-append next (tree_at_first book) kept (take (front_with (length device.records - records_kept book) book.placed) book.placed)
       ∙ ap (option_and_then (λ at. state_after next at (take (front_with (length device.records - records_kept book) book.placed) book.placed))) base.1
-      ∙ front_leaves (bindings book) (length device.records - records_kept book) book.placed base.0 tree s.replied count base.2
+      ∙ front_leaves (setting book) (length device.records - records_kept book) book.placed base.0 tree s.replied count base.2
 
 none_more : (n m : ℕ) → n ≡ 0 → n + m ≡ m
 none_more n m e = omega (arith, e)

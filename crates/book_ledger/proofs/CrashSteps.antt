@@ -1,4 +1,6 @@
 -- the end of an era: what is kept of it, and the tree that the next one begins with
+use Rattle.tree_starts.specs.Start.{object_made}
+use Rattle.file_tree.specs.StartTree.{start_tree}
 use Rattle.std.proofs.Common.{◌≡◌, ℕ, zero, suc, ◌+◌, ◌-◌, ◌<◌, ◌≤◌, Bool, true, false, cond, List, [], ◌∷◌, ◌++◌, length, map, take, drop, Option, Some, None, refl, sym, ap, ◌∙◌, subst, arith, min}
 use Rattle.std.specs.Prelude.{IsSome, nat_le, if◌then◌else◌, ◌==◌, position, slice_get}
 use Rattle.std.specs.Option.{option_map_or}
@@ -22,14 +24,12 @@ use Rattle.nfs_history.proofs.OneHistory.{known_once}
 use Rattle.replay_law.specs.Run.{state_after, kept_steps}
 use Rattle.replay_law.specs.Undone.{UndoesAll}
 use Rattle.tree_nodes.specs.declared.undo.Undo.{Undo}
-use Rattle.tree_nodes.specs.Tree.{Tree, opening}
+use Rattle.tree_nodes.specs.Tree.{Tree}
 use Rattle.tree_nodes.specs.Undo.{TakesBack}
 use Rattle.tree_nodes.proofs.Chains.{value_of}
-use Rattle.tree_handles.specs.Binding.{Bindings}
-use Rattle.file_tree.specs.Success.{next_tree}
 use Rattle.journal_device.specs.Device.{Device, recovered}
 use Rattle.book_machine.specs.Placing.{Placed, is_recorded, front_with}
-use Rattle.book_machine.specs.Book.{Book, bindings, tree_of, records_kept}
+use Rattle.book_machine.specs.Book.{Book, tree_of, records_kept, Setting, next_by, setting, tree_at_first}
 use Rattle.book_machine.specs.Book.Condition.{dead as is_dead}
 use Rattle.book_machine.specs.Steps.{Crashes}
 use Rattle.book_machine.specs.Steps.Steps.{crashes}
@@ -38,13 +38,13 @@ use Rattle.book_machine.proofs.Growing.{IsGenuine, genuine_crash}
 use Rattle.book_machine.proofs.Bound.{tree_stands, front_runs}
 use Rattle.book_machine.proofs.Lists.{all_append}
 use Rattle.replay_law.proofs.Crashes.{kept_one_more}
-use Rattle.book_machine.proofs.Pushed.{SameNames, same_next}
+use Rattle.book_machine.proofs.Pushed.{SameNames, same_under}
 use Rattle.book_ledger.specs.declared.placed.PlacedCall.{PlacedCall}
 use Rattle.book_ledger.specs.declared.placed.EraOver.{EraOver}
 use Rattle.book_ledger.specs.declared.placed.Condition as code
 use Rattle.book_ledger.specs.declared.placed.Condition.TheVariants as codes
 use Rattle.book_ledger.specs.declared.ledger.Ledger.{Ledger}
-use Rattle.book_ledger.specs.Inside.{AreAsked, placed_in, era_in, condition_of, book_of, IsReached, AreCounted, tree_behind, IsShort, AreTied, Goes}
+use Rattle.book_ledger.specs.Inside.{setting_in, AreAsked, placed_in, era_in, condition_of, book_of, IsReached, AreCounted, tree_behind, IsShort, AreTied, Goes}
 use Rattle.book_ledger.specs.Undoing.{IsSoundEra, steps_kept, CanRunAgain, LeadBack, Loses, GoesDown, IsReady, Restarts}
 use Rattle.book_ledger.proofs.Reaching.{reached_holds, reach_more}
 use Rattle.book_ledger.proofs.Parts.{Parts, parts_of, book_with, Tied, to_parts, from_parts, same_parts, down_tied, treeless}
@@ -145,10 +145,10 @@ known_now : (recorded : List RecordedCall) (e : ℕ) (over : List Over) (placed 
 known_now recorded e [] placed known = (e, known)
 known_now recorded e (first ∷ over) placed known = known_now recorded (e + 1) over placed known.1
 
-front_stands : (binds : Bindings) (n : ℕ) (over : List Over) (placed : List Placed) (tree : Tree) → AllRun binds tree over placed → IsSome (state_after (next_tree binds) tree (kept_steps over ++ take n placed))
-front_stands binds n over placed tree runs = tree_stands binds over (take n placed) tree (front_all over tree runs) where
-  front_all : (over : List Over) (tree : Tree) → AllRun binds tree over placed → AllRun binds tree over (take n placed)
-  front_all [] tree runs = subst IsSome (sym (front_runs binds n placed tree runs).1) refl
+front_stands : (s : Setting) (n : ℕ) (over : List Over) (placed : List Placed) (tree : Tree) → AllRun s tree over placed → IsSome (state_after (next_by s) tree (kept_steps over ++ take n placed))
+front_stands s n over placed tree runs = tree_stands s over (take n placed) tree (front_all over tree runs) where
+  front_all : (over : List Over) (tree : Tree) → AllRun s tree over placed → AllRun s tree over (take n placed)
+  front_all [] tree runs = subst IsSome (sym (front_runs s n placed tree runs).1) refl
   front_all (first ∷ over) tree runs = (runs.0, (runs.1.0, runs.1.1, front_all over runs.1.0 runs.1.2))
 
 module _ (p : Parts) (device : Device) (t : Tied p device) where
@@ -158,11 +158,11 @@ module _ (p : Parts) (device : Device) (t : Tied p device) where
   pub same_names : SameNames p.binds (book_with p device).made
   same_names handle object = ap (λ (o : Option ℕ). option_map_or (λ named. named == object) o false) (t.bound handle)
 
-  pub same_tree : next_tree p.binds ≡ next_tree (bindings (book_with p device))
-  same_tree = same_next p.binds (book_with p device).made same_names
+  pub same_tree : next_by (record { profile = p.known.head.profile; first = length p.known.head.start; binds = p.binds }) ≡ next_by (setting (book_with p device))
+  same_tree = λ i. λ tree n call outcome. same_under p.known.head.profile p.binds (book_with p device).made same_names i tree (object_made (length p.known.head.start) n) call outcome
 
   pub behind_stands : (n : ℕ) → IsSome (tree_of (record (book_with p device) { placed = take n (book_with p device).placed }))
-  behind_stands n = front_stands (bindings (book_with p device)) n (book_with p device).over (book_with p device).placed opening holds.runs
+  behind_stands n = front_stands (setting (book_with p device)) n (book_with p device).over (book_with p device).placed (start_tree p.known.head.start) holds.runs
 
 pub now_asked : (p : Parts) (device : Device) → Tied p device → AreAsked p.known.calls p.placed
 now_asked p device t =
@@ -170,11 +170,11 @@ now_asked p device t =
     asked_all p.known.calls now.0 p.placed now.1
 
 pub behind_is : (ledger : Ledger) (device : Device) (count : ℕ) → AreTied ledger device
-    → state_after (next_tree ledger.binds) opening (steps_kept ledger count) ≡ tree_of (record (book_of ledger device) { placed = take count (book_of ledger device).placed })
+    → state_after (next_by (setting_in ledger)) (start_tree ledger.history.known.head.start) (steps_kept ledger count) ≡ tree_of (record (book_of ledger device) { placed = take count (book_of ledger device).placed })
 behind_is ledger device count t =
     let book = book_of ledger device in
-    ap (λ (next : Tree → ℕ → NfsCall → Outcome → Option Tree). state_after next opening (steps_kept ledger count)) (same_tree (parts_of ledger) device (to_parts ledger device t))
-    ∙ ap (λ (xs : List Placed). state_after (next_tree (bindings book)) opening (kept_steps book.over ++ xs)) (sym (take-map (placed_in ledger.history.known.calls) count ledger.placed.items))
+    ap (λ (next : Tree → ℕ → NfsCall → Outcome → Option Tree). state_after next (start_tree ledger.history.known.head.start) (steps_kept ledger count)) (same_tree (parts_of ledger) device (to_parts ledger device t))
+    ∙ ap (λ (xs : List Placed). state_after (next_by (setting book)) (tree_at_first book) (kept_steps book.over ++ xs)) (sym (take-map (placed_in ledger.history.known.calls) count ledger.placed.items))
 
 pub can_run_again : (ledger : Ledger) (device : Device) (count : ℕ) → AreTied ledger device → count ≤ length ledger.placed.items → CanRunAgain ledger count
 can_run_again ledger device count t le =
@@ -190,11 +190,11 @@ can_run_again ledger device count t le =
     }
 
 -- all of them
-pub all_behind_is : (ledger : Ledger) (device : Device) → AreTied ledger device → state_after (next_tree ledger.binds) opening (steps_kept ledger (length ledger.placed.items)) ≡ tree_of (book_of ledger device)
+pub all_behind_is : (ledger : Ledger) (device : Device) → AreTied ledger device → state_after (next_by (setting_in ledger)) (start_tree ledger.history.known.head.start) (steps_kept ledger (length ledger.placed.items)) ≡ tree_of (book_of ledger device)
 all_behind_is ledger device t =
     let book = book_of ledger device in
     behind_is ledger device (length ledger.placed.items) t
-    ∙ ap (λ (xs : List Placed). state_after (next_tree (bindings book)) opening (kept_steps book.over ++ xs))
+    ∙ ap (λ (xs : List Placed). state_after (next_by (setting book)) (tree_at_first book) (kept_steps book.over ++ xs))
     (take_all (length ledger.placed.items) book.placed (at_most (length-map ledger.placed.items (placed_in ledger.history.known.calls)))) where
       at_most : {m n : ℕ} → m ≡ n → m ≤ n
       at_most e = omega (arith, e)
@@ -338,7 +338,7 @@ module _ (p : Parts) (device : Device) (keep : ℕ) (tree : Tree) (era : EraOver
   steps_are = append-nil (kept_steps after.over) ∙ ap kept_steps over_is ∙ kept_one_more book.over ended
 
   tree_is : tree_of after ≡ Some tree
-  tree_is = ap (state_after (next_tree (bindings book)) opening) steps_are ∙ stands
+  tree_is = ap (state_after (next_by (setting book)) (tree_at_first book)) steps_are ∙ stands
 
   low : (n : ℕ) (c : RecordedCall) → call_at p.known.calls n ≡ Some c → c.era ≡ p.known.eras + 1 → ⊥
   low n c at is = high c.era p.known.eras (call_era_low book.history n c (reached_holds book t.reached).genuine at) is where
@@ -346,7 +346,7 @@ module _ (p : Parts) (device : Device) (keep : ℕ) (tree : Tree) (era : EraOver
     high a b le e = omega (arith, le, e)
 
   behind_none : (k : ℕ) → tree_behind after k ≡ tree_of after
-  behind_none k = ap (λ (xs : List Placed). state_after (next_tree (bindings book)) opening (kept_steps after.over ++ xs)) (take_none (front_with (k - records_kept after) []))
+  behind_none k = ap (λ (xs : List Placed). state_after (next_by (setting book)) (tree_at_first book) (kept_steps after.over ++ xs)) (take_none (front_with (k - records_kept after) []))
 
   undone : (earlier later : List Undo) (one before : Tree) → [] ≡ earlier ++ later → Some tree ≡ Some one → tree_behind after (length (take keep device.records) - length later) ≡ Some before
       → UndoesAll TakesBack later one before
@@ -420,7 +420,7 @@ goes_treeless old new alive known events over placed calls binds tree kept condi
 -- the tree that was worked out anew is the one behind the crash
 pub ready_anew : (old new : Ledger) (keep lost count : ℕ) (tree : Tree) → Goes GoesDown old new
     → ((device : Device) → AreTied new device → count ≡ front_with (keep - records_kept (book_of new device)) (book_of new device).placed)
-    → state_after (next_tree new.binds) opening (steps_kept new count) ≡ Some tree → IsReady old keep lost tree
+    → state_after (next_by (setting_in new)) (start_tree new.history.known.head.start) (steps_kept new count) ≡ Some tree → IsReady old keep lost tree
 ready_anew old new keep lost count tree goes counted runs =
     λ device t loses.
     let g = goes device t in

@@ -1,4 +1,5 @@
 -- a book whose history gets an event
+use Rattle.std.specs.List.{range_with_len}
 use Rattle.std.proofs.Common.{◌≡◌, ◌⊎◌, inl, inr, ℕ, zero, suc, ◌+◌, ◌-◌, ◌<◌, Bool, false, List, [], ◌∷◌, ◌++◌, length, map, Some, None, refl, sym, ap, ◌∙◌, subst, arith, append-nil}
 use Rattle.std.specs.Prelude.{slice_get, if◌then◌else◌}
 use Rattle.std.specs.Option.{option_map_or}
@@ -33,7 +34,7 @@ use Rattle.book_ledger.specs.declared.placed.CallState.{CallState}
 use Rattle.book_ledger.specs.declared.placed.Condition.TheVariants as codes
 use Rattle.book_ledger.specs.declared.ledger.Ledger.{Ledger}
 use Rattle.book_ledger.specs.Recordable.{CanBeRecorded}
-use Rattle.book_ledger.specs.Inside.{call_in, placed_in, era_in, made_from, condition_of, book_of, ArePlaced, IsShort, AreTied, OnlyHistory}
+use Rattle.book_ledger.specs.Inside.{call_in, placed_in, era_in, made_from, made_in, condition_of, book_of, ArePlaced, IsShort, AreTied, OnlyHistory}
 use Rattle.book_ledger.proofs.Runs.{happened_push, sound}
 use Rattle.book_ledger.proofs.Tied.{over_in, placed_now, tied_with, book_with}
 
@@ -142,8 +143,8 @@ module _ (old new : Ledger) (device : Device) (t : AreTied old device) (lane : �
   placed_so : placed_now recorded old ≡ placed_now target.known.calls old
   placed_so = same_placed recorded begun_now 1 (over_in recorded old) old.placed.items invariant.known
 
-  made_so : made_from 1 old.calls.items ≡ made_from 1 new.calls.items
-  made_so = made_quiet 1 old.calls.items fresh refl ∙ ap (made_from 1) (sym states)
+  made_so : made_in (length old.history.known.head.start) old.calls.items ≡ made_in (length old.history.known.head.start) new.calls.items
+  made_so = ap (λ (xs : List ℕ). range_with_len 1 (length old.history.known.head.start) ++ xs) (made_quiet ((length old.history.known.head.start) + 1) old.calls.items fresh refl) ∙ ap (made_in (length old.history.known.head.start)) (sym states)
 
   step : Begins book lane message (record book { history = target })
   step = record { running = ap condition_of running; is_open = is_open; free = free; call = taken.call; recordable = taken.recordable; done = refl }
@@ -171,10 +172,10 @@ module _ (old new : Ledger) (device : Device) (t : AreTied old device) (lane : �
   short_so = all_append IsShort old.history.events (owns.Call lane message ∷ []) t.short (taken.within, tt)
 
   pub begins_tied : AreTied new device
-  begins_tied = tied_with old new device t only target history_so over_so placed_so made_so (begins lane message step) places_so short_so
+  begins_tied = tied_with old new device t only target history_so over_so placed_so made_so refl (begins lane message step) places_so short_so
 
   pub begins_so : Begins book lane message (book_of new device)
-  begins_so = subst (λ (b : Book). Begins book lane message b) (sym (book_with old new device t only target history_so over_so placed_so made_so)) step
+  begins_so = subst (λ (b : Book). Begins book lane message b) (sym (book_with old new device t only target history_so over_so placed_so made_so refl)) step
 
 -- ---- a lane that is closed
 
@@ -191,7 +192,7 @@ module _ (old new : Ledger) (device : Device) (t : AreTied old device) (lane : �
 
   pub closes_tied : AreTied new device
   closes_tied =
-      tied_with old new device t only shut shut_so refl refl (ap (made_from 1) (sym states)) (closes lane close_step)
+      tied_with old new device t only shut shut_so refl refl (ap (made_in (length old.history.known.head.start)) (sym states)) refl (closes lane close_step)
       (record {
         count = ap length states ∙ t.placed.count;
         there = λ number place c state at era stands has. t.placed.there number place c state at era (sym (ap (λ xs. slice_get xs (number - 1)) states) ∙ stands) has;
@@ -199,4 +200,4 @@ module _ (old new : Ledger) (device : Device) (t : AreTied old device) (lane : �
       }) (all_append IsShort old.history.events (owns.Close lane ∷ []) t.short (tt, tt))
 
   pub closes_so : Closes (book_of old device) lane (book_of new device)
-  closes_so = subst (λ (b : Book). Closes (book_of old device) lane b) (sym (book_with old new device t only shut shut_so refl refl (ap (made_from 1) (sym states)))) close_step
+  closes_so = subst (λ (b : Book). Closes (book_of old device) lane b) (sym (book_with old new device t only shut shut_so refl refl (ap (made_in (length old.history.known.head.start)) (sym states)) refl)) close_step

@@ -37,8 +37,8 @@ module _ (Is : Book → Type 0) where
 
 reached_served : (book : Book) → IsReached book → IsServedBook book
 reached_served book r =
-    let all = every_reply r.faults r.books r.run in
-    reached IsServedBook (opening_book r.faults) r.books book all.0 all.1 r.leads
+    let all = every_reply r.profile r.start r.faults r.books r.is_start r.run in
+    reached IsServedBook (opening_book r.profile r.start r.faults) r.books book all.0 all.1 r.leads
 
 pub served_so : (ledger : Ledger) (device : Device) → AreTied ledger device → (o : Book) → book_of ledger device ≡ o → IsServedBook o
 served_so ledger device t o is = subst IsServedBook is (reached_served (book_of ledger device) t.reached)
@@ -51,8 +51,8 @@ serves o e (Err f) is = tt
 
 reached_written : (book : Book) → IsReached book → CanBeWritten book
 reached_written book r =
-    let all = can_be_written r.faults r.books r.run in
-    reached CanBeWritten (opening_book r.faults) r.books book all.0 all.1 r.leads
+    let all = can_be_written r.profile r.start r.faults r.books r.is_start r.run in
+    reached CanBeWritten (opening_book r.profile r.start r.faults) r.books book all.0 all.1 r.leads
 
 pub written_so : (ledger : Ledger) (device : Device) → AreTied ledger device → (o : Book) → book_of ledger device ≡ o → CanBeWritten o
 written_so ledger device t o is = subst CanBeWritten is (reached_written (book_of ledger device) t.reached)

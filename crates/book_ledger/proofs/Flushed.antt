@@ -1,5 +1,7 @@
 -- a book that is flushed, opened and asked
-use Rattle.std.proofs.Common.{◌≡◌, ◌≢◌, ℕ, [], Result, Ok, Err, refl, sym, ap, ◌∙◌, subst}
+use Rattle.tree_starts.specs.declared.object.StartObject.{StartObject}
+use Rattle.tree_starts.specs.declared.profile.Profile.{Profile}
+use Rattle.std.proofs.Common.{List, ◌≡◌, ◌≢◌, ℕ, [], Result, Ok, Err, refl, sym, ap, ◌∙◌, subst}
 use Rattle.std.specs.Prelude.{IfOk}
 use Rattle.journal_device.specs.declared.device.DevFault.{DevFault}
 use Rattle.journal_device.specs.declared.device.DevFault.TheVariants.{Failed, NoMemory}
@@ -43,11 +45,11 @@ module _ (old new : Ledger) (device after : Device) (t : AreTied old device) (o 
       subst (λ (b : Book). (b.condition ≡ running) × (book_of new after ≡ record b { device = with_fault b.device; condition = down })) is
       (ap condition_of runs, ap (λ (d : Device). book_of new d) at ∙ ap (λ (b : Book). record b { device = with_fault device }) done)
 
-pub opened : (ledger : Ledger) (device : Device) → device.records ≡ [] → device.mark ≡ 0
-    → ((faults : ℕ) → AreTied ledger (opening_book faults).device × (book_of ledger (opening_book faults).device ≡ opening_book faults)) → AreTied ledger device × (book_of ledger device ≡ opening_book device.faults)
-opened ledger device records mark h =
-    let same : device ≡ (opening_book device.faults).device = λ i. record { records = records i; mark = mark i; faults = device.faults } in
-    subst (λ (d : Device). AreTied ledger d × (book_of ledger d ≡ opening_book device.faults)) (sym same) (h device.faults)
+pub opened : (profile : Profile) (start : List StartObject) (ledger : Ledger) (device : Device) → device.records ≡ [] → device.mark ≡ 0
+    → ((faults : ℕ) → AreTied ledger (opening_book profile start faults).device × (book_of ledger (opening_book profile start faults).device ≡ opening_book profile start faults)) → AreTied ledger device × (book_of ledger device ≡ opening_book profile start device.faults)
+opened profile start ledger device records mark h =
+    let same : device ≡ (opening_book profile start device.faults).device = λ i. record { records = records i; mark = mark i; faults = device.faults } in
+    subst (λ (d : Device). AreTied ledger d × (book_of ledger d ≡ opening_book profile start device.faults)) (sym same) (h device.faults)
 
 pub if_ok_holds : {X E : Type 0} (P : X → Book → Type 0) (ledger : Ledger) (device : Device) → AreTied ledger device → (o : Book) → book_of ledger device ≡ o → (r : Result X E) → IfOk r (λ x. Holds (P x) ledger) → IfOk r (λ x. P x o)
 if_ok_holds P ledger device t o is (Ok x) holds = subst (P x) is (holds device t)

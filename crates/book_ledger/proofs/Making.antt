@@ -24,6 +24,11 @@ use Rattle.tree_nodes.proofs.Found.{some_found}
 use Rattle.tree_handles.specs.Binding.{Bindings, object_of, is_bound, gives_object}
 use Rattle.tree_handles.specs.Live.{live_entry, as_directory, directory_of}
 use Rattle.tree_starts.specs.Names.{is_plain}
+use Rattle.tree_starts.specs.declared.profile.Profile.{Profile}
+use Rattle.tree_starts.specs.declared.profile.Profile.TheVariants.{Plain, Strict}
+use Rattle.file_tree.specs.Setting.{under}
+use Rattle.file_tree.specs.Strict.{judged}
+use Rattle.file_tree.proofs.Profiles.{comes_out_plain, same_judgement}
 use Rattle.file_tree.specs.Change.{Change}
 use Rattle.file_tree.specs.Change.Change.{Put}
 use Rattle.file_tree.specs.Made as made
@@ -161,3 +166,16 @@ pub stays_so : (one other : Bindings) (tree after : Tree) (n : ℕ) (call : NfsC
     → ((handle : List ℕ) (object : ℕ) → object ≢ n → is_bound one handle object ≡ is_bound other handle object)
     → next_tree one tree n call (outcomes.Received reply) ≡ Some after → entry_of after n ≡ None → next_tree other tree n call (outcomes.Received reply) ≡ Some after
 stays_so one other tree after n call reply makes absent alike next missing = answered_so one other tree n absent alike after missing call reply (failure_in reply) makes refl next
+
+-- so too under a profile
+pub stays_under : (profile : Profile) (one other : Bindings) (tree after : Tree) (n : ℕ) (call : NfsCall) (reply : NfsReply) → may_make call ≡ true → entry_of tree n ≡ None
+    → ((handle : List ℕ) (object : ℕ) → object ≢ n → is_bound one handle object ≡ is_bound other handle object)
+    → under profile one tree n call (outcomes.Received reply) ≡ Some after → entry_of after n ≡ None → under profile other tree n call (outcomes.Received reply) ≡ Some after
+stays_under Plain one other tree after n call reply makes absent alike next missing = stays_so one other tree after n call reply makes absent alike next missing
+stays_under Strict one other tree after n call reply makes absent alike next missing =
+    let found = chained (judged one tree call (outcomes.Received reply)) (next_tree one tree n call (outcomes.Received reply)) after next in
+    let plain : next_tree one tree n call (outcomes.Received reply) ≡ Some after = comes_out_plain Strict one tree after n call (outcomes.Received reply) next in
+    let same : found.0 ≡ after = same_some found.0 after (sym found.1 ∙ plain) in
+    let agreed : judged one tree call (outcomes.Received reply) after ≡ Some after = subst (λ (t : Tree). judged one tree call (outcomes.Received reply) t ≡ Some after) same found.2 in
+    ap (option_and_then (judged other tree call (outcomes.Received reply))) (stays_so one other tree after n call reply makes absent alike plain missing)
+    ∙ sym (same_judgement one other tree after (same_live one other tree n absent alike) (same_live one other after n missing alike) call (outcomes.Received reply)) ∙ agreed

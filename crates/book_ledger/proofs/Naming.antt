@@ -13,11 +13,13 @@ use Rattle.xdr_records.proofs.Written.{long_spelled}
 use Rattle.tree_nodes.proofs.Chains.{decide}
 use Rattle.tree_handles.specs.Binding.{Bindings, same_bytes, object_of, is_bound, pairs_without}
 use Rattle.tree_handles.proofs.Lookups.{same_is}
+use Rattle.tree_starts.specs.declared.profile.Profile.{Profile}
+use Rattle.file_tree.specs.Setting.{under}
 use Rattle.file_tree.specs.Success.{next_tree}
 use Rattle.book_machine.specs.Book.{handle_of, bindings_made}
 use Rattle.book_machine.specs.Steps.{with_object}
 use Rattle.book_machine.proofs.Handles.{pair, without_own as never_paired}
-use Rattle.book_machine.proofs.Pushed.{SameNames, same_next, pushed}
+use Rattle.book_machine.proofs.Pushed.{SameNames, same_next, same_under, pushed}
 use Rattle.book_ledger.specs.PlaceSteps.{with_own, without_own, NameAlike}
 
 -- the bytes of a number are its handle
@@ -158,11 +160,14 @@ module _ (number : ℕ) (made : List ℕ) (lt : number < 2 ^ 64) (others : AllBy
       alike_same (with_own number binds) (with_own number (bindings_made made)) (alike_own number binds (bindings_made made) alike) handle object
       ∙ pushed (bindings_made made) made number refl lt others (λ h o. refl) handle object
 
-  pub own_next : (binds : Bindings) → NameAlike binds (bindings_made made) → next_tree (with_own number binds) ≡ next_tree (bindings_made (with_object number made))
-  own_next binds alike = same_next (with_own number binds) (with_object number made) (own_made binds alike)
+  pub own_next : (profile : Profile) (binds : Bindings) → NameAlike binds (bindings_made made) → under profile (with_own number binds) ≡ under profile (bindings_made (with_object number made))
+  own_next profile binds alike = same_under profile (with_own number binds) (with_object number made) (own_made binds alike)
 
   pub own_alike : (binds : Bindings) → NameAlike binds (bindings_made made) → NameAlike (with_own number binds) (bindings_made (with_object number made))
   own_alike binds alike handle = by_names (object_of (with_own number binds) handle) (object_of (bindings_made (with_object number made)) handle) (own_made binds alike handle)
 
 pub alike_next : (binds : Bindings) (made : List ℕ) → NameAlike binds (bindings_made made) → next_tree binds ≡ next_tree (bindings_made made)
 alike_next binds made alike = same_next binds made (alike_same binds (bindings_made made) alike)
+
+pub alike_under : (profile : Profile) (binds : Bindings) (made : List ℕ) → NameAlike binds (bindings_made made) → under profile binds ≡ under profile (bindings_made made)
+alike_under profile binds made alike = same_under profile binds made (alike_same binds (bindings_made made) alike)

@@ -21,21 +21,25 @@ use Rattle.replay_law.specs.Undone.{UndoesAll}
 use Rattle.replay_law.proofs.Runs.{one_more}
 use Rattle.replay_law.proofs.Undos.{one_more_undone}
 use Rattle.tree_nodes.specs.declared.undo.Undo.{Undo}
-use Rattle.tree_nodes.specs.Tree.{Tree, opening, entry_of}
+use Rattle.tree_starts.specs.Head.{Head}
+use Rattle.tree_starts.specs.Start.{object_made}
+use Rattle.tree_nodes.specs.Tree.{Tree, entry_of}
 use Rattle.tree_nodes.specs.Undo.{TakesBack}
 use Rattle.tree_handles.specs.Binding.{Bindings, object_of}
-use Rattle.file_tree.specs.Success.{next_tree}
+use Rattle.file_tree.specs.Setting.{under}
+use Rattle.file_tree.specs.StartTree.{start_tree}
+use Rattle.file_tree.proofs.Profiles.{comes_out_plain}
 use Rattle.journal_device.specs.Device.{Device}
 use Rattle.book_machine.specs.Placing.{Placed, is_recorded, records_in, front_with}
-use Rattle.book_machine.specs.Book.{Book, handle_of, bindings, bindings_made, tree_of, records_kept}
+use Rattle.book_machine.specs.Book.{Book, handle_of, bindings, bindings_made, setting, setting_made, next_by, tree_of, records_kept}
 use Rattle.book_machine.specs.Served.{IsServed}
 use Rattle.book_machine.specs.Steps.{IsOfNow, IsUnplaced, HasMessage, ShowsEra, IsAnswerTo, Places, step_of, with_object, with_made, with_record, reply_message, journal_record}
 use Rattle.book_machine.specs.Steps.Steps.{places}
 use Rattle.book_machine.proofs.Invariant.{IsInvariant}
 use Rattle.book_machine.proofs.Lists.{all_append, all_each}
-use Rattle.book_machine.proofs.Legal.{opening_alone}
+use Rattle.book_machine.proofs.Starting.{call_alone}
 use Rattle.book_machine.proofs.Bound.{AreApart, apart_front, kept_apart, run_same}
-use Rattle.book_machine.proofs.Running.{unrecorded_leaves}
+use Rattle.book_machine.proofs.Running.{unrecorded_leaves_by}
 use Rattle.book_machine.proofs.Stable.{records_append}
 use Rattle.book_ledger.specs.Recordable.{may_make}
 use Rattle.book_ledger.specs.Serving.{IsAllowed}
@@ -43,18 +47,18 @@ use Rattle.book_ledger.specs.declared.placed.PlacedCall.{PlacedCall}
 use Rattle.book_ledger.specs.declared.placed.CallState.{CallState}
 use Rattle.book_ledger.specs.declared.placed.Condition.TheVariants as codes
 use Rattle.book_ledger.specs.declared.placing.TreeStep.{TreeStep}
-use Rattle.book_ledger.specs.Inside.{asked_by, placed_in, made_from, condition_of, IsReached, tree_behind}
+use Rattle.book_ledger.specs.Inside.{asked_by, placed_in, made_in, condition_of, IsReached, tree_behind}
 use Rattle.book_ledger.specs.PlaceSteps.{bound_if, TakesStep}
 use Rattle.book_ledger.proofs.Reaching.{reached_holds, reach_more}
-use Rattle.book_ledger.proofs.Replied.{right_reply}
+use Rattle.book_ledger.proofs.Replied.{right_reply_by}
 use Rattle.book_ledger.proofs.Standing.{HasSent, has_sent}
 use Rattle.book_ledger.proofs.AnswersTo.{answers_it}
 use Rattle.book_ledger.proofs.Parts.{Parts, book_with, HavePlaces, Tied}
 use Rattle.book_ledger.proofs.CrashSteps.{now_asked}
 use Rattle.book_ledger.proofs.Naming.{own_free, own_alike}
 use Rattle.book_ledger.proofs.Making.{none_made}
-use Rattle.book_ledger.proofs.Apart.{isnt_zero, apart_eras, apart_all, others, absent}
-use Rattle.book_ledger.proofs.Noting.{made_more, made_same, hadnt_made, counted_more, placing, places_more}
+use Rattle.book_ledger.proofs.Apart.{isnt_zero, past_first, apart_eras, apart_all, others, absent}
+use Rattle.book_ledger.proofs.Noting.{made_more_in, made_same_in, hadnt_made_in, counted_more, placing, places_more}
 use Rattle.book_ledger.proofs.Behind.{front_same, behind_all}
 use Rattle.book_ledger.proofs.PlaceSteps.{step_made, given}
 
@@ -62,7 +66,7 @@ use Rattle.book_ledger.proofs.PlaceSteps.{step_made, given}
 pub record IsReadyFor (p : Parts) (device : Device) (number : ℕ) (before : Tree) : Type 0 where
   pub tied : Tied p device
   pub running : p.condition ≡ codes.Running
-  pub lt : number < 2 ^ 64
+  pub lt : object_made (length p.known.head.start) number < 2 ^ 64
   pub call : RecordedCall
   pub of_now : IsOfNow (book_with p device) number call
   pub judged : call.meaning ≡ meanings.Judged (asked_by p.known.calls number)
@@ -74,7 +78,7 @@ pub record IsReadyFor (p : Parts) (device : Device) (number : ℕ) (before : Tre
 -- and its reply
 pub record IsGiven (p : Parts) (device : Device) (number : ℕ) (before : Tree) (reply : NfsReply) (call : RecordedCall) : Type 0 where
   pub verifier : ShowsEra (book_with p device) (asked_by p.known.calls number) reply
-  pub gives : IsAllowed p.binds before (asked_by p.known.calls number) reply → IsServed p.binds before number (asked_by p.known.calls number) reply
+  pub gives : IsAllowed p.binds before (asked_by p.known.calls number) reply → IsServed p.binds before (object_made (length p.known.head.start) number) (asked_by p.known.calls number) reply
   pub within : length (reply_message call.xid reply) ≤ record_limit
   pub said : IsReply (reply_message call.xid reply) (record { xid = call.xid; body = success (result_text reply) }) × IsResult (procedure_answered reply) (result_text reply) reply
 
@@ -104,32 +108,45 @@ module _ (p : Parts) (device : Device) (number : ℕ) (before : Tree) (r : IsRea
   abbrev asked : NfsCall
   asked = asked_by p.known.calls number
 
+  abbrev head : Head
+  head = p.known.head
+
+  abbrev first : ℕ
+  first = length head.start
+
+  -- the object of its number
+  abbrev pub own : ℕ
+  own = object_made first number
+
   pub holds : IsInvariant book
   holds = reached_holds book r.tied.reached
 
   pub stood_book : tree_of book ≡ Some before
   stood_book = subst (λ (o : Option Tree). IfSome o (λ tree. tree_of book ≡ Some tree)) r.stood r.tied.tree
 
-  pub is_absent : entry_of before number ≡ None
+  pub is_absent : entry_of before own ≡ None
   is_absent = absent book holds number r.call r.of_now.recorded r.of_now.era r.unplaced before stood_book
 
   pub not_zero : number ≢ 0
   not_zero = isnt_zero book holds number r.call r.of_now.recorded r.of_now.era r.unplaced
 
-  pub no_others : AllByRecursion (λ other. (other ≢ number) × (other < 2 ^ 64)) book.made
+  pub own_not_zero : own ≢ 0
+  own_not_zero same = let lt = past_first book holds number r.call r.of_now.recorded r.of_now.era r.unplaced in omega (arith, lt, same)
+
+  pub no_others : AllByRecursion (λ other. (other ≢ own) × (other < 2 ^ 64)) book.made
   no_others = others book holds number r.call r.of_now.recorded r.of_now.era r.unplaced
 
   are_apart : AreApart number (kept_steps book.over ++ book.placed)
   are_apart = apart_all book holds number r.call r.of_now.recorded r.of_now.era r.unplaced
 
   -- its handle names nothing
-  pub is_free : object_of p.binds (handle_of number) ≡ None
-  is_free = r.tied.bound (handle_of number) ∙ own_free number book.made r.lt no_others not_zero
+  pub is_free : object_of p.binds (handle_of own) ≡ None
+  is_free = r.tied.bound (handle_of own) ∙ own_free own book.made r.lt no_others own_not_zero
 
   -- runs without it are the same
   same_runs : (there : Bool) (steps : List Placed) → AreApart number steps
-      → state_after (next_tree (bindings_made (if there then with_object number book.made else book.made))) opening steps ≡ state_after (next_tree (bindings book)) opening steps
-  same_runs true steps apart = sym (run_same number book.made r.lt no_others steps apart opening (opening_alone number not_zero))
+      → state_after (next_by (setting_made head (if there then with_object own book.made else book.made))) (start_tree head.start) steps ≡ state_after (next_by (setting book)) (start_tree head.start) steps
+  same_runs true steps apart = sym (run_same head number book.made r.lt no_others steps apart (start_tree head.start) (call_alone head.start holds.start number not_zero))
   same_runs false steps apart = refl
 
   positive : 1 ≤ number
@@ -164,11 +181,10 @@ module _ (p : Parts) (device : Device) (number : ℕ) (before : Tree) (r : IsRea
 
   hadnt : there_before.0.made ≡ false
   hadnt =
-      hadnt_made p.calls (number - 1) 1 there_before.0 there_before.1
-      (subst (λ (n : ℕ). AllByRecursion (λ x. x ≢ n) book.made) (sym index_is) (all_each _ (λ x. x ≢ number) book.made (λ x h. h.0) no_others))
+      hadnt_made_in first p.calls number positive there_before.0 there_before.0 there_before.1 (all_each _ (λ x. x ≢ own) book.made (λ x h. h.0) no_others)
 
   module _ (reply : NfsReply) (g : IsGiven p device number before reply r.call) (bound : Bindings) (after : Tree) (step : TreeStep)
-      (takes : TakesStep (may_make asked) p.binds before number asked (outcomes.Received reply) bound after step) where
+      (takes : TakesStep head.profile (may_make asked) p.binds before own asked (outcomes.Received reply) bound after step) where
     abbrev placed_step : Placed
     placed_step = step_of number asked reply
 
@@ -195,24 +211,24 @@ module _ (p : Parts) (device : Device) (number : ℕ) (before : Tree) (r : IsRea
     new_book = book_with new_parts new_device
 
     -- the object is there where it was made
-    flag : step.made ≡ is_some (entry_of after number)
+    flag : step.made ≡ is_some (entry_of after own)
     flag = takes.made ∙ go (may_make asked) refl takes.next where
-      go : (own : Bool) → may_make asked ≡ own → next_tree (bound_if own number p.binds) before number asked (outcomes.Received reply) ≡ Some after → (own && is_some (entry_of after number)) ≡ is_some (entry_of after number)
+      go : (makes_one : Bool) → may_make asked ≡ makes_one → under head.profile (bound_if makes_one own p.binds) before own asked (outcomes.Received reply) ≡ Some after → (makes_one && is_some (entry_of after own)) ≡ is_some (entry_of after own)
       go true makes next = refl
-      go false makes next = sym (ap is_some (none_made p.binds before after number asked reply makes is_absent next))
+      go false makes next = sym (ap is_some (none_made p.binds before after own asked reply makes is_absent (comes_out_plain head.profile p.binds before after own asked (outcomes.Received reply) next)))
 
-    made_by : (b : Bool) → step.made ≡ b → made_from 1 (slice_set p.calls (number - 1) (record { place = Some (length p.placed); made = step.made })) ≡ (if b then with_object number book.made else book.made)
-    made_by true is = made_more p.calls (number - 1) 1 there_before.0 (record { place = Some (length p.placed); made = step.made }) there_before.1 hadnt is ∙ ap (λ (n : ℕ). with_object n book.made) index_is
-    made_by false is = made_same p.calls (number - 1) 1 there_before.0 (record { place = Some (length p.placed); made = step.made }) there_before.1 (hadnt ∙ sym is)
+    made_so : (b : Bool) → step.made ≡ b → made_in first (slice_set p.calls (number - 1) (record { place = Some (length p.placed); made = step.made })) ≡ (if b then with_object own book.made else book.made)
+    made_so true is = made_more_in first p.calls number positive there_before.0 (record { place = Some (length p.placed); made = step.made }) there_before.1 hadnt is
+    made_so false is = made_same_in first p.calls number positive there_before.0 (record { place = Some (length p.placed); made = step.made }) there_before.1 (hadnt ∙ sym is)
 
-    made_is : new_book.made ≡ with_made number after book.made
-    made_is = made_by (is_some (entry_of after number)) flag
+    made_is : new_book.made ≡ with_made own after book.made
+    made_is = made_so (is_some (entry_of after own)) flag
 
     placed_is : new_book.placed ≡ book.placed ++ placed_step ∷ []
     placed_is = map-append (placed_in p.known.calls) p.placed (last ∷ [])
 
-    next_is : next_tree (bindings_made (with_made number after book.made)) before number asked (outcomes.Received reply) ≡ Some after
-    next_is = step_made p.binds book.made r.tied.bound number r.lt no_others before is_absent asked reply (may_make asked) after refl takes.next (is_some (entry_of after number)) refl
+    next_is : next_by (setting_made head (with_made own after book.made)) before number asked (outcomes.Received reply) ≡ Some after
+    next_is = step_made head.profile p.binds book.made r.tied.bound own r.lt no_others before is_absent asked reply (may_make asked) after refl takes.next (is_some (entry_of after own)) refl
 
     one_message : {l : ℕ} {m n : List ℕ} → Some (owns.Call l m) ≡ Some (owns.Call l n) → m ≡ n
     one_message e = cc
@@ -221,7 +237,7 @@ module _ (p : Parts) (device : Device) (number : ℕ) (before : Tree) (r : IsRea
     answers_so : IsAnswerTo r.message (reply_message r.call.xid reply) reply
     answers_so =
         let sent : HasSent book.history r.call = has_sent book.history number r.call holds.genuine.is_history r.of_now.recorded in
-        let right = right_reply (bindings_made (with_made number after book.made)) before after number asked reply next_is in
+        let right = right_reply_by (setting_made head (with_made own after book.made)) before after number asked reply next_is in
         subst (λ (m : List ℕ). IsAnswerTo m (reply_message r.call.xid reply) reply) (one_message (sym sent.sent ∙ r.sent))
         (answers_it book.history r.call asked reply (reply_message r.call.xid reply) sent r.judged right g.said.0 g.said.1)
 
@@ -240,7 +256,8 @@ module _ (p : Parts) (device : Device) (number : ℕ) (before : Tree) (r : IsRea
       after = after;
       stood = stood_book;
       next = next_is;
-      served = given p.binds book.made r.tied.bound number r.lt no_others before is_absent asked reply (may_make asked) after refl takes.next g.gives;
+      served = given p.binds book.made r.tied.bound own before is_absent asked reply (may_make asked) after refl
+          (comes_out_plain head.profile (bound_if (may_make asked) own p.binds) before after own asked (outcomes.Received reply) takes.next) g.gives;
       verifier = g.verifier;
       answers = answers_so;
       within = g.within;
@@ -262,25 +279,25 @@ module _ (p : Parts) (device : Device) (number : ℕ) (before : Tree) (r : IsRea
 
     names_are : (handle : List ℕ) → object_of bound handle ≡ object_of (bindings new_book) handle
     names_are handle = takes.names handle ∙ go step.made refl where
-      go : (b : Bool) → step.made ≡ b → object_of (bound_if b number p.binds) handle ≡ object_of (bindings new_book) handle
-      go true is = own_alike number book.made r.lt no_others p.binds r.tied.bound handle ∙ ap (λ (made : List ℕ). object_of (bindings_made made) handle) (sym (made_by true is))
-      go false is = r.tied.bound handle ∙ ap (λ (made : List ℕ). object_of (bindings_made made) handle) (sym (made_by false is))
+      go : (b : Bool) → step.made ≡ b → object_of (bound_if b own p.binds) handle ≡ object_of (bindings new_book) handle
+      go true is = own_alike own book.made r.lt no_others p.binds r.tied.bound handle ∙ ap (λ (made : List ℕ). object_of (bindings_made made) handle) (sym (made_so true is))
+      go false is = r.tied.bound handle ∙ ap (λ (made : List ℕ). object_of (bindings_made made) handle) (sym (made_so false is))
 
     -- runs ahead of the call are as they were
-    runs_ahead : (steps : List Placed) → AreApart number steps → state_after (next_tree (bindings new_book)) opening steps ≡ state_after (next_tree (bindings book)) opening steps
+    runs_ahead : (steps : List Placed) → AreApart number steps → state_after (next_by (setting new_book)) (start_tree head.start) steps ≡ state_after (next_by (setting book)) (start_tree head.start) steps
     runs_ahead steps apart =
-        ap (λ (made : List ℕ). state_after (next_tree (bindings_made made)) opening steps) made_is ∙ same_runs (is_some (entry_of after number)) steps apart
+        ap (λ (made : List ℕ). state_after (next_by (setting_made head made)) (start_tree head.start) steps) made_is ∙ same_runs (is_some (entry_of after own)) steps apart
 
     tree_is : tree_of new_book ≡ Some after
     tree_is =
         let steps = kept_steps book.over ++ book.placed in
-        let next = next_tree (bindings new_book) in
-        let stood : state_after next opening steps ≡ Some before = runs_ahead steps are_apart ∙ stood_book in
+        let next = next_by (setting new_book) in
+        let stood : state_after next (start_tree head.start) steps ≡ Some before = runs_ahead steps are_apart ∙ stood_book in
         let so : next before number asked (outcomes.Received reply) ≡ Some after =
-        ap (λ (made : List ℕ). next_tree (bindings_made made) before number asked (outcomes.Received reply)) made_is ∙ next_is in
-        ap (λ (xs : List Placed). state_after next opening (kept_steps book.over ++ xs)) placed_is
-        ∙ ap (state_after next opening) (sym (append_assoc (kept_steps book.over) book.placed (placed_step ∷ [])))
-        ∙ one_more next opening before after steps placed_step stood so
+        ap (λ (made : List ℕ). next_by (setting_made head made) before number asked (outcomes.Received reply)) made_is ∙ next_is in
+        ap (λ (xs : List Placed). state_after next (start_tree head.start) (kept_steps book.over ++ xs)) placed_is
+        ∙ ap (state_after next (start_tree head.start)) (sym (append_assoc (kept_steps book.over) book.placed (placed_step ∷ [])))
+        ∙ one_more next (start_tree head.start) before after steps placed_step stood so
 
     -- a crash that loses the call keeps what it would have kept
     behind_same : (k : ℕ) → k - records_kept book ≤ records_in book.placed → tree_behind new_book k ≡ tree_behind book k
@@ -290,8 +307,8 @@ module _ (p : Parts) (device : Device) (number : ℕ) (before : Tree) (r : IsRea
         let apart : AreApart number (kept_steps book.over ++ front) =
         all_append (λ (s : Placed). s.number ≢ number) (kept_steps book.over) front (kept_apart number book.over (apart_eras book holds number r.call r.of_now.recorded r.of_now.era r.unplaced))
         (apart_front number (front_with c book.placed) book.placed r.unplaced) in
-        ap (λ (xs : List Placed). state_after (next_tree (bindings new_book)) opening (kept_steps book.over ++ take (front_with c xs) xs)) placed_is
-        ∙ ap (λ (xs : List Placed). state_after (next_tree (bindings new_book)) opening (kept_steps book.over ++ xs)) (front_same c book.placed placed_step le)
+        ap (λ (xs : List Placed). state_after (next_by (setting new_book)) (start_tree head.start) (kept_steps book.over ++ take (front_with c xs) xs)) placed_is
+        ∙ ap (λ (xs : List Placed). state_after (next_by (setting new_book)) (start_tree head.start) (kept_steps book.over ++ xs)) (front_same c book.placed placed_step le)
         ∙ runs_ahead (kept_steps book.over ++ front) apart
 
     few : (gone : ℕ) → length device.records - gone - records_kept book ≤ records_in book.placed
@@ -303,7 +320,7 @@ module _ (p : Parts) (device : Device) (number : ℕ) (before : Tree) (r : IsRea
     undone_by : (b : Bool) → is_recorded placed_step ≡ b → (earlier later : List Undo) (back : Tree) → (if b then p.undos ++ step.undo ∷ [] else p.undos) ≡ earlier ++ later
         → tree_behind new_book (length (with_record b bytes device).records - length later) ≡ Some back → UndoesAll TakesBack later after back
     undone_by false is earlier later back parts behind =
-        let same = unrecorded_leaves (bindings_made (with_made number after book.made)) before after number asked reply next_is is in
+        let same = unrecorded_leaves_by (setting_made head (with_made own after book.made)) before after number asked reply next_is is in
         subst (λ (tree : Tree). UndoesAll TakesBack later tree back) (sym same)
         (r.tied.undone earlier later before back parts r.stood (sym (behind_same (length device.records - length later) (few (length later))) ∙ behind))
     undone_by true is earlier later back parts behind = go (last_part p.undos step.undo earlier later parts) where

@@ -1,4 +1,6 @@
 -- lists of calls with one more placed
+use Rattle.tree_starts.specs.Start.{object_made}
+use Rattle.std.specs.List.{range_with_len}
 use Rattle.std.proofs.Common.{◌≡◌, ◌≢◌, ◌⊎◌, inl, inr, ℕ, zero, suc, ◌+◌, ◌-◌, ◌<◌, ◌≤◌, Bool, true, false, List, [], ◌∷◌, ◌++◌, length, map, Some, refl, sym, ap, ◌∙◌, subst, arith}
 use Rattle.std.specs.Prelude.{if◌then◌else◌, ◌==◌, slice_get, slice_set}
 use Rattle.std.specs.List.{AllByRecursion}
@@ -13,7 +15,8 @@ use Rattle.book_machine.specs.Steps.{with_object, IsUnplaced}
 use Rattle.book_machine.proofs.Stable.{records_append}
 use Rattle.book_ledger.specs.declared.placed.PlacedCall.{PlacedCall}
 use Rattle.book_ledger.specs.declared.placed.CallState.{CallState}
-use Rattle.book_ledger.specs.Inside.{AreAsked, IsAsked, placed_in, made_from, AreCounted}
+use Rattle.book_ledger.specs.Inside.{made_in, AreAsked, IsAsked, placed_in, made_from, AreCounted}
+use Rattle.book_machine.proofs.Starting.{all_numbers}
 use Rattle.book_ledger.proofs.Parts.{Parts, HavePlaces}
 
 -- ---- an item of a list
@@ -121,6 +124,42 @@ hadnt_made (state ∷ calls) (suc k) start old at apart =
       go : (b : Bool) → AllByRecursion (λ x. x ≢ start + suc k) (if b then start ∷ made_from (start + 1) calls else made_from (start + 1) calls) → AllByRecursion (λ x. x ≢ start + suc k) (made_from (start + 1) calls)
       go true all = all.1
       go false all = all
+
+-- ---- behind the objects that stood at first
+
+-- an object past all of these goes behind them
+with_past : (n : ℕ) (xs ys : List ℕ) → AllByRecursion (λ x. x < n) xs → with_object n (xs ++ ys) ≡ xs ++ with_object n ys
+with_past n [] ys all = refl
+with_past n (x ∷ xs) ys all = with_behind n x (xs ++ ys) all.0 ∙ ap (λ (zs : List ℕ). x ∷ zs) (with_past n xs ys all.1)
+
+pub made_is : (first n : ℕ) → object_made first n ≡ first + n
+made_is zero n = omega arith
+made_is (suc first) n = refl
+
+index_by : (first number : ℕ) → 1 ≤ number → first + 1 + (number - 1) ≡ object_made first number
+index_by first number le = let is = made_is first number in omega (arith, is, le)
+
+all_behind_these : (P : ℕ → Type 0) (xs ys : List ℕ) → AllByRecursion P (xs ++ ys) → AllByRecursion P ys
+all_behind_these P [] ys all = all
+all_behind_these P (x ∷ xs) ys all = all_behind_these P xs ys all.1
+
+module _ (first : ℕ) (calls : List CallState) (number : ℕ) (le : 1 ≤ number) (old new : CallState) (at : slice_get calls (number - 1) ≡ Some old) where
+  pub made_more_in : old.made ≡ false → new.made ≡ true → made_in first (slice_set calls (number - 1) new) ≡ with_object (object_made first number) (made_in first calls)
+  made_more_in hadnt has =
+      ap (λ (xs : List ℕ). range_with_len 1 first ++ xs)
+      (made_more calls (number - 1) (first + 1) old new at hadnt has
+      ∙ ap (λ (n : ℕ). with_object n (made_from (first + 1) calls)) (index_by first number le))
+      ∙ sym (with_past (object_made first number) (range_with_len 1 first) (made_from (first + 1) calls)
+      (all_numbers (λ k. k < object_made first number) 1 first (λ k from below. let is = made_is first number in omega (arith, is, below, le))))
+
+  pub made_same_in : old.made ≡ new.made → made_in first (slice_set calls (number - 1) new) ≡ made_in first calls
+  made_same_in same = ap (λ (xs : List ℕ). range_with_len 1 first ++ xs) (made_same calls (number - 1) (first + 1) old new at same)
+
+  pub hadnt_made_in : AllByRecursion (λ x. x ≢ object_made first number) (made_in first calls) → old.made ≡ false
+  hadnt_made_in apart =
+      hadnt_made calls (number - 1) (first + 1) old at
+      (subst (λ (n : ℕ). AllByRecursion (λ x. x ≢ n) (made_from (first + 1) calls)) (sym (index_by first number le))
+      (all_behind_these (λ x. x ≢ object_made first number) (range_with_len 1 first) (made_from (first + 1) calls) apart))
 
 -- ---- how many records there are
 

@@ -22,7 +22,7 @@ use Rattle.book_ledger.specs.declared.placed.CallState.{CallState}
 use Rattle.book_ledger.specs.declared.placed.Condition as code
 use Rattle.book_ledger.specs.declared.placed.Condition.TheVariants as codes
 use Rattle.book_ledger.specs.declared.ledger.Ledger.{Ledger}
-use Rattle.book_ledger.specs.Inside.{placed_in, era_in, made_from, condition_of, IsReached, AreCounted, tree_behind, IsShort, AreTied}
+use Rattle.book_ledger.specs.Inside.{placed_in, era_in, made_in, condition_of, IsReached, AreCounted, tree_behind, IsShort, AreTied}
 use Rattle.book_ledger.proofs.Reaching.{reach_more}
 
 pub record Parts : Type 0 where
@@ -58,7 +58,7 @@ book_with p device =
       history = record { known = p.known; events = p.events; spare = 0 };
       over = map (era_in p.known.calls) p.over;
       placed = map (placed_in p.known.calls) p.placed;
-      made = made_from 1 p.calls;
+      made = made_in (length p.known.head.start) p.calls;
       device = device;
       condition = condition_of p.condition;
     }

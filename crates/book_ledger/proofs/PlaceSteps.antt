@@ -18,7 +18,10 @@ use Rattle.tree_nodes.specs.Tree.{Names, Tree, entry_of}
 use Rattle.tree_handles.specs.Binding.{Bindings, object_of, is_bound}
 use Rattle.tree_handles.specs.Live.{as_file, file_of}
 use Rattle.file_tree.specs.Allows.{AllowsSuccess}
+use Rattle.tree_starts.specs.declared.profile.Profile.{Profile}
+use Rattle.file_tree.specs.Setting.{under}
 use Rattle.file_tree.specs.Success.{next_tree}
+use Rattle.file_tree.proofs.Profiles.{comes_out_plain}
 use Rattle.tree_laws.proofs.Kept.{failure_leaves}
 use Rattle.book_machine.specs.Book.{bindings_made}
 use Rattle.book_machine.specs.Served.{IsFull, serves, IsServed}
@@ -26,8 +29,8 @@ use Rattle.book_machine.specs.Steps.{with_object, with_made}
 use Rattle.book_ledger.specs.Recordable.{may_make}
 use Rattle.book_ledger.specs.Serving.{IsAllowed}
 use Rattle.book_ledger.specs.PlaceSteps.{with_own, bound_if, NameAlike}
-use Rattle.book_ledger.proofs.Naming.{own_is, first_of, own_next, alike_next}
-use Rattle.book_ledger.proofs.Making.{none_made, stays_so}
+use Rattle.book_ledger.proofs.Naming.{own_is, first_of, own_next, alike_next, alike_under}
+use Rattle.book_ledger.proofs.Making.{none_made, stays_so, stays_under}
 
 pub nothing : {X : Type 0} (o : Option X) → is_some o ≡ false → o ≡ None
 nothing None e = refl
@@ -76,38 +79,40 @@ apart_same n binds handle object differs = ap (λ (o : Option ℕ). option_map_o
   go None false = refl
 
 -- the step of a call whose object wasn't there, in the book's own bindings
-module _ (binds : Bindings) (made : List ℕ) (alike : NameAlike binds (bindings_made made)) (number : ℕ) (lt : number < 2 ^ 64) (others : AllByRecursion (λ other. (other ≢ number) × (other < 2 ^ 64)) made)
+module _ (profile : Profile) (binds : Bindings) (made : List ℕ) (alike : NameAlike binds (bindings_made made)) (number : ℕ) (lt : number < 2 ^ 64) (others : AllByRecursion (λ other. (other ≢ number) × (other < 2 ^ 64)) made)
     (before : Tree) (absent : entry_of before number ≡ None) (call : NfsCall) (reply : NfsReply) where
   abbrev makes_it : Tree → List ℕ
   makes_it after = with_made number after made
 
   -- what the step leads to
-  pub step_made : (own : Bool) (after : Tree) → may_make call ≡ own → next_tree (bound_if own number binds) before number call (outcomes.Received reply) ≡ Some after
+  pub step_made : (own : Bool) (after : Tree) → may_make call ≡ own → under profile (bound_if own number binds) before number call (outcomes.Received reply) ≡ Some after
       → (there : Bool) → is_some (entry_of after number) ≡ there
-      → next_tree (bindings_made (if there then with_object number made else made)) before number call (outcomes.Received reply) ≡ Some after
-  step_made true after makes next true is = ap (λ (f : Tree → ℕ → NfsCall → Outcome → Option Tree). f before number call (outcomes.Received reply)) (sym (own_next number made lt others binds alike)) ∙ next
+      → under profile (bindings_made (if there then with_object number made else made)) before number call (outcomes.Received reply) ≡ Some after
+  step_made true after makes next true is = ap (λ (f : Tree → ℕ → NfsCall → Outcome → Option Tree). f before number call (outcomes.Received reply)) (sym (own_next number made lt others profile binds alike)) ∙ next
   step_made true after makes next false is =
-      ap (λ (f : Tree → ℕ → NfsCall → Outcome → Option Tree). f before number call (outcomes.Received reply)) (sym (alike_next binds made alike))
-      ∙ stays_so (with_own number binds) binds before after number call reply makes absent (apart_same number binds) next (nothing (entry_of after number) is)
-  step_made false after makes next true is = absurd (none_there (none_made binds before after number call reply makes absent next) is) where
+      ap (λ (f : Tree → ℕ → NfsCall → Outcome → Option Tree). f before number call (outcomes.Received reply)) (sym (alike_under profile binds made alike))
+      ∙ stays_under profile (with_own number binds) binds before after number call reply makes absent (apart_same number binds) next (nothing (entry_of after number) is)
+  step_made false after makes next true is = absurd (none_there (none_made binds before after number call reply makes absent (comes_out_plain profile binds before after number call (outcomes.Received reply) next)) is) where
     none_there : {X : Type 0} {o : Option X} → o ≡ None → is_some o ≡ true → ⊥
     none_there e f = cc
-  step_made false after makes next false is = ap (λ (f : Tree → ℕ → NfsCall → Outcome → Option Tree). f before number call (outcomes.Received reply)) (sym (alike_next binds made alike)) ∙ next
+  step_made false after makes next false is = ap (λ (f : Tree → ℕ → NfsCall → Outcome → Option Tree). f before number call (outcomes.Received reply)) (sym (alike_under profile binds made alike)) ∙ next
 
   -- and back
   pub made_step : (own : Bool) (after : Tree) → may_make call ≡ own → (there : Bool) → is_some (entry_of after number) ≡ there
-      → next_tree (bindings_made (if there then with_object number made else made)) before number call (outcomes.Received reply) ≡ Some after
-      → next_tree (bound_if own number binds) before number call (outcomes.Received reply) ≡ Some after
-  made_step true after makes true is next = ap (λ (f : Tree → ℕ → NfsCall → Outcome → Option Tree). f before number call (outcomes.Received reply)) (own_next number made lt others binds alike) ∙ next
+      → under profile (bindings_made (if there then with_object number made else made)) before number call (outcomes.Received reply) ≡ Some after
+      → under profile (bound_if own number binds) before number call (outcomes.Received reply) ≡ Some after
+  made_step true after makes true is next = ap (λ (f : Tree → ℕ → NfsCall → Outcome → Option Tree). f before number call (outcomes.Received reply)) (own_next number made lt others profile binds alike) ∙ next
   made_step true after makes false is next =
-      stays_so binds (with_own number binds) before after number call reply makes absent (λ handle object differs. sym (apart_same number binds handle object differs))
-      (ap (λ (f : Tree → ℕ → NfsCall → Outcome → Option Tree). f before number call (outcomes.Received reply)) (alike_next binds made alike) ∙ next) (nothing (entry_of after number) is)
-  made_step false after makes true is next = absurd (none_there (none_made (bindings_made (with_object number made)) before after number call reply makes absent next) is) where
-    none_there : {X : Type 0} {o : Option X} → o ≡ None → is_some o ≡ true → ⊥
-    none_there e f = cc
-  made_step false after makes false is next = ap (λ (f : Tree → ℕ → NfsCall → Outcome → Option Tree). f before number call (outcomes.Received reply)) (alike_next binds made alike) ∙ next
+      stays_under profile binds (with_own number binds) before after number call reply makes absent (λ handle object differs. sym (apart_same number binds handle object differs))
+      (ap (λ (f : Tree → ℕ → NfsCall → Outcome → Option Tree). f before number call (outcomes.Received reply)) (alike_under profile binds made alike) ∙ next) (nothing (entry_of after number) is)
+  made_step false after makes true is next = absurd (none_there (none_made (bindings_made (with_object number made)) before after number call reply makes absent
+      (comes_out_plain profile (bindings_made (with_object number made)) before after number call (outcomes.Received reply) next)) is) where
+        none_there : {X : Type 0} {o : Option X} → o ≡ None → is_some o ≡ true → ⊥
+        none_there e f = cc
+  made_step false after makes false is next = ap (λ (f : Tree → ℕ → NfsCall → Outcome → Option Tree). f before number call (outcomes.Received reply)) (alike_under profile binds made alike) ∙ next
 
-  -- what the tree allows the server may give
+-- what the tree allows the server may give
+module _ (binds : Bindings) (made : List ℕ) (alike : NameAlike binds (bindings_made made)) (number : ℕ) (before : Tree) (absent : entry_of before number ≡ None) (call : NfsCall) (reply : NfsReply) where
   pub given : (own : Bool) (after : Tree) → may_make call ≡ own → next_tree (bound_if own number binds) before number call (outcomes.Received reply) ≡ Some after
       → (IsAllowed binds before call reply → IsServed binds before number call reply) → IsServed (bindings_made made) before number call reply
   given own after makes next gives = served_alike binds (bindings_made made) before number call reply alike (alike_next binds made alike) (go own makes next) where

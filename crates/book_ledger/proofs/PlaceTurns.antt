@@ -1,4 +1,5 @@
 -- the turns of a call that is placed, over the parts in memory
+use Rattle.file_tree.specs.Setting.{under}
 use Rattle.std.proofs.Common.{◌≡◌, ℕ, zero, suc, ◌-◌, ◌<◌, ◌≤◌, ◌^◌, Bool, true, false, List, [], ◌∷◌, ◌++◌, length, Option, Some, None, refl, sym, ap, ◌∙◌, subst}
 use Rattle.std.specs.Prelude.{IfSome, is_some, if◌then◌else◌, slice_get, slice_set, option_map}
 use Rattle.std.specs.Option.{option_map_or}
@@ -22,7 +23,6 @@ use Rattle.nfs_history.proofs.AppendSteps.{began_at}
 use Rattle.tree_nodes.specs.Tree.{Tree, entry_of}
 use Rattle.cut_check.specs.Verifier.{verifier_of}
 use Rattle.tree_handles.specs.Binding.{Bindings, object_of}
-use Rattle.file_tree.specs.Success.{next_tree}
 use Rattle.journal_device.specs.Device.{Device}
 use Rattle.book_machine.specs.Placing.{is_recorded}
 use Rattle.book_machine.specs.Book.{Book, bindings, bindings_made}
@@ -36,13 +36,13 @@ use Rattle.book_ledger.specs.declared.placed.Condition as code
 use Rattle.book_ledger.specs.declared.placed.Condition.TheVariants as codes
 use Rattle.book_ledger.specs.declared.placing.TreeStep.{TreeStep}
 use Rattle.book_ledger.specs.declared.ledger.Ledger.{Ledger}
-use Rattle.book_ledger.specs.Inside.{call_in, asked_by, condition_of, book_of, AreTied}
+use Rattle.book_ledger.specs.Inside.{object_in, call_in, asked_by, condition_of, book_of, AreTied}
 use Rattle.book_ledger.specs.PlaceSteps.{without_own, bound_if, NameAlike, TakesStep, HasStepped, HasNoStep, HasStayed, ShowsNow, MayGive, IsShortAnswer, HasPlaced, HasLost, IsSame}
 use Rattle.book_ledger.proofs.Reaching.{reached_holds, reached_asked}
 use Rattle.book_ledger.proofs.Parts.{Parts, parts_of, book_with, Tied, to_parts, from_parts, same_parts, down_tied, treeless}
 use Rattle.book_ledger.proofs.Naming.{forgotten_so, alike_next}
 use Rattle.book_ledger.proofs.PlaceSteps.{made_step, served_alike}
-use Rattle.book_ledger.proofs.NewPlace.{IsReadyFor, IsGiven, stood_book, is_absent, is_free, not_zero, no_others, new_parts, placed_so, placed_tied}
+use Rattle.book_ledger.proofs.NewPlace.{IsReadyFor, IsGiven, stood_book, is_absent, is_free, own_not_zero, no_others, new_parts, placed_so, placed_tied}
 
 -- ---- ahead of the step
 
@@ -79,7 +79,7 @@ message_there h (suc k) c g at =
     let began = began_at h k c asked in
     (asked.event.message, owned_at h.events (c.begin - 1) c.lane asked.event.message (began.event ∙ ap (λ (l : ℕ). Some (call l asked.event.message)) (sym asked.recorded.lane)))
 
-pub ready : (ledger : Ledger) (device : Device) (number : ℕ) (before : Tree) → AreTied ledger device → condition_of ledger.condition ≡ is_running → number < 2 ^ 64 → IsNow (book_of ledger device) number
+pub ready : (ledger : Ledger) (device : Device) (number : ℕ) (before : Tree) → AreTied ledger device → condition_of ledger.condition ≡ is_running → object_in ledger number < 2 ^ 64 → IsNow (book_of ledger device) number
     → IsUnplaced (book_of ledger device).placed number → ledger.tree ≡ Some before → IsReadyFor (parts_of ledger) device number before
 ready ledger device number before t running lt now unplaced stood =
     let recorded = ledger.history.known.calls in
@@ -146,13 +146,16 @@ lost_tied old stepped new device number outcome before step r s l =
         clash : codes.Running ≡ codes.Dead → ⊥
         clash e = cc
 
+      same_object : object_in stepped number ≡ object_in old number
+      same_object = ap (λ (q : Ledger). object_in q number) s.parts
+
       names : (b : Bool) → step.made ≡ b → NameAlike new.binds old.binds
       names true is = λ handle.
-          ap (λ (binds : Bindings). object_of binds handle) (l.binds ∙ ap (λ (b : Bool). if b then without_own number stepped.binds else stepped.binds) is)
-          ∙ forgotten_so number old.binds stepped.binds (is_free (parts_of old) device number before r) (λ h. s.takes.names h ∙ ap (λ (b : Bool). object_of (bound_if b number old.binds) h) is) (not_zero (parts_of old) device number before r) handle
+          ap (λ (binds : Bindings). object_of binds handle) (l.binds ∙ ap (λ (b : Bool). if b then without_own (object_in stepped number) stepped.binds else stepped.binds) is)
+          ∙ ap (λ (n : ℕ). object_of (without_own n stepped.binds) handle) same_object ∙ forgotten_so (object_in old number) old.binds stepped.binds (is_free (parts_of old) device number before r) (λ h. s.takes.names h ∙ ap (λ (b : Bool). object_of (bound_if b (object_in old number) old.binds) h) is) (own_not_zero (parts_of old) device number before r) handle
       names false is = λ handle.
-          ap (λ (binds : Bindings). object_of binds handle) (l.binds ∙ ap (λ (b : Bool). if b then without_own number stepped.binds else stepped.binds) is)
-          ∙ s.takes.names handle ∙ ap (λ (b : Bool). object_of (bound_if b number old.binds) handle) is
+          ap (λ (binds : Bindings). object_of binds handle) (l.binds ∙ ap (λ (b : Bool). if b then without_own (object_in stepped number) stepped.binds else stepped.binds) is)
+          ∙ s.takes.names handle ∙ ap (λ (b : Bool). object_of (bound_if b (object_in old number) old.binds) handle) is
 
 -- ---- a place
 
@@ -190,7 +193,7 @@ module _ (old : Ledger) (device : Device) (number : ℕ) (reply : NfsReply) (bef
   pub new_place : (stepped new : Ledger) (step : TreeStep) (records : ℕ) → IsGiven (parts_of old) device number before reply r.call → HasStepped old number (outcomes.Received reply) step stepped
       → HasPlaced stepped number (outcomes.Received reply) step recorded records new → records ≡ length device_then.records → AreTied new device_then × Places (book_of old device) number reply (book_of new device_then)
   new_place stepped new step records g s h count =
-      let takes = subst (λ (tree : Tree). TakesStep (may_make asked) old.binds tree number asked (outcomes.Received reply) stepped.binds s.after step) (same_tree_there s.stood r.stood) s.takes in
+      let takes = subst (λ (tree : Tree). TakesStep old.history.known.head.profile (may_make asked) old.binds tree (object_in old number) asked (outcomes.Received reply) stepped.binds s.after step) (same_tree_there s.stood r.stood) s.takes in
       let next = new_parts (parts_of old) device number before r reply g stepped.binds s.after step takes in
       let same : parts_of new ≡ next =
       placed_parts old stepped new number (outcomes.Received reply) step recorded records s h
@@ -210,12 +213,12 @@ module _ (old : Ledger) (device : Device) (number : ℕ) (reply : NfsReply) (bef
       same_asked : {a b : NfsCall} → meanings.Judged a ≡ meanings.Judged b → a ≡ b
       same_asked e = cc
 
-    has_step : next_tree (bound_if (may_make asked) number old.binds) before number asked (outcomes.Received reply) ≡ Some p.after
+    has_step : under old.history.known.head.profile (bound_if (may_make asked) (object_in old number) old.binds) before (object_in old number) asked (outcomes.Received reply) ≡ Some p.after
     has_step =
-        made_step old.binds (book_of old device).made r.tied.bound number r.lt (no_others (parts_of old) device number before r) before (is_absent (parts_of old) device number before r) asked reply (may_make asked) p.after refl
-        (is_some (entry_of p.after number)) refl
-        (subst (λ (c : NfsCall). next_tree (bindings_made (with_made number p.after (book_of old device).made)) before number c (outcomes.Received reply) ≡ Some p.after) call_is
-        (subst (λ (t : Tree). next_tree (bindings_made (with_made number p.after (book_of old device).made)) t number p.call (outcomes.Received reply) ≡ Some p.after) before_is p.next))
+        made_step old.history.known.head.profile old.binds (book_of old device).made r.tied.bound (object_in old number) r.lt (no_others (parts_of old) device number before r) before (is_absent (parts_of old) device number before r) asked reply (may_make asked) p.after refl
+        (is_some (entry_of p.after (object_in old number))) refl
+        (subst (λ (c : NfsCall). under old.history.known.head.profile (bindings_made (with_made (object_in old number) p.after (book_of old device).made)) before (object_in old number) c (outcomes.Received reply) ≡ Some p.after) call_is
+        (subst (λ (t : Tree). under old.history.known.head.profile (bindings_made (with_made (object_in old number) p.after (book_of old device).made)) t (object_in old number) p.call (outcomes.Received reply) ≡ Some p.after) before_is p.next))
 
     pub not_without_step : HasNoStep old number (outcomes.Received reply) → ⊥
     not_without_step none = clash (sym (none before r.stood) ∙ has_step) where
@@ -228,10 +231,10 @@ module _ (old : Ledger) (device : Device) (number : ℕ) (reply : NfsReply) (bef
     pub gives : MayGive old number (outcomes.Received reply)
     gives tree other stood is =
         let same = one is in
-        subst (λ (x : NfsReply). IsServed old.binds tree number asked x) same
-        (subst (λ (t : Tree). IsServed old.binds t number asked reply) (same_tree_there r.stood stood)
-        (served_alike (bindings (book_of old device)) old.binds before number asked reply (λ handle. sym (r.tied.bound handle)) (sym (alike_next old.binds (book_of old device).made r.tied.bound))
-        (subst (λ (c : NfsCall). IsServed (bindings (book_of old device)) before number c reply) call_is (subst (λ (t : Tree). IsServed (bindings (book_of old device)) t number p.call reply) before_is p.served)))) where
+        subst (λ (x : NfsReply). IsServed old.binds tree (object_in old number) asked x) same
+        (subst (λ (t : Tree). IsServed old.binds t (object_in old number) asked reply) (same_tree_there r.stood stood)
+        (served_alike (bindings (book_of old device)) old.binds before (object_in old number) asked reply (λ handle. sym (r.tied.bound handle)) (sym (alike_next old.binds (book_of old device).made r.tied.bound))
+        (subst (λ (c : NfsCall). IsServed (bindings (book_of old device)) before (object_in old number) c reply) call_is (subst (λ (t : Tree). IsServed (bindings (book_of old device)) t (object_in old number) p.call reply) before_is p.served)))) where
           one : {a b : NfsReply} → outcomes.Received a ≡ outcomes.Received b → a ≡ b
           one e = cc
 

@@ -63,6 +63,23 @@ binds_more front (y ∷ xs) zero k made x all lt of is e =
       joined false rest = refl
 binds_more front (y ∷ xs) (suc i) k made x all lt of is e = binds_more front xs i k made x all (omega (arith, lt)) of is e
 
+default_any : {X : Type 0} (xs : List X) (i : ℕ) (d e : X) → i < length xs → get_or xs i d ≡ get_or xs i e
+default_any [] i d e lt = absurd (none lt) where
+  none : i < 0 → ⊥
+  none f = omega (arith, f)
+default_any (x ∷ xs) zero d e lt = refl
+default_any (x ∷ xs) (suc i) d e lt = default_any xs i d e (omega (arith, lt))
+
+-- the same, of the item that was read, and its object by its number
+pub binds_grown : (front grown all : List Bind) (xs : List CallState) (i k object next later : ℕ) (d : CallState) → i < length xs → object ≡ k → next ≡ k + 1 → later ≡ suc i
+    → grown ≡ front ++ bind_if (get_or xs i d).made object → front ++ map bind_of (made_from k (drop i xs)) ≡ all → grown ++ map bind_of (made_from next (drop later xs)) ≡ all
+binds_grown front grown all xs i k object next later d lt is further behind e so =
+    let item = get_or xs i d in
+    ap (λ (n : ℕ). grown ++ map bind_of (made_from next (drop n xs))) behind
+    ∙ ap (λ (bs : List Bind). bs ++ map bind_of (made_from next (drop (suc i) xs))) (e ∙ ap (λ (n : ℕ). front ++ bind_if item.made n) is)
+    ∙ ap (λ (n : ℕ). (front ++ bind_if item.made k) ++ map bind_of (made_from n (drop (suc i) xs))) further
+    ∙ binds_more front xs i k item.made item all lt refl (default_any xs i d item lt) so
+
 pub bound_so : (front all : List Bind) (handle : List ℕ) (object : ℕ) (made : Bool) → all ≡ front ++ record { handle = handle; object = object } ∷ [] → handle ≡ handle_of object → made ≡ true
     → all ≡ front ++ bind_if made object
 bound_so front all handle object made e h is = e ∙ (λ i. front ++ record { handle = h i; object = object } ∷ []) ∙ ap (λ (b : Bool). front ++ bind_if b object) (sym is)

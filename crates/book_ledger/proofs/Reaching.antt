@@ -16,7 +16,7 @@ use Rattle.book_machine.proofs.Kept.{kept}
 use Rattle.book_ledger.specs.Inside.{LeadsTo, IsReached, IsAsked}
 
 pub reached_holds : (book : Book) → IsReached book → IsInvariant book
-reached_holds book r = go (opening_book r.faults) r.books (opening_holds r.faults) r.run r.leads where
+reached_holds book r = go (opening_book r.profile r.start r.faults) r.books (opening_holds r.profile r.start r.faults r.is_start) r.run r.leads where
   go : (first : Book) (books : List Book) → IsInvariant first → IsRun first books → LeadsTo first books book → IsInvariant book
   go first [] i run leads = subst IsInvariant leads i
   go first (next ∷ books) i run leads = go next books (kept first next i run.0) run.1 leads
@@ -24,8 +24,8 @@ reached_holds book r = go (opening_book r.faults) r.books (opening_holds r.fault
 -- and one step more
 pub reach_more : (book new : Book) → IsReached book → Steps book new → IsReached new
 reach_more book new r step =
-    let more = longer (opening_book r.faults) r.books r.run r.leads in
-    record { faults = r.faults; books = r.books ++ new ∷ []; run = more.0; leads = more.1 } where
+    let more = longer (opening_book r.profile r.start r.faults) r.books r.run r.leads in
+    record { profile = r.profile; start = r.start; is_start = r.is_start; faults = r.faults; books = r.books ++ new ∷ []; run = more.0; leads = more.1 } where
       longer : (first : Book) (books : List Book) → IsRun first books → LeadsTo first books book → IsRun first (books ++ new ∷ []) × LeadsTo first (books ++ new ∷ []) new
       longer first [] run leads = ((subst (λ (b : Book). Steps b new) (sym leads) step, tt), refl)
       longer first (next ∷ books) run leads = let rest = longer next books run.1 leads in ((run.0, rest.0), rest.1)
@@ -51,7 +51,7 @@ still_judged book new j (refuses r) = subst AreJudged (sym r.done) j
 
 pub reached_asked : (book : Book) (number : ℕ) (call : RecordedCall) → IsReached book → call_at book.history.known.calls number ≡ Some call → IsAsked book.history.known.calls number
 reached_asked book number call r at =
-    let judged = call_has IsJudgedOne book.history.known.calls number call (go (opening_book r.faults) r.books tt r.run r.leads) at in
+    let judged = call_has IsJudgedOne book.history.known.calls number call (go (opening_book r.profile r.start r.faults) r.books tt r.run r.leads) at in
     (call, judged.0, at, judged.1) where
       go : (first : Book) (books : List Book) → AreJudged first → IsRun first books → LeadsTo first books book → AreJudged book
       go first [] j run leads = subst AreJudged leads j

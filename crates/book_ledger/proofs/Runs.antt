@@ -1,4 +1,7 @@
 -- what holds of every book that a run leads to
+use Rattle.tree_starts.specs.Start.{IsStart}
+use Rattle.tree_starts.specs.declared.object.StartObject.{StartObject}
+use Rattle.tree_starts.specs.declared.profile.Profile.{Profile}
 use Rattle.std.proofs.Common.{◌≡◌, inr, ℕ, ◌+◌, ◌-◌, ◌≤◌, Bool, true, false, List, [], ◌∷◌, ◌++◌, refl, sym, ap, ◌∙◌, subst, arith}
 use Rattle.std.specs.Prelude.{◌&&◌, ◌||◌}
 use Rattle.std.specs.List.{AllByRecursion, list_any}
@@ -16,7 +19,7 @@ use Rattle.nfs_history.specs.Checking.{is_crash, is_on, was_cut_off}
 use Rattle.nfs_history.specs.Standing.{IsCutOff}
 use Rattle.nfs_history.proofs.Lanes.{cut_off_push, cut_off_is, is_cut_off}
 use Rattle.book_machine.specs.Placing.{Placed}
-use Rattle.book_machine.specs.Book.{Book, bindings_made}
+use Rattle.book_machine.specs.Book.{Book, setting_made, object_in}
 use Rattle.book_machine.specs.Steps.{opening_book, begun, answered_now, with_made, step_of, Steps, IsRun}
 use Rattle.book_machine.specs.Steps.Steps.{begins, places, flushes, answers, closes, crashes, refuses}
 use Rattle.book_machine.proofs.Invariant.{IsInvariant}
@@ -25,7 +28,7 @@ use Rattle.book_machine.proofs.Moving.{all_changed}
 use Rattle.book_machine.proofs.Kept.{kept}
 use Rattle.book_machine.proofs.EveryBook.{opening_holds}
 use Rattle.book_ledger.specs.Inside.{LeadsTo, IsReached}
-use Rattle.book_ledger.proofs.Replied.{right_reply}
+use Rattle.book_ledger.proofs.Replied.{right_reply_by}
 
 -- ---- lists of events
 
@@ -66,8 +69,8 @@ pub record IsSound (book : Book) : Type 0 where
   pub uncut : AllByRecursion (IsUncut book.history.known.eras (all_happened book.history.events)) book.history.known.calls
   pub replied : AllByRecursion IsReplyTo book.placed
 
-pub opening_sound : (faults : ℕ) → IsSound (opening_book faults)
-opening_sound faults = record { invariant = opening_holds faults; judged = tt; earlier = tt; uncut = tt; replied = tt }
+pub opening_sound : (profile : Profile) (start : List StartObject) (faults : ℕ) → IsStart start → IsSound (opening_book profile start faults)
+opening_sound profile start faults is = record { invariant = opening_holds profile start faults is; judged = tt; earlier = tt; uncut = tt; replied = tt }
 
 -- the calls are those that they were, and an event that is no crash came
 calm_uncut : (eras : ℕ) (events : List owned.Event) (e : owned.Event) (calls : List RecordedCall) → is_crash (happened e) ≡ false → AllByRecursion (IsUncut eras (all_happened events)) calls
@@ -98,7 +101,7 @@ sound_step book new s (places number reply p) =
       earlier = s.earlier;
       uncut = s.uncut;
       replied = all_append IsReplyTo book.placed (step_of number p.call reply ∷ []) s.replied
-          (record { reply = reply; received = refl; right = right_reply (bindings_made (with_made number p.after book.made)) p.before p.after number p.call reply p.next }, tt);
+          (record { reply = reply; received = refl; right = right_reply_by (setting_made book.history.known.head (with_made (object_in book number) p.after book.made)) p.before p.after number p.call reply p.next }, tt);
     })
 sound_step book new s (flushes f) = subst IsSound (sym f.done) (record {
   invariant = subst IsInvariant f.done (kept book new s.invariant (flushes f));
@@ -156,7 +159,7 @@ sound_run book [] last s run leads = subst IsSound leads s
 sound_run book (next ∷ books) last s run leads = sound_run next books last (sound_step book next s run.0) run.1 leads
 
 pub sound : (book : Book) → IsReached book → IsSound book
-sound book r = sound_run (opening_book r.faults) r.books book (opening_sound r.faults) r.run r.leads
+sound book r = sound_run (opening_book r.profile r.start r.faults) r.books book (opening_sound r.profile r.start r.faults r.is_start) r.run r.leads
 
 -- ---- one step more
 
@@ -166,8 +169,8 @@ run_more first (next ∷ books) book new run leads step = let rest = run_more ne
 
 pub reached_step : (book new : Book) → IsReached book → Steps book new → IsReached new
 reached_step book new r step =
-    let more = run_more (opening_book r.faults) r.books book new r.run r.leads step in
-    record { faults = r.faults; books = r.books ++ new ∷ []; run = more.0; leads = more.1 }
+    let more = run_more (opening_book r.profile r.start r.faults) r.books book new r.run r.leads step in
+    record { profile = r.profile; start = r.start; is_start = r.is_start; faults = r.faults; books = r.books ++ new ∷ []; run = more.0; leads = more.1 }
 
-pub reached_opening : (faults : ℕ) → IsReached (opening_book faults)
-reached_opening faults = record { faults = faults; books = []; run = tt; leads = refl }
+pub reached_opening : (profile : Profile) (start : List StartObject) (faults : ℕ) → IsStart start → IsReached (opening_book profile start faults)
+reached_opening profile start faults is = record { profile = profile; start = start; is_start = is; faults = faults; books = []; run = tt; leads = refl }

@@ -11,15 +11,16 @@ use Rattle.tree_nodes.specs.declared.node.Node.{Node}
 use Rattle.tree_nodes.specs.Tree.{Names, Tree, entry_of}
 use Rattle.tree_nodes.specs.Undo.{TakesBack}
 use Rattle.tree_handles.specs.Binding.{Bindings, object_of}
-use Rattle.file_tree.specs.Success.{next_tree}
+use Rattle.tree_starts.specs.declared.profile.Profile.{Profile}
+use Rattle.file_tree.specs.Setting.{under}
 use Rattle.book_machine.specs.Book.{handle_of}
 use Rattle.book_machine.specs.Served.{IsServed}
 use Rattle.book_ledger.specs.Serving.{IsAllowed}
 use Rattle.book_ledger.specs.Recordable.{may_make}
 use Rattle.book_ledger.specs.declared.placing.TreeStep.{TreeStep}
 use Rattle.book_ledger.specs.declared.ledger.Ledger.{Ledger}
-use Rattle.book_ledger.specs.Inside.{asked_by}
-use Rattle.book_ledger.specs.PlaceSteps.{with_own, without_own, bound_if, NameAlike, TakesStep, HasStepped, HasNoStep, ShowsNow, MayGive, GivesAllowed}
+use Rattle.book_ledger.specs.Inside.{object_in, asked_by}
+use Rattle.book_ledger.specs.PlaceSteps.{with_own, without_own, bound_if, NameAlike, TakesStep, HasStepped, HasNoStep, IsNumbered, ShowsNow, MayGive, GivesAllowed}
 use Rattle.book_ledger.proofs.Naming.{forgotten}
 
 some_mapped : {A B : Type 0} (f : A → B) (o : Option A) → is_some (option_map f o) ≡ is_some o
@@ -36,11 +37,11 @@ stands_so tree object found b is at = at ∙ sym (some_copied found) ∙ ap is_s
 
 -- ---- a step with its own handle bound
 
-pub took : (binds bound final : Bindings) (before after : Tree) (number : ℕ) (call : NfsCall) (outcome : Outcome) (step : TreeStep) → bound ≡ with_own number binds → object_of binds (handle_of number) ≡ None
-    → next_tree bound before number call outcome ≡ Some after → TakesBack step.undo after before → step.made ≡ is_some (entry_of after number)
-    → ((step.made ≡ true) × (final ≡ bound)) ⊎ ((step.made ≡ false) × (final ≡ without_own number bound)) → TakesStep true binds before number call outcome final after step
-took binds bound final before after number call outcome step is free next back made either = record {
-  next = ap (λ (b : Bindings). next_tree b before number call outcome) (sym is) ∙ next;
+pub took : (profile : Profile) (binds bound final : Bindings) (before after : Tree) (number : ℕ) (call : NfsCall) (outcome : Outcome) (step : TreeStep) → bound ≡ with_own number binds → object_of binds (handle_of number) ≡ None
+    → under profile bound before number call outcome ≡ Some after → TakesBack step.undo after before → step.made ≡ is_some (entry_of after number)
+    → ((step.made ≡ true) × (final ≡ bound)) ⊎ ((step.made ≡ false) × (final ≡ without_own number bound)) → TakesStep profile true binds before number call outcome final after step
+took profile binds bound final before after number call outcome step is free next back made either = record {
+  next = ap (λ (b : Bindings). under profile b before number call outcome) (sym is) ∙ next;
   back = back;
   made = made;
   names = names either;
@@ -60,31 +61,31 @@ alike_by binds other is handle = ap (λ (b : Bindings). object_of b handle) is
 -- ---- a step of the book's own tree
 
 pub has_stepped : (old : Ledger) (number : ℕ) (outcome : Outcome) (call : NfsCall) (before after : Tree) (bound : Bindings) (step : TreeStep) → call ≡ asked_by old.history.known.calls number → old.tree ≡ Some before
-    → TakesStep (may_make call) old.binds before number call outcome bound after step → HasStepped old number outcome step (record old { binds = bound; tree = Some after })
+    → TakesStep old.history.known.head.profile (may_make call) old.binds before (object_in old number) call outcome bound after step → HasStepped old number outcome step (record old { binds = bound; tree = Some after })
 has_stepped old number outcome call before after bound step is stood takes = record {
   before = before;
   after = after;
   stood = stood;
   parts = refl;
-  takes = subst (λ (c : NfsCall). TakesStep (may_make c) old.binds before number c outcome bound after step) is takes;
+  takes = subst (λ (c : NfsCall). TakesStep old.history.known.head.profile (may_make c) old.binds before (object_in old number) c outcome bound after step) is takes;
 }
 
 pub has_no_step : (old : Ledger) (number : ℕ) (outcome : Outcome) (call : NfsCall) (before : Tree) → call ≡ asked_by old.history.known.calls number → old.tree ≡ Some before
-    → next_tree (bound_if (may_make call) number old.binds) before number call outcome ≡ None → HasNoStep old number outcome
+    → under old.history.known.head.profile (bound_if (may_make call) (object_in old number) old.binds) before (object_in old number) call outcome ≡ None → HasNoStep old number outcome
 has_no_step old number outcome call before is stood none tree at =
-    subst (λ (t : Tree). next_tree (bound_if (may_make (asked_by old.history.known.calls number)) number old.binds) t number (asked_by old.history.known.calls number) outcome ≡ None) (one (sym stood ∙ at))
-    (subst (λ (c : NfsCall). next_tree (bound_if (may_make c) number old.binds) before number c outcome ≡ None) is none) where
+    subst (λ (t : Tree). under old.history.known.head.profile (bound_if (may_make (asked_by old.history.known.calls number)) (object_in old number) old.binds) t (object_in old number) (asked_by old.history.known.calls number) outcome ≡ None) (one (sym stood ∙ at))
+    (subst (λ (c : NfsCall). under old.history.known.head.profile (bound_if (may_make c) (object_in old number) old.binds) before (object_in old number) c outcome ≡ None) is none) where
       one : {a b : Tree} → Some a ≡ Some b → a ≡ b
       one e = cc
 
 -- ---- the reply
 
 pub fits_so : (ledger : Ledger) (number : ℕ) (outcome : Outcome) (call : NfsCall) (tree : Tree) (reply : NfsReply) → call ≡ asked_by ledger.history.known.calls number → ledger.tree ≡ Some tree
-    → outcome ≡ outcomes.Received reply → (IsAllowed ledger.binds tree call reply → IsServed ledger.binds tree number call reply) → GivesAllowed ledger number outcome
+    → outcome ≡ outcomes.Received reply → (IsAllowed ledger.binds tree call reply → IsServed ledger.binds tree (object_in ledger number) call reply) → GivesAllowed ledger number outcome
 fits_so ledger number outcome call tree reply same stood is gives one other stood' is' =
-    subst (λ (c : NfsCall). IsAllowed ledger.binds one c other → IsServed ledger.binds one number c other) same
-    (subst (λ (r : NfsReply). IsAllowed ledger.binds one call r → IsServed ledger.binds one number call r) (same_reply (sym is ∙ is'))
-    (subst (λ (t : Tree). IsAllowed ledger.binds t call reply → IsServed ledger.binds t number call reply) (same_tree (sym stood ∙ stood')) gives)) where
+    subst (λ (c : NfsCall). IsAllowed ledger.binds one c other → IsServed ledger.binds one (object_in ledger number) c other) same
+    (subst (λ (r : NfsReply). IsAllowed ledger.binds one call r → IsServed ledger.binds one (object_in ledger number) call r) (same_reply (sym is ∙ is'))
+    (subst (λ (t : Tree). IsAllowed ledger.binds t call reply → IsServed ledger.binds t (object_in ledger number) call reply) (same_tree (sym stood ∙ stood')) gives)) where
       same_reply : outcomes.Received reply ≡ outcomes.Received other → reply ≡ other
       same_reply e = cc
 
@@ -92,6 +93,6 @@ fits_so ledger number outcome call tree reply same stood is gives one other stoo
       same_tree e = cc
 
 pub not_fit : (ledger : Ledger) (number : ℕ) (outcome : Outcome) (call : NfsCall) (tree : Tree) (reply : NfsReply) → call ≡ asked_by ledger.history.known.calls number → ledger.tree ≡ Some tree
-    → outcome ≡ outcomes.Received reply → (IsServed ledger.binds tree number call reply → ⊥) → ShowsNow ledger number outcome × MayGive ledger number outcome → ⊥
-not_fit ledger number outcome call tree reply same stood is never both =
-    never (subst (λ (c : NfsCall). IsServed ledger.binds tree number c reply) (sym same) (both.1 tree reply stood is))
+    → outcome ≡ outcomes.Received reply → (IsServed ledger.binds tree (object_in ledger number) call reply → ⊥) → IsNumbered ledger number × ShowsNow ledger number outcome × MayGive ledger number outcome → ⊥
+not_fit ledger number outcome call tree reply same stood is never all =
+    never (subst (λ (c : NfsCall). IsServed ledger.binds tree (object_in ledger number) c reply) (sym same) (all.2 tree reply stood is))

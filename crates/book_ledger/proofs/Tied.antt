@@ -7,13 +7,14 @@ use Rattle.nfs_history.specs.HistoryValue.{HistoryValue}
 use Rattle.replay_law.specs.Run.{state_after, kept_steps}
 use Rattle.replay_law.specs.Undone.{UndoesAll}
 use Rattle.tree_nodes.specs.declared.undo.Undo.{Undo}
-use Rattle.tree_nodes.specs.Tree.{Tree, opening}
+use Rattle.tree_starts.specs.Head.{Head}
+use Rattle.tree_nodes.specs.Tree.{Tree}
 use Rattle.tree_nodes.specs.Undo.{TakesBack}
 use Rattle.tree_handles.specs.Binding.{Bindings, object_of}
-use Rattle.file_tree.specs.Success.{next_tree}
+use Rattle.file_tree.specs.StartTree.{start_tree}
 use Rattle.journal_device.specs.Device.{Device}
 use Rattle.book_machine.specs.Placing.{Placed, records_in, front_with}
-use Rattle.book_machine.specs.Book.{Book, bindings_made}
+use Rattle.book_machine.specs.Book.{Book, bindings_made, setting_made, next_by}
 use Rattle.book_machine.specs.Steps.{Steps}
 use Rattle.book_machine.proofs.Invariant.{Over}
 use Rattle.book_machine.proofs.Running.{head_is, tail_is}
@@ -21,29 +22,30 @@ use Rattle.book_ledger.specs.declared.placed.PlacedCall.{PlacedCall}
 use Rattle.book_ledger.specs.declared.placed.Condition as code
 use Rattle.book_ledger.specs.declared.placed.Condition.TheVariants as codes
 use Rattle.book_ledger.specs.declared.ledger.Ledger.{Ledger}
-use Rattle.book_ledger.specs.Inside.{placed_in, era_in, made_from, book_of, IsReached, AreCounted, ArePlaced, IsShort, AreTied, OnlyHistory}
+use Rattle.book_ledger.specs.Inside.{placed_in, era_in, made_in, book_of, IsReached, AreCounted, ArePlaced, IsShort, AreTied, OnlyHistory}
 use Rattle.book_ledger.proofs.Runs.{reached_step}
 
 -- ---- what doesn't speak of the history
 
 module _ (binds : Bindings) (tree : Option Tree) (undos : List Undo) (kept : ℕ) (condition : code.Condition) (device : Device) where
-  abbrev pub behind : List Over → List Placed → List ℕ → ℕ → Option Tree
-  behind over placed made keep = state_after (next_tree (bindings_made made)) opening (kept_steps over ++ take (front_with (keep - records_in (kept_steps over)) placed) placed)
+  abbrev pub behind : Head → List Over → List Placed → List ℕ → ℕ → Option Tree
+  behind head over placed made keep = state_after (next_by (setting_made head made)) (start_tree head.start) (kept_steps over ++ take (front_with (keep - records_in (kept_steps over)) placed) placed)
 
-  pub record IsCarried (over : List Over) (placed : List Placed) (made : List ℕ) : Type 0 where
+  pub record IsCarried (head : Head) (over : List Over) (placed : List Placed) (made : List ℕ) : Type 0 where
     pub kept_is : kept ≡ records_in (kept_steps over)
     pub bound : (handle : List ℕ) → object_of binds handle ≡ object_of (bindings_made made) handle
-    pub tree_is : IfSome tree (λ t. state_after (next_tree (bindings_made made)) opening (kept_steps over ++ placed) ≡ Some t)
+    pub tree_is : IfSome tree (λ t. state_after (next_by (setting_made head made)) (start_tree head.start) (kept_steps over ++ placed) ≡ Some t)
     pub stands : condition ≡ codes.Running → IsSome tree
     pub undos_are : IsSome tree → length undos + device.mark ≡ length device.records
     pub undone : (earlier later : List Undo) (t before : Tree) → undos ≡ earlier ++ later → tree ≡ Some t
-        → behind over placed made (length device.records - length later) ≡ Some before → UndoesAll TakesBack later t before
+        → behind head over placed made (length device.records - length later) ≡ Some before → UndoesAll TakesBack later t before
 
-  pub carry : (over over' : List Over) (placed placed' : List Placed) (made made' : List ℕ) → over ≡ over' → placed ≡ placed' → made ≡ made' → IsCarried over placed made → IsCarried over' placed' made'
-  carry over over' placed placed' made made' p q r x =
-      subst (λ (m : List ℕ). IsCarried over' placed' m) r
-      (subst (λ (xs : List Placed). IsCarried over' xs made) q
-      (subst (λ (xs : List Over). IsCarried xs placed made) p x))
+  pub carry : (head head' : Head) (over over' : List Over) (placed placed' : List Placed) (made made' : List ℕ) → head ≡ head' → over ≡ over' → placed ≡ placed' → made ≡ made' → IsCarried head over placed made
+      → IsCarried head' over' placed' made'
+  carry head head' over over' placed placed' made made' o p q r x =
+      subst (λ (m : List ℕ). IsCarried head' over' placed' m) r
+      (subst (λ (xs : List Placed). IsCarried head' over' xs made) q
+      (subst (λ (xs : List Over). IsCarried head' xs placed made) p (subst (λ (h : Head). IsCarried h over placed made) o x)))
 
 -- ---- parts
 
@@ -54,7 +56,8 @@ abbrev pub placed_now : List RecordedCall → Ledger → List Placed
 placed_now recorded ledger = map (placed_in recorded) ledger.placed.items
 
 pub carried : (ledger : Ledger) (device : Device) → AreTied ledger device
-    → IsCarried ledger.binds ledger.tree ledger.undos.items ledger.kept ledger.condition device (over_in ledger.history.known.calls ledger) (placed_now ledger.history.known.calls ledger) (made_from 1 ledger.calls.items)
+    → IsCarried ledger.binds ledger.tree ledger.undos.items ledger.kept ledger.condition device ledger.history.known.head (over_in ledger.history.known.calls ledger) (placed_now ledger.history.known.calls ledger)
+    (made_in (length ledger.history.known.head.start) ledger.calls.items)
 carried ledger device t = record { kept_is = t.kept; bound = t.bound; tree_is = t.tree; stands = t.stands; undos_are = t.undos; undone = t.undone }
 
 counted_same : (ahead : ℕ) (recorded recorded' : List RecordedCall) (xs : List PlacedCall) → map (placed_in recorded) xs ≡ map (placed_in recorded') xs → AreCounted ahead recorded xs → AreCounted ahead recorded' xs
@@ -81,7 +84,7 @@ unspared ledger device t = record {
 
 module _ (old new : Ledger) (device : Device) (t : AreTied old device) (only : OnlyHistory old new) (history : HistoryValue) (is : record new.history { spare = 0 } ≡ history)
     (over_same : over_in old.history.known.calls old ≡ over_in history.known.calls old) (placed_same : placed_now old.history.known.calls old ≡ placed_now history.known.calls old)
-    (made_same : made_from 1 old.calls.items ≡ made_from 1 new.calls.items) where
+    (made_same : made_in (length old.history.known.head.start) old.calls.items ≡ made_in (length old.history.known.head.start) new.calls.items) (head_same : old.history.known.head ≡ history.known.head) where
   abbrev between : Ledger
   between = record old { history = history; calls = new.calls }
 
@@ -93,7 +96,7 @@ module _ (old new : Ledger) (device : Device) (t : AreTied old device) (only : O
     history = record history { spare = 0 };
     over = sym over_same i;
     placed = sym placed_same i;
-    made = sym made_same i;
+    made = (ap (λ (h : Head). made_in (length h.start) new.calls.items) (sym head_same) ∙ sym made_same) i;
     device = device;
     condition = (book_of old device).condition;
   }
@@ -111,8 +114,9 @@ module _ (old new : Ledger) (device : Device) (t : AreTied old device) (only : O
   pub tied_with : Steps (book_of old device) wanted → ArePlaced between → AllByRecursion IsShort history.events → AreTied new device
   tied_with step placed short =
       let c = carried old device t in
-      let d = carry old.binds old.tree old.undos.items old.kept old.condition device (over_in old.history.known.calls old) (over_in history.known.calls old) (placed_now old.history.known.calls old) (placed_now history.known.calls old)
-      (made_from 1 old.calls.items) (made_from 1 new.calls.items) over_same placed_same made_same c in
+      let d = carry old.binds old.tree old.undos.items old.kept old.condition device old.history.known.head history.known.head (over_in old.history.known.calls old) (over_in history.known.calls old) (placed_now old.history.known.calls old) (placed_now history.known.calls old)
+      (made_in (length old.history.known.head.start) old.calls.items) (made_in (length history.known.head.start) new.calls.items) head_same over_same placed_same
+      (made_same ∙ ap (λ (h : Head). made_in (length h.start) new.calls.items) head_same) c in
       let reached = reached_step (book_of old device) wanted t.reached step in
       let tied : AreTied between device = record {
         reached = subst IsReached (sym (book_between ∙ ap (λ (h : HistoryValue). record (book_of old device) { history = h }) no_spare)) reached;
@@ -137,7 +141,7 @@ module _ (old new : Ledger) (device : Device) (t : AreTied old device) (only : O
   with_states = record old { history = old.history; calls = new.calls }
 
   book_states : book_of with_states device ≡ book_of old device
-  book_states = ap (λ (made : List ℕ). record (book_of old device) { made = made }) (ap (made_from 1) states)
+  book_states = ap (λ (made : List ℕ). record (book_of old device) { made = made }) (ap (made_in (length old.history.known.head.start)) states)
 
   pub same_book : book_of new device ≡ book_of old device
   same_book =
@@ -148,8 +152,8 @@ module _ (old new : Ledger) (device : Device) (t : AreTied old device) (only : O
   pub same_tied : AreTied new device
   same_tied =
       let recorded = old.history.known.calls in
-      let d = carry old.binds old.tree old.undos.items old.kept old.condition device (over_in recorded old) (over_in recorded old) (placed_now recorded old) (placed_now recorded old)
-      (made_from 1 old.calls.items) (made_from 1 new.calls.items) refl refl (ap (made_from 1) (sym states)) (carried old device t) in
+      let d = carry old.binds old.tree old.undos.items old.kept old.condition device old.history.known.head old.history.known.head (over_in recorded old) (over_in recorded old) (placed_now recorded old) (placed_now recorded old)
+      (made_in (length old.history.known.head.start) old.calls.items) (made_in (length old.history.known.head.start) new.calls.items) refl refl refl (ap (made_in (length old.history.known.head.start)) (sym states)) (carried old device t) in
       let tied : AreTied with_states device = record {
         reached = subst IsReached (sym book_states) t.reached;
         kept = d.kept_is;

@@ -1,4 +1,6 @@
 -- calls that are run again, and steps that are taken back
+use Rattle.file_tree.specs.StartTree.{start_tree}
+use Rattle.book_machine.specs.Book.{Setting, next_by}
 use Rattle.std.proofs.Common.{◌≡◌, ℕ, zero, suc, ◌+◌, ◌<◌, ◌≤◌, List, [], ◌∷◌, ◌++◌, length, map, take, drop, get_or, Option, Some, None, refl, sym, ap, ◌∙◌, subst, arith}
 use Rattle.std.specs.Prelude.{IsSome, option_and_then}
 use Rattle.std.specs.List.{AllByRecursion}
@@ -13,15 +15,13 @@ use Rattle.replay_law.specs.Undone.{UndoesAll}
 use Rattle.replay_law.proofs.Runs.{state_after-append, one_more, map_more, map_parts}
 use Rattle.replay_law.proofs.Undos.{last_undone}
 use Rattle.tree_nodes.specs.declared.undo.Undo.{Undo}
-use Rattle.tree_nodes.specs.Tree.{Tree, opening}
+use Rattle.tree_nodes.specs.Tree.{Tree}
 use Rattle.tree_nodes.specs.Undo.{TakesBack}
-use Rattle.tree_handles.specs.Binding.{Bindings}
-use Rattle.file_tree.specs.Success.{next_tree}
 use Rattle.book_machine.specs.Placing.{Placed}
 use Rattle.book_ledger.specs.declared.placed.PlacedCall.{PlacedCall}
 use Rattle.book_ledger.specs.declared.placed.EraOver.{EraOver}
 use Rattle.book_ledger.specs.declared.ledger.Ledger.{Ledger}
-use Rattle.book_ledger.specs.Inside.{IsAsked, asked_by, placed_in, era_in}
+use Rattle.book_ledger.specs.Inside.{setting_in, IsAsked, asked_by, placed_in, era_in}
 use Rattle.book_ledger.specs.Undoing.{IsSoundEra, tree_after, steps_kept, CanRun, CanRunAgain}
 
 -- what holds of all holds of each
@@ -39,24 +39,24 @@ front_some : {A B : Type 0} (f : A → Option B) (o : Option A) → IsSome (opti
 front_some f None s = s
 front_some f (Some x) s = refl
 
-module _ (binds : Bindings) (recorded : List RecordedCall) (tree : Tree) (placed : List PlacedCall) where
+module _ (s : Setting) (recorded : List RecordedCall) (tree : Tree) (placed : List PlacedCall) where
   -- the calls as far as one more
-  pub run_further : (i : ℕ) (x : PlacedCall) (middle after : Tree) → i < length placed → x ≡ get_or placed i x → tree_after binds recorded tree (take i placed) ≡ Some middle
-      → next_tree binds middle x.number (asked_by recorded x.number) x.outcome ≡ Some after → tree_after binds recorded tree (take (i + 1) placed) ≡ Some after
+  pub run_further : (i : ℕ) (x : PlacedCall) (middle after : Tree) → i < length placed → x ≡ get_or placed i x → tree_after s recorded tree (take i placed) ≡ Some middle
+      → next_by s middle x.number (asked_by recorded x.number) x.outcome ≡ Some after → tree_after s recorded tree (take (i + 1) placed) ≡ Some after
   run_further i x middle after lt is before step =
-      ap (state_after (next_tree binds) tree) (map_more (placed_in recorded) placed i x lt is)
-      ∙ one_more (next_tree binds) tree middle after (map (placed_in recorded) (take i placed)) (placed_in recorded x) before step
+      ap (state_after (next_by s) tree) (map_more (placed_in recorded) placed i x lt is)
+      ∙ one_more (next_by s) tree middle after (map (placed_in recorded) (take i placed)) (placed_in recorded x) before step
 
   -- and the next one has a tree
-  pub runs_further : (i : ℕ) (x : PlacedCall) (middle : Tree) → i < length placed → x ≡ get_or placed i x → tree_after binds recorded tree (take i placed) ≡ Some middle
-      → IsSome (tree_after binds recorded tree placed) → IsSome (next_tree binds middle x.number (asked_by recorded x.number) x.outcome)
+  pub runs_further : (i : ℕ) (x : PlacedCall) (middle : Tree) → i < length placed → x ≡ get_or placed i x → tree_after s recorded tree (take i placed) ≡ Some middle
+      → IsSome (tree_after s recorded tree placed) → IsSome (next_by s middle x.number (asked_by recorded x.number) x.outcome)
   runs_further i x middle lt is before all =
       let parts = map_parts (placed_in recorded) placed i x lt is in
       let behind : List Placed = placed_in recorded x ∷ map (placed_in recorded) (drop (i + 1) placed) in
-      let whole : state_after (next_tree binds) tree (map (placed_in recorded) placed) ≡ state_after (next_tree binds) middle behind =
-      ap (state_after (next_tree binds) tree) parts ∙ state_after-append (next_tree binds) tree (map (placed_in recorded) (take i placed)) behind
-      ∙ ap (option_and_then (λ t. state_after (next_tree binds) t behind)) before in
-      front_some (λ t. state_after (next_tree binds) t (map (placed_in recorded) (drop (i + 1) placed))) (next_tree binds middle x.number (asked_by recorded x.number) x.outcome) (subst IsSome whole all)
+      let whole : state_after (next_by s) tree (map (placed_in recorded) placed) ≡ state_after (next_by s) middle behind =
+      ap (state_after (next_by s) tree) parts ∙ state_after-append (next_by s) tree (map (placed_in recorded) (take i placed)) behind
+      ∙ ap (option_and_then (λ t. state_after (next_by s) t behind)) before in
+      front_some (λ t. state_after (next_by s) t (map (placed_in recorded) (drop (i + 1) placed))) (next_by s middle x.number (asked_by recorded x.number) x.outcome) (subst IsSome whole all)
 
 -- ---- steps that are taken back
 
@@ -86,7 +86,7 @@ module _ (ledger : Ledger) (count : ℕ) (can : CanRunAgain ledger count) where
   calls = ledger.history.known.calls
 
   abbrev next : Tree → ℕ → NfsCall → Outcome → Option Tree
-  next = next_tree ledger.binds
+  next = next_by (setting_in ledger)
 
   abbrev pub kept_until : ℕ → List Placed
   kept_until i = kept_steps (map (era_in calls) (take i ledger.over.items))
@@ -94,45 +94,45 @@ module _ (ledger : Ledger) (count : ℕ) (can : CanRunAgain ledger count) where
   front_is_kept : (x : EraOver) → take (era_in calls x).kept (era_in calls x).steps ≡ map (placed_in calls) (take x.kept x.placed.items)
   front_is_kept x = take-map (placed_in calls) x.kept x.placed.items
 
-  pub era_can : (i : ℕ) (x : EraOver) (tree : Tree) → i < length ledger.over.items → x ≡ get_or ledger.over.items i x → state_after next opening (kept_until i) ≡ Some tree
-      → CanRun ledger.binds calls tree (take x.kept x.placed.items)
+  pub era_can : (i : ℕ) (x : EraOver) (tree : Tree) → i < length ledger.over.items → x ≡ get_or ledger.over.items i x → state_after next (start_tree ledger.history.known.head.start) (kept_until i) ≡ Some tree
+      → CanRun (setting_in ledger) calls tree (take x.kept x.placed.items)
   era_can i x tree lt is reached =
       let behind = map (era_in calls) (drop (i + 1) ledger.over.items) in
       let rest = map (placed_in calls) (take count ledger.placed.items) in
       let front = take (era_in calls x).kept (era_in calls x).steps in
       let parts : kept_steps (map (era_in calls) ledger.over.items) ≡ kept_until i ++ (front ++ kept_steps behind) =
       ap kept_steps (map_parts (era_in calls) ledger.over.items i x lt is) ∙ flat_map-append (λ (e : Era NfsCall Outcome). take e.kept e.steps) (map (era_in calls) (take i ledger.over.items)) (era_in calls x ∷ behind) in
-      let whole : IsSome (state_after next opening ((kept_until i ++ (front ++ kept_steps behind)) ++ rest)) =
-      subst (λ (xs : List Placed). IsSome (state_after next opening (xs ++ rest))) parts can.runs in
-      let so_far = front_runs_on next opening (kept_until i ++ (front ++ kept_steps behind)) rest whole in
-      let here = subst IsSome (from_there next opening tree (kept_until i) (front ++ kept_steps behind) reached) so_far in
+      let whole : IsSome (state_after next (start_tree ledger.history.known.head.start) ((kept_until i ++ (front ++ kept_steps behind)) ++ rest)) =
+      subst (λ (xs : List Placed). IsSome (state_after next (start_tree ledger.history.known.head.start) (xs ++ rest))) parts can.runs in
+      let so_far = front_runs_on next (start_tree ledger.history.known.head.start) (kept_until i ++ (front ++ kept_steps behind)) rest whole in
+      let here = subst IsSome (from_there next (start_tree ledger.history.known.head.start) tree (kept_until i) (front ++ kept_steps behind) reached) so_far in
       record {
         asked = all_front (λ (call : PlacedCall). IsAsked calls call.number) x.kept x.placed.items (all_at (IsSoundEra calls) ledger.over.items i x lt is can.over).1;
         runs = subst (λ (xs : List Placed). IsSome (state_after next tree xs)) (front_is_kept x) (front_runs_on next tree front (kept_steps behind) here);
       }
 
-  pub era_further : (i : ℕ) (x : EraOver) (tree after : Tree) → i < length ledger.over.items → x ≡ get_or ledger.over.items i x → state_after next opening (kept_until i) ≡ Some tree
-      → tree_after ledger.binds calls tree (take x.kept x.placed.items) ≡ Some after → state_after next opening (kept_until (i + 1)) ≡ Some after
+  pub era_further : (i : ℕ) (x : EraOver) (tree after : Tree) → i < length ledger.over.items → x ≡ get_or ledger.over.items i x → state_after next (start_tree ledger.history.known.head.start) (kept_until i) ≡ Some tree
+      → tree_after (setting_in ledger) calls tree (take x.kept x.placed.items) ≡ Some after → state_after next (start_tree ledger.history.known.head.start) (kept_until (i + 1)) ≡ Some after
   era_further i x tree after lt is reached runs =
       let front = take (era_in calls x).kept (era_in calls x).steps in
-      ap (λ (es : List (Era NfsCall Outcome)). state_after next opening (kept_steps es)) (map_more (era_in calls) ledger.over.items i x lt is)
-      ∙ ap (state_after next opening) (kept_one_more (map (era_in calls) (take i ledger.over.items)) (era_in calls x))
-      ∙ from_there next opening tree (kept_until i) front reached ∙ ap (state_after next tree) (front_is_kept x) ∙ runs
+      ap (λ (es : List (Era NfsCall Outcome)). state_after next (start_tree ledger.history.known.head.start) (kept_steps es)) (map_more (era_in calls) ledger.over.items i x lt is)
+      ∙ ap (state_after next (start_tree ledger.history.known.head.start)) (kept_one_more (map (era_in calls) (take i ledger.over.items)) (era_in calls x))
+      ∙ from_there next (start_tree ledger.history.known.head.start) tree (kept_until i) front reached ∙ ap (state_after next tree) (front_is_kept x) ∙ runs
 
-  pub last_can : (i : ℕ) (tree : Tree) → length ledger.over.items ≤ i → state_after next opening (kept_until i) ≡ Some tree → CanRun ledger.binds calls tree (take count ledger.placed.items)
+  pub last_can : (i : ℕ) (tree : Tree) → length ledger.over.items ≤ i → state_after next (start_tree ledger.history.known.head.start) (kept_until i) ≡ Some tree → CanRun (setting_in ledger) calls tree (take count ledger.placed.items)
   last_can i tree le reached =
       let all = take_all i ledger.over.items le in
       let rest = map (placed_in calls) (take count ledger.placed.items) in
-      let whole : IsSome (state_after next opening (kept_until i ++ rest)) =
-      subst (λ (es : List EraOver). IsSome (state_after next opening (kept_steps (map (era_in calls) es) ++ rest))) (sym all) can.runs in
+      let whole : IsSome (state_after next (start_tree ledger.history.known.head.start) (kept_until i ++ rest)) =
+      subst (λ (es : List EraOver). IsSome (state_after next (start_tree ledger.history.known.head.start) (kept_steps (map (era_in calls) es) ++ rest))) (sym all) can.runs in
       record {
         asked = all_front (λ (call : PlacedCall). IsAsked calls call.number) count ledger.placed.items can.placed;
-        runs = subst IsSome (from_there next opening tree (kept_until i) rest reached) whole;
+        runs = subst IsSome (from_there next (start_tree ledger.history.known.head.start) tree (kept_until i) rest reached) whole;
       }
 
-  pub last_done : (i : ℕ) (tree after : Tree) → length ledger.over.items ≤ i → state_after next opening (kept_until i) ≡ Some tree → tree_after ledger.binds calls tree (take count ledger.placed.items) ≡ Some after
-      → state_after next opening (steps_kept ledger count) ≡ Some after
+  pub last_done : (i : ℕ) (tree after : Tree) → length ledger.over.items ≤ i → state_after next (start_tree ledger.history.known.head.start) (kept_until i) ≡ Some tree → tree_after (setting_in ledger) calls tree (take count ledger.placed.items) ≡ Some after
+      → state_after next (start_tree ledger.history.known.head.start) (steps_kept ledger count) ≡ Some after
   last_done i tree after le reached runs =
       let all = take_all i ledger.over.items le in
       let rest = map (placed_in calls) (take count ledger.placed.items) in
-      ap (λ (es : List EraOver). state_after next opening (kept_steps (map (era_in calls) es) ++ rest)) (sym all) ∙ from_there next opening tree (kept_until i) rest reached ∙ runs
+      ap (λ (es : List EraOver). state_after next (start_tree ledger.history.known.head.start) (kept_steps (map (era_in calls) es) ++ rest)) (sym all) ∙ from_there next (start_tree ledger.history.known.head.start) tree (kept_until i) rest reached ∙ runs

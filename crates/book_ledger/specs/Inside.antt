@@ -1,4 +1,9 @@
 -- What of the parts in memory of a book is seen, and how they belong together.
+use Rattle.std.specs.List.{range_with_len}
+use Rattle.tree_starts.specs.Start.{IsStart, object_made}
+use Rattle.tree_starts.specs.declared.object.StartObject.{StartObject}
+use Rattle.tree_starts.specs.declared.profile.Profile.{Profile}
+use Rattle.book_machine.specs.Book.{Setting}
 use Rattle.std.specs.Prelude.{◌≡◌, ℕ, ◌+◌, ◌-◌, ◌≤◌, if◌then◌else◌, List, [], ◌∷◌, ◌++◌, length, map, take, slice_get, Option, Some, IfSome, IsSome}
 use Rattle.std.specs.List.{AllByRecursion}
 use Rattle.std.specs.Option.{option_map_or}
@@ -46,10 +51,14 @@ placed_in recorded placed = record { number = placed.number; call = asked_by rec
 abbrev pub era_in : List RecordedCall → EraOver → run.Era NfsCall Outcome
 era_in recorded era = record { steps = map (placed_in recorded) era.placed.items; kept = era.kept }
 
--- the numbers of the calls from this one on that made an object
+-- of these calls, whose objects have the numbers from this one on, the objects that were made
 abbrev pub made_from : ℕ → List CallState → List ℕ
 made_from number [] = []
 made_from number (state ∷ states) = if state.made then number ∷ made_from (number + 1) states else made_from (number + 1) states
+
+-- those that stood at first, so many, and behind them those that calls made
+abbrev pub made_in : ℕ → List CallState → List ℕ
+made_in first states = range_with_len 1 first ++ made_from (first + 1) states
 
 abbrev pub condition_of : code.Condition → Condition
 condition_of codes.Running = running
@@ -63,10 +72,17 @@ book_of ledger device =
       history = record ledger.history { spare = 0 };
       over = map (era_in ledger.history.known.calls) ledger.over.items;
       placed = map (placed_in ledger.history.known.calls) ledger.placed.items;
-      made = made_from 1 ledger.calls.items;
+      made = made_in (length ledger.history.known.head.start) ledger.calls.items;
       device = device;
       condition = condition_of ledger.condition;
     }
+
+-- what the calls are judged by, by the handles that are bound, and the object of call n
+abbrev pub setting_in : Ledger → Setting
+setting_in ledger = record { profile = ledger.history.known.head.profile; first = length ledger.history.known.head.start; binds = ledger.binds }
+
+abbrev pub object_in : Ledger → ℕ → ℕ
+object_in ledger number = object_made (length ledger.history.known.head.start) number
 
 -- ---- what holds
 
@@ -76,10 +92,13 @@ LeadsTo first [] book = first ≡ book
 LeadsTo first (next ∷ books) book = LeadsTo next books book
 
 pub record IsReached (book : Book) : Type 0 where
+  pub profile : Profile
+  pub start : List StartObject
+  pub is_start : IsStart start
   pub faults : ℕ
   pub books : List Book
-  pub run : IsRun (opening_book faults) books
-  pub leads : LeadsTo (opening_book faults) books book
+  pub run : IsRun (opening_book profile start faults) books
+  pub leads : LeadsTo (opening_book profile start faults) books book
 
 -- of so many records ahead, each call knows how many there are behind it
 abbrev pub AreCounted : ℕ → List RecordedCall → List PlacedCall → Type 0

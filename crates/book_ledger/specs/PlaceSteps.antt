@@ -1,5 +1,5 @@
 -- What is said to the prover of a call that is placed: the step that it takes in the tree, and what stands of it afterwards.
-use Rattle.std.specs.Prelude.{◌≡◌, ◌≢◌, ◌&&◌, ℕ, ◌-◌, ◌<◌, ◌≤◌, Bool, true, false, List, [], ◌∷◌, ◌++◌, length, slice_get, slice_set, vec_len, vec_capacity, Option, Some, None, IfSome, is_some, ⊤, if◌then◌else◌}
+use Rattle.std.specs.Prelude.{◌≡◌, ◌≢◌, ◌&&◌, ℕ, ◌-◌, ◌<◌, ◌≤◌, Bool, true, false, List, [], ◌∷◌, ◌++◌, length, slice_get, slice_set, vec_len, vec_capacity, Option, Some, None, IfSome, is_some, ⊤, if◌then◌else◌, ◌^◌}
 use Rattle.std.specs.declared.vec.Vec.{Vec}
 use Rattle.std.specs.declared.alloc.Global.{Global}
 use Rattle.xdr_records.specs.Record.{record_limit}
@@ -17,7 +17,8 @@ use Rattle.nfs_history.specs.Precedence.{call_at}
 use Rattle.tree_nodes.specs.Tree.{Tree, entry_of}
 use Rattle.tree_nodes.specs.Undo.{TakesBack}
 use Rattle.tree_handles.specs.Binding.{Bindings, object_of, pairs_without}
-use Rattle.file_tree.specs.Success.{next_tree}
+use Rattle.tree_starts.specs.declared.profile.Profile.{Profile}
+use Rattle.file_tree.specs.Setting.{under}
 use Rattle.cut_check.specs.Verifier.{verifier_of}
 use Rattle.journal_device.specs.Device.{Device, appended}
 use Rattle.book_machine.specs.Book.{Book, handle_of}
@@ -30,7 +31,7 @@ use Rattle.book_ledger.specs.declared.placing.TreeStep.{TreeStep}
 use Rattle.book_ledger.specs.declared.ledger.Ledger.{Ledger}
 use Rattle.book_ledger.specs.declared.fault.PlaceFault.{PlaceFault}
 use Rattle.book_ledger.specs.declared.fault.PlaceFault.TheVariants as place
-use Rattle.book_ledger.specs.Inside.{asked_by}
+use Rattle.book_ledger.specs.Inside.{asked_by, object_in}
 use Rattle.book_ledger.specs.Recordable.{may_make, step_so}
 use Rattle.book_ledger.specs.Serving.{IsAllowed}
 use Rattle.book_ledger.specs.Refusals.{after_place}
@@ -53,8 +54,8 @@ abbrev pub NameAlike : Bindings → Bindings → Type 0
 NameAlike binds other = (handle : List ℕ) → object_of binds handle ≡ object_of other handle
 
 -- the step of a call, with its own handle bound where that is so; the handle stays bound where the object is there
-pub record TakesStep (own : Bool) (binds : Bindings) (before : Tree) (number : ℕ) (call : NfsCall) (outcome : Outcome) (bound : Bindings) (after : Tree) (step : TreeStep) : Type 0 where
-  pub next : next_tree (bound_if own number binds) before number call outcome ≡ Some after
+pub record TakesStep (profile : Profile) (own : Bool) (binds : Bindings) (before : Tree) (number : ℕ) (call : NfsCall) (outcome : Outcome) (bound : Bindings) (after : Tree) (step : TreeStep) : Type 0 where
+  pub next : under profile (bound_if own number binds) before number call outcome ≡ Some after
   pub back : TakesBack step.undo after before
   pub made : step.made ≡ (own && is_some (entry_of after number))
   pub names : NameAlike bound (bound_if step.made number binds)
@@ -65,13 +66,13 @@ pub record HasStepped (old : Ledger) (number : ℕ) (outcome : Outcome) (step : 
   pub after : Tree
   pub stood : old.tree ≡ Some before
   pub parts : new ≡ record old { binds = new.binds; tree = Some after }
-  pub takes : TakesStep (may_make (asked_by old.history.known.calls number)) old.binds before number (asked_by old.history.known.calls number) outcome new.binds after step
+  pub takes : TakesStep old.history.known.head.profile (may_make (asked_by old.history.known.calls number)) old.binds before (object_in old number) (asked_by old.history.known.calls number) outcome new.binds after step
 
 -- the tree doesn't allow it
 abbrev pub HasNoStep : Ledger → ℕ → Outcome → Type 0
 HasNoStep ledger number outcome =
     (tree : Tree) → ledger.tree ≡ Some tree
-    → next_tree (bound_if (may_make (asked_by ledger.history.known.calls number)) number ledger.binds) tree number (asked_by ledger.history.known.calls number) outcome ≡ None
+    → under ledger.history.known.head.profile (bound_if (may_make (asked_by ledger.history.known.calls number)) (object_in ledger number) ledger.binds) tree (object_in ledger number) (asked_by ledger.history.known.calls number) outcome ≡ None
 
 -- nothing has changed, but for the order in which handles are bound
 pub record HasStayed (old new : Ledger) : Type 0 where
@@ -83,19 +84,23 @@ pub record HasStayed (old new : Ledger) : Type 0 where
 abbrev pub IsReceived : Outcome → Type 0
 IsReceived outcome = (reply : NfsReply) × (outcome ≡ outcomes.Received reply)
 
+-- the handle of the call's object has eight bytes
+abbrev pub IsNumbered : Ledger → ℕ → Type 0
+IsNumbered ledger number = object_in ledger number < 2 ^ 64
+
 abbrev pub ShowsNow : Ledger → ℕ → Outcome → Type 0
 ShowsNow ledger number outcome = IfSome (verifier_of (asked_by ledger.history.known.calls number) outcome) (λ verifier. verifier ≡ ledger.history.known.eras)
 
 abbrev pub MayGive : Ledger → ℕ → Outcome → Type 0
 MayGive ledger number outcome =
     (tree : Tree) (reply : NfsReply) → ledger.tree ≡ Some tree → outcome ≡ outcomes.Received reply
-    → IsServed ledger.binds tree number (asked_by ledger.history.known.calls number) reply
+    → IsServed ledger.binds tree (object_in ledger number) (asked_by ledger.history.known.calls number) reply
 
 -- where the tree allows it
 abbrev pub GivesAllowed : Ledger → ℕ → Outcome → Type 0
 GivesAllowed ledger number outcome =
     (tree : Tree) (reply : NfsReply) → ledger.tree ≡ Some tree → outcome ≡ outcomes.Received reply
-    → IsAllowed ledger.binds tree (asked_by ledger.history.known.calls number) reply → IsServed ledger.binds tree number (asked_by ledger.history.known.calls number) reply
+    → IsAllowed ledger.binds tree (asked_by ledger.history.known.calls number) reply → IsServed ledger.binds tree (object_in ledger number) (asked_by ledger.history.known.calls number) reply
 
 -- a call isn't placed since it may not, or for want of memory
 abbrev pub StopsWhere : Type 0 → PlaceFault → Type 0
@@ -165,7 +170,7 @@ pub record HasLost (old : Ledger) (number : ℕ) (made : Bool) (new : Ledger) : 
   pub over : new.over ≡ old.over
   pub placed : new.placed ≡ old.placed
   pub calls : new.calls ≡ old.calls
-  pub binds : new.binds ≡ (if made then without_own number old.binds else old.binds)
+  pub binds : new.binds ≡ (if made then without_own (object_in old number) old.binds else old.binds)
   pub tree : new.tree ≡ None
   pub kept : new.kept ≡ old.kept
   pub condition : new.condition ≡ codes.Down

@@ -36,21 +36,21 @@ pub record AsksJudged (message : List ℕ) (head : CallValue) : Type 0 where
   pub judged : asks_judged head ≡ true
 
 -- the answer to whether a call lies inside the model whatever its reply
-abbrev pub IsKeptInside : {A : Type 0} → NfsCall → Result A BeginFault → Type 0
-IsKeptInside call (Ok _) = outside call None ≡ None
+abbrev pub IsKeptInside : NfsCall → Result NfsCall BeginFault → Type 0
+IsKeptInside call (Ok kept) = (kept ≡ call) × (outside call None ≡ None)
 IsKeptInside call (Err faults.BadRecord) = ¬ (outside call None ≡ None)
 IsKeptInside call (Err fault) = ⊥
 
 -- the same of arguments
-abbrev pub AreKeptArguments : {A : Type 0} → ℕ → List ℕ → Result A BeginFault → Type 0
-AreKeptArguments procedure bytes (Ok _) = (call : NfsCall) × IsArguments procedure bytes call × (outside call None ≡ None)
+abbrev pub AreKeptArguments : ℕ → List ℕ → Result NfsCall BeginFault → Type 0
+AreKeptArguments procedure bytes (Ok call) = IsArguments procedure bytes call × (outside call None ≡ None)
 AreKeptArguments procedure bytes (Err faults.BadRecord) = (call : NfsCall) → IsArguments procedure bytes call → ¬ (outside call None ≡ None)
 AreKeptArguments procedure bytes (Err faults.NoMemory) = ⊤
 AreKeptArguments procedure bytes (Err fault) = ⊥
 
 -- the answer to whether a message is one; the want of memory says nothing
-abbrev pub IsKeptAsked : {A : Type 0} → List ℕ → Result A BeginFault → Type 0
-IsKeptAsked message (Ok _) = CanBeRecorded message
+abbrev pub IsKeptAsked : List ℕ → Result NfsCall BeginFault → Type 0
+IsKeptAsked message (Ok call) = IsRecordable message call
 IsKeptAsked message (Err faults.BadRecord) = ¬ CanBeRecorded message
 IsKeptAsked message (Err faults.NoMemory) = ⊤
 IsKeptAsked message (Err fault) = ⊥

@@ -1,32 +1,31 @@
 -- What is said to the prover of calls that are run again, and of steps that are taken back at a crash.
+use Rattle.file_tree.specs.StartTree.{start_tree}
 use Rattle.std.specs.Prelude.{◌≡◌, ℕ, ◌+◌, ◌-◌, ◌≤◌, List, ◌++◌, length, map, take, drop, Option, Some, IsSome}
 use Rattle.std.specs.List.{AllByRecursion}
 use Rattle.replay_law.specs.Run.{state_after, kept_steps}
 use Rattle.replay_law.specs.Undone.{UndoesAll}
 use Rattle.nfs_history.specs.declared.history.RecordedCall.{RecordedCall}
 use Rattle.tree_nodes.specs.declared.undo.Undo.{Undo}
-use Rattle.tree_nodes.specs.Tree.{Tree, opening}
+use Rattle.tree_nodes.specs.Tree.{Tree}
 use Rattle.tree_nodes.specs.Undo.{TakesBack}
-use Rattle.tree_handles.specs.Binding.{Bindings}
-use Rattle.file_tree.specs.Success.{next_tree}
 use Rattle.journal_device.specs.Device.{Device, recovered}
 use Rattle.book_machine.specs.Placing.{Placed}
-use Rattle.book_machine.specs.Book.{Book}
+use Rattle.book_machine.specs.Book.{Book, Setting, next_by}
 use Rattle.book_machine.specs.Book.Condition.{down}
 use Rattle.book_machine.specs.Steps.{Crashes}
 use Rattle.book_ledger.specs.declared.placed.PlacedCall.{PlacedCall}
 use Rattle.book_ledger.specs.declared.placed.EraOver.{EraOver}
 use Rattle.book_ledger.specs.declared.ledger.Ledger.{Ledger}
-use Rattle.book_ledger.specs.Inside.{AreAsked, placed_in, era_in, book_of, tree_behind, AreTied}
+use Rattle.book_ledger.specs.Inside.{setting_in, AreAsked, placed_in, era_in, book_of, tree_behind, AreTied}
 
 -- the tree behind these calls, from this one on
-abbrev pub tree_after : Bindings → List RecordedCall → Tree → List PlacedCall → Option Tree
-tree_after binds recorded tree placed = state_after (next_tree binds) tree (map (placed_in recorded) placed)
+abbrev pub tree_after : Setting → List RecordedCall → Tree → List PlacedCall → Option Tree
+tree_after s recorded tree placed = state_after (next_by s) tree (map (placed_in recorded) placed)
 
 -- these are judged calls, and lead from this tree to another
-pub record CanRun (binds : Bindings) (recorded : List RecordedCall) (tree : Tree) (placed : List PlacedCall) : Type 0 where
+pub record CanRun (s : Setting) (recorded : List RecordedCall) (tree : Tree) (placed : List PlacedCall) : Type 0 where
   pub asked : AreAsked recorded placed
-  pub runs : IsSome (tree_after binds recorded tree placed)
+  pub runs : IsSome (tree_after s recorded tree placed)
 
 -- what was kept of the eras that are over, and so many of the calls placed now
 abbrev pub steps_kept : Ledger → ℕ → List Placed
@@ -42,7 +41,7 @@ pub record CanRunAgain (ledger : Ledger) (count : ℕ) : Type 0 where
   pub within : count ≤ length ledger.placed.items
   pub over : AllByRecursion (IsSoundEra ledger.history.known.calls) ledger.over.items
   pub placed : AreAsked ledger.history.known.calls ledger.placed.items
-  pub runs : IsSome (state_after (next_tree ledger.binds) opening (steps_kept ledger count))
+  pub runs : IsSome (state_after (next_by (setting_in ledger)) (start_tree ledger.history.known.head.start) (steps_kept ledger count))
 
 -- so many of these values, from the last one on, take a tree back to this one
 abbrev pub LeadBack : List Undo → ℕ → Tree → Tree → Type 0

@@ -4,6 +4,7 @@ ghost use Rattle.std.specs.Prelude.{◌≡◌, ◌↔◌, ◌≤◌, Some, None,
 ghost use Rattle.history_file.specs.declared.event.Event.TheVariants as events;
 ghost use Rattle.nfs_history.specs.declared.history.RecordedCall.{RecordedCall};
 ghost use Rattle.nfs_history.specs.Appending.{Follows};
+ghost use Rattle.nfs_history.specs.History.{Returns};
 ghost use Rattle.nfs_history.specs.Precedence.{call_at, end_of};
 ghost use Rattle.book_machine.specs.Book.Condition.{running};
 ghost use Rattle.book_machine.specs.Book.{records_kept};
@@ -18,8 +19,8 @@ use crate::fault::AnswerFault;
 use crate::ledger::Ledger;
 use crate::lookups::call_asked;
 use crate::placing::reply_message;
-use nfs_history::{Event, Message};
-use nfs3_types::Outcome;
+use nfs_history::Message;
+use nfs3_types::{NfsReply, Outcome};
 use std::alloc::AllocError;
 
 impl Ledger {
@@ -49,8 +50,25 @@ impl Ledger {
         reply_message(self.alloc, self.history.call(number).xid, reply)
     }
 
+    /// The reply at this place, of which this is the message.
+    fn reply_at(&self, number: u64, place: usize, answer: &[u8]) -> Result<NfsReply, AllocError>
+        requires { IsAnswerAt self.now number place answer.now }
+        ensures { IfOk result (λ reply. Returns answer.now reply) }
+    {
+        let Outcome::Received(reply) = &self.placed[place].outcome else {
+            unreachable!();
+        };
+        reply.copy()
+    }
+
     /// Puts a reply behind the other events of the history.
-    fn put_answer(&mut self, number: u64, answer: Vec<u8>) -> Result<Vec<u8>, AnswerFault>
+    fn put_answer(
+        &mut self,
+        number: u64,
+        place: usize,
+        answer: Vec<u8>,
+    ) -> Result<Vec<u8>, AnswerFault>
+        requires given { IsAnswerAt self.old number place answer.items }
         requires from_one { 1 ≤ number }
         requires known { number ≤ length self.old.history.known.calls }
         ensures only { OnlyHistory self.old self.new }
@@ -63,7 +81,8 @@ impl Ledger {
     {
         let message = Message::from_slice(self.alloc, answer.as_slice())?;
         let lane = self.history.call(number).lane;
-        match self.history.append(Event::Reply { lane, message }) {
+        let reply = self.reply_at(number, place, answer.as_slice())?;
+        match self.history.append_read_reply(lane, message, reply) {
             Ok(()) => Ok(answer),
             Err(_) => Err(AnswerFault::NoMemory),
         }
@@ -86,7 +105,7 @@ impl Ledger {
     {
         let _ = mark;
         match self.answer_at(number, place) {
-            Ok(answer) => self.put_answer(number, answer),
+            Ok(answer) => self.put_answer(number, place, answer),
             Err(_) => Err(AnswerFault::NoMemory),
         }
     }

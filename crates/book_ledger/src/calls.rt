@@ -60,18 +60,18 @@ fn judged_head(message: &[u8]) -> Option<CallHead<'_>>
 }
 
 /// Whether a call lies inside the model whatever its reply.
-fn check_inside(call: NfsCall) -> Result<(), BeginFault>
+fn check_inside(call: NfsCall) -> Result<NfsCall, BeginFault>
     ensures { IsKeptInside call result }
 {
     if is_inside(&call) {
-        Ok(())
+        Ok(call)
     } else {
         Err(BeginFault::BadRecord)
     }
 }
 
 /// Whether these are the arguments of a call that lies inside the model whatever its reply.
-fn check_arguments(alloc: Global, procedure: u32, bytes: &[u8]) -> Result<(), BeginFault>
+fn check_arguments(alloc: Global, procedure: u32, bytes: &[u8]) -> Result<NfsCall, BeginFault>
     ensures { AreKeptArguments procedure bytes.now result }
 {
     match read_args(alloc, procedure, bytes) {
@@ -82,7 +82,7 @@ fn check_arguments(alloc: Global, procedure: u32, bytes: &[u8]) -> Result<(), Be
 }
 
 /// Whether a history takes a message as a judged call whatever is answered.
-pub(crate) fn check_recordable(alloc: Global, message: &[u8]) -> Result<(), BeginFault>
+pub(crate) fn check_recordable(alloc: Global, message: &[u8]) -> Result<NfsCall, BeginFault>
     ensures { IsKeptAsked message.now result }
 {
     if message.len() > RECORD_LIMIT {

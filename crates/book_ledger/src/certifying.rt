@@ -1,13 +1,14 @@
 //! The certificate of a book.
 
 ghost use Rattle.std.specs.Prelude.{◌≡◌, ◌≤◌, [], ◌∷◌, ◌++◌, length, map, if◌then◌else◌, IfOk, OnOk};
-ghost use Rattle.std.specs.List.{cons_option};
+ghost use Rattle.std.specs.List.{cons_option, range_with_len};
+ghost use Rattle.tree_starts.specs.Start.{object_made};
 ghost use Rattle.book_machine.specs.Plan.{bind_of, place_of, places_of, plan_over, plan_now, plan_of};
-ghost use Rattle.book_ledger.specs.Inside.{IsAsked, AreAsked, ArePlannable, IsTied, Holds, placed_in, era_in, made_from};
+ghost use Rattle.book_ledger.specs.Inside.{IsAsked, AreAsked, ArePlannable, IsTied, Holds, placed_in, era_in, made_in};
 
 use crate::calls::{count_written, is_recorded};
 use crate::ledger::Ledger;
-use crate::lookups::call_asked;
+use crate::lookups::{call_asked, object_made};
 use crate::placed::{CallState, EraOver, PlacedCall};
 use certificate::{Bind, BindList, Certificate, EraPlan, EraPlanList, Place, PlaceList};
 use nfs_history::History;
@@ -76,24 +77,56 @@ fn plan_over(alloc: Global, history: &History, era: &EraOver) -> Result<EraPlan,
     })
 }
 
-/// Puts the bind of an object behind the others, where it was made.
-fn add_bind(alloc: Global, binds: &mut Vec<Bind>, object: u64, made: bool) -> Result<(), AllocError>
-    ensures { OnOk result (binds.new.items ≡ binds.old.items ++ (if made then bind_of object ∷ [] else [])) }
+/// Puts the bind of an object behind the others.
+fn add_bind(alloc: Global, binds: &mut Vec<Bind>, object: u64) -> Result<(), AllocError>
+    ensures { OnOk result (binds.new.items ≡ binds.old.items ++ bind_of object ∷ []) }
 {
-    if made {
-        let handle = FileHandle::from_slice(alloc, object.to_be_bytes().as_slice())?;
-        binds.push(Bind { handle, object })?;
-    }
+    let handle = FileHandle::from_slice(alloc, object.to_be_bytes().as_slice())?;
+    binds.push(Bind { handle, object })?;
     Ok(())
 }
 
-/// The binds of the objects that were made, by their numbers.
-fn binds_made(alloc: Global, calls: &[CallState]) -> Result<Vec<Bind>, AllocError>
-    ensures { IfOk result (λ binds. binds.items ≡ map bind_of (made_from 1 calls.now)) }
+/// The binds of so many objects that stood at first.
+fn binds_at_first(alloc: Global, first: u64) -> Result<Vec<Bind>, AllocError>
+    ensures { IfOk result (λ binds. binds.items ≡ map bind_of (range_with_len 1 first)) }
 {
     let mut binds = Vec::new(alloc);
+    for index in 0..first {
+        add_bind(alloc, &mut binds, index + 1)?;
+    }
+    Ok(binds)
+}
+
+/// Puts the bind of a call's object behind the others, where it was made.
+fn add_made(
+    alloc: Global,
+    history: &History,
+    binds: &mut Vec<Bind>,
+    number: u64,
+    made: bool,
+) -> Result<(), AllocError>
+    ensures { OnOk result (binds.new.items ≡ binds.old.items ++ (if made then bind_of (object_made (length history.now.known.head.start) number) ∷ [] else [])) }
+{
+    if !made {
+        return Ok(());
+    }
+    match object_made(history, number) {
+        Some(object) => add_bind(alloc, binds, object),
+        None => Err(AllocError),
+    }
+}
+
+/// The binds of the objects that stood at first and that were made, by their numbers.
+fn binds_made(
+    alloc: Global,
+    history: &History,
+    calls: &[CallState],
+) -> Result<Vec<Bind>, AllocError>
+    ensures { IfOk result (λ binds. binds.items ≡ map bind_of (made_in (length history.now.known.head.start) calls.now)) }
+{
+    let mut binds = binds_at_first(alloc, history.start().objects().len() as u64)?;
     for (index, call) in calls.iter().enumerate() {
-        add_bind(alloc, &mut binds, index as u64 + 1, call.made)?;
+        add_made(alloc, history, &mut binds, index as u64 + 1, call.made)?;
     }
     Ok(binds)
 }
@@ -135,7 +168,7 @@ impl Ledger {
         requires { IsTied self.now }
         ensures { IfOk result (λ certificate. Holds (λ book. certificate ≡ plan_of book) self.now) }
     {
-        let binds = binds_made(self.alloc, self.calls.as_slice())?;
+        let binds = binds_made(self.alloc, &self.history, self.calls.as_slice())?;
         Ok(Certificate {
             binds: BindList::new(binds),
             eras: EraPlanList::new(self.plans()?),

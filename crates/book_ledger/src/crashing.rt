@@ -4,18 +4,19 @@ ghost use Rattle.std.specs.Prelude.{◌≡◌, ◌≢◌, ◌<◌, ◌≤◌, �
 ghost use Rattle.std.specs.List.Sorted.{IsNonDecreasingBy};
 ghost use Rattle.replay_law.specs.Run.{state_after};
 ghost use Rattle.tree_nodes.specs.Printed.{tree_text};
-ghost use Rattle.tree_nodes.specs.Tree.{Tree, opening};
-ghost use Rattle.file_tree.specs.Success.{next_tree};
+ghost use Rattle.tree_nodes.specs.Tree.{Tree};
+ghost use Rattle.file_tree.specs.StartTree.{start_tree};
 ghost use Rattle.journal_device.specs.Device.{Device};
 ghost use Rattle.book_machine.specs.Placing.{front_with};
-ghost use Rattle.book_machine.specs.Book.{tree_of, records_kept};
-ghost use Rattle.book_ledger.specs.Inside.{IsAsked, IsTied, AreTied, Goes, Holds, asked_by};
+ghost use Rattle.book_machine.specs.Book.{next_by, tree_of, records_kept};
+ghost use Rattle.book_ledger.specs.Inside.{IsAsked, IsTied, AreTied, Goes, Holds, asked_by, setting_in};
 ghost use Rattle.book_ledger.specs.Undoing.{tree_after, steps_kept, CanRun, CanRunAgain, LeadBack, Loses, GoesDown, IsReady, Restarts};
 
 use crate::ledger::Ledger;
-use crate::lookups::call_asked;
+use crate::lookups::{call_asked, object_made};
 use crate::placed::{Condition, EraOver, PlacedCall};
-use file_tree::{Binds, FileTree, Profile, Undo};
+use file_tree::{Binds, FileTree, Undo};
+use journal_rebuild::tree_at_first;
 use nfs_history::{Event, History};
 use replay_law::{Replayable, StepFault};
 use std::alloc::AllocError;
@@ -29,12 +30,16 @@ fn run_step(
     placed: &PlacedCall,
 ) -> Result<(), AllocError>
     requires asked { IsAsked history.now.known.calls placed.now.number }
-    requires next { IsSome (next_tree binds.now tree.old placed.now.number (asked_by history.now.known.calls placed.now.number) placed.now.outcome) }
-    ensures { OnOk result (next_tree binds.now tree.old placed.now.number (asked_by history.now.known.calls placed.now.number) placed.now.outcome ≡ Some tree.new) }
+    requires next { IsSome (next_by (record { profile = history.now.known.head.profile; first = length history.now.known.head.start; binds = binds.now }) tree.old placed.now.number (asked_by history.now.known.calls placed.now.number) placed.now.outcome) }
+    ensures { OnOk result (next_by (record { profile = history.now.known.head.profile; first = length history.now.known.head.start; binds = binds.now }) tree.old placed.now.number (asked_by history.now.known.calls placed.now.number) placed.now.outcome ≡ Some tree.new) }
 {
     let number = placed.number;
+    let Some(object) = object_made(history, number) else {
+        return Err(AllocError);
+    };
     let call = call_asked(history, number);
-    match tree.step_under(Profile::Plain, binds, number, call, &placed.outcome) {
+    let profile = history.profile();
+    match tree.step_under(profile, binds, object, call, &placed.outcome) {
         Ok(undo) => {
             drop(undo);
             Ok(())
@@ -51,8 +56,8 @@ fn run_steps(
     history: &History,
     placed: &[PlacedCall],
 ) -> Result<(), AllocError>
-    requires { CanRun binds.now history.now.known.calls tree.old placed.now }
-    ensures { OnOk result (tree_after binds.now history.now.known.calls tree.old placed.now ≡ Some tree.new) }
+    requires { CanRun (record { profile = history.now.known.head.profile; first = length history.now.known.head.start; binds = binds.now }) history.now.known.calls tree.old placed.now }
+    ensures { OnOk result (tree_after (record { profile = history.now.known.head.profile; first = length history.now.known.head.start; binds = binds.now }) history.now.known.calls tree.old placed.now ≡ Some tree.new) }
 {
     for next in placed {
         run_step(tree, binds, history, next)?;
@@ -103,12 +108,12 @@ impl Ledger {
         }
     }
 
-    /// The tree behind what was kept and the first `count` calls placed now, worked out from the opening one.
+    /// The tree behind what was kept and the first `count` calls placed now, worked out from what stood at first.
     fn tree_behind(&self, count: usize) -> Result<FileTree, AllocError>
         requires { CanRunAgain self.now count }
-        ensures { IfOk result (λ tree. state_after (next_tree self.now.binds) opening (steps_kept self.now count) ≡ Some tree) }
+        ensures { IfOk result (λ tree. state_after (next_by (setting_in self.now)) (start_tree self.now.history.known.head.start) (steps_kept self.now count) ≡ Some tree) }
     {
-        let mut tree = FileTree::empty(self.alloc)?;
+        let mut tree = tree_at_first(self.alloc, self.history.start())?;
         for era in self.over.iter() {
             let kept = &era.placed[..era.kept];
             run_steps(&mut tree, &self.binds, &self.history, kept)?;

@@ -1,6 +1,7 @@
 //! All of a book but its device.
 
 ghost use Rattle.std.specs.Prelude.{◌≡◌, ◌≢◌, ℕ, [], IfOk, OnOk, IfErr};
+ghost use Rattle.tree_starts.specs.Start.{IsStart};
 ghost use Rattle.book_machine.specs.Book.Condition.{down, dead};
 ghost use Rattle.book_machine.specs.Steps.{opening_book, Closes};
 ghost use Rattle.book_ledger.specs.Inside.{book_of, AreTied, Goes, Settles};
@@ -8,7 +9,8 @@ ghost use Rattle.book_ledger.specs.Refusals.{CloseStops};
 
 use crate::fault::CloseFault;
 use crate::placed::{CallState, Condition, EraOver, PlacedCall};
-use file_tree::{Binds, FileTree, Undo};
+use file_tree::{Binds, FileTree, Profile, Start, Undo};
+use journal_rebuild::{binds_at_first, tree_at_first};
 use nfs_history::{Event, History, LaneState};
 use nfs3_types::FileHandle;
 use std::alloc::{AllocError, Global};
@@ -62,26 +64,28 @@ impl Drop for Ledger {
 }
 
 /// A history of no events.
-fn empty_history(alloc: Global) -> Result<History, AllocError>
-    ensures { IfOk result (λ history. history ≡ (opening_book 0).history) }
+fn empty_history(alloc: Global, profile: Profile, start: Start) -> Result<History, AllocError>
+    requires { IsStart start }
+    ensures { IfOk result (λ history. history ≡ (opening_book profile start 0).history) }
 {
     let root = FileHandle::from_slice(alloc, 0u64.to_be_bytes().as_slice())?;
-    match History::build(alloc, root, Vec::new(alloc)) {
+    match History::build_from(alloc, root, profile, start, Vec::new(alloc)) {
         Ok(history) => Ok(history),
         Err(_) => Err(AllocError),
     }
 }
 
 impl Ledger {
-    /// Ahead of the first step.
-    pub fn new(alloc: Global) -> Result<Ledger, AllocError>
-        ensures { IfOk result (λ ledger. (faults : ℕ) → AreTied ledger (opening_book faults).device × (book_of ledger (opening_book faults).device ≡ opening_book faults)) }
+    /// Ahead of the first step, of a server that holds these objects, whose replies are judged so strictly.
+    pub fn new_from(alloc: Global, profile: Profile, start: Start) -> Result<Ledger, AllocError>
+        ensures { IfOk result (λ ledger. (faults : ℕ) → AreTied ledger (opening_book profile start faults).device
+            × (book_of ledger (opening_book profile start faults).device ≡ opening_book profile start faults)) }
     {
-        let binds = Binds::of_root(alloc, 0u64.to_be_bytes().as_slice())?;
-        let tree = FileTree::empty(alloc)?;
+        let binds = binds_at_first(alloc, start.objects().len() as u64)?;
+        let tree = tree_at_first(alloc, &start)?;
         Ok(Ledger {
             alloc,
-            history: empty_history(alloc)?,
+            history: empty_history(alloc, profile, start)?,
             over: Vec::new(alloc),
             placed: Vec::new(alloc),
             calls: Vec::new(alloc),

@@ -1,7 +1,8 @@
 //! What is looked up of a book's calls.
 
-ghost use Rattle.std.specs.Prelude.{◌≡◌, ◌-◌, ◌≤◌, IfOk, OnOk, IfErr, Some, None, length, slice_get, option_map};
+ghost use Rattle.std.specs.Prelude.{◌≡◌, ◌-◌, ◌<◌, ◌≤◌, ◌^◌, MatchOption, IfOk, OnOk, IfErr, Some, None, length, slice_get, option_map};
 ghost use Rattle.history_file.specs.declared.event.Event.TheVariants as events;
+ghost use Rattle.tree_starts.specs.Start.{object_made};
 ghost use Rattle.nfs_history.specs.Precedence.{end_of};
 ghost use Rattle.book_machine.specs.Book.Condition.{running};
 ghost use Rattle.book_machine.specs.Steps.{IsUnplaced};
@@ -23,6 +24,25 @@ pub(crate) fn call_asked(history: &History, number: u64) -> &NfsCall
     match &history.call(number).meaning {
         Meaning::Judged(call) => call,
         Meaning::Unjudged => unreachable!(),
+    }
+}
+
+/// The number of the object that a call makes, if it makes one. A history has too few calls and starting objects for a sum past 64
+/// bits.
+pub(crate) fn object_made(history: &History, number: u64) -> Option<u64>
+    ensures { MatchOption result (2 ^ 64 ≤ object_made (length history.now.known.head.start) number) (λ object. object ≡ object_made (length history.now.known.head.start) number) }
+{
+    journal_rebuild::object_made(history.start().objects().len() as u64, number)
+}
+
+/// The same, where the sum has 64 bits.
+pub(crate) fn object_of_call(history: &History, number: u64) -> u64
+    requires { object_made (length history.now.known.head.start) number < 2 ^ 64 }
+    ensures { result ≡ object_made (length history.now.known.head.start) number }
+{
+    match object_made(history, number) {
+        Some(object) => object,
+        None => unreachable!(),
     }
 }
 

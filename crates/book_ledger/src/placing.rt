@@ -9,17 +9,17 @@ ghost use Rattle.nfs3_msgs.specs.Messages.{IsResult, result_text};
 ghost use Rattle.nfs3_types.specs.declared.replies.Outcome.TheVariants.{Received};
 ghost use Rattle.tree_nodes.specs.Tree.{entry_of};
 ghost use Rattle.tree_handles.specs.Binding.{object_of};
-ghost use Rattle.file_tree.specs.Success.{next_tree};
+ghost use Rattle.file_tree.specs.Setting.{under};
 ghost use Rattle.book_machine.specs.Book.{handle_of};
 ghost use Rattle.book_machine.specs.Steps.{reply_message, journal_record};
-ghost use Rattle.book_ledger.specs.Inside.{IsAsked, IsTied, Goes, asked_by};
+ghost use Rattle.book_ledger.specs.Inside.{IsAsked, IsTied, Goes, asked_by, object_in};
 ghost use Rattle.book_ledger.specs.Recordable.{may_make};
-ghost use Rattle.book_ledger.specs.PlaceSteps.{with_own, without_own, bound_if, HasRoom, IsSame, HasLost, NameAlike, TakesStep, HasStepped, HasNoStep, HasStayed, IsReceived, ShowsNow, MayGive, GivesAllowed, StopsWhere, IsShortAnswer, IsSayable, IsEntry, HasPlaced};
+ghost use Rattle.book_ledger.specs.PlaceSteps.{with_own, without_own, bound_if, HasRoom, IsSame, HasLost, NameAlike, TakesStep, HasStepped, HasNoStep, HasStayed, IsReceived, IsNumbered, ShowsNow, MayGive, GivesAllowed, StopsWhere, IsShortAnswer, IsSayable, IsEntry, HasPlaced};
 
 use crate::calls::{is_recorded, may_make, verifier_of};
 use crate::fault::PlaceFault;
 use crate::ledger::Ledger;
-use crate::lookups::{call_asked, message_of};
+use crate::lookups::{call_asked, message_of, object_made, object_of_call};
 use crate::placed::{CallState, Condition, PlacedCall};
 use crate::served::is_served;
 use file_tree::{Binds, FileTree, Profile, Undo};
@@ -97,29 +97,30 @@ fn forget_own(binds: &mut Binds, number: u64)
 /// Takes the step of a call, with its own handle bound where it may make an object. The handle stays bound where the object is
 /// there.
 fn step_with_handle(
+    profile: Profile,
     tree: &mut FileTree,
     binds: &mut Binds,
-    number: u64,
+    object: u64,
     call: &NfsCall,
     outcome: &Outcome,
 ) -> Result<TreeStep, StepFault>
-    requires { object_of binds.old (handle_of number) ≡ None }
-    ensures taken { IfOk result (TakesStep true binds.old tree.old number call.now outcome.now binds.new tree.new) }
-    ensures refused { result ≡ Err StepFault.NotAllowed → next_tree (with_own number binds.old) tree.old number call.now outcome.now ≡ None }
+    requires { object_of binds.old (handle_of object) ≡ None }
+    ensures taken { IfOk result (TakesStep profile true binds.old tree.old object call.now outcome.now binds.new tree.new) }
+    ensures refused { result ≡ Err StepFault.NotAllowed → under profile (with_own object binds.old) tree.old object call.now outcome.now ≡ None }
     ensures tree { OnErr result (tree.new ≡ tree.old) }
     ensures binds { OnErr result (NameAlike binds.new binds.old) }
 {
-    bind_own(binds, number)?;
-    match tree.step_under(Profile::Plain, binds, number, call, outcome) {
+    bind_own(binds, object)?;
+    match tree.step_under(profile, binds, object, call, outcome) {
         Ok(undo) => {
-            let made = stands(tree, number);
+            let made = stands(tree, object);
             if !made {
-                forget_own(binds, number);
+                forget_own(binds, object);
             }
             Ok(TreeStep { undo, made })
         }
         Err(fault) => {
-            forget_own(binds, number);
+            forget_own(binds, object);
             Err(fault)
         }
     }
@@ -127,22 +128,23 @@ fn step_with_handle(
 
 /// Takes the step of a call.
 fn take_step(
+    profile: Profile,
     tree: &mut FileTree,
     binds: &mut Binds,
-    number: u64,
+    object: u64,
     call: &NfsCall,
     outcome: &Outcome,
 ) -> Result<TreeStep, StepFault>
-    requires { object_of binds.old (handle_of number) ≡ None }
-    ensures taken { IfOk result (TakesStep (may_make call.now) binds.old tree.old number call.now outcome.now binds.new tree.new) }
-    ensures refused { result ≡ Err StepFault.NotAllowed → next_tree (bound_if (may_make call.now) number binds.old) tree.old number call.now outcome.now ≡ None }
+    requires { object_of binds.old (handle_of object) ≡ None }
+    ensures taken { IfOk result (TakesStep profile (may_make call.now) binds.old tree.old object call.now outcome.now binds.new tree.new) }
+    ensures refused { result ≡ Err StepFault.NotAllowed → under profile (bound_if (may_make call.now) object binds.old) tree.old object call.now outcome.now ≡ None }
     ensures tree { OnErr result (tree.new ≡ tree.old) }
     ensures binds { OnErr result (NameAlike binds.new binds.old) }
 {
     if may_make(call) {
-        return step_with_handle(tree, binds, number, call, outcome);
+        return step_with_handle(profile, tree, binds, object, call, outcome);
     }
-    let undo = tree.step_under(Profile::Plain, binds, number, call, outcome)?;
+    let undo = tree.step_under(profile, binds, object, call, outcome)?;
     Ok(TreeStep { undo, made: false })
 }
 
@@ -175,9 +177,12 @@ impl Ledger {
         requires asked { IsAsked self.now.history.known.calls number }
         requires received { IsReceived outcome.now }
         requires stands { IsSome self.now.tree }
-        ensures fits { OnOk result (ShowsNow self.now number outcome.now × GivesAllowed self.now number outcome.now) }
-        ensures refused { IfErr result (StopsWhere (¬ (ShowsNow self.now number outcome.now × MayGive self.now number outcome.now))) }
+        ensures fits { OnOk result (IsNumbered self.now number × ShowsNow self.now number outcome.now × GivesAllowed self.now number outcome.now) }
+        ensures refused { IfErr result (StopsWhere (¬ (IsNumbered self.now number × ShowsNow self.now number outcome.now × MayGive self.now number outcome.now))) }
     {
+        let Some(object) = object_made(&self.history, number) else {
+            return Err(PlaceFault::NotLegal);
+        };
         if !self.shows_now(number, outcome) {
             return Err(PlaceFault::NotLegal);
         }
@@ -185,7 +190,7 @@ impl Ledger {
         let (Some(tree), Outcome::Received(reply)) = (&self.tree, outcome) else {
             unreachable!();
         };
-        if is_served(&self.binds, tree, number, call, reply)? {
+        if is_served(&self.binds, tree, object, call, reply)? {
             Ok(())
         } else {
             Err(PlaceFault::NotLegal)
@@ -232,8 +237,8 @@ impl Ledger {
         ensures same { IsSame self.old self.new }
         ensures room { OnOk result (HasRoom self.new) }
         ensures entry { IfOk result (IsEntry self.new number outcome.now) }
-        ensures fits { OnOk result (ShowsNow self.new number outcome.now × GivesAllowed self.new number outcome.now × IsShortAnswer self.new number outcome.now × IsSayable self.new number outcome.now) }
-        ensures refused { IfErr result (StopsWhere (¬ (ShowsNow self.new number outcome.now × MayGive self.new number outcome.now × IsShortAnswer self.new number outcome.now))) }
+        ensures fits { OnOk result (IsNumbered self.new number × ShowsNow self.new number outcome.now × GivesAllowed self.new number outcome.now × IsShortAnswer self.new number outcome.now × IsSayable self.new number outcome.now) }
+        ensures refused { IfErr result (StopsWhere (¬ (IsNumbered self.new number × ShowsNow self.new number outcome.now × MayGive self.new number outcome.now × IsShortAnswer self.new number outcome.now))) }
     {
         self.check_reply(number, outcome)?;
         let entry = self.entry_of(number, outcome)?;
@@ -246,7 +251,8 @@ impl Ledger {
     pub fn step(&mut self, number: u64, outcome: &Outcome) -> Result<TreeStep, StepFault>
         requires asked { IsAsked self.old.history.known.calls number }
         requires stands { IsSome self.old.tree }
-        requires free { object_of self.old.binds (handle_of number) ≡ None }
+        requires numbered { IsNumbered self.old number }
+        requires free { object_of self.old.binds (handle_of (object_in self.old number)) ≡ None }
         ensures taken { IfOk result (λ step. HasStepped self.old number outcome.now step self.new) }
         ensures refused { result ≡ Err StepFault.NotAllowed → HasNoStep self.old number outcome.now }
         ensures kept { OnErr result (HasStayed self.old self.new) }
@@ -254,8 +260,10 @@ impl Ledger {
         let Some(tree) = &mut self.tree else {
             unreachable!();
         };
+        let object = object_of_call(&self.history, number);
         let call = call_asked(&self.history, number);
-        take_step(tree, &mut self.binds, number, call, outcome)
+        let profile = self.history.profile();
+        take_step(profile, tree, &mut self.binds, object, call, outcome)
     }
 
     /// Places a call that took its step, behind which there are so many records. Room is set aside for it.
@@ -289,12 +297,14 @@ impl Ledger {
 
     /// Lets the tree go that a call took its step in, which isn't placed. The book is down from then on.
     pub fn lose_step(&mut self, number: u64, step: TreeStep)
+        requires numbered { IsNumbered self.old number }
         ensures { HasLost self.old number step.made self.new }
     {
         let TreeStep { undo, made } = step;
         drop(undo);
         if made {
-            forget_own(&mut self.binds, number);
+            let object = object_of_call(&self.history, number);
+            forget_own(&mut self.binds, object);
         }
         drop(self.tree.take());
         self.undos.clear();

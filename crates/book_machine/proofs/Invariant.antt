@@ -5,7 +5,7 @@ use Rattle.nfs3_types.specs.declared.calls.NfsCall.{NfsCall}
 use Rattle.nfs3_types.specs.declared.replies.NfsReply.{NfsReply}
 use Rattle.nfs3_types.specs.declared.replies.Outcome.{Outcome}
 use Rattle.nfs3_types.specs.declared.replies.Outcome.TheVariants as outcomes
-use Rattle.tree_starts.specs.Head.{plain_head}
+use Rattle.tree_starts.specs.Start.{IsStart, object_made}
 use Rattle.nfs_history.specs.declared.history.Meaning.TheVariants as meanings
 use Rattle.nfs_history.specs.declared.history.RecordedCall.{RecordedCall}
 use Rattle.nfs_history.specs.Precedence.{call_at, begin_of, end_of}
@@ -13,12 +13,10 @@ use Rattle.order_check.specs.Places.{may_take}
 use Rattle.cut_check.specs.Verifier.{verifier_of}
 use Rattle.replay_law.specs.Run as run
 use Rattle.replay_law.specs.Run.{state_after}
-use Rattle.tree_nodes.specs.Tree.{Tree, opening}
-use Rattle.tree_handles.specs.Binding.{Bindings}
-use Rattle.file_tree.specs.Success.{next_tree}
+use Rattle.tree_nodes.specs.Tree.{Tree}
 use Rattle.tree_laws.specs.Outcomes.{count_written}
 use Rattle.book_machine.specs.Placing.{Placed, is_recorded, records_in, front_with}
-use Rattle.book_machine.specs.Book.{Book, handle_of, bindings, records_kept}
+use Rattle.book_machine.specs.Book.{Book, Setting, handle_of, setting, next_by, tree_at_first, records_kept}
 use Rattle.book_machine.specs.Steps.{IsDurable}
 use Rattle.book_machine.proofs.Growing.{IsGenuine}
 
@@ -82,12 +80,16 @@ abbrev pub AllInOrder : List RecordedCall → List Over → List Placed → Type
 AllInOrder calls [] placed = AreInOrder calls placed
 AllInOrder calls (era ∷ over) placed = AreInOrder calls era.steps × AllInOrder calls over placed
 
+-- an object that stood at first, or that of a call which was placed
+abbrev pub IsMade : ℕ → List Over → List Placed → ℕ → Type 0
+IsMade first over placed object = ((object ≢ 0) × (object ≤ first)) ⊎ ((number : ℕ) × IsPlaced over placed number × (object_made first number ≡ object))
+
 -- each era runs from what those ahead of it kept
-abbrev pub AllRun : Bindings → Tree → List Over → List Placed → Type 0
-AllRun binds tree [] placed = IsSome (state_after (next_tree binds) tree placed)
-AllRun binds tree (era ∷ over) placed =
-    IsSome (state_after (next_tree binds) tree era.steps)
-    × ((base : Tree) × (state_after (next_tree binds) tree (take era.kept era.steps) ≡ Some base) × AllRun binds base over placed)
+abbrev pub AllRun : Setting → Tree → List Over → List Placed → Type 0
+AllRun s tree [] placed = IsSome (state_after (next_by s) tree placed)
+AllRun s tree (era ∷ over) placed =
+    IsSome (state_after (next_by s) tree era.steps)
+    × ((base : Tree) × (state_after (next_by s) tree (take era.kept era.steps) ≡ Some base) × AllRun s base over placed)
 
 -- what was answered is durable: so many records were kept ahead of these, of all of which so many are on stable storage
 abbrev pub AreDurable : List RecordedCall → ℕ → ℕ → List Placed → Type 0
@@ -102,7 +104,8 @@ pub record IsCutSafely (calls : List RecordedCall) (era : Over) : Type 0 where
 
 pub record IsInvariant (book : Book) : Type 0 where
   pub genuine : IsGenuine book.history
-  pub head : book.history.known.head ≡ plain_head (handle_of 0)
+  pub root : book.history.known.head.root ≡ handle_of 0
+  pub start : IsStart book.history.known.head.start
   pub eras : book.history.known.eras ≡ length book.over + 1
   pub known : AllKnown book.history.known.calls 1 book.over book.placed
   pub distinct : EachDistinct book.over book.placed
@@ -113,8 +116,8 @@ pub record IsInvariant (book : Book) : Type 0 where
   -- all began before now
   pub begun : AllByRecursion (λ call. call.begin ≤ length book.history.events) book.history.known.calls
   pub ordered : AllInOrder book.history.known.calls book.over book.placed
-  pub runs : AllRun (bindings book) opening book.over book.placed
-  pub made : AllByRecursion (λ object. IsPlaced book.over book.placed object × (object < 2 ^ 64)) book.made
+  pub runs : AllRun (setting book) (tree_at_first book) book.over book.placed
+  pub made : AllByRecursion (λ object. IsMade (length book.history.known.head.start) book.over book.placed object × (object < 2 ^ 64)) book.made
   pub cuts : AllByRecursion (IsCutSafely book.history.known.calls) book.over
   pub durable : AreDurable book.history.known.calls (records_kept book) book.device.mark book.placed
   -- the device holds the records of what was kept, and of what was placed since

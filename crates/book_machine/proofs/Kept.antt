@@ -9,18 +9,19 @@ use Rattle.nfs3_types.specs.declared.replies.NfsReply.{NfsReply}
 use Rattle.nfs3_types.specs.declared.replies.Outcome.TheVariants as outcomes
 use Rattle.nfs_history.specs.declared.history.RecordedCall.{RecordedCall}
 use Rattle.nfs_history.specs.Precedence.{call_at, begin_of, end_of}
-use Rattle.tree_nodes.specs.Tree.{opening, entry_of}
+use Rattle.tree_starts.specs.Head.{Head}
+use Rattle.tree_nodes.specs.Tree.{entry_of}
 use Rattle.tree_nodes.proofs.Chains.{decide, differ}
 use Rattle.std.proofs.lemmas.Bool.{eqb-true}
 use Rattle.std.proofs.Common.{eq-eqb}
-use Rattle.file_tree.specs.Success.{next_tree}
+use Rattle.file_tree.proofs.Profiles.{comes_out_plain}
 use Rattle.replay_law.specs.Run.{state_after, kept_steps}
 use Rattle.book_machine.specs.Placing.{Placed, is_recorded, records_in, front_with}
-use Rattle.book_machine.specs.Book.{Book, bindings, bindings_made, records_kept}
+use Rattle.book_machine.specs.Book.{Book, setting, setting_made, bindings_made, object_in, next_by, tree_at_first, records_kept}
 use Rattle.nfs3_types.specs.declared.replies.Outcome.{Outcome}
 use Rattle.book_machine.specs.Steps.{begun, with_reply, with_call, answered_now, change_at, with_close, with_made, with_object, with_record, journal_record, reply_message, step_of, IsDurable, Places, Answers, Crashes, Refuses, Steps}
 use Rattle.book_machine.specs.Steps.Steps.{begins, places, flushes, answers, closes, crashes, refuses}
-use Rattle.book_machine.proofs.Invariant.{Over, IsKnown, AreKnown, AllKnown, IsPaired, AreDistinct, EachDistinct, IsPlacedIn, IsPlaced, AreInOrder, AllRun, AreDurable, IsCutSafely, IsInvariant}
+use Rattle.book_machine.proofs.Invariant.{Over, IsKnown, AreKnown, AllKnown, IsPaired, AreDistinct, EachDistinct, IsPlacedIn, IsPlaced, AreInOrder, AllRun, IsMade, AreDurable, IsCutSafely, IsInvariant}
 use Rattle.book_machine.proofs.Lists.{all_append, all_ahead, all_behind, all_each}
 use Rattle.cut_check.specs.Verifier.{verifier_of}
 use Rattle.nfs_history.specs.declared.history.Meaning.{Meaning}
@@ -31,11 +32,13 @@ use Rattle.history_file.specs.Owning.{all_happened}
 use Rattle.std.specs.List.{slice_get}
 use Rattle.book_machine.specs.Steps.{IsOpen}
 use Rattle.book_machine.proofs.Growing.{IsGenuine, event_of, genuine_call, genuine_reply, genuine_close, genuine_crash}
-use Rattle.book_machine.proofs.Legal.{taking, opening_alone}
+use Rattle.book_machine.proofs.Legal.{taking}
+use Rattle.book_machine.proofs.Newcomer.{not_placed, apart_eras, others, isnt_zero}
+use Rattle.book_machine.proofs.Starting.{call_alone}
 use Rattle.book_machine.proofs.Stable.{records_append}
 use Rattle.book_machine.proofs.Moving.{call_stays, call_was, changed_call, other_call, all_changed, call_has, AreSame, AllSame, are_known_same, all_known_same, order_same, all_order_same, placed_more, placed_last, is_placed_by, is_placed_now, is_placed_over, distinct_more, each_distinct_by, each_distinct_over, known_over, order_over, order_more, LastParts, last_parts, same_parts, all_with_object, records_front, durable_same, cuts_same}
 use Rattle.book_machine.proofs.Moving.LastParts.{is_last, is_inside}
-use Rattle.book_machine.proofs.Bound.{AreApart, AllApart, kept_apart, run_same, all_run_same, all_run_more, all_run_over}
+use Rattle.book_machine.proofs.Bound.{AllApart, kept_apart, run_same, all_run_same, all_run_more, all_run_over}
 
 le_more : {a b : ℕ} → a ≤ b → a ≤ b + 1
 le_more le = omega (arith, le)
@@ -79,7 +82,8 @@ module _ (book : Book) (i : IsInvariant book) (lane : ℕ) (message : List ℕ) 
   pub after_begin : IsInvariant (record book { history = with_call book.history lane message call })
   after_begin = record {
     genuine = genuine;
-    head = i.head;
+    root = i.root;
+    start = i.start;
     eras = i.eras;
     known = all_known_same calls begun_calls 1 book.over book.placed book.placed (all_same 1 book.over book.placed i.known)
         (λ k. are_known_same calls begun_calls (1 + length book.over) book.placed (same_now 1 book.over book.placed i.known) k) i.known;
@@ -118,49 +122,28 @@ module _ (book : Book) (i : IsInvariant book) (number : ℕ) (reply : NfsReply) 
   abbrev this : Placed
   this = step_of number p.call reply
 
+  abbrev head : Head
+  head = book.history.known.head
+
+  -- the object of its number
+  abbrev own : ℕ
+  own = object_in book number
+
   abbrev made' : List ℕ
-  made' = with_made number p.after book.made
+  made' = with_made own p.after book.made
 
-  -- no era that is over has the call
-  apart_over : (e : ℕ) (over : List Over) (placed : List Placed) → AllKnown old_calls e over placed → e + length over ≡ book.history.known.eras → AllApart number over
-  apart_over e [] placed known now = tt
-  apart_over e (first ∷ over) placed known now = (steps first.steps known.0, apart_over (e + 1) over placed known.1 (further e (length over) book.history.known.eras now)) where
-    further : (a b c : ℕ) → a + suc b ≡ c → a + 1 + b ≡ c
-    further a b c f = omega (arith, f)
+  abbrev newcomer : AllByRecursion (λ other. (other ≢ own) × (other < 2 ^ 64)) book.made
+  newcomer = others book i number reply new p
 
-    clash : (a b c d : ℕ) → a + suc b ≡ c → d ≡ c → d ≡ a → ⊥
-    clash a b c d f g h = omega (arith, f, g, h)
-
-    other : (s : Placed) → IsKnown old_calls e s → s.number ≢ number
-    other s k same = clash e (length over) book.history.known.eras p.recorded.era now p.of_now.era (ap (λ (c : RecordedCall). c.era) (one (sym p.of_now.recorded ∙ ap (call_at old_calls) (sym same) ∙ k.recorded)) ∙ k.now) where
-      one : {a b : RecordedCall} → Some a ≡ Some b → a ≡ b
-      one f = cc
-
-    steps : (xs : List Placed) → AreKnown old_calls e xs → AreApart number xs
-    steps [] k = tt
-    steps (x ∷ xs) k = (other x k.0, steps xs k.1)
-
-  apart_eras : AllApart number book.over
-  apart_eras = apart_over 1 book.over book.placed i.known (omega (arith, i.eras))
-
-  not_placed : (over : List Over) (placed : List Placed) → AllApart number over → AreApart number placed → IsPlaced over placed number → ⊥
-  not_placed over placed a b = eras over a where
-    among : (xs : List Placed) → AreApart number xs → IsPlacedIn xs number → ⊥
-    among [] c found = found
-    among (x ∷ xs) c (inl same) = c.0 same
-    among (x ∷ xs) c (inr found) = among xs c.1 found
-
-    eras : (over : List Over) → AllApart number over → IsPlaced over placed number → ⊥
-    eras [] c found = among placed b found
-    eras (first ∷ over) c (inl found) = among first.steps c.0 found
-    eras (first ∷ over) c (inr found) = eras over c.1 found
+  all_apart : AllApart number book.over
+  all_apart = apart_eras book i number reply new p
 
   -- it has no reply as yet
   quiet : (p.recorded.«end» ≡ None) × (p.recorded.outcome ≡ None)
   quiet = go (call_has IsPaired old_calls number p.recorded i.paired p.of_now.recorded) where
     go : IsPaired p.recorded → (p.recorded.«end» ≡ None) × (p.recorded.outcome ≡ None)
     go (inl silent) = silent
-    go (inr told) = absurd (not_placed book.over book.placed apart_eras p.unplaced (i.complete number p.recorded p.of_now.recorded told.1))
+    go (inr told) = absurd (not_placed book i number reply new p (i.complete number p.recorded p.of_now.recorded told.1))
 
   unended : end_of old_calls number ≡ None
   unended = ap (option_and_then (λ (c : RecordedCall). c.«end»)) p.of_now.recorded ∙ quiet.0
@@ -174,7 +157,7 @@ module _ (book : Book) (i : IsInvariant book) (number : ℕ) (reply : NfsReply) 
     reply = reply;
     received = refl;
     replied = inl quiet;
-    takes = λ recorded. taking (bindings_made made') p.before p.after number p.call reply p.next recorded;
+    takes = λ recorded. taking (bindings_made made') p.before p.after own p.call reply (comes_out_plain head.profile (bindings_made made') p.before p.after own p.call (outcomes.Received reply) p.next) recorded;
     verifier = shown (verifier_of p.call (outcomes.Received reply)) p.verifier;
   } where
     at : book.history.known.eras ≡ 1 + length book.over
@@ -184,32 +167,27 @@ module _ (book : Book) (i : IsInvariant book) (number : ℕ) (reply : NfsReply) 
     shown None h = tt
     shown (Some v) h = h ∙ at
 
-  isnt_zero : number ≢ 0
-  isnt_zero same = none (ap (call_at old_calls) (sym same) ∙ p.of_now.recorded) where
-    none : None ≡ Some p.recorded → ⊥
-    none f = cc
-
-  others : AllByRecursion (λ other. (other ≢ number) × (other < 2 ^ 64)) book.made
-  others = all_each _ _ book.made (λ other has. ((λ same. not_placed book.over book.placed apart_eras p.unplaced (subst (IsPlaced book.over book.placed) same has.0)), has.1)) i.made
-
   -- with what the call makes, all runs as before, and so does the call
-  runs_on : (b : Bool) → is_some (entry_of p.after number) ≡ b → AllRun (bindings_made (if b then with_object number book.made else book.made)) opening book.over book.placed
-      × (state_after (next_tree (bindings_made (if b then with_object number book.made else book.made))) opening (kept_steps book.over ++ book.placed) ≡ Some p.before)
+  runs_on : (b : Bool) → is_some (entry_of p.after own) ≡ b → AllRun (setting_made head (if b then with_object own book.made else book.made)) (tree_at_first book) book.over book.placed
+      × (state_after (next_by (setting_made head (if b then with_object own book.made else book.made))) (tree_at_first book) (kept_steps book.over ++ book.placed) ≡ Some p.before)
   runs_on false is = (i.runs, p.stood)
   runs_on true is = (
-    all_run_same number book.made p.numbered others book.over book.placed apart_eras p.unplaced opening (opening_alone number isnt_zero) i.runs,
-    sym (run_same number book.made p.numbered others (kept_steps book.over ++ book.placed) (all_append _ (kept_steps book.over) book.placed (kept_apart number book.over apart_eras) p.unplaced) opening
-        (opening_alone number isnt_zero)) ∙ p.stood,
+    all_run_same head number book.made p.numbered newcomer book.over book.placed all_apart p.unplaced (tree_at_first book) (call_alone head.start i.start number (isnt_zero book i number reply new p)) i.runs,
+    sym (run_same head number book.made p.numbered newcomer (kept_steps book.over ++ book.placed) (all_append _ (kept_steps book.over) book.placed (kept_apart number book.over all_apart) p.unplaced) (tree_at_first book)
+        (call_alone head.start i.start number (isnt_zero book i number reply new p))) ∙ p.stood,
   )
 
-  made_all : (b : Bool) → AllByRecursion (λ object. IsPlaced book.over (book.placed ++ this ∷ []) object × (object < 2 ^ 64)) (if b then with_object number book.made else book.made)
+  made_all : (b : Bool) → AllByRecursion (λ object. IsMade (length head.start) book.over (book.placed ++ this ∷ []) object × (object < 2 ^ 64)) (if b then with_object own book.made else book.made)
   made_all b = go b old where
-    old : AllByRecursion (λ object. IsPlaced book.over (book.placed ++ this ∷ []) object × (object < 2 ^ 64)) book.made
-    old = all_each _ _ book.made (λ object has. (is_placed_by book.over book.placed (book.placed ++ this ∷ []) object (placed_more book.placed this object) has.0, has.1)) i.made
+    old : AllByRecursion (λ object. IsMade (length head.start) book.over (book.placed ++ this ∷ []) object × (object < 2 ^ 64)) book.made
+    old = all_each _ _ book.made (λ object has. (still object has.0, has.1)) i.made where
+      still : (object : ℕ) → IsMade (length head.start) book.over book.placed object → IsMade (length head.start) book.over (book.placed ++ this ∷ []) object
+      still object (inl stood) = inl stood
+      still object (inr call) = inr (call.0, is_placed_by book.over book.placed (book.placed ++ this ∷ []) call.0 (placed_more book.placed this call.0) call.1, call.2)
 
-    go : (b : Bool) → AllByRecursion (λ object. IsPlaced book.over (book.placed ++ this ∷ []) object × (object < 2 ^ 64)) book.made
-        → AllByRecursion (λ object. IsPlaced book.over (book.placed ++ this ∷ []) object × (object < 2 ^ 64)) (if b then with_object number book.made else book.made)
-    go true a = all_with_object _ number book.made (is_placed_now book.over (book.placed ++ this ∷ []) number (placed_last book.placed this), p.numbered) a
+    go : (b : Bool) → AllByRecursion (λ object. IsMade (length head.start) book.over (book.placed ++ this ∷ []) object × (object < 2 ^ 64)) book.made
+        → AllByRecursion (λ object. IsMade (length head.start) book.over (book.placed ++ this ∷ []) object × (object < 2 ^ 64)) (if b then with_object own book.made else book.made)
+    go true a = all_with_object _ own book.made (inr (number, is_placed_now book.over (book.placed ++ this ∷ []) number (placed_last book.placed this), refl), p.numbered) a
     go false a = a
 
   durable_more : AreDurable old_calls (records_kept book) book.device.mark (book.placed ++ this ∷ [])
@@ -236,7 +214,8 @@ module _ (book : Book) (i : IsInvariant book) (number : ℕ) (reply : NfsReply) 
   pub after_place : IsInvariant new
   after_place = subst IsInvariant (sym p.done) (record {
     genuine = i.genuine;
-    head = i.head;
+    root = i.root;
+    start = i.start;
     eras = i.eras;
     known = all_known_same old_calls old_calls 1 book.over book.placed (book.placed ++ this ∷ []) (all_refl book.over) (λ k. all_append _ book.placed (this ∷ []) k (known_step, tt)) i.known;
     distinct = each_distinct_by book.over book.placed (book.placed ++ this ∷ []) (λ d. distinct_more book.placed this d p.unplaced) i.distinct;
@@ -244,8 +223,8 @@ module _ (book : Book) (i : IsInvariant book) (number : ℕ) (reply : NfsReply) 
     paired = i.paired;
     begun = i.begun;
     ordered = all_order_same old_calls old_calls book.over book.placed (book.placed ++ this ∷ []) (all_refl book.over) (order_more old_calls book.placed this unended) i.ordered;
-    runs = all_run_more (bindings_made made') p.before p.after this p.next book.over book.placed opening (runs_on (is_some (entry_of p.after number)) refl).1 (runs_on (is_some (entry_of p.after number)) refl).0;
-    made = made_all (is_some (entry_of p.after number));
+    runs = all_run_more (setting_made head made') p.before p.after this p.next book.over book.placed (tree_at_first book) (runs_on (is_some (entry_of p.after own)) refl).1 (runs_on (is_some (entry_of p.after own)) refl).0;
+    made = made_all (is_some (entry_of p.after own));
     cuts = i.cuts;
     durable = subst (λ (m : ℕ). AreDurable old_calls (records_kept book) m (book.placed ++ this ∷ [])) (sym (mark_same (is_recorded this) bytes).0) durable_more;
     records = records_more (is_recorded this) refl bytes;
@@ -436,7 +415,8 @@ module _ (book : Book) (i : IsInvariant book) (number : ℕ) (new : Book) (a : A
   pub after_answer : IsInvariant new
   after_answer = subst IsInvariant (sym a.done) (record {
     genuine = genuine_now;
-    head = i.head;
+    root = i.root;
+    start = i.start;
     eras = i.eras;
     known = all_known_same said_calls told_calls 1 book.over book.placed book.placed sames (known_now (1 + length book.over)) i.known;
     distinct = i.distinct;
@@ -457,7 +437,8 @@ module _ (book : Book) (i : IsInvariant book) (number : ℕ) (new : Book) (a : A
 after_flush : (book : Book) → IsInvariant book → IsInvariant (record book { device = record book.device { mark = length book.device.records } })
 after_flush book i = record {
   genuine = i.genuine;
-  head = i.head;
+  root = i.root;
+  start = i.start;
   eras = i.eras;
   known = i.known;
   distinct = i.distinct;
@@ -478,7 +459,8 @@ after_flush book i = record {
 after_close : (book : Book) → IsInvariant book → (lane : ℕ) → IsOpen book lane → IsInvariant (record book { history = with_close book.history lane })
 after_close book i lane is_open = record {
   genuine = genuine_close book.history lane i.genuine is_open;
-  head = i.head;
+  root = i.root;
+  start = i.start;
   eras = i.eras;
   known = i.known;
   distinct = i.distinct;
@@ -533,7 +515,8 @@ module _ (book : Book) (i : IsInvariant book) (keep : ℕ) (new : Book) (c : Cra
   pub after_crash : IsInvariant new
   after_crash = subst IsInvariant (sym c.done) (record {
     genuine = genuine_crash book.history i.genuine;
-    head = i.head;
+    root = i.root;
+    start = i.start;
     eras = (let longer = length-append book.over (ended ∷ []) in omega (arith, i.eras, longer));
     known = known_over book.history.known.calls 1 book.over book.placed ended.kept i.known;
     distinct = each_distinct_over book.over book.placed ended.kept i.distinct;
@@ -541,13 +524,17 @@ module _ (book : Book) (i : IsInvariant book) (keep : ℕ) (new : Book) (c : Cra
     paired = i.paired;
     begun = all_each _ _ book.history.known.calls (λ call le. subst (λ (n : ℕ). call.begin ≤ n) (sym (length-append book.history.events _)) (le_more le)) i.begun;
     ordered = order_over book.history.known.calls book.over book.placed ended.kept i.ordered;
-    runs = all_run_over (bindings book) book.over book.placed ended.kept opening i.runs;
-    made = all_each _ _ book.made (λ object has. (is_placed_over book.over book.placed ended.kept object has.0, has.1)) i.made;
+    runs = all_run_over (setting book) book.over book.placed ended.kept (tree_at_first book) i.runs;
+    made = all_each _ _ book.made (λ object has. (still object has.0, has.1)) i.made;
     cuts = all_append (IsCutSafely book.history.known.calls) book.over (ended ∷ []) i.cuts (cut, tt);
     durable = λ ahead step behind parts ends. absurd (nothing ahead step behind parts);
     records = taken ∙ sym kept_now ∙ add_none (records_in (kept_steps (book.over ++ ended ∷ [])));
     mark = (at_most kept_now, at_least taken);
   }) where
+    still : (object : ℕ) → IsMade (length book.history.known.head.start) book.over book.placed object → IsMade (length book.history.known.head.start) (book.over ++ ended ∷ []) [] object
+    still object (inl at_first) = inl at_first
+    still object (inr call) = inr (call.0, is_placed_over book.over book.placed ended.kept call.0 call.1, call.2)
+
     add_none : (x : ℕ) → x ≡ x + 0
     add_none x = omega arith
 
@@ -564,7 +551,8 @@ module _ (book : Book) (i : IsInvariant book) (keep : ℕ) (new : Book) (c : Cra
 after_refusal : (book new : Book) → IsInvariant book → Refuses book new → IsInvariant new
 after_refusal book new i r = subst IsInvariant (sym r.done) (record {
   genuine = record { is_history = record { known = i.genuine.is_history.known; events = i.genuine.is_history.events }; waiting = i.genuine.waiting };
-  head = i.head;
+  root = i.root;
+  start = i.start;
   eras = i.eras;
   known = i.known;
   distinct = i.distinct;

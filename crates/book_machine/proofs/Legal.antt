@@ -1,7 +1,6 @@
--- what a legal call says of how it may be taken, and the tree ahead of all calls
-use Rattle.std.proofs.Common.{◌≡◌, ◌≢◌, ℕ, Bool, true, false, length, Option, Some, None, refl, sym, ap, ◌∙◌}
-use Rattle.std.specs.Prelude.{◌&&◌, ◌==◌, not, is_none, nat_le, if◌then◌else◌}
-use Rattle.std.specs.FinMap as map
+-- what a legal call says of how it may be taken
+use Rattle.std.proofs.Common.{◌≡◌, ℕ, Bool, true, false, length, Option, Some, None, refl}
+use Rattle.std.specs.Prelude.{◌&&◌, not, is_none, nat_le, if◌then◌else◌}
 use Rattle.nfs3_types.specs.declared.calls.NfsCall.{NfsCall}
 use Rattle.nfs3_types.specs.declared.calls.NfsCall.TheVariants as calls
 use Rattle.nfs3_types.specs.declared.calls.WriteArguments.{WriteArguments}
@@ -13,10 +12,8 @@ use Rattle.nfs3_types.specs.declared.replies.Outcome.TheVariants as outcomes
 use Rattle.nfs3_types.specs.Procedures.{is_answered, failure_in}
 use Rattle.nfs_history.specs.declared.history.Meaning.TheVariants as meanings
 use Rattle.order_check.specs.Places.{may_take}
-use Rattle.tree_nodes.specs.declared.node.Node.{Node}
-use Rattle.tree_nodes.specs.Tree.{Names, Tree, opening, entry_of}
+use Rattle.tree_nodes.specs.Tree.{Tree}
 use Rattle.tree_nodes.proofs.Chains.{chained, mapped, both_pass, negated, none_is}
-use Rattle.tree_nodes.proofs.Found.{found_stands}
 use Rattle.tree_handles.specs.Binding.{Bindings}
 use Rattle.tree_handles.specs.Live.{file_of}
 use Rattle.file_tree.specs.Change.{Change}
@@ -24,8 +21,6 @@ use Rattle.file_tree.specs.Written.{write_change}
 use Rattle.file_tree.specs.Success.{next_tree, changed, change_done, change_answered}
 use Rattle.tree_laws.specs.Leaving.{only_looks}
 use Rattle.tree_laws.specs.Outcomes.{count_written}
-use Rattle.tree_laws.proofs.Handles.{entry_object}
-use Rattle.tree_laws.proofs.Keeping.{only_root, formed_opening}
 use Rattle.book_machine.proofs.Running.{done_of}
 
 written_within : (binds : Bindings) (tree : Tree) (c : Change) (call : WriteArguments) (count : ℕ) (level : Option StableHow) → write_change binds tree call count level ≡ Some c → nat_le count (length call.bytes) ≡ true
@@ -65,20 +60,3 @@ taking binds before after number call reply next recorded =
     let success = none_is (failure_in reply) (both_pass (is_answered call reply) (is_none (failure_in reply)) parts.1).1 in
     let change = mapped (changed before) (change_answered binds before number call reply (failure_in reply)) after next in
     taking_done binds before number change.0 call reply (negated (only_looks call) parts.0) (done_of binds before number call reply change.0 (failure_in reply) success change.1)
-
--- the root is the only object at first
-pub opening_alone : (number : ℕ) → number ≢ 0 → entry_of opening number ≡ None
-opening_alone number isnt = go (entry_of opening number) refl where
-  one : {a b : Node} → Some a ≡ Some b → a ≡ b
-  one f = cc
-
-  clash : (e : Names × Node) → entry_of opening number ≡ Some e → ⊥
-  clash e is =
-      let there = found_stands opening (λ x. x.1.object == number) e is in
-      let root = only_root e.0 e.1 there in
-      let same = one (sym there ∙ ap (map.get opening) root ∙ formed_opening.root) in
-      isnt (sym (entry_object opening number e is) ∙ ap (λ (n : Node). n.object) same)
-
-  go : (o : Option (Names × Node)) → entry_of opening number ≡ o → entry_of opening number ≡ None
-  go None is = is
-  go (Some e) is = absurd (clash e is)

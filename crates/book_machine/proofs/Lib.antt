@@ -10,6 +10,8 @@ pub mod Handles
 pub mod Moving
 pub mod Bound
 pub mod Pushed
+pub mod Starting
+pub mod Newcomer
 pub mod Legal
 pub mod Kept
 pub mod EveryBook

@@ -6,7 +6,10 @@ use Rattle.std.specs.List.{AllByRecursion}
 use Rattle.std.specs.Map.{lookup}
 use Rattle.tree_nodes.proofs.Chains.{decide, differ}
 use Rattle.tree_handles.specs.Binding.{Bindings, same_bytes, is_bound}
+use Rattle.tree_starts.specs.declared.profile.Profile.{Profile}
 use Rattle.tree_laws.proofs.Agreeing.{others_dont_matter}
+use Rattle.tree_laws.proofs.Judged.{others_dont_matter_under}
+use Rattle.file_tree.specs.Setting.{under}
 use Rattle.file_tree.specs.Success.{next_tree}
 use Rattle.book_machine.specs.Book.{handle_of, bindings_made}
 use Rattle.book_machine.specs.Steps.{with_object}
@@ -19,6 +22,9 @@ SameNames binds made = (handle : List ℕ) (object : ℕ) → is_bound binds han
 -- so that calls do the same
 pub same_next : (binds : Bindings) (made : List ℕ) → SameNames binds made → next_tree binds ≡ next_tree (bindings_made made)
 same_next binds made same = λ i. λ tree number call outcome. others_dont_matter binds (bindings_made made) tree number call outcome (λ handle object known. same handle object) i
+
+pub same_under : (profile : Profile) (binds : Bindings) (made : List ℕ) → SameNames binds made → under profile binds ≡ under profile (bindings_made made)
+same_under profile binds made same = λ i. λ tree number call outcome. others_dont_matter_under profile binds (bindings_made made) tree number call outcome (λ handle object known. same handle object) i
 
 -- whether what a look-up finds is this object
 abbrev is_it : ℕ → Option ℕ → Bool

@@ -11,7 +11,6 @@ use Rattle.nfs3_types.specs.declared.replies.Outcome.{Outcome}
 use Rattle.nfs3_types.specs.declared.replies.Outcome.TheVariants as outcomes
 use Rattle.nfs3_types.specs.declared.status.Failure.{Failure}
 use Rattle.nfs3_types.specs.Procedures.{is_answered, failure_in}
-use Rattle.tree_starts.specs.Head.{Head}
 use Rattle.nfs_history.specs.declared.history.Meaning.TheVariants as meanings
 use Rattle.nfs_history.specs.declared.history.RecordedCall.{RecordedCall}
 use Rattle.certificate.specs.declared.plan.Place.{Place}
@@ -19,7 +18,7 @@ use Rattle.certificate.specs.declared.plan.Place.TheVariants.{Answered, Taken}
 use Rattle.nfs_history.specs.Success.{succeeded}
 use Rattle.cut_check.specs.Places.{bindings_of}
 use Rattle.replay_law.specs.Run.{state_after, kept_steps, EveryEraRuns}
-use Rattle.tree_nodes.specs.Tree.{Tree, opening}
+use Rattle.tree_nodes.specs.Tree.{Tree}
 use Rattle.tree_nodes.proofs.Chains.{chained, mapped, value_of, negated, both_pass, none_is, decide}
 use Rattle.file_tree.specs.Change.{Change}
 use Rattle.file_tree.specs.Success.{changed, change_done, change_answered}
@@ -30,14 +29,14 @@ use Rattle.certificate.specs.declared.plan.Bind.{Bind}
 use Rattle.tree_handles.specs.Binding.{Bindings}
 use Rattle.file_tree.specs.Success.{next_tree}
 use Rattle.file_tree.specs.Setting.{next_in}
-use Rattle.file_tree.specs.StartTree.{start_tree}
+use Rattle.file_tree.proofs.Profiles.{comes_out_plain, taken_alike}
 use Rattle.tree_laws.specs.Leaving.{only_looks}
 use Rattle.tree_laws.specs.Outcomes.{count_written}
 use Rattle.tree_laws.proofs.Kept.{failure_leaves, looking_leaves}
 use Rattle.tree_laws.proofs.Taking.{taken_as_received}
 use Rattle.witness_check.specs.Run.{step_with, step_of_call, step_at, steps_of, era_of, eras_of, Runs}
 use Rattle.book_machine.specs.Placing.{Placed, is_recorded}
-use Rattle.book_machine.specs.Book.{Book, bindings, handle_of}
+use Rattle.book_machine.specs.Book.{Book, Setting, bindings, setting, handle_of, object_by, next_by, tree_at_first}
 use Rattle.book_machine.specs.Plan.{bind_of, place_as, place_of, places_of, plan_over, plan_now, plan_of}
 use Rattle.book_machine.proofs.Invariant.{Over, IsKnown, IsReplied, AreKnown, AllKnown, AllRun, IsInvariant}
 use Rattle.book_machine.proofs.Lists.{taken_given}
@@ -101,11 +100,25 @@ module _ (binds : Bindings) (before after : Tree) (number : ℕ) (call : NfsCall
       let parts = both_pass (not (only_looks call)) (is_answered call reply && is_none (failure_in reply)) is in
       taken_as_received binds before after number call reply (negated (only_looks call) parts.0) (none_is (failure_in reply) (both_pass (is_answered call reply) (is_none (failure_in reply)) parts.1).1) next
 
+-- so too under a profile, behind a start
+module _ (s : Setting) (before after : Tree) (number : ℕ) (call : NfsCall) (reply : NfsReply) (next : next_by s before number call (outcomes.Received reply) ≡ Some after) where
+  plain : next_tree s.binds before (object_by s number) call (outcomes.Received reply) ≡ Some after
+  plain = comes_out_plain s.profile s.binds before after (object_by s number) call (outcomes.Received reply) next
+
+  pub unrecorded_leaves_by : (not (only_looks call) && (is_answered call reply && is_none (failure_in reply))) ≡ false → after ≡ before
+  unrecorded_leaves_by isnt = unrecorded_leaves s.binds before after (object_by s number) call reply plain isnt
+
+  pub recorded_takes_by : (not (only_looks call) && (is_answered call reply && is_none (failure_in reply))) ≡ true
+      → next_by s before number call (outcomes.Taken (count_written (outcomes.Received reply))) ≡ Some after
+  recorded_takes_by is =
+      taken_alike s.profile s.binds before (object_by s number) call (count_written (outcomes.Received reply))
+      ∙ recorded_takes s.binds before after (object_by s number) call reply plain is
+
 -- ---- the places of an era run as its calls did
 
-module _ (calls : List RecordedCall) (binds : Bindings) where
+module _ (calls : List RecordedCall) (s : Setting) (at_first : Tree) where
   abbrev next : Tree → ℕ → NfsCall → Outcome → Option Tree
-  next = next_tree binds
+  next = next_by s
 
   -- what a step does, its place does
   data Same (step : Placed) (before after : Tree) : Option Place → Type 0 where
@@ -122,7 +135,7 @@ module _ (calls : List RecordedCall) (binds : Bindings) where
     unplaced = sym (ap (option_and_then (place_as step)) known.recorded) ∙ is
 
     leaves : IsReplied known.call step → after ≡ before
-    leaves (inl quiet) = unrecorded_leaves binds before after step.number step.call known.reply runs_so (ap (λ o. not (only_looks step.call) && succeeded step.call o) (sym known.received) ∙ isnt (is_recorded step) (ap (as_taken (is_recorded step)) (sym quiet.0) ∙ unplaced)) where
+    leaves (inl quiet) = unrecorded_leaves_by s before after step.number step.call known.reply runs_so (ap (λ o. not (only_looks step.call) && succeeded step.call o) (sym known.received) ∙ isnt (is_recorded step) (ap (as_taken (is_recorded step)) (sym quiet.0) ∙ unplaced)) where
       as_taken : Bool → Option ℕ → Option Place
       as_taken b o = if is_some o then Some (Answered step.number) else if b then Some (Taken step.number (count_written step.outcome)) else None
 
@@ -143,7 +156,7 @@ module _ (calls : List RecordedCall) (binds : Bindings) where
         (ap (step_at calls) at ∙ ap (option_and_then (step_of_call (Taken step.number (count_written step.outcome)))) known.recorded
         ∙ ap (λ m. step_with step.number m (outcomes.Taken (count_written step.outcome))) known.judged)
         (ap (λ o. next before step.number step.call (outcomes.Taken (count_written o))) known.received
-        ∙ recorded_takes binds before after step.number step.call known.reply (ap (next before step.number step.call) (sym known.received) ∙ runs)
+        ∙ recorded_takes_by s before after step.number step.call known.reply (ap (next before step.number step.call) (sym known.received) ∙ runs)
         (ap (λ o. not (only_looks step.call) && succeeded step.call o) (sym known.received) ∙ recorded))
 
   pub plan_run : (era : ℕ) (steps : List Placed) → AreKnown calls era steps → (tree final : Tree) → state_after next tree steps ≡ Some final
@@ -156,7 +169,7 @@ module _ (calls : List RecordedCall) (binds : Bindings) where
             → state_after next tree (steps_of calls (cons_option o (places_of calls steps))) ≡ Some final
         go mid None (left same) rest = ap (λ t. state_after next t (steps_of calls (places_of calls steps))) (sym same) ∙ rest
         go mid (Some place) (stays _ other at runs) rest =
-            ap (λ s. state_after next tree (cons_option s (steps_of calls (places_of calls steps)))) at
+            ap (λ one. state_after next tree (cons_option one (steps_of calls (places_of calls steps)))) at
             ∙ ap (option_and_then (λ after. state_after next after (steps_of calls (places_of calls steps)))) runs ∙ rest
 
   -- ---- all eras
@@ -174,22 +187,22 @@ module _ (calls : List RecordedCall) (binds : Bindings) where
       taken_given (step_at calls) cut places ∙ ap (steps_of calls) (taken_given (place_of calls) first.kept first.steps)
 
   runs_some : (era : ℕ) (steps : List Placed) → AreKnown calls era steps → (tree : Tree) → IsSome (state_after next tree steps) → IsSome (state_after next tree (steps_of calls (places_of calls steps)))
-  runs_some era steps known tree s =
-      let final = value_of (state_after next tree steps) s in
+  runs_some era steps known tree some =
+      let final = value_of (state_after next tree steps) some in
       subst IsSome (sym (plan_run era steps known tree final.0 final.1)) refl
 
-  behind_kept : (done : List Over) (tree : Tree) (steps : List Placed) → state_after next opening (kept_steps done) ≡ Some tree → IsSome (state_after next tree steps)
-      → IsSome (state_after next opening (kept_steps done ++ steps))
-  behind_kept done tree steps reached s =
-      subst IsSome (sym (state_after-append next opening (kept_steps done) steps ∙ ap (option_and_then (λ t. state_after next t steps)) reached)) s
+  behind_kept : (done : List Over) (tree : Tree) (steps : List Placed) → state_after next at_first (kept_steps done) ≡ Some tree → IsSome (state_after next tree steps)
+      → IsSome (state_after next at_first (kept_steps done ++ steps))
+  behind_kept done tree steps reached some =
+      subst IsSome (sym (state_after-append next at_first (kept_steps done) steps ∙ ap (option_and_then (λ t. state_after next t steps)) reached)) some
 
-  all_run : (e : ℕ) (over : List Over) (placed : List Placed) → AllKnown calls e over placed → (done : List Over) (tree : Tree) → state_after next opening (kept_steps done) ≡ Some tree
-      → AllRun binds tree over placed → (ahead behind : List Over) (era : Over) → map (era_of calls) (plans calls over placed) ≡ ahead ++ era ∷ behind
-      → IsSome (state_after next opening (kept_steps (done ++ ahead) ++ era.steps))
+  all_run : (e : ℕ) (over : List Over) (placed : List Placed) → AllKnown calls e over placed → (done : List Over) (tree : Tree) → state_after next at_first (kept_steps done) ≡ Some tree
+      → AllRun s tree over placed → (ahead behind : List Over) (era : Over) → map (era_of calls) (plans calls over placed) ≡ ahead ++ era ∷ behind
+      → IsSome (state_after next at_first (kept_steps (done ++ ahead) ++ era.steps))
   all_run e [] placed known done tree reached runs [] behind era parts =
       let is : era_of calls (plan_now calls placed) ≡ era = head_is parts in
-      subst (λ (x : Over). IsSome (state_after next opening (kept_steps (done ++ []) ++ x.steps))) is
-      (subst (λ (xs : List Over). IsSome (state_after next opening (kept_steps xs ++ steps_of calls (places_of calls placed)))) (sym (append-nil done))
+      subst (λ (x : Over). IsSome (state_after next at_first (kept_steps (done ++ []) ++ x.steps))) is
+      (subst (λ (xs : List Over). IsSome (state_after next at_first (kept_steps xs ++ steps_of calls (places_of calls placed)))) (sym (append-nil done))
       (behind_kept done tree (steps_of calls (places_of calls placed)) reached (runs_some e placed known tree runs)))
   all_run e [] placed known done tree reached runs (a ∷ []) behind era parts = absurd (short (tail_is parts)) where
     short : [] ≡ era ∷ behind → ⊥
@@ -199,8 +212,8 @@ module _ (calls : List RecordedCall) (binds : Bindings) where
     short f = cc
   all_run e (first ∷ over) placed known done tree reached runs [] behind era parts =
       let is : era_of calls (plan_over calls first) ≡ era = head_is parts in
-      subst (λ (x : Over). IsSome (state_after next opening (kept_steps (done ++ []) ++ x.steps))) is
-      (subst (λ (xs : List Over). IsSome (state_after next opening (kept_steps xs ++ steps_of calls (places_of calls first.steps)))) (sym (append-nil done))
+      subst (λ (x : Over). IsSome (state_after next at_first (kept_steps (done ++ []) ++ x.steps))) is
+      (subst (λ (xs : List Over). IsSome (state_after next at_first (kept_steps xs ++ steps_of calls (places_of calls first.steps)))) (sym (append-nil done))
       (behind_kept done tree (steps_of calls (places_of calls first.steps)) reached (runs_some e first.steps known.0 tree runs.0)))
   all_run e (first ∷ over) placed known done tree reached runs (a ∷ ahead) behind era parts =
       let is : era_of calls (plan_over calls first) ≡ a = head_is parts in
@@ -208,12 +221,12 @@ module _ (calls : List RecordedCall) (binds : Bindings) where
       let base = runs.1 in
       let kept : state_after next tree (take own.kept own.steps) ≡ Some base.0 =
       ap (state_after next tree) (kept_same first) ∙ plan_run e (take first.kept first.steps) (known_front e first.kept first.steps known.0) tree base.0 base.1 in
-      let further : state_after next opening (kept_steps (done ++ own ∷ [])) ≡ Some base.0 =
-      ap (state_after next opening) (flat_map-append (λ (x : Over). take x.kept x.steps) done (own ∷ []) ∙ ap (λ xs. kept_steps done ++ xs) (append-nil (take own.kept own.steps)))
-      ∙ state_after-append next opening (kept_steps done) (take own.kept own.steps) ∙ ap (option_and_then (λ t. state_after next t (take own.kept own.steps))) reached ∙ kept in
+      let further : state_after next at_first (kept_steps (done ++ own ∷ [])) ≡ Some base.0 =
+      ap (state_after next at_first) (flat_map-append (λ (x : Over). take x.kept x.steps) done (own ∷ []) ∙ ap (λ xs. kept_steps done ++ xs) (append-nil (take own.kept own.steps)))
+      ∙ state_after-append next at_first (kept_steps done) (take own.kept own.steps) ∙ ap (option_and_then (λ t. state_after next t (take own.kept own.steps))) reached ∙ kept in
       let rest = all_run (e + 1) over placed known.1 (done ++ own ∷ []) base.0 further base.2 ahead behind era (tail_is parts) in
-      subst (λ (x : Over). IsSome (state_after next opening (kept_steps (done ++ x ∷ ahead) ++ era.steps))) is
-      (subst (λ (xs : List Over). IsSome (state_after next opening (kept_steps xs ++ era.steps))) (append_assoc done (own ∷ []) ahead) rest)
+      subst (λ (x : Over). IsSome (state_after next at_first (kept_steps (done ++ x ∷ ahead) ++ era.steps))) is
+      (subst (λ (xs : List Over). IsSome (state_after next at_first (kept_steps xs ++ era.steps))) (append_assoc done (own ∷ []) ahead) rest)
 
 -- ---- the binds
 
@@ -232,7 +245,7 @@ binds_same book = ap (λ pairs. record { root = handle_of 0; pairs = pairs }) (b
 
 pub plan_runs : (book : Book) → IsInvariant book → Runs book.history.known (plan_of book)
 plan_runs book i =
-    subst (λ (head : Head). EveryEraRuns (next_in head.profile (length head.start) (bindings_of head.root (plan_of book).binds)) (start_tree head.start) (eras_of book.history.known (plan_of book)))
-    (sym i.head)
-    (subst (λ (b : Bindings). EveryEraRuns (next_tree b) opening (eras_of book.history.known (plan_of book))) (sym (binds_same book))
-    (λ ahead behind era parts. all_run book.history.known.calls (bindings book) 1 book.over book.placed i.known [] opening refl i.runs ahead behind era parts))
+    let head = book.history.known.head in
+    subst (λ (b : Bindings). EveryEraRuns (next_in head.profile (length head.start) b) (tree_at_first book) (eras_of book.history.known (plan_of book)))
+    (sym (ap (λ root. bindings_of root (plan_of book).binds) i.root ∙ binds_same book))
+    (λ ahead behind era parts. all_run book.history.known.calls (setting book) (tree_at_first book) 1 book.over book.placed i.known [] (tree_at_first book) refl i.runs ahead behind era parts)

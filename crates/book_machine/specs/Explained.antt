@@ -1,6 +1,9 @@
 -- Every state of a book proves itself: its own certificate is a witness of its own history.
 use Rattle.std.specs.Prelude.{ℕ, List, IsSome}
 use Rattle.std.specs.List.{AllByRecursion}
+use Rattle.tree_starts.specs.Start.{IsStart}
+use Rattle.tree_starts.specs.declared.object.StartObject.{StartObject}
+use Rattle.tree_starts.specs.declared.profile.Profile.{Profile}
 use Rattle.nfs_history.specs.History.{IsHistory, recording_of}
 use Rattle.witness_check.specs.Witness.{IsWitness}
 use Rattle.book_machine.specs.Book.{Book, tree_of}
@@ -15,7 +18,9 @@ pub record IsExplained (book : Book) : Type 0 where
   -- what it keeps leads to a tree, in which the next call can be placed
   pub tree : IsSome (tree_of book)
 
--- whatever steps it takes, with crashes, survivors, faults of the device and refusals between them
+-- whatever stood at first and however strictly it is judged, and whatever steps it takes, with crashes, survivors, faults of the device and
+-- refusals between them
 abbrev pub EveryBookIsExplained : Type 0
 EveryBookIsExplained =
-    (faults : ℕ) (books : List Book) → IsRun (opening_book faults) books → IsExplained (opening_book faults) × AllByRecursion IsExplained books
+    (profile : Profile) (start : List StartObject) (faults : ℕ) (books : List Book) → IsStart start → IsRun (opening_book profile start faults) books
+    → IsExplained (opening_book profile start faults) × AllByRecursion IsExplained books

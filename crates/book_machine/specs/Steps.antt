@@ -1,5 +1,6 @@
 -- What a book may do: its steps, one after the other. A journal server takes each under one lock.
 use Rattle.std.specs.Prelude.{◌≡◌, ◌≢◌, ◌⊎◌, ℕ, zero, suc, ◌+◌, ◌-◌, ◌<◌, ◌≤◌, ◌^◌, ◌&&◌, nat_lt, Bool, true, false, if◌then◌else◌, List, [], ◌∷◌, ◌++◌, length, take, slice_get, Some, None, IfSome, is_some}
+use Rattle.std.specs.List.{range_with_len}
 use Rattle.std.specs.List.{AllByRecursion}
 use Rattle.nfs3_types.specs.declared.calls.NfsCall.{NfsCall}
 use Rattle.nfs3_types.specs.declared.calls.NfsCall.TheVariants as calls
@@ -15,7 +16,8 @@ use Rattle.xdr_records.specs.Record.{record_limit}
 use Rattle.nfs3_msgs.specs.Messages.{IsResult, result_text}
 use Rattle.history_file.specs.declared.event.Event.TheVariants as events
 use Rattle.history_file.specs.Owning.{all_happened}
-use Rattle.tree_starts.specs.Head.{plain_head}
+use Rattle.tree_starts.specs.declared.object.StartObject.{StartObject}
+use Rattle.tree_starts.specs.declared.profile.Profile.{Profile}
 use Rattle.nfs_history.specs.declared.history.Meaning.TheVariants as meanings
 use Rattle.nfs_history.specs.declared.history.RecordedCall.{RecordedCall}
 use Rattle.nfs_history.specs.HistoryValue.{HistoryValue}
@@ -25,7 +27,6 @@ use Rattle.nfs_history.specs.History.{IsCallOfNfs}
 use Rattle.nfs_history.specs.Outside.{outside}
 use Rattle.nfs_history.specs.Precedence.{call_at}
 use Rattle.tree_nodes.specs.Tree.{Tree, entry_of}
-use Rattle.file_tree.specs.Success.{next_tree}
 use Rattle.nfs_history.specs.Success.{commit_success}
 use Rattle.cut_check.specs.Effect.{effect_of}
 use Rattle.cut_check.specs.declared.effect.Effect.TheVariants.{Lasting}
@@ -33,7 +34,7 @@ use Rattle.cut_check.specs.Verifier.{verifier_of}
 use Rattle.journal_device.specs.Device.{Device}
 use Rattle.book_machine.specs.Served.{IsServed}
 use Rattle.book_machine.specs.Placing.{Placed, is_recorded, records_in, front_with}
-use Rattle.book_machine.specs.Book.{Book, Condition, handle_of, bindings, bindings_made, tree_of, records_kept}
+use Rattle.book_machine.specs.Book.{Book, Condition, handle_of, bindings, setting_made, object_in, next_by, tree_of, records_kept}
 use Rattle.book_machine.specs.Book.Condition.{running, down, dead}
 
 -- ---- the history
@@ -121,7 +122,7 @@ abbrev pub with_object : ℕ → List ℕ → List ℕ
 with_object object [] = object ∷ []
 with_object object (first ∷ rest) = if nat_lt object first then object ∷ first ∷ rest else first ∷ with_object object rest
 
--- of a call that made an object
+-- with that of a call, if the call made it
 abbrev pub with_made : ℕ → Tree → List ℕ → List ℕ
 with_made number after made = if is_some (entry_of after number) then with_object number made else made
 
@@ -161,8 +162,8 @@ step_of number call reply = record { number = number; call = call; outcome = out
 -- changes the tree
 pub record Places (old : Book) (number : ℕ) (reply : NfsReply) (new : Book) : Type 0 where
   pub running : old.condition ≡ running
-  -- its handle, if it makes an object, has eight bytes
-  pub numbered : number < 2 ^ 64
+  -- its object's handle, if it makes one, has eight bytes
+  pub numbered : object_in old number < 2 ^ 64
   pub recorded : RecordedCall
   pub call : NfsCall
   pub message : List ℕ
@@ -173,8 +174,8 @@ pub record Places (old : Book) (number : ℕ) (reply : NfsReply) (new : Book) : 
   pub before : Tree
   pub after : Tree
   pub stood : tree_of old ≡ Some before
-  pub next : next_tree (bindings_made (with_made number after old.made)) before number call (outcomes.Received reply) ≡ Some after
-  pub served : IsServed (bindings old) before number call reply
+  pub next : next_by (setting_made old.history.known.head (with_made (object_in old number) after old.made)) before number call (outcomes.Received reply) ≡ Some after
+  pub served : IsServed (bindings old) before (object_in old number) call reply
   pub verifier : ShowsEra old call reply
   -- a message can hold it, as an answer to the call's
   pub answers : IsAnswerTo message (reply_message recorded.xid reply) reply
@@ -182,7 +183,7 @@ pub record Places (old : Book) (number : ℕ) (reply : NfsReply) (new : Book) : 
   pub done : new
       ≡ record old {
         placed = old.placed ++ step_of number call reply ∷ [];
-        made = with_made number after old.made;
+        made = with_made (object_in old number) after old.made;
         device = with_record (is_recorded (step_of number call reply)) (journal_record number message (reply_message recorded.xid reply)) old.device;
       }
 
@@ -285,14 +286,14 @@ pub data Steps (old new : Book) : Type 0 where
   crashes : (keep : ℕ) → Crashes old keep new → Steps old new
   refuses : Refuses old new → Steps old new
 
--- a book ahead of its first step, over an empty device that has failed so often
-abbrev pub opening_book : ℕ → Book
-opening_book faults =
+-- a book ahead of its first step, of a server that held these objects at first, over an empty device that has failed so often
+abbrev pub opening_book : Profile → List StartObject → ℕ → Book
+opening_book profile start faults =
     record {
-      history = record { known = record { head = plain_head (handle_of 0); eras = 1; calls = [] }; events = []; spare = 0 };
+      history = record { known = record { head = record { root = handle_of 0; start = start; profile = profile }; eras = 1; calls = [] }; events = []; spare = 0 };
       over = [];
       placed = [];
-      made = [];
+      made = range_with_len 1 (length start);
       device = record { records = []; mark = 0; faults = faults };
       condition = running;
     }

@@ -7,4 +7,4 @@ mod run;
 
 pub use end::RunEnd;
 pub use plan_text::{Plan, PlanFault, read_plan};
-pub use run::run_plan;
+pub use run::{run_plan, run_plan_from};

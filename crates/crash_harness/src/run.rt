@@ -7,7 +7,7 @@ ghost use Rattle.served_laws.specs.ServedPlan.{EachServed};
 
 use crate::client::{Client, SimServer};
 use crate::end::RunEnd;
-use journal_server::{Closed, JoinFault, OpenGate, Pass, Server, SimDevice};
+use journal_server::{Closed, JoinFault, OpenGate, Pass, Profile, Server, SimDevice, Start};
 use plan_text::{Plan, Step};
 use std::alloc::{AllocError, Global};
 use std::sync::Wait;
@@ -99,8 +99,38 @@ fn run_steps<R: Threads + Wait + Sync>(
     Ok(())
 }
 
-/// Runs a plan over a server of its own, and gives what the server recorded. Each lane between two `go` lines is a client on a
-/// thread; all begin their transaction numbers at 1. A run takes at most 9,844 passes, since each 64 need a `go`.
+/// Runs a plan over a server of its own that holds these objects at first, under this profile, and gives what the server recorded.
+/// Each lane between two `go` lines is a client on a thread; all begin their transaction numbers at 1. A run takes at most 9,844
+/// passes, since each 64 need a `go`.
+pub fn run_plan_from<R: Threads + Wait + Sync>(
+    rt: &R,
+    alloc: Global,
+    plan: &Plan,
+    profile: Profile,
+    start: Start,
+) -> Result<Closed, RunEnd>
+    // The certificate is a witness of the history, and each reply is as full as can be.
+    ensures explains { IfOk result (λ closed. IsWitness closed.history.known closed.certificate) }
+    ensures serves { IfOk result (λ closed. EachServed closed.history.known closed.certificate) }
+    // It can be written as a text, and is read back.
+    ensures written { IfOk result (λ closed. IsCertificate closed.certificate) }
+{
+    let mut passes = Vec::new(alloc);
+    let device = SimDevice::new(alloc, plan.append_fault, plan.barrier_fault, None);
+    let server = Server::new_from(alloc, OpenGate, device, profile, start)?;
+    match run_steps(rt, alloc, &server, plan.steps.as_slice(), &mut passes) {
+        Ok(()) => match server.close(passes) {
+            Ok(closed) => Ok(closed),
+            Err(fault) => Err(RunEnd::Close(fault)),
+        },
+        Err(end) => {
+            drop(server.close(passes));
+            Err(end)
+        }
+    }
+}
+
+/// Runs a plan as [`run_plan_from`], over a server that holds nothing at first, under the plain profile.
 pub fn run_plan<R: Threads + Wait + Sync>(
     rt: &R,
     alloc: Global,
@@ -112,17 +142,5 @@ pub fn run_plan<R: Threads + Wait + Sync>(
     // It can be written as a text, and is read back.
     ensures written { IfOk result (λ closed. IsCertificate closed.certificate) }
 {
-    let mut passes = Vec::new(alloc);
-    let device = SimDevice::new(alloc, plan.append_fault, plan.barrier_fault, None);
-    let server = Server::new(alloc, OpenGate, device)?;
-    match run_steps(rt, alloc, &server, plan.steps.as_slice(), &mut passes) {
-        Ok(()) => match server.close(passes) {
-            Ok(closed) => Ok(closed),
-            Err(fault) => Err(RunEnd::Close(fault)),
-        },
-        Err(end) => {
-            drop(server.close(passes));
-            Err(end)
-        }
-    }
+    run_plan_from(rt, alloc, plan, Profile::Plain, Start::empty(alloc))
 }

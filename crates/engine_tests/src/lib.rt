@@ -19,3 +19,5 @@ mod recordings;
 mod samples;
 #[cfg(test)]
 mod served;
+#[cfg(test)]
+mod started;

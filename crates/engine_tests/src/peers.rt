@@ -44,7 +44,7 @@ pub(crate) fn sends(stream: &mut TcpStream, record: &[u8]) -> bool {
 
 /// Whether just this record comes next.
 pub(crate) fn comes(stream: &mut TcpStream, record: &[u8]) -> bool {
-    let mut buffer = [0; 64];
+    let mut buffer = [0; 192];
     if record.len() > buffer.len() {
         return false;
     }

@@ -3,7 +3,7 @@
 use crate::peers::{comes, connect, ends, free_port, listen, port_of, sends};
 use crate::recordings::{says, tap_line};
 use journal_server::{CloseFault, CrashFault};
-use nfs_history::read_history;
+use nfs_history::{HistoryFault, read_history};
 use nfs_recording::Recorder;
 use nfs_relay::Host;
 use nfs_running::{RunFault, fault_report};
@@ -120,8 +120,8 @@ fn count_calls(alloc: Global, bytes: &[u8]) -> Option<u64> {
     Some(read_history(alloc, bytes).ok()?.calls())
 }
 
-/// What a file has. It is taken away.
-fn take_file<R: Recorder>(rt: &R, port: u16, kind: &str) -> io::Result<Vec<u8>> {
+/// What a file of this kind at a port has. It is taken away.
+pub(crate) fn take_file<R: Recorder>(rt: &R, port: u16, kind: &str) -> io::Result<Vec<u8>> {
     let path = format!(in rt.alloc(); "/tmp/nfsbench_{port}.{kind}")?;
     let bytes = fs::read(rt, path.as_str())?;
     fs::remove_file(rt, path.as_str())?;
@@ -201,8 +201,18 @@ fn what_serve_cannot_have_is_refused(rt: HostRuntime) -> Result<(), Fail> {
 }
 
 /// What is said of each fault.
-const FAULTS: [(RunFault, u8, &str); 7] = [
+const FAULTS: [(RunFault, u8, &str); 9] = [
     (RunFault::BadPlan(7), 2, "refused: BadPlan 7\n"),
+    (
+        RunFault::Start(HistoryFault::BadStart(5)),
+        2,
+        "refused: start: BadStart 5\n",
+    ),
+    (
+        RunFault::CannotReadStart,
+        2,
+        "refused: start: cannot read\n",
+    ),
     (RunFault::CannotListen, 2, "refused: cannot listen\n"),
     (RunFault::NoThread, 2, "refused: no thread\n"),
     (RunFault::CannotWrite, 2, "refused: cannot write\n"),

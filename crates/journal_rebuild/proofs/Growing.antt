@@ -1,21 +1,23 @@
--- changes that are made one after the other, each with the handles of the numbers up to its own, are a run with the handles of all
-use Rattle.std.proofs.Common.{◌≡◌, ◌⊎◌, inl, inr, ℕ, List, [], ◌∷◌, ◌++◌, map, Option, Some, None, refl, sym, ap, ◌∙◌, subst, append-nil}
-use Rattle.std.specs.Prelude.{IsSome, ◌==◌, option_and_then}
-use Rattle.std.specs.FinMap as map
+-- changes that are made one after the other, each with the handles of the objects up to its own, are a run with the handles of all
+use Rattle.std.proofs.Common.{◌≡◌, ◌<◌, ◌≤◌, ◌+◌, ◌⊎◌, inl, inr, ℕ, zero, suc, List, [], ◌∷◌, ◌++◌, length, map, Option, Some, None, refl, sym, ap, ◌∙◌, subst, append-nil, arith}
+use Rattle.std.specs.Prelude.{IsSome, option_and_then}
+use Rattle.std.specs.List.{range_with_len}
+use Rattle.std.proofs.lemmas.Bool.{cases_lt}
 use Rattle.std.proofs.lemmas.List.{append_assoc}
 use Rattle.nfs3_types.specs.declared.replies.Outcome.TheVariants.{Received}
 use Rattle.replay_law.specs.Run.{state_after}
 use Rattle.journal_records.specs.declared.change.Change.{Change}
-use Rattle.tree_nodes.specs.declared.node.Node.{Node}
-use Rattle.tree_nodes.specs.Tree.{Tree, opening, entry_of}
-use Rattle.tree_nodes.proofs.Chains.{same_some, value_of}
-use Rattle.tree_nodes.proofs.Found.{found_stands}
-use Rattle.file_tree.specs.Success.{next_tree}
-use Rattle.tree_laws.proofs.Agreeing.{others_dont_matter}
+use Rattle.tree_starts.specs.Start.{IsStart}
+use Rattle.tree_starts.specs.declared.object.StartObject.{StartObject}
+use Rattle.tree_starts.specs.declared.profile.Profile.{Profile}
+use Rattle.tree_nodes.specs.Tree.{Tree, entry_of}
+use Rattle.file_tree.specs.Setting.{next_in}
+use Rattle.file_tree.specs.StartTree.{start_tree}
+use Rattle.file_tree.proofs.Profiles.{comes_out_plain}
+use Rattle.tree_laws.proofs.Judged.{others_dont_matter_under}
 use Rattle.tree_laws.proofs.Newcomers.{only_its_own_is_new}
-use Rattle.tree_laws.proofs.Handles.{entry_object}
-use Rattle.tree_laws.proofs.Keeping.{only_root, formed_opening}
-use Rattle.journal_rebuild.specs.Rebuilding.{bindings_made, step_in, numbers_in}
+use Rattle.tree_laws.proofs.Starting.{none_further}
+use Rattle.journal_rebuild.specs.Rebuilding.{bindings_made, step_in, object_in, objects_named}
 use Rattle.journal_rebuild.specs.Taking.{tree_behind, grown}
 use Rattle.journal_rebuild.proofs.Numbers.{Among, among_more, among_last, bound_front}
 
@@ -23,73 +25,104 @@ use Rattle.journal_rebuild.proofs.Numbers.{Among, among_more, among_last, bound_
 abbrev pub AreKnown : List ℕ → Tree → Type 0
 AreKnown numbers tree = (object : ℕ) → IsSome (entry_of tree object) → (object ≡ 0) ⊎ Among numbers object
 
--- at first there is the root alone
-pub known_opening : AreKnown [] opening
-known_opening object stands =
-    let entry = value_of (entry_of opening object) stands in
-    let there = found_stands opening (λ x. x.1.object == object) entry.0 entry.1 in
-    let at_root = only_root entry.0.0 entry.0.1 there in
-    let same = same_some entry.0.1 _ (sym there ∙ ap (map.get opening) at_root ∙ formed_opening.root) in
-    inl (sym (entry_object opening object entry.0 entry.1) ∙ ap (λ (n : Node). n.object) same)
+-- ---- what stood at first
+
+pub among_range : (n a object : ℕ) → a ≤ object → object < a + n → Among (range_with_len a n) object
+among_range zero a object from below = absurd (omega (arith, from, below))
+among_range (suc n) a object from below = elim (cases_lt a object) [
+  | inl lt ↦ inr (among_range n (a + 1) object (omega (arith, lt)) (omega (arith, below)))
+  | inr le ↦ inl (omega (arith, from, le))
+]
+
+-- at first there are the root and the starting objects
+pub known_start : (start : List StartObject) → IsStart start → AreKnown (range_with_len 1 (length start)) (start_tree start)
+known_start start is zero stands = inl refl
+known_start start is (suc object) stands = elim (cases_lt (length start) (suc object)) [
+  | inl past ↦ absurd (gone (none_further start (suc object) is past) stands)
+  | inr within ↦ inr (among_range (length start) 1 (suc object) (omega arith) (omega (arith, within)))
+] where
+  gone : {X : Type 0} {o : Option X} → o ≡ None → IsSome o → ⊥
+  gone e s = cc
 
 -- ---- a run
 
-module _ (before : List ℕ) (tree : Tree) (change : Change) (known : AreKnown before tree) where
-  abbrev number : ℕ
-  number = change.written.number
+module _ (profile : Profile) (first : ℕ) (before : List ℕ) (tree : Tree) (change : Change) (known : AreKnown before tree) where
+  abbrev own : ℕ
+  own = object_in first change
 
   abbrev so_far : List ℕ
-  so_far = before ++ change.written.number ∷ []
+  so_far = before ++ own ∷ []
 
-  known_now : (object : ℕ) → IsSome (entry_of tree object) ⊎ (object ≡ number) → (object ≡ 0) ⊎ Among so_far object
+  known_now : (object : ℕ) → IsSome (entry_of tree object) ⊎ (object ≡ own) → (object ≡ 0) ⊎ Among so_far object
   known_now object (inl stands) = go (known object stands) where
     go : (object ≡ 0) ⊎ Among before object → (object ≡ 0) ⊎ Among so_far object
     go (inl root) = inl root
-    go (inr among) = inr (among_more before (number ∷ []) object among)
-  known_now object (inr own) = inr (subst (Among so_far) (sym own) (among_last before number))
+    go (inr among) = inr (among_more before (own ∷ []) object among)
+  known_now object (inr is) = inr (subst (Among so_far) (sym is) (among_last before own))
 
-  pub known_after : (after : Tree) → tree_behind (bindings_made so_far) tree change ≡ Some after → AreKnown so_far after
-  known_after after next object stands = known_now object (only_its_own_is_new (bindings_made so_far) tree after number change.call (Received change.reply) object next stands)
+  pub known_after : (after : Tree) → tree_behind profile first (bindings_made so_far) tree change ≡ Some after → AreKnown so_far after
+  known_after after next object stands =
+      known_now object
+      (only_its_own_is_new (bindings_made so_far) tree after own change.call (Received change.reply) object
+      (comes_out_plain profile (bindings_made so_far) tree after own change.call (Received change.reply) next) stands)
 
-  pub same_behind : (rest : List ℕ) → tree_behind (bindings_made (so_far ++ rest)) tree change ≡ tree_behind (bindings_made so_far) tree change
+  pub same_behind : (rest : List ℕ) → tree_behind profile first (bindings_made (so_far ++ rest)) tree change ≡ tree_behind profile first (bindings_made so_far) tree change
   same_behind rest =
-      others_dont_matter (bindings_made (so_far ++ rest)) (bindings_made so_far) tree number change.call (Received change.reply)
+      others_dont_matter_under profile (bindings_made (so_far ++ rest)) (bindings_made so_far) tree own change.call (Received change.reply)
       (λ handle object agreed. bound_front so_far rest handle object (known_now object agreed))
 
-pub all_is_grown : (before : List ℕ) (tree : Tree) (changes : List Change) → AreKnown before tree
-    → state_after (next_tree (bindings_made (before ++ numbers_in changes))) tree (map step_in changes) ≡ grown before tree changes
-all_is_grown before tree [] known = refl
-all_is_grown before tree (change ∷ changes) known =
-    subst (λ (numbers : List ℕ). state_after (next_tree (bindings_made numbers)) tree (map step_in (change ∷ changes)) ≡ grown before tree (change ∷ changes))
-    (append_assoc before (change.written.number ∷ []) (numbers_in changes)) (whole (λ after more. all_is_grown (before ++ change.written.number ∷ []) after changes more)) where
-      whole : ((after : Tree) → AreKnown (before ++ change.written.number ∷ []) after
-          → state_after (next_tree (bindings_made ((before ++ change.written.number ∷ []) ++ numbers_in changes))) after (map step_in changes) ≡ grown (before ++ change.written.number ∷ []) after changes)
-          → state_after (next_tree (bindings_made ((before ++ change.written.number ∷ []) ++ numbers_in changes))) tree (map step_in (change ∷ changes)) ≡ grown before tree (change ∷ changes)
-      whole later =
-          ap (option_and_then (λ after. state_after (next_tree (bindings_made ((before ++ change.written.number ∷ []) ++ numbers_in changes))) after (map step_in changes)))
-          (same_behind before tree change known (numbers_in changes)) ∙ go (tree_behind (bindings_made (before ++ change.written.number ∷ [])) tree change) refl where
-            go : (o : Option Tree) → tree_behind (bindings_made (before ++ change.written.number ∷ [])) tree change ≡ o
-                → option_and_then (λ after. state_after (next_tree (bindings_made ((before ++ change.written.number ∷ []) ++ numbers_in changes))) after (map step_in changes)) o
-                ≡ option_and_then (λ after. grown (before ++ change.written.number ∷ []) after changes) o
-            go None is = refl
-            go (Some after) is = later after (known_after before tree change known after is)
+module _ (profile : Profile) (first : ℕ) where
+  -- the objects up to that of a change
+  abbrev with_own : List ℕ → Change → List ℕ
+  with_own before change = before ++ object_in first change ∷ []
 
--- changes behind others
-pub grown-append : (before : List ℕ) (tree : Tree) (changes more : List Change)
-    → grown before tree (changes ++ more) ≡ option_and_then (λ after. grown (before ++ numbers_in changes) after more) (grown before tree changes)
-grown-append before tree [] more = ap (λ numbers. grown numbers tree more) (sym (append-nil before))
-grown-append before tree (change ∷ changes) more =
-    go (tree_behind (bindings_made (before ++ change.written.number ∷ [])) tree change) (λ after. grown-append (before ++ change.written.number ∷ []) after changes more) where
-      go : (o : Option Tree)
-          → ((after : Tree) → grown (before ++ change.written.number ∷ []) after (changes ++ more)
-          ≡ option_and_then (λ final. grown ((before ++ change.written.number ∷ []) ++ numbers_in changes) final more) (grown (before ++ change.written.number ∷ []) after changes))
-          → option_and_then (λ after. grown (before ++ change.written.number ∷ []) after (changes ++ more)) o
-          ≡ option_and_then (λ final. grown (before ++ numbers_in (change ∷ changes)) final more) (option_and_then (λ after. grown (before ++ change.written.number ∷ []) after changes) o)
-      go None later = refl
-      go (Some after) later =
-          later after
-          ∙ ap (λ numbers. option_and_then (λ final. grown numbers final more) (grown (before ++ change.written.number ∷ []) after changes)) (append_assoc before (change.written.number ∷ []) (numbers_in changes))
+  -- the run of changes with the handles of these objects
+  abbrev run_with : List ℕ → Tree → List Change → Option Tree
+  run_with numbers tree changes = state_after (next_in profile first (bindings_made numbers)) tree (map step_in changes)
 
--- from the opening tree
-pub all_leads : (changes : List Change) → state_after (next_tree (bindings_made (numbers_in changes))) opening (map step_in changes) ≡ grown [] opening changes
-all_leads changes = all_is_grown [] opening changes known_opening
+  -- changes behind a tree, if there is one, each with the handles of the objects up to its own
+  abbrev grown_behind : List ℕ → List Change → Option Tree → Option Tree
+  grown_behind before changes tree = option_and_then (λ after. grown profile first before after changes) tree
+
+  pub all_is_grown : (before : List ℕ) (tree : Tree) (changes : List Change) → AreKnown before tree
+      → state_after (next_in profile first (bindings_made (before ++ map (object_in first) changes))) tree (map step_in changes) ≡ grown profile first before tree changes
+  all_is_grown before tree [] known = refl
+  all_is_grown before tree (change ∷ changes) known =
+      subst (λ (numbers : List ℕ). run_with numbers tree (change ∷ changes) ≡ grown profile first before tree (change ∷ changes))
+      (append_assoc before (object_in first change ∷ []) (map (object_in first) changes))
+      (whole (λ after more. all_is_grown (with_own before change) after changes more)) where
+        whole : ((after : Tree) → AreKnown (with_own before change) after
+            → run_with (with_own before change ++ map (object_in first) changes) after changes ≡ grown profile first (with_own before change) after changes)
+            → run_with (with_own before change ++ map (object_in first) changes) tree (change ∷ changes) ≡ grown profile first before tree (change ∷ changes)
+        whole later =
+            ap (option_and_then (λ after. run_with (with_own before change ++ map (object_in first) changes) after changes))
+            (same_behind profile first before tree change known (map (object_in first) changes))
+            ∙ go (tree_behind profile first (bindings_made (with_own before change)) tree change) refl where
+              go : (o : Option Tree) → tree_behind profile first (bindings_made (with_own before change)) tree change ≡ o
+                  → option_and_then (λ after. run_with (with_own before change ++ map (object_in first) changes) after changes) o ≡ grown_behind (with_own before change) changes o
+              go None is = refl
+              go (Some after) is = later after (known_after profile first before tree change known after is)
+
+  -- changes behind others
+  pub grown-append : (before : List ℕ) (tree : Tree) (changes more : List Change)
+      → grown profile first before tree (changes ++ more)
+      ≡ option_and_then (λ after. grown profile first (before ++ map (object_in first) changes) after more) (grown profile first before tree changes)
+  grown-append before tree [] more = ap (λ numbers. grown profile first numbers tree more) (sym (append-nil before))
+  grown-append before tree (change ∷ changes) more =
+      go (tree_behind profile first (bindings_made (with_own before change)) tree change) (λ after. grown-append (with_own before change) after changes more) where
+        go : (o : Option Tree)
+            → ((after : Tree) → grown profile first (with_own before change) after (changes ++ more)
+            ≡ grown_behind (with_own before change ++ map (object_in first) changes) more (grown profile first (with_own before change) after changes))
+            → grown_behind (with_own before change) (changes ++ more) o
+            ≡ grown_behind (before ++ map (object_in first) (change ∷ changes)) more (grown_behind (with_own before change) changes o)
+        go None later = refl
+        go (Some after) later =
+            later after
+            ∙ ap (λ numbers. grown_behind numbers more (grown profile first (with_own before change) after changes))
+            (append_assoc before (object_in first change ∷ []) (map (object_in first) changes))
+
+-- from what stood at first
+pub all_leads : (profile : Profile) (start : List StartObject) (changes : List Change) → IsStart start
+    → state_after (next_in profile (length start) (bindings_made (objects_named (length start) changes))) (start_tree start) (map step_in changes)
+    ≡ grown profile (length start) (range_with_len 1 (length start)) (start_tree start) changes
+all_leads profile start changes is = all_is_grown profile (length start) (range_with_len 1 (length start)) (start_tree start) changes (known_start start is)

@@ -1,15 +1,21 @@
 -- records and the changes that they are
-use Rattle.std.proofs.Common.{◌≡◌, ℕ, ◌+◌, ◌<◌, List, [], ◌∷◌, ◌++◌, length, take, drop, get_or, Some, refl, sym, ap, ◌∙◌, subst, arith}
+use Rattle.std.proofs.Common.{◌≡◌, ℕ, ◌+◌, ◌<◌, List, [], ◌∷◌, ◌++◌, length, take, drop, get_or, map, Some, refl, sym, ap, ◌∙◌, subst, append-nil, arith}
 use Rattle.std.specs.Prelude.{option_and_then}
-use Rattle.std.proofs.lemmas.List.{map-append, take_more, drop_more, take-append-drop, length-take}
+use Rattle.std.specs.List.{AllByRecursion, range_with_len}
+use Rattle.std.proofs.lemmas.List.{append_assoc, map-append, take_more, drop_more, take-append-drop, length-take}
+use Rattle.std.proofs.lemmas.List.FromFn.{map-range_with_len_more}
 use Rattle.journal_records.specs.declared.change.Change.{Change}
 use Rattle.journal_records.specs.Exactly.{IsOnly}
 use Rattle.journal_records.specs.Journal.{IsJournalRecord}
-use Rattle.tree_nodes.specs.Tree.{Tree, opening}
+use Rattle.tree_starts.specs.Start.{IsStart}
+use Rattle.tree_starts.specs.declared.object.StartObject.{StartObject}
+use Rattle.tree_starts.specs.declared.profile.Profile.{Profile}
+use Rattle.tree_nodes.specs.Tree.{Tree}
 use Rattle.tree_handles.specs.Binding.{Bindings}
+use Rattle.file_tree.specs.StartTree.{start_tree}
 use Rattle.journal_rebuild.specs.declared.fault.RebuildFault.{RebuildFault}
 use Rattle.journal_rebuild.specs.declared.fault.RebuildFault.TheVariants.{NoRecord, NotLegal, NoMemory}
-use Rattle.journal_rebuild.specs.Rebuilding.{handle_of, bindings_made, AreJournalRecords, numbers_in}
+use Rattle.journal_rebuild.specs.Rebuilding.{handle_of, bindings_made, AreJournalRecords, object_in, objects_named, IsNumbered}
 use Rattle.journal_rebuild.specs.Taking.{with_handle, tree_behind, IsTaken, StopsAt, AreOnly, grown, Stands, StopsIn}
 use Rattle.journal_rebuild.proofs.Numbers.{pair}
 use Rattle.journal_rebuild.proofs.Growing.{grown-append}
@@ -61,24 +67,52 @@ change_parts (r ∷ ahead) bytes behind (change ∷ changes) a =
 pub made_more : (numbers : List ℕ) (number : ℕ) → with_handle (bindings_made numbers) number ≡ bindings_made (numbers ++ number ∷ [])
 made_more numbers number = ap (λ pairs. record { root = handle_of 0; pairs = pairs }) (sym (map-append pair numbers (number ∷ [])))
 
-pub stands_first : (records : List (List ℕ)) (binds : Bindings) (tree : Tree) → binds ≡ bindings_made [] → tree ≡ opening → Stands (take 0 records) binds tree
-stands_first records binds tree no_numbers alone = record { changes = []; are = tt; names = no_numbers; leads = ap Some (sym alone) }
+-- those of the objects that stood at first
+pub first_more : (n : ℕ) (binds binds' : Bindings) → binds ≡ bindings_made (range_with_len 1 n) → binds' ≡ with_handle binds (n + 1) → binds' ≡ bindings_made (range_with_len 1 (n + 1))
+first_more n binds binds' named more =
+    more ∙ ap (λ (b : Bindings). with_handle b (n + 1)) named
+    ∙ ap (λ pairs. record { root = handle_of 0; pairs = pairs }) (sym (map-range_with_len_more pair 1 n (n + 1) (omega arith)))
 
-pub stands_more : (records : List (List ℕ)) (bytes : List ℕ) (binds binds' : Bindings) (tree tree' : Tree) → Stands records binds tree → IsTaken bytes binds tree binds' tree'
-    → Stands (records ++ bytes ∷ []) binds' tree'
-stands_more records bytes binds binds' tree tree' s t = record {
-  changes = s.changes ++ t.change ∷ [];
-  are = only_append records s.changes bytes t.change s.are t.only;
-  names = names;
-  leads = grown-append [] opening s.changes (t.change ∷ []) ∙ ap (option_and_then (λ after. grown (numbers_in s.changes) after (t.change ∷ []))) s.leads
-      ∙ ap (option_and_then (λ (after : Tree). Some after)) (ap (λ (b : Bindings). tree_behind b tree t.change) (sym so_far) ∙ t.leads);
-} where
-  so_far : binds' ≡ bindings_made (numbers_in s.changes ++ t.change.written.number ∷ [])
-  so_far =
-      t.names ∙ ap (λ (b : Bindings). with_handle b t.change.written.number) s.names ∙ made_more (numbers_in s.changes) t.change.written.number
+-- those of changes
+pub named_more : (first : ℕ) (changes : List Change) (change : Change) → objects_named first changes ++ object_in first change ∷ [] ≡ objects_named first (changes ++ change ∷ [])
+named_more first changes change =
+    append_assoc (range_with_len 1 first) (map (object_in first) changes) (object_in first change ∷ [])
+    ∙ ap (λ numbers. range_with_len 1 first ++ numbers) (sym (map-append (object_in first) changes (change ∷ [])))
 
-  names : binds' ≡ bindings_made (numbers_in (s.changes ++ t.change ∷ []))
-  names = so_far ∙ ap bindings_made (sym (map-append (λ (change : Change). change.written.number) s.changes (t.change ∷ [])))
+all_more : (P : Change → Type 0) (changes : List Change) (change : Change) → AllByRecursion P changes → P change → AllByRecursion P (changes ++ change ∷ [])
+all_more P [] change all more = (more, tt)
+all_more P (c ∷ changes) change all more = (all.0, all_more P changes change all.1 more)
+
+module _ (profile : Profile) (start : List StartObject) where
+  abbrev first : ℕ
+  first = length start
+
+  pub stands_first : (records : List (List ℕ)) (binds : Bindings) (tree : Tree) → IsStart start → binds ≡ bindings_made (range_with_len 1 (length start)) → tree ≡ start_tree start
+      → Stands profile start (take 0 records) binds tree
+  stands_first records binds tree is named at_first = record {
+    changes = [];
+    are = tt;
+    numbered = tt;
+    names = named ∙ ap bindings_made (sym (append-nil (range_with_len 1 first)));
+    start_is = is;
+    leads = ap Some (sym at_first);
+  }
+
+  pub stands_more : (records : List (List ℕ)) (bytes : List ℕ) (binds binds' : Bindings) (tree tree' : Tree) → Stands profile start records binds tree
+      → IsTaken profile (length start) bytes binds tree binds' tree' → Stands profile start (records ++ bytes ∷ []) binds' tree'
+  stands_more records bytes binds binds' tree tree' s t = record {
+    changes = s.changes ++ t.change ∷ [];
+    are = only_append records s.changes bytes t.change s.are t.only;
+    numbered = all_more (IsNumbered first) s.changes t.change s.numbered t.made.numbered;
+    names = so_far ∙ ap bindings_made (named_more first s.changes t.change);
+    start_is = s.start_is;
+    leads = grown-append profile first (range_with_len 1 first) (start_tree start) s.changes (t.change ∷ [])
+        ∙ ap (option_and_then (λ after. grown profile first (objects_named first s.changes) after (t.change ∷ []))) s.leads
+        ∙ ap (option_and_then (λ (after : Tree). Some after)) (ap (λ (b : Bindings). tree_behind profile first b tree t.change) (sym so_far) ∙ t.made.leads);
+  } where
+    so_far : binds' ≡ bindings_made (objects_named first s.changes ++ object_in first t.change ∷ [])
+    so_far =
+        t.made.names ∙ ap (λ (b : Bindings). with_handle b (object_in first t.change)) s.names ∙ made_more (objects_named first s.changes) (object_in first t.change)
 
 -- ---- a record that isn't taken
 
@@ -89,39 +123,43 @@ stop_parts records i bytes lt is =
 pub stop_place : (records : List (List ℕ)) (i number : ℕ) → i < length records → number ≡ i + 1 → number ≡ length (take i records) + 1
 stop_place records i number lt is = let so_many = length-take i records in omega (arith, lt, is, so_many)
 
-stops_here : (records : List (List ℕ)) (i number : ℕ) (bytes : List ℕ) (binds : Bindings) (tree : Tree) → i < length records → bytes ≡ get_or records i bytes → number ≡ i + 1
-    → Stands (take i records) binds tree → (fault : RebuildFault) → StopsAt number bytes binds tree fault → StopsIn records fault
-stops_here records i number bytes binds tree lt is place stands (NoRecord n) stop = record {
-  ahead = take i records;
-  bad = bytes;
-  behind = drop (i + 1) records;
-  parts = stop_parts records i bytes lt is;
-  place = stop.0 ∙ stop_place records i number lt place;
-  binds = binds;
-  tree = tree;
-  stands = stands;
-  why = stop.1;
-}
-stops_here records i number bytes binds tree lt is place stands (NotLegal n) stop = record {
-  ahead = take i records;
-  bad = bytes;
-  behind = drop (i + 1) records;
-  parts = stop_parts records i bytes lt is;
-  place = stop.0 ∙ stop_place records i number lt place;
-  binds = binds;
-  tree = tree;
-  stands = stands;
-  why = stop.1;
-}
-stops_here records i number bytes binds tree lt is place stands NoMemory stop = tt
+module _ (profile : Profile) (start : List StartObject) where
+  stops_here : (records : List (List ℕ)) (i number : ℕ) (bytes : List ℕ) (binds : Bindings) (tree : Tree) → i < length records → bytes ≡ get_or records i bytes → number ≡ i + 1
+      → Stands profile start (take i records) binds tree → (fault : RebuildFault) → StopsAt profile (length start) number bytes binds tree fault → StopsIn profile start records fault
+  stops_here records i number bytes binds tree lt is place stands (NoRecord n) stop = record {
+    ahead = take i records;
+    bad = bytes;
+    behind = drop (i + 1) records;
+    parts = stop_parts records i bytes lt is;
+    place = stop.0 ∙ stop_place records i number lt place;
+    binds = binds;
+    tree = tree;
+    stands = stands;
+    why = stop.1;
+  }
+  stops_here records i number bytes binds tree lt is place stands (NotLegal n) stop = record {
+    ahead = take i records;
+    bad = bytes;
+    behind = drop (i + 1) records;
+    parts = stop_parts records i bytes lt is;
+    place = stop.0 ∙ stop_place records i number lt place;
+    binds = binds;
+    tree = tree;
+    stands = stands;
+    why = stop.1;
+  }
+  stops_here records i number bytes binds tree lt is place stands NoMemory stop = tt
 
-pub stands_next : (records : List (List ℕ)) (i : ℕ) (bytes seen : List ℕ) (binds binds' : Bindings) (tree tree' : Tree) → i < length records → bytes ≡ get_or records i bytes → seen ≡ bytes
-    → Stands (take i records) binds tree → IsTaken seen binds tree binds' tree' → Stands (take (i + 1) records) binds' tree'
-stands_next records i bytes seen binds binds' tree tree' lt is same s t =
-    subst (λ rs. Stands rs binds' tree') (sym (take_more records i bytes lt ∙ ap (λ y. take i records ++ y ∷ []) (sym is)))
-    (stands_more (take i records) bytes binds binds' tree tree' s (subst (λ (b : List ℕ). IsTaken b binds tree binds' tree') same t))
+  pub stands_next : (records : List (List ℕ)) (i count : ℕ) (bytes seen : List ℕ) (binds binds' : Bindings) (tree tree' : Tree) → i < length records → bytes ≡ get_or records i bytes → seen ≡ bytes
+      → count ≡ length start → Stands profile start (take i records) binds tree → IsTaken profile count seen binds tree binds' tree' → Stands profile start (take (i + 1) records) binds' tree'
+  stands_next records i count bytes seen binds binds' tree tree' lt is same counted s t =
+      subst (λ rs. Stands profile start rs binds' tree') (sym (take_more records i bytes lt ∙ ap (λ y. take i records ++ y ∷ []) (sym is)))
+      (stands_more profile start (take i records) bytes binds binds' tree tree' s
+      (subst (λ (n : ℕ). IsTaken profile n bytes binds tree binds' tree') counted (subst (λ (b : List ℕ). IsTaken profile count b binds tree binds' tree') same t)))
 
-pub stops_next : (records : List (List ℕ)) (i number : ℕ) (bytes seen : List ℕ) (binds : Bindings) (tree : Tree) → i < length records → bytes ≡ get_or records i bytes → seen ≡ bytes → number ≡ i + 1
-    → Stands (take i records) binds tree → (fault : RebuildFault) → StopsAt number seen binds tree fault → StopsIn records fault
-stops_next records i number bytes seen binds tree lt is same place s fault stop =
-    stops_here records i number bytes binds tree lt is place s fault (subst (λ (b : List ℕ). StopsAt number b binds tree fault) same stop)
+  pub stops_next : (records : List (List ℕ)) (i count number : ℕ) (bytes seen : List ℕ) (binds : Bindings) (tree : Tree) → i < length records → bytes ≡ get_or records i bytes → seen ≡ bytes
+      → count ≡ length start → number ≡ i + 1 → Stands profile start (take i records) binds tree → (fault : RebuildFault) → StopsAt profile count number seen binds tree fault
+      → StopsIn profile start records fault
+  stops_next records i count number bytes seen binds tree lt is same counted place s fault stop =
+      stops_here records i number bytes binds tree lt is place s fault
+      (subst (λ (n : ℕ). StopsAt profile n number bytes binds tree fault) counted (subst (λ (b : List ℕ). StopsAt profile count number b binds tree fault) same stop))

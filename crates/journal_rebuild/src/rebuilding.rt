@@ -1,31 +1,39 @@
 //! A tree out of a journal's records.
 
-ghost use Rattle.std.specs.Prelude.{◌≡◌, ◌⊎◌, [], IfOk, IfErr, OnOk, Ok, Err};
-ghost use Rattle.tree_nodes.specs.Tree.{Tree, opening};
+ghost use Rattle.std.specs.Prelude.{◌≡◌, ◌⊎◌, [], length, IfOk, IfErr, OnOk, Ok, Err};
+ghost use Rattle.std.specs.List.{range_with_len};
+ghost use Rattle.tree_starts.specs.declared.profile.Profile.TheVariants.{Plain};
+ghost use Rattle.tree_nodes.specs.Tree.{Tree};
+ghost use Rattle.file_tree.specs.StartTree.{start_tree};
 ghost use Rattle.journal_rebuild.specs.Rebuilding.{bindings_made, Rebuilds, FaultHolds};
 ghost use Rattle.journal_rebuild.specs.Taking.{Stands, Leads, StopsIn};
 ghost use Rattle.journal_rebuild.specs.declared.fault.RebuildFault.TheVariants.{NoMemory};
 
 use crate::fault::RebuildFault;
+use crate::naming::{binds_at_first, tree_at_first};
 use crate::taking::take_record;
-use file_tree::{Binds, FileTree};
+use file_tree::{Binds, FileTree, Profile, Start};
 use journal_device::Record;
 use std::alloc::Global;
 
 /// Takes the records, one after the other.
 fn take_records(
     alloc: Global,
+    profile: Profile,
+    start: &Start,
     tree: &mut FileTree,
     binds: &mut Binds,
     records: &[Record],
 ) -> Result<(), RebuildFault>
-    requires binds { binds.old ≡ bindings_made [] }
-    requires tree { tree.old ≡ opening }
-    ensures ok { OnOk result (Stands records.now binds.new tree.new) }
-    ensures fault { IfErr result (StopsIn records.now) }
+    requires binds { binds.old ≡ bindings_made (range_with_len 1 (length start.now)) }
+    requires tree { tree.old ≡ start_tree start.now }
+    ensures ok { OnOk result (Stands profile start.now records.now binds.new tree.new) }
+    ensures fault { IfErr result (StopsIn profile start.now records.now) }
 {
+    let first = start.objects().len() as u64;
     for (index, next) in records.iter().enumerate() {
-        match take_record(alloc, tree, binds, index as u64 + 1, next.as_slice()) {
+        let number = index as u64 + 1;
+        match take_record(alloc, profile, first, tree, binds, number, next.as_slice()) {
             Ok(()) => {}
             Err(fault) => return Err(fault),
         }
@@ -33,25 +41,44 @@ fn take_records(
     Ok(())
 }
 
-/// The tree behind the records, from the opening one.
-#[tactic(auto, unfolding(xdr_records::specs::Texts::long_text))]
-fn tree_of(alloc: Global, records: &[Record]) -> Result<FileTree, RebuildFault>
-    ensures found { IfOk result (Leads records.now) }
-    ensures fault { IfErr result (StopsIn records.now) }
+/// The tree behind the records, from what stood at first.
+fn tree_of(
+    alloc: Global,
+    profile: Profile,
+    start: &Start,
+    records: &[Record],
+) -> Result<FileTree, RebuildFault>
+    ensures found { IfOk result (Leads profile start.now records.now) }
+    ensures fault { IfErr result (StopsIn profile start.now records.now) }
 {
-    let mut binds = Binds::of_root(alloc, 0u64.to_be_bytes().as_slice())?;
-    let mut tree = FileTree::empty(alloc)?;
-    take_records(alloc, &mut tree, &mut binds, records)?;
+    let mut binds = binds_at_first(alloc, start.objects().len() as u64)?;
+    let mut tree = tree_at_first(alloc, start)?;
+    take_records(alloc, profile, start, &mut tree, &mut binds, records)?;
     Ok(tree)
 }
 
-/// The tree that the changes of these records lead to, from the opening one.
-pub fn rebuild(alloc: Global, records: &[Record]) -> Result<FileTree, RebuildFault>
-    ensures found { IfOk result (Rebuilds records.now) }
+/// The tree that the changes of these records lead to under this profile, from what the server held at first.
+pub fn rebuild_from(
+    alloc: Global,
+    profile: Profile,
+    start: &Start,
+    records: &[Record],
+) -> Result<FileTree, RebuildFault>
+    ensures found { IfOk result (Rebuilds profile start.now records.now) }
     // The first record at fault is named, with what is wrong with it.
-    ensures bad { IfErr result (FaultHolds records.now) }
+    ensures bad { IfErr result (FaultHolds profile start.now records.now) }
     // Records that lead to a tree give that tree, memory aside.
-    ensures only { (tree : Tree) → Rebuilds records.now tree → (result ≡ Ok tree) ⊎ (result ≡ Err NoMemory) }
+    ensures only { (tree : Tree) → Rebuilds profile start.now records.now tree → (result ≡ Ok tree) ⊎ (result ≡ Err NoMemory) }
 {
-    tree_of(alloc, records)
+    tree_of(alloc, profile, start, records)
+}
+
+/// The tree that the changes of these records lead to, from the root alone. Attributes in replies aren't judged.
+pub fn rebuild(alloc: Global, records: &[Record]) -> Result<FileTree, RebuildFault>
+    ensures found { IfOk result (Rebuilds Plain [] records.now) }
+    ensures bad { IfErr result (FaultHolds Plain [] records.now) }
+    ensures only { (tree : Tree) → Rebuilds Plain [] records.now tree → (result ≡ Ok tree) ⊎ (result ≡ Err NoMemory) }
+{
+    let start = Start::empty(alloc);
+    rebuild_from(alloc, Profile::Plain, &start, records)
 }

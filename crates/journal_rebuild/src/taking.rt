@@ -1,14 +1,15 @@
 //! One record of a journal, as a step of its tree.
 
-ghost use Rattle.std.specs.Prelude.{◌≡◌, Some, IfOk, IfErr, OnOk};
+ghost use Rattle.std.specs.Prelude.{◌≡◌, ◌≤◌, ◌^◌, Some, IfOk, IfErr, OnOk, MatchOption};
 ghost use Rattle.nfs3_types.specs.declared.replies.Outcome.TheVariants.{Received};
 ghost use Rattle.journal_records.specs.Exactly.{IsOnly};
 ghost use Rattle.journal_records.specs.Journal.{IsJournalRecord};
-ghost use Rattle.file_tree.specs.Success.{next_tree};
-ghost use Rattle.journal_rebuild.specs.Rebuilding.{handle_of};
-ghost use Rattle.journal_rebuild.specs.Taking.{tree_behind, with_handle, IsTaken, IsUnread, StepStops, StopsAt};
+ghost use Rattle.tree_starts.specs.Start.{object_made};
+ghost use Rattle.file_tree.specs.Setting.{under};
+ghost use Rattle.journal_rebuild.specs.Taking.{after_change, with_handle, IsMade, IsTaken, IsUnread, StepStops, MakeStops, StopsAt};
 
 use crate::fault::RebuildFault;
+use crate::naming::{name_object, object_made};
 use file_tree::{Binds, FileTree, Profile};
 use journal_records::{Change, JournalRecord, RecordFault, read_record};
 use nfs3_types::{NfsCall, Outcome};
@@ -27,16 +28,9 @@ fn change_in(alloc: Global, number: u64, bytes: &[u8]) -> Result<Change, Rebuild
     }
 }
 
-/// Lets the handle of an object name it: its number in eight bytes, the highest first.
-#[tactic(auto, unfolding(xdr_records::specs::Texts::long_text))]
-fn name_object(binds: &mut Binds, object: u64) -> Result<(), AllocError>
-    ensures { OnOk result (binds.new ≡ with_handle binds.old object) }
-{
-    binds.push(object.to_be_bytes().as_slice(), object)
-}
-
-/// Takes the step of the record with this number: a call with how it came out, under the call's own number.
+/// Takes the step of the record with this number: a call, which makes this object if any, with how it came out.
 fn take_step(
+    profile: Profile,
     tree: &mut FileTree,
     binds: &Binds,
     number: u64,
@@ -44,10 +38,10 @@ fn take_step(
     call: &NfsCall,
     outcome: &Outcome,
 ) -> Result<(), RebuildFault>
-    ensures ok { OnOk result (next_tree binds.now tree.old object call.now outcome.now ≡ Some tree.new) }
-    ensures fault { IfErr result (StepStops number (next_tree binds.now tree.old object call.now outcome.now)) }
+    ensures ok { OnOk result (under profile binds.now tree.old object call.now outcome.now ≡ Some tree.new) }
+    ensures fault { IfErr result (StepStops number (under profile binds.now tree.old object call.now outcome.now)) }
 {
-    match tree.step_under(Profile::Plain, binds, object, call, outcome) {
+    match tree.step_under(profile, binds, object, call, outcome) {
         Ok(undo) => {
             drop(undo);
             Ok(())
@@ -64,15 +58,17 @@ fn put_away(written: JournalRecord, call: NfsCall, outcome: Outcome) {
     drop(outcome);
 }
 
-/// Takes the step of a change, whose record has this number.
+/// Takes the step of a change that makes this object, if any. Its record has this number.
 fn take_change(
+    profile: Profile,
     tree: &mut FileTree,
     binds: &Binds,
     number: u64,
+    object: u64,
     change: Change,
 ) -> Result<(), RebuildFault>
-    ensures ok { OnOk result (tree_behind binds.now tree.old change ≡ Some tree.new) }
-    ensures fault { IfErr result (StepStops number (tree_behind binds.now tree.old change)) }
+    ensures ok { OnOk result (after_change profile binds.now tree.old object change ≡ Some tree.new) }
+    ensures fault { IfErr result (StepStops number (after_change profile binds.now tree.old object change)) }
 {
     let Change {
         written,
@@ -80,23 +76,43 @@ fn take_change(
         reply,
     } = change;
     let outcome = Outcome::Received(reply);
-    let result = take_step(tree, binds, number, written.number, &call, &outcome);
+    let result = take_step(profile, tree, binds, number, object, &call, &outcome);
     put_away(written, call, outcome);
     result
 }
 
-/// Takes the record with this number: its call's number gets its handle, and its change is made.
+/// Makes a change: its object gets its handle, and the step is taken. Its record has this number.
+fn make_change(
+    profile: Profile,
+    first: u64,
+    tree: &mut FileTree,
+    binds: &mut Binds,
+    number: u64,
+    change: Change,
+) -> Result<(), RebuildFault>
+    ensures ok { OnOk result (IsMade profile first change binds.old tree.old binds.new tree.new) }
+    ensures fault { IfErr result (MakeStops profile first number change binds.old tree.old) }
+{
+    let Some(object) = object_made(first, change.written.number) else {
+        return Err(RebuildFault::NotLegal(number));
+    };
+    name_object(binds, object)?;
+    take_change(profile, tree, binds, number, object, change)
+}
+
+/// Takes the record with this number: its call's object gets its handle, and its change is made.
 pub(crate) fn take_record(
     alloc: Global,
+    profile: Profile,
+    first: u64,
     tree: &mut FileTree,
     binds: &mut Binds,
     number: u64,
     bytes: &[u8],
 ) -> Result<(), RebuildFault>
-    ensures ok { OnOk result (IsTaken bytes.now binds.old tree.old binds.new tree.new) }
-    ensures fault { IfErr result (StopsAt number bytes.now binds.old tree.old) }
+    ensures ok { OnOk result (IsTaken profile first bytes.now binds.old tree.old binds.new tree.new) }
+    ensures fault { IfErr result (StopsAt profile first number bytes.now binds.old tree.old) }
 {
     let change = change_in(alloc, number, bytes)?;
-    name_object(binds, change.written.number)?;
-    take_change(tree, binds, number, change)
+    make_change(profile, first, tree, binds, number, change)
 }

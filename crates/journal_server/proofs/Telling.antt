@@ -5,7 +5,9 @@ use Rattle.nfs_history.specs.declared.history.RecordedCall.{RecordedCall}
 use Rattle.nfs_history.specs.HistoryValue.{HistoryValue, CallsValue}
 use Rattle.nfs_history.specs.Precedence.{call_at}
 use Rattle.server_passes.specs.PassValue.{ExchangeValue, PassValue}
-use Rattle.server_passes.specs.Matching.{exchanges_on, answered, IsToldOther, IsTorn, IsTold, AreCovered}
+use Rattle.server_passes.specs.Matching.{exchanges_on, answered, IsToldOther, IsTorn, IsTold, IsLeastTorn, IsCloseFault, AreCovered}
+use Rattle.server_passes.specs.declared.fault.CloseFault.{CloseFault}
+use Rattle.server_passes.specs.declared.fault.CloseFault.TheVariants as faults
 
 module _ (h g : HistoryValue) (known : g.known ≡ h.known) (events : g.events ≡ h.events) (passes : List PassValue) where
   same_answered : answered g ≡ answered h
@@ -20,8 +22,20 @@ module _ (h g : HistoryValue) (known : g.known ≡ h.known) (events : g.events �
   torn_there lane (inl twice) = inl twice
   torn_there lane (inr other) = inr (subst (λ (ex : List ExchangeValue). IsToldOther ex passes lane) (same_exchanges lane) other)
 
+  torn_here : (lane : ℕ) → IsTorn h passes lane → IsTorn g passes lane
+  torn_here lane (inl twice) = inl twice
+  torn_here lane (inr other) = inr (subst (λ (ex : List ExchangeValue). IsToldOther ex passes lane) (sym (same_exchanges lane)) other)
+
   pub told_same : IsTold h passes → IsTold g passes
   told_same t = record { all = t.all ∙ sym same_answered; whole = λ lane torn. t.whole lane (torn_there lane torn) }
 
   pub covered_same : AreCovered h passes → AreCovered g passes
   covered_same covered number call at ended = covered number call (subst (λ (k : CallsValue). call_at k.calls number ≡ Some call) known at) ended
+
+  pub least_same : (lane : ℕ) → IsLeastTorn h passes lane → IsLeastTorn g passes lane
+  least_same lane l = record { all = l.all ∙ sym same_answered; torn = torn_here lane l.torn; least = λ other lt torn. l.least other lt (torn_there other torn) }
+
+  pub fault_same : (fault : CloseFault) → IsCloseFault h passes fault → IsCloseFault g passes fault
+  fault_same faults.MissingPass apart = λ same. apart (same ∙ same_answered)
+  fault_same (faults.Torn lane) least = least_same lane least
+  fault_same faults.NoMemory any = tt

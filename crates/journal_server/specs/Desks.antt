@@ -1,8 +1,59 @@
--- What stands under the lock of a server's book.
-use Rattle.std.specs.Prelude.{◌≡◌, ◌⊎◌}
-use Rattle.book_machine.specs.Book.{Book}
-use Rattle.book_machine.specs.Steps.{Steps}
+-- What a server does with its book at one hold of the book's lock: the step that was asked for, or what its refusal leaves.
+use Rattle.std.specs.Prelude.{◌≡◌, ◌⊎◌, ◌+◌, ◌<◌, ◌≤◌, ℕ, List, true, length, min, Bool, Some}
+use Rattle.nfs3_types.specs.declared.replies.NfsReply.{NfsReply}
+use Rattle.tree_nodes.specs.Printed.{tree_text}
+use Rattle.tree_nodes.specs.Tree.{Tree}
+use Rattle.book_machine.specs.Book.{Book, tree_of}
+use Rattle.book_machine.specs.Steps.{Flushes, Crashes}
+use Rattle.book_ledger.specs.Refusals.{BeginStops, PlaceStops, FlushStops, AnswerStops, CloseStops, CrashStops, after_place, after_flush, after_crash}
+use Rattle.journal_server.specs.declared.fault.CallFault.{CallFault}
+use Rattle.journal_server.specs.declared.fault.CallFault.TheVariants as call_fault
+use Rattle.journal_server.specs.declared.fault.CrashFault as own
+use Rattle.journal_server.specs.declared.fault.CrashFault.TheVariants as crash_fault
+use Rattle.journal_server.specs.FaultText.{begin_told, place_told, answer_told, close_told, crash_told}
 
--- one step of the book, or none
-abbrev pub MaySteps : Book → Book → Type 0
-MaySteps old new = (new ≡ old) ⊎ Steps old new
+-- a fault of the book, of which this holds, was told so
+abbrev pub Tells : {F G : Type 0} → (F → G) → (F → Type 0) → G → Type 0
+Tells {F} tells Says told = (fault : F) × (told ≡ tells fault) × Says fault
+
+-- the objects are lost, so that nothing is asked of the book
+abbrev pub IsLost : {G : Type 0} → Bool → G → Book → G → Book → Type 0
+IsLost lost down old told new = (lost ≡ true) × (told ≡ down) × (new ≡ old)
+
+abbrev pub BeginRefused : Bool → Book → ℕ → List ℕ → CallFault → Book → Type 0
+BeginRefused lost old lane message told new = IsLost lost call_fault.Down old told new ⊎ Tells begin_told (λ fault. BeginStops old lane message fault × (new ≡ old)) told
+
+abbrev pub PlaceRefused : Book → ℕ → NfsReply → CallFault → Book → Type 0
+PlaceRefused old number reply told new = Tells place_told (λ fault. PlaceStops old number reply fault × (new ≡ after_place old fault)) told
+
+-- so many records are on stable storage: they were, or all are now
+abbrev pub IsSettled : ℕ → Book → Book → Type 0
+IsSettled records old new = ((old.device.mark < records) × Flushes old new) ⊎ ((records ≤ old.device.mark) × (new ≡ old))
+
+abbrev pub FlushRefused : ℕ → Book → CallFault → Book → Type 0
+FlushRefused records old told new = (old.device.mark < records) × Tells (λ _. call_fault.Down) (λ fault. FlushStops old fault × (new ≡ after_flush old fault)) told
+
+abbrev pub AnswerRefused : Book → ℕ → CallFault → Book → Type 0
+AnswerRefused old number told new = Tells answer_told (λ fault. AnswerStops old number fault × (new ≡ old)) told
+
+abbrev pub CloseRefused : Book → ℕ → CallFault → Book → Type 0
+CloseRefused old lane told new = Tells close_told (λ fault. CloseStops old lane fault × (new ≡ old)) told
+
+-- a crash keeps the records on stable storage, and at most so many more
+abbrev pub kept_of : Book → ℕ → ℕ
+kept_of old extra = min (old.device.mark + extra) (length old.device.records)
+
+-- the text is that of the book's tree
+abbrev pub HasText : Book → List ℕ → Type 0
+HasText book text = (tree : Tree) × (tree_of book ≡ Some tree) × (text ≡ tree_text tree)
+
+-- and this tree is left
+abbrev pub IsLeft : Book → ℕ → List ℕ → Book → Type 0
+IsLeft old extra text new = Crashes old (kept_of old extra) new × HasText new text
+
+-- a crash is refused, or its tree can't be printed for want of memory, so that the objects are lost
+abbrev pub CrashRefused : Bool → Book → ℕ → own.CrashFault → Book → Bool → Type 0
+CrashRefused lost old extra told new lost_then =
+    IsLost lost crash_fault.Down old told new
+    ⊎ Tells crash_told (λ fault. CrashStops old (kept_of old extra) fault × (new ≡ after_crash old fault)) told
+    ⊎ ((told ≡ crash_fault.NoMemory) × Crashes old (kept_of old extra) new × (lost_then ≡ true))

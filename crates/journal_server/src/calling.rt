@@ -1,12 +1,14 @@
 //! Calls.
 
 ghost use Rattle.std.specs.Prelude.{◌≡◌, ◌≢◌, [], IfOk, IfErr, OnErr};
+ghost use Rattle.book_machine.specs.Steps.{IsRecordable};
 ghost use Rattle.journal_server.specs.Passing.{IsToRecord, IsNoted, IsAsBefore, IsAnswered, MayStop};
 
 use crate::desk::Begun;
 use crate::fault::CallFault;
 use crate::gate::{Gate, Point};
 use crate::server::Server;
+use nfs_history::Message;
 use nfs3_types::NfsCall;
 use recorder::JournalDevice;
 use server_passes::{Exchange, Pass};
@@ -39,11 +41,20 @@ impl Told {
 }
 
 impl<G: Gate, D: JournalDevice> Server<G, D> {
-    /// Begins a call.
-    fn begin<R: Wait>(&self, rt: &R, lane: u32, message: &[u8]) -> Result<Begun, CallFault>
+    /// Begins a call that was read of its message. The copies that the book keeps are made ahead of its lock.
+    fn begin<R: Wait>(
+        &self,
+        rt: &R,
+        lane: u32,
+        message: &[u8],
+        call: &NfsCall,
+    ) -> Result<Begun, CallFault>
+        requires { IsRecordable message.now call.now }
         ensures { IfErr result (λ fault. fault ≢ CallFault.BadRecord) }
     {
-        self.desk.lock(rt).begin(lane, message)
+        let message = Message::from_slice(self.alloc, message)?;
+        let call = call.copy()?;
+        self.desk.lock(rt).begin(lane, message, call)
     }
 
     /// Puts so many records on stable storage, if they have to be there.
@@ -75,9 +86,10 @@ impl<G: Gate, D: JournalDevice> Server<G, D> {
         message: &[u8],
         call: &NfsCall,
     ) -> Result<Told, CallFault>
+        requires { IsRecordable message.now call.now }
         ensures { IfErr result (λ fault. fault ≢ CallFault.BadRecord) }
     {
-        let begun = self.begin(rt, lane, message)?;
+        let begun = self.begin(rt, lane, message, call)?;
         self.gate.at(lane, Point::Begun);
         let (records, room) = self.place(rt, lane, begun, call)?.into_parts();
         self.gate.at(lane, Point::Placed);
@@ -95,6 +107,7 @@ impl<G: Gate, D: JournalDevice> Server<G, D> {
         message: &[u8],
         call: &NfsCall,
     ) -> Result<Vec<u8>, CallFault>
+        requires { IsRecordable message.now call.now }
         ensures noted { IfOk result (λ reply. IsNoted pass.old message.now reply.items pass.new) }
         ensures kept { OnErr result (IsAsBefore pass.old pass.new) }
         ensures fault { IfErr result (λ fault. fault ≢ CallFault.BadRecord) }

@@ -1,10 +1,12 @@
 //! The end of a server.
 
-ghost use Rattle.std.specs.Prelude.{◌≡◌, IfOk};
+ghost use Rattle.std.specs.Prelude.{◌≡◌, ℕ, IfOk, IfErr};
+ghost use Rattle.book_machine.specs.Plan.{plan_of};
 ghost use Rattle.certificate.specs.CertificateText.{IsCertificate};
 ghost use Rattle.witness_check.specs.Witness.{IsWitness};
 ghost use Rattle.served_laws.specs.ServedPlan.{EachServed};
-ghost use Rattle.server_passes.specs.Matching.{IsTold, AreCovered};
+ghost use Rattle.server_passes.specs.Matching.{IsTold, AreCovered, IsLeastTorn, IsCloseFault, IsFineOrNoMemory, IsThatOrNoMemory};
+ghost use Rattle.server_passes.specs.declared.fault.CloseFault.TheVariants.{Torn};
 
 use crate::gate::Gate;
 use crate::server::Server;
@@ -12,6 +14,7 @@ use certificate::Certificate;
 use nfs_history::History;
 use recorder::{Book, JournalDevice};
 use server_passes::{CloseFault, Pass, match_passes};
+use std::alloc::Global;
 
 /// What a server recorded, and the commit order that explains it.
 pub struct Closed {
@@ -46,12 +49,45 @@ impl Closed {
     }
 }
 
+/// What a book recorded, with its certificate, where the passes tell of all calls that were answered.
+pub fn close_book<D: JournalDevice>(
+    alloc: Global,
+    book: Book<D>,
+    passes: &[Pass],
+) -> Result<Closed, CloseFault>
+    // It is this book's history,
+    ensures known { IfOk result (λ closed. closed.history.known ≡ book.history.known) }
+    ensures events { IfOk result (λ closed. closed.history.events ≡ book.history.events) }
+    // and the book's own commit order.
+    ensures plan { IfOk result (λ closed. closed.certificate ≡ plan_of book) }
+    ensures explains { IfOk result (λ closed. IsWitness closed.history.known closed.certificate) }
+    ensures serves { IfOk result (λ closed. EachServed closed.history.known closed.certificate) }
+    ensures written { IfOk result (λ closed. IsCertificate closed.certificate) }
+    ensures told { IfOk result (λ closed. IsTold closed.history passes.now) }
+    ensures covered { IfOk result (λ closed. AreCovered closed.history passes.now) }
+    // What is told so is closed, memory aside; else the first fault of the passes is told.
+    ensures only { IsTold book.history passes.now → IsFineOrNoMemory result }
+    ensures fault { IfErr result (IsCloseFault book.history passes.now) }
+    ensures torn { (lane : ℕ) → IsLeastTorn book.history passes.now lane → IsThatOrNoMemory (Torn lane) result }
+{
+    match match_passes(alloc, book.history(), passes) {
+        Ok(()) => {}
+        Err(fault) => return Err(fault),
+    }
+    let certificate = book.certificate()?;
+    Ok(Closed {
+        history: book.into_history(),
+        certificate,
+    })
+}
+
 impl<G: Gate, D: JournalDevice> Server<G, D> {
     /// The book alone.
     fn into_book(self) -> Book<D> {
         let Server {
             alloc: _,
             gate,
+            profile: _,
             objects,
             desk,
         } = self;
@@ -74,12 +110,6 @@ impl<G: Gate, D: JournalDevice> Server<G, D> {
         ensures covered { IfOk result (λ closed. AreCovered closed.history passes.items) }
     {
         let alloc = self.alloc;
-        let book = self.into_book();
-        match_passes(alloc, book.history(), passes.as_slice())?;
-        let certificate = book.certificate()?;
-        Ok(Closed {
-            history: book.into_history(),
-            certificate,
-        })
+        close_book(alloc, self.into_book(), passes.as_slice())
     }
 }

@@ -1,24 +1,29 @@
 //! What stands under the book's lock.
 
-ghost use Rattle.std.specs.Prelude.{◌≡◌, ◌≢◌, [], IfOk, IfErr};
-ghost use Rattle.journal_server.specs.Desks.{MaySteps};
+ghost use Rattle.std.specs.Prelude.{◌≡◌, ◌≢◌, [], IfOk, OnOk, IfErr, length, true};
+ghost use Rattle.book_machine.specs.Steps.{opening_book, IsRecordable, Begins, Places, Answers, Closes};
+ghost use Rattle.book_ledger.specs.Sending.{IsSent};
+ghost use Rattle.journal_server.specs.Desks.{BeginRefused, PlaceRefused, IsSettled, FlushRefused, AnswerRefused, CloseRefused, kept_of, HasText, IsLeft, CrashRefused};
 
 use crate::fault::{CallFault, CrashFault, JoinFault};
-use nfs3_types::{Answer, NfsReply, StableHow};
-use recorder::{Book, JournalDevice, Token};
+use nfs_history::Message;
+use nfs3_types::{Answer, NfsCall, NfsReply, StableHow};
+use recorder::{Book, JournalDevice, Profile, Start, Token};
 use server_passes::Pass;
 use std::alloc::{AllocError, Global};
 
 /// How many passes a server gives out.
 const MOST_LANES: u32 = 65_535;
 
-/// What stands under the book's lock. It takes one step of the book at a time.
-pub(crate) struct Desk<D: JournalDevice> {
+/// What stands under the book's lock. A server calls each function below at one hold of the lock, so that the book takes the step that
+/// the function's clauses name, or none but what a refusal leaves.
+pub struct Desk<D: JournalDevice> {
+    /// The book.
     pub book: Book<D>,
     /// How many lanes were given out.
     lanes: u32,
     /// The objects are lost, and no call can be worked out any more.
-    lost: bool,
+    pub lost: bool,
 }
 
 impl<D: JournalDevice> Drop for Desk<D> {
@@ -34,10 +39,13 @@ impl<D: JournalDevice> Drop for Desk<D> {
 
 /// A call that has begun.
 #[derive(Clone, Copy)]
-pub(crate) struct Begun {
+pub struct Begun {
+    /// What names it to the book.
     pub token: Token,
     /// In this era, from 1 on.
     pub era: u64,
+    /// The number that an object which it makes gets.
+    pub object: u64,
 }
 
 /// Whether a reply may go out only once its records are on stable storage (RFC 1813, sections 4.7 and 4.8).
@@ -56,7 +64,7 @@ pub(crate) fn promises(reply: &NfsReply) -> bool {
 
 impl<D: JournalDevice> Desk<D> {
     /// The book alone.
-    pub(crate) fn into_book(self) -> Book<D>
+    pub fn into_book(self) -> Book<D>
         ensures { result ≡ self.book }
     {
         let Desk {
@@ -67,13 +75,19 @@ impl<D: JournalDevice> Desk<D> {
         book
     }
 
-    /// A desk ahead of its first call.
-    pub(crate) fn new(alloc: Global, device: D) -> Result<Desk<D>, AllocError>
+    /// A desk ahead of its first call, of a server that holds these objects, whose replies are judged so strictly.
+    pub fn new_from(
+        alloc: Global,
+        device: D,
+        profile: Profile,
+        start: Start,
+    ) -> Result<Desk<D>, AllocError>
         requires records { (D.device device).records ≡ [] }
         requires mark { (D.device device).mark ≡ 0 }
+        ensures { IfOk result (λ desk. desk.book ≡ opening_book profile start (D.device device).faults) }
     {
         Ok(Desk {
-            book: Book::new(alloc, device)?,
+            book: Book::new_from(alloc, device, profile, start)?,
             lanes: 0,
             lost: false,
         })
@@ -91,80 +105,139 @@ impl<D: JournalDevice> Desk<D> {
         Ok(Pass::new(alloc, self.lanes))
     }
 
-    /// Begins a call.
-    pub(crate) fn begin(&mut self, lane: u32, message: &[u8]) -> Result<Begun, CallFault>
-        ensures step { MaySteps self.old.book self.new.book }
+    /// What is known of a call that has begun.
+    fn begun(&self, token: Token) -> Begun
+        ensures { result.token ≡ token }
+    {
+        let first = self.book.history().start().objects().len() as u64;
+        Begun {
+            token,
+            era: self.book.history().eras(),
+            object: first.saturating_add(token.number()),
+        }
+    }
+
+    /// Begins a call that was read of its message.
+    pub fn begin(&mut self, lane: u32, message: Message, call: NfsCall) -> Result<Begun, CallFault>
+        requires { IsRecordable message call }
+        ensures begun { IfOk result (λ begun. Begins self.old.book lane message self.new.book × (begun.token.number ≡ length self.new.book.history.known.calls)) }
+        ensures refused { IfErr result (λ told. BeginRefused self.old.lost self.old.book lane message told self.new.book) }
         ensures fault { IfErr result (λ fault. fault ≢ CallFault.BadRecord) }
     {
         if self.lost {
             return Err(CallFault::Down);
         }
-        let token = self.book.begin(lane, message)?;
-        Ok(Begun {
-            token,
-            era: self.book.history().eras(),
-        })
+        match self.book.begin_read(lane, message, call) {
+            Ok(token) => Ok(self.begun(token)),
+            Err(fault) => Err(CallFault::from(fault)),
+        }
     }
 
-    /// Places a call, and gives how many records the journal has then.
-    pub(crate) fn place(&mut self, token: Token, reply: NfsReply) -> Result<u64, CallFault>
-        ensures step { MaySteps self.old.book self.new.book }
+    /// Places a call with this reply, and gives how many records the journal has then.
+    pub fn place(&mut self, token: Token, reply: NfsReply) -> Result<u64, CallFault>
+        ensures placed { IfOk result (λ records. Places self.old.book token.number reply self.new.book × (records ≡ length self.new.book.device.records)) }
+        ensures refused { IfErr result (λ told. PlaceRefused self.old.book token.number reply told self.new.book) }
         ensures fault { IfErr result (λ fault. fault ≢ CallFault.BadRecord) }
     {
-        self.book.place(token, reply)?;
-        Ok(self.book.device().len())
+        match self.book.place(token, reply) {
+            Ok(()) => Ok(self.book.device().len()),
+            Err(fault) => Err(CallFault::from(fault)),
+        }
     }
 
     /// Puts so many records on stable storage, if they aren't there.
-    pub(crate) fn flush(&mut self, records: u64) -> Result<(), CallFault>
-        ensures step { MaySteps self.old.book self.new.book }
+    pub fn flush(&mut self, records: u64) -> Result<(), CallFault>
+        ensures settled { OnOk result (IsSettled records self.old.book self.new.book) }
+        ensures refused { IfErr result (λ told. FlushRefused records self.old.book told self.new.book) }
         ensures fault { IfErr result (λ fault. fault ≢ CallFault.BadRecord) }
     {
-        if self.book.device().mark() < records {
-            self.book.flush()?;
+        if self.book.device().mark() >= records {
+            return Ok(());
         }
-        Ok(())
+        match self.book.flush() {
+            Ok(()) => Ok(()),
+            Err(fault) => Err(CallFault::from(fault)),
+        }
     }
 
-    /// Answers a call.
-    pub(crate) fn answer(&mut self, token: Token) -> Result<Vec<u8>, CallFault>
-        ensures step { MaySteps self.old.book self.new.book }
+    /// Answers a call, with the message that was recorded.
+    pub fn answer(&mut self, token: Token) -> Result<Vec<u8>, CallFault>
+        ensures answered { OnOk result (Answers self.old.book token.number self.new.book) }
+        ensures sent { IfOk result (λ message. IsSent self.old.book.history message.items self.new.book.history) }
+        ensures refused { IfErr result (λ told. AnswerRefused self.old.book token.number told self.new.book) }
         ensures fault { IfErr result (λ fault. fault ≢ CallFault.BadRecord) }
     {
-        Ok(self.book.answer(token)?)
+        match self.book.answer(token) {
+            Ok(message) => Ok(message),
+            Err(fault) => Err(CallFault::from(fault)),
+        }
     }
 
     /// Closes a lane.
-    pub(crate) fn leave(&mut self, lane: u32) -> Result<(), CallFault>
-        ensures { MaySteps self.old.book self.new.book }
+    pub fn leave(&mut self, lane: u32) -> Result<(), CallFault>
+        ensures closed { OnOk result (Closes self.old.book lane self.new.book) }
+        ensures refused { IfErr result (λ told. CloseRefused self.old.book lane told self.new.book) }
     {
-        Ok(self.book.close_lane(lane)?)
+        match self.book.close_lane(lane) {
+            Ok(()) => Ok(()),
+            Err(fault) => Err(CallFault::from(fault)),
+        }
     }
 
     /// Gives the objects up. No call is begun any more.
-    pub(crate) fn lose(&mut self)
-        ensures { self.new.book ≡ self.old.book }
+    pub fn lose(&mut self)
+        ensures book { self.new.book ≡ self.old.book }
+        ensures lost { self.new.lost ≡ true }
     {
         self.lost = true;
     }
 
-    /// Crashes: the records on stable storage outlive it, and at most so many more. Gives the tree that is left, as it is printed.
-    pub(crate) fn crash(&mut self, alloc: Global, extra: u64) -> Result<Vec<u8>, CrashFault>
-        ensures { MaySteps self.old.book self.new.book }
+    /// The tree, as it is printed.
+    pub(crate) fn print_tree(&self, alloc: Global) -> Result<Vec<u8>, AllocError>
+        ensures { IfOk result (λ text. HasText self.now.book text.items) }
     {
-        if self.lost {
-            return Err(CrashFault::Down);
-        }
-        let device = self.book.device();
-        let keep = device.mark().saturating_add(extra).min(device.len());
-        self.book.crash(keep)?;
         let mut text = Vec::new(alloc);
         match self.book.print_tree(&mut text) {
             Ok(()) => Ok(text),
+            Err(fault) => Err(fault),
+        }
+    }
+
+    /// The tree that a crash left, as it is printed. Where it can't be, the objects are lost.
+    fn print_left(&mut self, alloc: Global) -> Result<Vec<u8>, CrashFault>
+        ensures book { self.new.book ≡ self.old.book }
+        ensures printed { IfOk result (λ text. HasText self.new.book text.items) }
+        ensures lost { IfErr result (λ told. (told ≡ CrashFault.NoMemory) × (self.new.lost ≡ true)) }
+    {
+        match self.print_tree(alloc) {
+            Ok(text) => Ok(text),
             Err(_) => {
                 self.lost = true;
                 Err(CrashFault::NoMemory)
             }
+        }
+    }
+
+    /// How many records a crash keeps: those on stable storage, and at most so many more.
+    fn keep(&self, extra: u64) -> u64
+        ensures { result ≡ kept_of self.now.book extra }
+    {
+        let device = self.book.device();
+        device.mark().saturating_add(extra).min(device.len())
+    }
+
+    /// Crashes: the records on stable storage outlive it, and at most so many more. Gives the tree that is left, as it is printed.
+    pub fn crash(&mut self, alloc: Global, extra: u64) -> Result<Vec<u8>, CrashFault>
+        ensures crashed { IfOk result (λ text. IsLeft self.old.book extra text.items self.new.book) }
+        ensures refused { IfErr result (λ told. CrashRefused self.old.lost self.old.book extra told self.new.book self.new.lost) }
+    {
+        if self.lost {
+            return Err(CrashFault::Down);
+        }
+        let keep = self.keep(extra);
+        match self.book.crash(keep) {
+            Ok(()) => self.print_left(alloc),
+            Err(fault) => Err(CrashFault::from(fault)),
         }
     }
 }

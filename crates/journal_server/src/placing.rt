@@ -5,17 +5,14 @@ ghost use Rattle.std.specs.Prelude.{◌≡◌, ◌≢◌, [], IfOk, IfErr};
 use crate::desk::{Begun, promises};
 use crate::fault::CallFault;
 use crate::gate::{Gate, Point};
+use crate::room::room_for;
 use crate::server::Server;
-use nfs3_msgs::put_result;
 use nfs3_types::{NfsCall, NfsReply};
 use object_store::{Held, ObjectTable, Targets};
 use recorder::JournalDevice;
 use std::alloc::AllocError;
 use std::sync::Wait;
 use store_replies::{Decision, Prepared, Scene, Site, decide};
-
-/// The bytes of a reply's head: the transaction number, the type, the status, the empty verifier, and the status of the call.
-const REPLY_HEAD: usize = 24;
 
 /// A call that was placed.
 pub(crate) struct Placed {
@@ -48,11 +45,7 @@ impl<G: Gate, D: JournalDevice> Server<G, D> {
     fn room_for(&self, reply: &NfsReply) -> Result<Vec<u8>, AllocError>
         ensures { IfOk result (λ room. room.items ≡ []) }
     {
-        let mut room = Vec::new(self.alloc);
-        put_result(&mut room, reply)?;
-        room.reserve(REPLY_HEAD)?;
-        room.clear();
-        Ok(room)
+        Vec::with_capacity(self.alloc, room_for(self.profile, reply))
     }
 
     /// Gives a call its place, under the book's lock.
@@ -116,8 +109,9 @@ impl<G: Gate, D: JournalDevice> Server<G, D> {
         let scene = Scene {
             alloc: self.alloc,
             held,
-            number: begun.token.number(),
+            object: begun.object,
             era: begun.era,
+            profile: self.profile,
         };
         decide(&scene, call)
     }
@@ -136,7 +130,7 @@ impl<G: Gate, D: JournalDevice> Server<G, D> {
         let decision = self.decide(begun, call, held)?;
         let site = Site {
             table: objects,
-            number: begun.token.number(),
+            object: begun.object,
         };
         match site.prepare(rt, self.alloc, held, &decision.change) {
             Ok(prepared) => self.place_prepared(rt, begun, decision, site, held, prepared),

@@ -4,8 +4,8 @@ ghost use Rattle.std.specs.Prelude.{◌≡◌, []};
 
 use crate::desk::Desk;
 use crate::gate::Gate;
-use object_store::ObjectTable;
-use recorder::JournalDevice;
+use object_store::{ObjectTable, read_objects};
+use recorder::{JournalDevice, Profile, Start};
 use std::alloc::{AllocError, Global};
 use std::sync::{Mutex, RwLock};
 
@@ -14,22 +14,45 @@ use std::sync::{Mutex, RwLock};
 pub struct Server<G: Gate, D: JournalDevice> {
     pub(crate) alloc: Global,
     pub(crate) gate: G,
+    /// Under the strict profile replies carry attributes.
+    pub(crate) profile: Profile,
     /// Calls that hold objects read it; a crash, which waits for them, writes it.
     pub(crate) objects: RwLock<ObjectTable>,
     pub(crate) desk: Mutex<Desk<D>>,
 }
 
 impl<G: Gate, D: JournalDevice> Server<G, D> {
-    /// A server with an empty root directory, over an empty device.
+    /// A server that holds these objects at first, over an empty device. Under the strict profile its replies carry attributes, and its
+    /// history is judged by them.
+    pub fn new_from(
+        alloc: Global,
+        gate: G,
+        device: D,
+        profile: Profile,
+        start: Start,
+    ) -> Result<Server<G, D>, AllocError>
+        requires records { (D.device device).records ≡ [] }
+        requires mark { (D.device device).mark ≡ 0 }
+    {
+        let desk = Desk::new_from(alloc, device, profile, start)?;
+        let text = desk.print_tree(alloc)?;
+        let Ok(objects) = read_objects(alloc, text.as_slice()) else {
+            return Err(AllocError);
+        };
+        Ok(Server {
+            alloc,
+            gate,
+            profile,
+            objects: RwLock::new(objects),
+            desk: Mutex::new(desk),
+        })
+    }
+
+    /// A server with an empty root directory, over an empty device. Its replies carry no attributes but those that a GETATTR asks for.
     pub fn new(alloc: Global, gate: G, device: D) -> Result<Server<G, D>, AllocError>
         requires records { (D.device device).records ≡ [] }
         requires mark { (D.device device).mark ≡ 0 }
     {
-        Ok(Server {
-            alloc,
-            gate,
-            objects: RwLock::new(ObjectTable::new(alloc)?),
-            desk: Mutex::new(Desk::new(alloc, device)?),
-        })
+        Server::new_from(alloc, gate, device, Profile::Plain, Start::empty(alloc))
     }
 }

@@ -38,7 +38,7 @@ const ONE_FILE: [u8; 56] = [
 ];
 
 /// A call and its reply, in hex, with the call's number, and how many bytes of their record are kept at most.
-type Entry = (u64, &'static str, &'static str, usize);
+pub type Entry = (u64, &'static str, &'static str, usize);
 
 /// The record of these messages, in hex, as that of this call. Messages here are short.
 fn record(alloc: Global, number: u64, call: &str, reply: &str) -> Result<Vec<u8>, Fail> {
@@ -52,7 +52,7 @@ fn record(alloc: Global, number: u64, call: &str, reply: &str) -> Result<Vec<u8>
 }
 
 /// A journal of these records.
-fn journal(alloc: Global, entries: &[Entry]) -> Result<SimDevice, Fail> {
+pub fn journal(alloc: Global, entries: &[Entry]) -> Result<SimDevice, Fail> {
     let mut device = SimDevice::new(alloc, None, None, None);
     for (number, call, reply, length) in entries {
         let record = record(alloc, *number, call, reply)?;

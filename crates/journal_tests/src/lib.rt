@@ -8,3 +8,5 @@ mod devices;
 mod journals;
 #[cfg(test)]
 mod records;
+#[cfg(test)]
+mod starts;

@@ -3,6 +3,9 @@ use Rattle.std.specs.Prelude.{◌≡◌, ◌⊎◌, ℕ, List, [], ◌∷◌, �
 use Rattle.plan_text.specs.declared.reading.PlanFault.{PlanFault}
 use Rattle.plan_text.specs.declared.reading.PlanFault.TheVariants as plans
 use Rattle.plan_text.specs.FaultText.{plan_fault_words}
+use Rattle.nfs_history.specs.declared.fault.HistoryFault.{HistoryFault}
+use Rattle.nfs_history.specs.declared.fault.HistoryFault.TheVariants as histories
+use Rattle.nfs_history.specs.FaultText.{history_fault_words}
 use Rattle.history_file.specs.declared.writing.WriteFault.{WriteFault}
 use Rattle.history_file.specs.declared.writing.WriteFault.TheVariants as writes
 use Rattle.server_passes.specs.declared.fault.CloseFault.{CloseFault}
@@ -24,6 +27,8 @@ fault_status fault = 2
 
 abbrev pub fault_line : RunFault → List ℕ
 fault_line (faults.BadPlan line) = refused_line (plan_fault_words (plans.BadPlan line))
+fault_line (faults.Start fault) = codes "refused: start: " ++ history_fault_words fault ++ 10 ∷ []
+fault_line faults.CannotReadStart = refused_line (codes "start: cannot read")
 fault_line faults.CannotListen = refused_line (codes "cannot listen")
 fault_line faults.NoThread = refused_line (codes "no thread")
 fault_line faults.CannotWrite = refused_line (codes "cannot write")
@@ -35,6 +40,11 @@ fault_line faults.NoMemory = memory_line
 abbrev pub plan_told : PlanFault → RunFault
 plan_told (plans.BadPlan line) = faults.BadPlan line
 plan_told plans.NoMemory = faults.NoMemory
+
+-- why a history isn't begun from
+abbrev pub start_told : HistoryFault → RunFault
+start_told histories.NoMemory = faults.NoMemory
+start_told fault = faults.Start fault
 
 -- why a history isn't written
 abbrev pub write_told : WriteFault → RunFault
@@ -59,3 +69,7 @@ IsWant fault = fault ≡ faults.NoMemory
 -- this line of a plan was told, or memory ran out
 abbrev pub IsBadPlan : ℕ → RunFault → Type 0
 IsBadPlan k fault = (fault ≡ faults.BadPlan k) ⊎ IsWant fault
+
+-- this fault of the start's file was told, or memory ran out
+abbrev pub IsBadStart : HistoryFault → RunFault → Type 0
+IsBadStart named fault = (fault ≡ faults.Start named) ⊎ IsWant fault

@@ -7,6 +7,7 @@ use bench_streams::{Report, line_of};
 use crash_harness::RunEnd;
 use history_file::WriteFault;
 use journal_server::{CloseFault, CrashFault, JoinFault};
+use nfs_history::HistoryFault;
 use plan_text::PlanFault;
 use std::alloc::{AllocError, AllocFailed, Global};
 
@@ -15,6 +16,10 @@ use std::alloc::{AllocError, AllocFailed, Global};
 pub enum RunFault {
     /// The first line of a plan with which it is none.
     BadPlan(u64),
+    /// The start's file holds no history, for this fault.
+    Start(HistoryFault),
+    /// The start's file can't be read.
+    CannotReadStart,
     /// The port can't be listened on.
     CannotListen,
     /// No thread could be made for a connection. None was served.
@@ -77,6 +82,20 @@ impl From<PlanFault> for RunFault {
     }
 }
 
+impl From<HistoryFault> for RunFault {
+    ghost use Rattle.std.specs.Prelude.{◌≡◌};
+    ghost use Rattle.nfs_running.specs.Told.{start_told};
+
+    ghost from_gives = { λ fault told. told ≡ start_told fault };
+
+    fn from(fault: HistoryFault) -> RunFault {
+        match fault {
+            HistoryFault::NoMemory => RunFault::NoMemory,
+            fault => RunFault::Start(fault),
+        }
+    }
+}
+
 impl From<WriteFault> for RunFault {
     ghost use Rattle.std.specs.Prelude.{◌≡◌};
     ghost use Rattle.nfs_running.specs.Told.{write_told};
@@ -131,6 +150,8 @@ pub fn fault_report(alloc: Global, fault: RunFault) -> Result<Report, AllocError
             let fault = PlanFault::BadPlan(line);
             Ok(Report::new(2, line_of(alloc, "refused: ", &fault)?))
         }
+        RunFault::Start(fault) => Ok(Report::new(2, line_of(alloc, "refused: start: ", &fault)?)),
+        RunFault::CannotReadStart => Report::refused(alloc, "start: cannot read"),
         RunFault::CannotListen => Report::refused(alloc, "cannot listen"),
         RunFault::NoThread => Report::refused(alloc, "no thread"),
         RunFault::CannotWrite => Report::refused(alloc, "cannot write"),

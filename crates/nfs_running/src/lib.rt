@@ -1,6 +1,7 @@
 //! The commands that run the bundled server: what a plan says, or whoever connects, to a history with its certificate in two files.
 #![tactic(auto)]
 
+mod beginning;
 mod fault;
 mod lanes;
 mod outputs;
@@ -9,6 +10,7 @@ mod running;
 mod serving;
 mod words;
 
+pub use beginning::Beginning;
 pub use fault::{RunFault, fault_report};
 pub use recorded::{Counts, Recorded};
 pub use running::{run, run_text};

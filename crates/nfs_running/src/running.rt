@@ -5,11 +5,12 @@ ghost use Rattle.plan_text.specs.BadLine.{IsBadLine};
 ghost use Rattle.nfs_running.specs.Recording.{IsRecording};
 ghost use Rattle.nfs_running.specs.Told.{IsBadPlan};
 
+use crate::beginning::Beginning;
 use crate::fault::RunFault;
 use crate::outputs::Outputs;
 use crate::recorded::{Recorded, record_closed};
 use crate::words::RunRequest;
-use crash_harness::run_plan;
+use crash_harness::run_plan_from;
 use nfs_recording::Recorder;
 use plan_text::{Plan, read_plan};
 use std::alloc::Global;
@@ -28,20 +29,24 @@ fn plan_of(alloc: Global, text: &[u8]) -> Result<Plan, RunFault>
     }
 }
 
-/// Runs a plan, and gives what its server recorded.
+/// Runs a plan over a server that begins so, and gives what the server recorded.
 fn record_plan<R: Threads + Wait + Sync + AllocGlobal>(
     rt: &R,
+    beginning: Beginning,
     plan: &Plan,
 ) -> Result<Recorded, RunFault>
     ensures { IfOk result IsRecording }
 {
-    let closed = run_plan(rt, rt.alloc(), plan)?;
+    let (profile, start) = beginning.into_parts();
+    let closed = run_plan_from(rt, rt.alloc(), plan, profile, start)?;
     record_closed(rt.alloc(), closed)
 }
 
-/// Runs the plan that a text says, and gives what its server recorded: the texts of the history and of its certificate.
+/// Runs the plan that a text says over a server that begins so, and gives what the server recorded: the texts of the history and of its
+/// certificate.
 pub fn run_text<R: Threads + Wait + Sync + AllocGlobal>(
     rt: &R,
+    beginning: Beginning,
     text: &[u8],
 ) -> Result<Recorded, RunFault>
     // The certificate is a witness of the history.
@@ -50,7 +55,7 @@ pub fn run_text<R: Threads + Wait + Sync + AllocGlobal>(
     ensures bad_line { (k : ℕ) → IsBadLine text.now k → IsErrAnd result (IsBadPlan k) }
 {
     let plan = plan_of(rt.alloc(), text)?;
-    record_plan(rt, &plan)
+    record_plan(rt, beginning, &plan)
 }
 
 /// Writes what was recorded into both files that are asked for.
@@ -63,11 +68,16 @@ fn save<R: Files<File = File>>(
 }
 
 /// Runs the plan that a text says, as [`run_text`], and writes both files that are asked for.
-pub fn run<R: Recorder>(rt: &R, request: &RunRequest<'_>, text: &[u8]) -> Result<Recorded, RunFault>
+pub fn run<R: Recorder>(
+    rt: &R,
+    request: &RunRequest<'_>,
+    beginning: Beginning,
+    text: &[u8],
+) -> Result<Recorded, RunFault>
     ensures explained { IfOk result IsRecording }
     ensures bad_line { (k : ℕ) → IsBadLine text.now k → IsErrAnd result (IsBadPlan k) }
 {
-    let recorded = run_text(rt, text)?;
+    let recorded = run_text(rt, beginning, text)?;
     match save(rt, request, &recorded) {
         Ok(()) => Ok(recorded),
         Err(fault) => Err(fault),

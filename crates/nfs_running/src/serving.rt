@@ -3,15 +3,32 @@
 ghost use Rattle.std.specs.Prelude.{IfOk};
 ghost use Rattle.nfs_running.specs.Recording.{IsRecording};
 
+use crate::beginning::Beginning;
 use crate::fault::RunFault;
 use crate::lanes::{Served, Serving, SimServer, serve_lanes};
 use crate::recorded::{Recorded, record_closed};
 use crate::words::ServeRequest;
-use journal_server::{OpenGate, Server, SimDevice};
+use journal_server::{OpenGate, Profile, Server, SimDevice};
 use nfs_recording::Recorder;
-use std::alloc::Global;
+use std::alloc::{AllocError, Global};
 use std::net::{IpAddr, Ipv4Addr, SocketAddr, TcpListener};
 use std::sync::Mutex;
+
+/// A server that begins so, over a device that doesn't fail. It is strict where the words or the beginning ask for it.
+fn server_from(
+    alloc: Global,
+    request: &ServeRequest<'_>,
+    beginning: Beginning,
+) -> Result<SimServer, AllocError> {
+    let (profile, start) = beginning.into_parts();
+    let profile = if request.is_strict {
+        Profile::Strict
+    } else {
+        profile
+    };
+    let device = SimDevice::new(alloc, None, None, None);
+    Server::new_from(alloc, OpenGate, device, profile, start)
+}
 
 /// Ends a server, and writes what it recorded.
 fn save(alloc: Global, server: SimServer, served: Served) -> Result<Recorded, RunFault>
@@ -27,9 +44,13 @@ fn save(alloc: Global, server: SimServer, served: Served) -> Result<Recorded, Ru
     Ok(recorded)
 }
 
-/// Serves the connections that the words ask for by a new server, and writes what it recorded: first each connection is taken on a
+/// Serves the connections that the words ask for by a server that begins so, and writes what it recorded: first each connection is taken on a
 /// thread of its own, and when all have ended the server closes. It waits as long as clients let it.
-pub fn serve<R: Recorder>(rt: &R, request: &ServeRequest<'_>) -> Result<Recorded, RunFault>
+pub fn serve<R: Recorder>(
+    rt: &R,
+    request: &ServeRequest<'_>,
+    beginning: Beginning,
+) -> Result<Recorded, RunFault>
     // The certificate is a witness of the history.
     ensures explained { IfOk result IsRecording }
 {
@@ -38,8 +59,7 @@ pub fn serve<R: Recorder>(rt: &R, request: &ServeRequest<'_>) -> Result<Recorded
     let Ok(listener) = TcpListener::bind(rt, address) else {
         return Err(RunFault::CannotListen);
     };
-    let device = SimDevice::new(rt.alloc(), None, None, None);
-    let server = Server::new(rt.alloc(), OpenGate, device)?;
+    let server = server_from(rt.alloc(), request, beginning)?;
     let serving = Serving {
         server: &server,
         listener: &listener,

@@ -8,6 +8,8 @@ use std::alloc::{AllocError, Global};
 /// What is to be run, and where to its history and certificate are written.
 #[derive(Clone, Copy)]
 pub struct RunRequest<'a> {
+    /// The path of the history with whose starting objects and profile the server begins, if not with nothing.
+    pub start: Option<&'a str>,
     /// The path of the plan.
     pub plan: &'a str,
     /// The path of the history that is written.
@@ -27,6 +29,10 @@ pub struct ServeRequest<'a> {
     pub calls: u64,
     /// Whether stock clients may mount the server.
     pub export: Export,
+    /// Whether the profile is strict, also where that of the start isn't.
+    pub is_strict: bool,
+    /// The path of the history with whose starting objects and profile the server begins, if not with nothing.
+    pub start: Option<&'a str>,
     /// The path of the history that is written.
     pub history: &'a str,
     /// The path of the certificate that is written.
@@ -101,10 +107,25 @@ fn mountable_option<'a>(alloc: Global) -> Arg<'a> {
         )
 }
 
+fn strict_option<'a>(alloc: Global) -> Arg<'a> {
+    Arg::new(alloc, "strict")
+        .long("strict")
+        .action(ArgAction::SetTrue)
+        .help("Puts attributes into the replies, and has their types and sizes judged")
+}
+
+fn start_option<'a>(alloc: Global) -> Arg<'a> {
+    Arg::new(alloc, "start")
+        .long("start")
+        .value_name("FILE")
+        .help("A history: the server holds its starting objects at first, and takes its profile")
+}
+
 /// The grammar of the words behind `run`.
 pub fn run_command<'a>(alloc: Global) -> Result<Command<'a>, AllocError> {
     let command = Command::new(alloc, "run")
         .about("Runs a plan of clients and crashes over the bundled server, and judges its history")
+        .arg(start_option(alloc))?
         .arg(path(
             alloc,
             "PLAN",
@@ -115,8 +136,9 @@ pub fn run_command<'a>(alloc: Global) -> Result<Command<'a>, AllocError> {
 
 /// What the words behind `run` ask for.
 pub fn run_request<'a>(run: &ArgMatches<'a>) -> RunRequest<'a> {
-    // The parser asks for all three.
+    // The parser asks for all three paths but that of the start.
     RunRequest {
+        start: run.get_str("start"),
         plan: run.get_str("PLAN").unwrap_or(""),
         history: run.get_str("HISTORY").unwrap_or(""),
         certificate: run.get_str("CERTIFICATE").unwrap_or(""),
@@ -130,13 +152,15 @@ pub fn serve_command<'a>(alloc: Global) -> Result<Command<'a>, AllocError> {
         .arg(port_option(alloc))?
         .arg(lanes_option(alloc))?
         .arg(calls_option(alloc))?
-        .arg(mountable_option(alloc))?;
+        .arg(mountable_option(alloc))?
+        .arg(strict_option(alloc))?
+        .arg(start_option(alloc))?;
     with_outputs(alloc, command)
 }
 
 /// What the words behind `serve` ask for.
 pub fn serve_request<'a>(serve: &ArgMatches<'a>) -> ServeRequest<'a> {
-    // The parser asks for all but the export.
+    // The parser asks for the three numbers and the last two paths.
     ServeRequest {
         port: serve.get_one("port").unwrap_or(1),
         lanes: serve.get_one("lanes").unwrap_or(1),
@@ -146,6 +170,8 @@ pub fn serve_request<'a>(serve: &ArgMatches<'a>) -> ServeRequest<'a> {
         } else {
             Export::Plain
         },
+        is_strict: serve.get_flag("strict"),
+        start: serve.get_str("start"),
         history: serve.get_str("HISTORY").unwrap_or(""),
         certificate: serve.get_str("CERTIFICATE").unwrap_or(""),
     }

@@ -6,12 +6,15 @@ ghost use Rattle.bench_streams.specs.Told.{Tells, memory_line};
 ghost use Rattle.nfs_running.specs.Recording.{IsRecording};
 ghost use Rattle.nfsbench_engine.specs.Ran.{IsSaidOfRan, IsSaidOfRun, IsSaidOfServed, IsYesBehind, MayTellOf, run_lines};
 
-use crate::files::read_plan_file;
+use crate::files::{read_history_file, read_plan_file};
 use bench_streams::{Output, Report, tell, tell_answer, tell_want_of_memory};
 use nfs_judging::{judge_files, put_number};
 use nfs_recording::Recorder;
-use nfs_running::{Counts, Recorded, RunFault, RunRequest, ServeRequest, fault_report, run, serve};
+use nfs_running::{
+    Beginning, Counts, Recorded, RunFault, RunRequest, ServeRequest, fault_report, run, serve,
+};
 use std::alloc::{AllocError, Global};
+use std::rt::Files;
 
 /// The lines of what a run comes to in numbers.
 fn run_lines(alloc: Global, counts: &Counts) -> Result<String, AllocError>
@@ -102,6 +105,37 @@ fn tell_served<O: Output>(alloc: Global, output: &mut O, served: Result<Recorded
     tell_known(output, answer)
 }
 
+/// What the history at a path begins with; without a path, nothing under the plain profile.
+fn beginning_at<R: Files + AllocGlobal>(rt: &R, path: Option<&str>) -> Result<Beginning, RunFault> {
+    let Some(path) = path else {
+        return Ok(Beginning::empty(rt.alloc()));
+    };
+    match read_history_file(rt, path)? {
+        Some(file) => Beginning::of_file(rt.alloc(), file.as_slice()),
+        None => Err(RunFault::CannotReadStart),
+    }
+}
+
+/// Runs the plan of this text from the start that the words name, as [`run`].
+fn run_from_start<R: Recorder>(
+    rt: &R,
+    request: &RunRequest<'_>,
+    text: &[u8],
+) -> Result<Recorded, RunFault>
+    ensures { IfOk result IsRecording }
+{
+    let beginning = beginning_at(rt, request.start)?;
+    run(rt, request, beginning, text)
+}
+
+/// Serves connections from the start that the words name, as [`serve`].
+fn serve_from_start<R: Recorder>(rt: &R, request: &ServeRequest<'_>) -> Result<Recorded, RunFault>
+    ensures { IfOk result IsRecording }
+{
+    let beginning = beginning_at(rt, request.start)?;
+    serve(rt, request, beginning)
+}
+
 /// Runs the plan at a path, writes its history and certificate, and says what they come to.
 pub(crate) fn run_path<R: Recorder, O: Output>(
     rt: &R,
@@ -114,7 +148,11 @@ pub(crate) fn run_path<R: Recorder, O: Output>(
     ensures known { result < 4 }
 {
     match read_plan_file(rt, request.plan) {
-        Ok(Some(text)) => tell_run(rt.alloc(), output, run(rt, request, text.as_slice())),
+        Ok(Some(text)) => tell_run(
+            rt.alloc(),
+            output,
+            run_from_start(rt, request, text.as_slice()),
+        ),
         Ok(None) => tell(output, b"refused: unreadable plan\n", 2),
         Err(AllocError) => tell_want_of_memory(output),
     }
@@ -131,5 +169,5 @@ pub(crate) fn serve_words<R: Recorder, O: Output>(
         → Appends (O.contents output.old) (O.contents output.new) memory_line }
     ensures known { result < 4 }
 {
-    tell_served(rt.alloc(), output, serve(rt, request))
+    tell_served(rt.alloc(), output, serve_from_start(rt, request))
 }

@@ -4,12 +4,13 @@ ghost use Rattle.std.specs.Prelude.{◌≡◌, ◌++◌, [], IfOk, OnOk, OnErr, 
 ghost use Rattle.journal_device.specs.Device.{Device, Leaves};
 ghost use Rattle.nfs3_types.specs.declared.replies.NfsReply.{NfsReply};
 ghost use Rattle.nfs3_types.specs.declared.replies.Outcome.TheVariants.{Received};
+ghost use Rattle.tree_starts.specs.declared.profile.Profile.TheVariants.{Plain};
 ghost use Rattle.tree_nodes.specs.Printed.{tree_text};
 ghost use Rattle.tree_nodes.specs.Tree.{Tree};
 ghost use Rattle.book_machine.specs.Book.{Book, tree_of};
 ghost use Rattle.book_machine.specs.Plan.{plan_of};
 ghost use Rattle.book_machine.specs.Book.Condition.{running};
-ghost use Rattle.book_machine.specs.Steps.{opening_book, IsUnplaced, Begins, Places, Flushes, Answers, Closes, Crashes};
+ghost use Rattle.book_machine.specs.Steps.{opening_book, IsUnplaced, IsRecordable, Begins, Places, Flushes, Answers, Closes, Crashes};
 ghost use Rattle.book_ledger.specs.PlaceSteps.{entry_put, IsReceived, IsLeft};
 ghost use Rattle.certificate.specs.CertificateText.{IsCertificate};
 ghost use Rattle.witness_check.specs.Witness.{IsWitness};
@@ -22,9 +23,10 @@ use book_ledger::{
     Token,
 };
 use certificate::Certificate;
+use file_tree::{Profile, Start};
 use journal_device::{DevFault, JournalDevice};
-use nfs_history::History;
-use nfs3_types::{NfsReply, Outcome};
+use nfs_history::{History, Message};
+use nfs3_types::{NfsCall, NfsReply, Outcome};
 use std::alloc::{AllocError, Global};
 use std::marker::Model;
 
@@ -65,17 +67,32 @@ fn put_entry<D: JournalDevice>(device: &mut D, entry: &Option<Vec<u8>>) -> Resul
 }
 
 impl<D: JournalDevice> Book<D> {
-    /// A book ahead of its first step.
+    /// A book ahead of its first step, of a server that holds these objects, whose replies are judged so strictly.
+    pub fn new_from(
+        alloc: Global,
+        device: D,
+        profile: Profile,
+        start: Start,
+    ) -> Result<Book<D>, AllocError>
+        // The device is empty.
+        requires records { (D.device device).records ≡ [] }
+        requires mark { (D.device device).mark ≡ 0 }
+        ensures { IfOk result (λ book. book ≡ opening_book profile start (D.device device).faults) }
+    {
+        Ok(Book {
+            ledger: Ledger::new_from(alloc, profile, start)?,
+            device,
+        })
+    }
+
+    /// The same of a server with an empty root directory. Attributes in its replies aren't judged.
     pub fn new(alloc: Global, device: D) -> Result<Book<D>, AllocError>
         // The device is empty.
         requires records { (D.device device).records ≡ [] }
         requires mark { (D.device device).mark ≡ 0 }
-        ensures { IfOk result (λ book. book ≡ opening_book (D.device device).faults) }
+        ensures { IfOk result (λ book. book ≡ opening_book Plain [] (D.device device).faults) }
     {
-        Ok(Book {
-            ledger: Ledger::new(alloc)?,
-            device,
-        })
+        Book::new_from(alloc, device, Profile::Plain, Start::empty(alloc))
     }
 
     /// Begins a call, and gives what names it.
@@ -84,6 +101,20 @@ impl<D: JournalDevice> Book<D> {
         ensures refused { BeginRefused self.old lane message.now result self.new }
     {
         self.ledger.begin(lane, message)
+    }
+
+    /// Begins a call that was read of its message, and gives what names it.
+    pub fn begin_read(
+        &mut self,
+        lane: u32,
+        message: Message,
+        call: NfsCall,
+    ) -> Result<Token, BeginFault>
+        requires { IsRecordable message call }
+        ensures begun { IfOk result (λ token. Begins self.old lane message self.new × (token.number ≡ length self.new.history.known.calls)) }
+        ensures refused { BeginRefused self.old lane message result self.new }
+    {
+        self.ledger.begin_read(lane, message, call)
     }
 
     /// Places a call whose turn it is.

@@ -9,5 +9,6 @@ pub use book::Book;
 pub use book_ledger::{
     AnswerFault, BeginFault, CloseFault, CrashFault, FlushFault, PlaceFault, Token,
 };
+pub use file_tree::{Profile, Start};
 pub use journal_device::{DevFault, JournalDevice, Record, SimDevice};
-pub use journal_rebuild::{RebuildFault, rebuild};
+pub use journal_rebuild::{RebuildFault, rebuild, rebuild_from};

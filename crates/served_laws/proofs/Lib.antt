@@ -1,5 +1,4 @@
 pub mod Agreed
-pub mod Newcomer
 pub mod Serving
 pub mod Placing
 pub mod Planned

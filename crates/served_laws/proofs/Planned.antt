@@ -13,11 +13,10 @@ use Rattle.certificate.specs.declared.plan.Place.TheVariants.{Answered, Taken}
 use Rattle.replay_law.specs.Run.{state_after}
 use Rattle.tree_nodes.specs.Tree.{Tree}
 use Rattle.tree_nodes.proofs.Chains.{chained, same_some, value_of}
-use Rattle.tree_handles.specs.Binding.{Bindings}
-use Rattle.file_tree.specs.Success.{next_tree}
 use Rattle.tree_laws.specs.Outcomes.{count_written}
 use Rattle.witness_check.specs.Run.{step_with, step_of_call, step_at, steps_of, era_of}
 use Rattle.book_machine.specs.Placing.{Placed}
+use Rattle.book_machine.specs.Book.{Setting, next_by}
 use Rattle.book_machine.specs.Plan.{place_of, places_of, plan_over}
 use Rattle.book_machine.proofs.Invariant.{Over, IsKnown, AreKnown, AllKnown, AllRun}
 use Rattle.book_machine.proofs.Lists.{taken_given}
@@ -27,21 +26,21 @@ use Rattle.book_machine.proofs.Running.{plan_run}
 use Rattle.served_laws.proofs.Serving.{IsServedStep, AreServed, AllServed}
 
 -- each reply of a list of eras is served
-abbrev pub EachEraServed : Bindings → Tree → List Over → Type 0
-EachEraServed binds tree [] = Unit {0}
-EachEraServed binds tree (era ∷ eras) =
-    AreServed binds tree era.steps × ((base : Tree) → state_after (next_tree binds) tree (take era.kept era.steps) ≡ Some base → EachEraServed binds base eras)
+abbrev pub EachEraServed : Setting → Tree → List Over → Type 0
+EachEraServed set tree [] = Unit {0}
+EachEraServed set tree (era ∷ eras) =
+    AreServed set tree era.steps × ((base : Tree) → state_after (next_by set) tree (take era.kept era.steps) ≡ Some base → EachEraServed set base eras)
 
-module _ (calls : List RecordedCall) (binds : Bindings) where
+module _ (calls : List RecordedCall) (set : Setting) (at_first : Tree) where
   abbrev next : Tree → ℕ → NfsCall → Outcome → Option Tree
-  next = next_tree binds
+  next = next_by set
 
   -- the step of a place is that of its call, or has no reply
-  given : (era : ℕ) (step : Placed) (tree : Tree) → IsKnown calls era step → IsServedStep binds tree step → (place : Place) → place_of calls step ≡ Some place → (other : Placed)
-      → step_at calls place ≡ Some other → IsServedStep binds tree other
+  given : (era : ℕ) (step : Placed) (tree : Tree) → IsKnown calls era step → IsServedStep set tree step → (place : Place) → place_of calls step ≡ Some place → (other : Placed)
+      → step_at calls place ≡ Some other → IsServedStep set tree other
   given era step tree known served place is other at = go (stands calls era step place known is) where
-    go : Stands calls step known.call place → IsServedStep binds tree other
-    go (answered ended came place_is) = subst (IsServedStep binds tree) (same_some step other (sym found ∙ at)) served where
+    go : Stands calls step known.call place → IsServedStep set tree other
+    go (answered ended came place_is) = subst (IsServedStep set tree) (same_some step other (sym found ∙ at)) served where
       found : step_at calls place ≡ Some step
       found =
           ap (step_at calls) place_is ∙ ap (option_and_then (step_of_call (Answered step.number))) known.recorded
@@ -59,22 +58,22 @@ module _ (calls : List RecordedCall) (binds : Bindings) where
       clash e = cc
 
   -- one step more in front, or none
-  served_cons : (tree first : Tree) (o : Option Placed) (rest : List Placed) → state_after next tree (cons_option o []) ≡ Some first → ((other : Placed) → o ≡ Some other → IsServedStep binds tree other)
-      → AreServed binds first rest → AreServed binds tree (cons_option o rest)
-  served_cons tree first None rest e this a = subst (λ (t : Tree). AreServed binds t rest) (sym (same_some tree first e)) a
+  served_cons : (tree first : Tree) (o : Option Placed) (rest : List Placed) → state_after next tree (cons_option o []) ≡ Some first → ((other : Placed) → o ≡ Some other → IsServedStep set tree other)
+      → AreServed set first rest → AreServed set tree (cons_option o rest)
+  served_cons tree first None rest e this a = subst (λ (t : Tree). AreServed set t rest) (sym (same_some tree first e)) a
   served_cons tree first (Some other) rest e this a =
-      (this other refl, λ after to. subst (λ (t : Tree). AreServed binds t rest) (same_some first after (sym e ∙ ap (option_and_then (λ t. state_after next t [])) to)) a)
+      (this other refl, λ after to. subst (λ (t : Tree). AreServed set t rest) (same_some first after (sym e ∙ ap (option_and_then (λ t. state_after next t [])) to)) a)
 
-  pub plan_served : (era : ℕ) (steps : List Placed) → AreKnown calls era steps → (tree final : Tree) → state_after next tree steps ≡ Some final → AreServed binds tree steps
-      → AreServed binds tree (steps_of calls (places_of calls steps))
+  pub plan_served : (era : ℕ) (steps : List Placed) → AreKnown calls era steps → (tree final : Tree) → state_after next tree steps ≡ Some final → AreServed set tree steps
+      → AreServed set tree (steps_of calls (places_of calls steps))
   plan_served era [] known tree final e a = tt
   plan_served era (step ∷ steps) known tree final e a =
       let first = chained (λ after. state_after next after steps) (next tree step.number step.call step.outcome) final e in
-      let alone = plan_run calls binds era (step ∷ []) (known.0, tt) tree first.0 (ap (option_and_then (λ after. state_after next after [])) first.1) in
+      let alone = plan_run calls set at_first era (step ∷ []) (known.0, tt) tree first.0 (ap (option_and_then (λ after. state_after next after [])) first.1) in
       go first.0 (place_of calls step) refl alone (plan_served era steps known.1 first.0 final first.2 (a.1 first.0 first.1)) where
         go : (mid : Tree) (o : Option Place) → place_of calls step ≡ o → state_after next tree (steps_of calls (cons_option o [])) ≡ Some mid
-            → AreServed binds mid (steps_of calls (places_of calls steps)) → AreServed binds tree (steps_of calls (cons_option o (places_of calls steps)))
-        go mid None is same rest = subst (λ (t : Tree). AreServed binds t (steps_of calls (places_of calls steps))) (sym (same_some tree mid same)) rest
+            → AreServed set mid (steps_of calls (places_of calls steps)) → AreServed set tree (steps_of calls (cons_option o (places_of calls steps)))
+        go mid None is same rest = subst (λ (t : Tree). AreServed set t (steps_of calls (places_of calls steps))) (sym (same_some tree mid same)) rest
         go mid (Some place) is to rest = served_cons tree mid (step_at calls place) (steps_of calls (places_of calls steps)) to (given era step tree known.0 a.0 place is) rest
 
   -- ---- all eras
@@ -91,17 +90,17 @@ module _ (calls : List RecordedCall) (binds : Bindings) where
       let cut = length (places_of calls (take first.kept first.steps)) in
       taken_given (step_at calls) cut places ∙ ap (steps_of calls) (taken_given (place_of calls) first.kept first.steps)
 
-  served_some : (era : ℕ) (steps : List Placed) → AreKnown calls era steps → (tree : Tree) → IsSome (state_after next tree steps) → AreServed binds tree steps
-      → AreServed binds tree (steps_of calls (places_of calls steps))
+  served_some : (era : ℕ) (steps : List Placed) → AreKnown calls era steps → (tree : Tree) → IsSome (state_after next tree steps) → AreServed set tree steps
+      → AreServed set tree (steps_of calls (places_of calls steps))
   served_some era steps known tree s a = let final = value_of (state_after next tree steps) s in plan_served era steps known tree final.0 final.1 a
 
-  pub all_planned : (e : ℕ) (over : List Over) (placed : List Placed) → AllKnown calls e over placed → (tree : Tree) → AllRun binds tree over placed → AllServed binds tree over placed
-      → EachEraServed binds tree (map (era_of calls) (plans calls over placed))
+  pub all_planned : (e : ℕ) (over : List Over) (placed : List Placed) → AllKnown calls e over placed → (tree : Tree) → AllRun set tree over placed → AllServed set tree over placed
+      → EachEraServed set tree (map (era_of calls) (plans calls over placed))
   all_planned e [] placed known tree runs a = (served_some e placed known tree runs a, λ base kept. tt)
   all_planned e (first ∷ over) placed known tree runs a = (
     served_some e first.steps known.0 tree runs.0 a.0,
-    (λ base kept. subst (λ (t : Tree). EachEraServed binds t (map (era_of calls) (plans calls over placed))) (same_some runs.1.0 base (sym led ∙ kept))
+    (λ base kept. subst (λ (t : Tree). EachEraServed set t (map (era_of calls) (plans calls over placed))) (same_some runs.1.0 base (sym led ∙ kept))
         (all_planned (e + 1) over placed known.1 runs.1.0 runs.1.2 (a.1 runs.1.0 runs.1.1))),
   ) where
     led : state_after next tree (take (era_of calls (plan_over calls first)).kept (era_of calls (plan_over calls first)).steps) ≡ Some runs.1.0
-    led = ap (state_after next tree) (kept_same first) ∙ plan_run calls binds e (take first.kept first.steps) (known_front e first.kept first.steps known.0) tree runs.1.0 runs.1.1
+    led = ap (state_after next tree) (kept_same first) ∙ plan_run calls set at_first e (take first.kept first.steps) (known_front e first.kept first.steps known.0) tree runs.1.0 runs.1.1

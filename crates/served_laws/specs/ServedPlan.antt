@@ -6,7 +6,9 @@ use Rattle.nfs3_types.specs.declared.calls.NfsCall.{NfsCall}
 use Rattle.nfs3_types.specs.declared.replies.NfsReply.{NfsReply}
 use Rattle.nfs3_types.specs.declared.replies.Outcome.{Outcome}
 use Rattle.nfs3_types.specs.declared.replies.Outcome.TheVariants.{Received}
-use Rattle.tree_starts.specs.Start.{object_made}
+use Rattle.tree_starts.specs.Start.{IsStart, object_made}
+use Rattle.tree_starts.specs.declared.object.StartObject.{StartObject}
+use Rattle.tree_starts.specs.declared.profile.Profile.{Profile}
 use Rattle.nfs_history.specs.declared.knowing.KnownCalls.{KnownCalls}
 use Rattle.certificate.specs.declared.plan.Certificate.{Certificate}
 use Rattle.cut_check.specs.Places.{bindings_of}
@@ -31,7 +33,8 @@ EachServed history plan =
 abbrev pub IsServedBook : Book → Type 0
 IsServedBook book = EachServed book.history.known (plan_of book)
 
--- ahead of all steps and after each, also where crashes took places away
+-- ahead of all steps and after each, also where crashes took places away, whatever stood at first and however strictly it is judged
 abbrev pub EveryReplyIsServed : Type 0
 EveryReplyIsServed =
-    (faults : ℕ) (books : List Book) → IsRun (opening_book faults) books → IsServedBook (opening_book faults) × AllByRecursion IsServedBook books
+    (profile : Profile) (start : List StartObject) (faults : ℕ) (books : List Book) → IsStart start → IsRun (opening_book profile start faults) books
+    → IsServedBook (opening_book profile start faults) × AllByRecursion IsServedBook books

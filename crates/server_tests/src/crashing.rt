@@ -2,7 +2,7 @@
 
 use crate::clients::{join, make_file};
 use crate::doors::{Door, Doors, Flag};
-use crate::samples::{device, explains_by};
+use crate::samples::{Opening, PLAIN, STRICT_WITH_FILE, device, explains_by};
 use journal_server::{CallFault, Closed, Pass, Point, Server, SimDevice};
 use std::alloc::Global;
 use std::sync::Wait;
@@ -18,6 +18,24 @@ const TAKEN: &str = "witness 1\nbind 0000000000000001 1\ntake 1\ncut 0\nend\n";
 
 /// The call has a place, and outlived the crash.
 const KEPT: &str = "witness 1\nbind 0000000000000001 1\ntake 1\ncut 1\nend\n";
+
+/// The same of a server that held an object at first.
+const UNPLACED_BESIDE: &str = "witness 1\nbind 0000000000000001 1\ncut 0\nend\n";
+
+const TAKEN_BESIDE: &str =
+    "witness 1\nbind 0000000000000001 1\nbind 0000000000000002 2\ntake 1\ncut 0\nend\n";
+
+const KEPT_BESIDE: &str =
+    "witness 1\nbind 0000000000000001 1\nbind 0000000000000002 2\ntake 1\ncut 1\nend\n";
+
+/// A call that is held over a crash.
+#[derive(Clone, Copy)]
+struct Case {
+    opening: Opening,
+    point: Point,
+    /// How many records outlive the crash at most beside those on stable storage.
+    extra: u64,
+}
 
 type HeldServer<'d, R> = Server<Doors<'d, R>, SimDevice>;
 
@@ -62,17 +80,18 @@ fn crash_held<R: Wait + Clock + Threads + Sync>(
     Ok((pass, over && crashed))
 }
 
-/// How a server closes whose only call is held at this point over a crash; nothing, if not all came as it had to.
+/// How a server closes whose only call is held over a crash; nothing, if not all came as it had to.
 fn close_crashed<R: Wait + Clock + Threads + Sync>(
     rt: &R,
     alloc: Global,
-    point: Point,
-    extra: u64,
+    case: Case,
 ) -> Result<Option<Closed>, Fail> {
-    let door = Door::new(1, point);
+    let door = Door::new(1, case.point);
     let mut passes = Vec::with_capacity(alloc, 1)?;
-    let server = Server::new(alloc, Doors::new(rt, &door, &door), device(alloc))?;
-    let ran = crash_held(rt, alloc, &server, &door, extra);
+    let start = case.opening.start(alloc)?;
+    let gate = Doors::new(rt, &door, &door);
+    let server = Server::new_from(alloc, gate, device(alloc), case.opening.profile, start)?;
+    let ran = crash_held(rt, alloc, &server, &door, case.extra);
     let fits = matches!(&ran, Ok((_, true)));
     if let Ok((pass, _)) = ran {
         drop(passes.push(pass));
@@ -81,36 +100,62 @@ fn close_crashed<R: Wait + Clock + Threads + Sync>(
     Ok(fits.then_some(closed))
 }
 
-/// Whether a server closes by this certificate, whose only call is held at this point over a crash.
+/// Whether a server closes by this certificate, whose only call is held over a crash.
 fn is_explained<R: Wait + Clock + Threads + Sync>(
     rt: &R,
     alloc: Global,
-    point: Point,
-    extra: u64,
+    case: Case,
     text: &str,
 ) -> Result<bool, Fail> {
-    match close_crashed(rt, alloc, point, extra)? {
+    match close_crashed(rt, alloc, case)? {
         Some(closed) => Ok(explains_by(alloc, &closed, text)),
         None => Ok(false),
     }
 }
 
+/// A call of a plain server with nothing.
+fn plain(point: Point, extra: u64) -> Case {
+    Case {
+        opening: PLAIN,
+        point,
+        extra,
+    }
+}
+
+/// The same of a strict server that holds a file.
+fn strict(point: Point, extra: u64) -> Case {
+    Case {
+        opening: STRICT_WITH_FILE,
+        point,
+        extra,
+    }
+}
+
 #[test]
 fn a_call_that_has_begun_is_lost(rt: HostRuntime) -> Result<(), Fail> {
-    assert!(rt; is_explained(&rt, rt.alloc(), Point::Begun, 0, UNPLACED)?);
+    assert!(rt; is_explained(&rt, rt.alloc(), plain(Point::Begun, 0), UNPLACED)?);
+    assert!(rt; is_explained(&rt, rt.alloc(), strict(Point::Begun, 0), UNPLACED_BESIDE)?);
     Ok(())
 }
 
 #[test]
 fn a_call_that_was_placed_is_lost_or_kept(rt: HostRuntime) -> Result<(), Fail> {
-    assert!(rt; is_explained(&rt, rt.alloc(), Point::Placed, 0, TAKEN)?);
-    assert!(rt; is_explained(&rt, rt.alloc(), Point::Placed, 1, KEPT)?);
+    assert!(rt; is_explained(&rt, rt.alloc(), plain(Point::Placed, 0), TAKEN)?);
+    assert!(rt; is_explained(&rt, rt.alloc(), plain(Point::Placed, 1), KEPT)?);
+    Ok(())
+}
+
+#[test]
+fn a_call_placed_beside_a_file_is_lost_or_kept(rt: HostRuntime) -> Result<(), Fail> {
+    assert!(rt; is_explained(&rt, rt.alloc(), strict(Point::Placed, 0), TAKEN_BESIDE)?);
+    assert!(rt; is_explained(&rt, rt.alloc(), strict(Point::Placed, 1), KEPT_BESIDE)?);
     Ok(())
 }
 
 #[test]
 fn a_call_that_is_safe_is_kept(rt: HostRuntime) -> Result<(), Fail> {
-    assert!(rt; is_explained(&rt, rt.alloc(), Point::Flushed, 0, KEPT)?);
+    assert!(rt; is_explained(&rt, rt.alloc(), plain(Point::Flushed, 0), KEPT)?);
+    assert!(rt; is_explained(&rt, rt.alloc(), strict(Point::Flushed, 0), KEPT_BESIDE)?);
     Ok(())
 }
 

@@ -1,6 +1,6 @@
 //! A server for which memory is wanting once.
 
-use crate::samples::{OpenServer, device};
+use crate::samples::{OpenServer, Opening, PLAIN, STRICT_WITH_FILE, device};
 use client_calls::{
     Creation, Level, commit, create, make_directory, make_link, read, read_directory,
     read_directory_plus, remove, rename, set_size, write,
@@ -11,49 +11,57 @@ use std::sync::Wait;
 use std::test::Fail;
 use witness_check::{Verdict, check};
 
-/// What a client asks that makes a file and a directory, and moves the file into it.
-fn first_messages(alloc: Global) -> Result<Vec<Vec<u8>>, AllocError> {
+/// What a client asks that makes a file and a directory, and moves the file into it. So many objects stand at first.
+fn first_messages(alloc: Global, held: u64) -> Result<Vec<Vec<u8>>, AllocError> {
+    let (file, folder) = (held.saturating_add(1), held.saturating_add(3));
     let made = create(alloc, 1, 0, b"a", Creation::Unchecked(None))?;
-    let wrote = write(alloc, 2, 1, 4090, Level::Unstable, b"over two pages")?;
+    let wrote = write(alloc, 2, file, 4090, Level::Unstable, b"over two pages")?;
     let directory = make_directory(alloc, 3, 0, b"d")?;
-    let moved = rename(alloc, 4, (0, b"a"), (3, b"b"))?;
-    let link = make_link(alloc, 5, 3, b"c", b"text")?;
-    let list = read_directory(alloc, 6, 3, 0, 4096)?;
-    let gone = remove(alloc, 7, 3, b"c")?;
+    let moved = rename(alloc, 4, (0, b"a"), (folder, b"b"))?;
+    let link = make_link(alloc, 5, folder, b"c", b"text")?;
+    let list = read_directory(alloc, 6, folder, 0, 4096)?;
+    let gone = remove(alloc, 7, folder, b"c")?;
     Ok(vec![in alloc; made, wrote, directory, moved, link, list, gone]?)
 }
 
 /// What a client asks behind a crash: it looks at what is left, and makes more.
-fn second_messages(alloc: Global) -> Result<Vec<Vec<u8>>, AllocError> {
-    let list = read_directory_plus(alloc, 1, 3, 0, 4096)?;
-    let look = read(alloc, 2, 1, 4000, 200)?;
-    let cut = set_size(alloc, 3, 1, Some(10))?;
-    let made = create(alloc, 4, 3, b"e", Creation::Exclusive(9))?;
-    let safe = commit(alloc, 5, 1, 0, 0)?;
+fn second_messages(alloc: Global, held: u64) -> Result<Vec<Vec<u8>>, AllocError> {
+    let (file, folder) = (held.saturating_add(1), held.saturating_add(3));
+    let list = read_directory_plus(alloc, 1, folder, 0, 4096)?;
+    let look = read(alloc, 2, file, 4000, 200)?;
+    let cut = set_size(alloc, 3, file, Some(10))?;
+    let made = create(alloc, 4, folder, b"e", Creation::Exclusive(9))?;
+    let safe = commit(alloc, 5, file, 0, 0)?;
     Ok(vec![in alloc; list, look, cut, made, safe]?)
 }
 
 /// What two clients ask.
-fn all_messages(alloc: Global) -> Result<Asked, AllocError> {
+fn all_messages(alloc: Global, held: u64) -> Result<Asked, AllocError> {
     Ok(Asked {
-        first: first_messages(alloc)?,
-        second: second_messages(alloc)?,
+        first: first_messages(alloc, held)?,
+        second: second_messages(alloc, held)?,
     })
 }
 
 /// What two clients ask; made again where memory was wanting.
-fn make_messages(alloc: Global) -> Result<Asked, Fail> {
-    match all_messages(alloc) {
+fn make_messages(alloc: Global, held: u64) -> Result<Asked, Fail> {
+    match all_messages(alloc, held) {
         Ok(asked) => Ok(asked),
-        Err(_) => Ok(all_messages(alloc)?),
+        Err(_) => Ok(all_messages(alloc, held)?),
     }
 }
 
+/// A server that begins so.
+fn open(alloc: Global, opening: Opening) -> Result<OpenServer, AllocError> {
+    let start = opening.start(alloc)?;
+    Server::new_from(alloc, OpenGate, device(alloc), opening.profile, start)
+}
+
 /// A new server; asked for again where memory was wanting.
-fn new_server(alloc: Global) -> Result<OpenServer, Fail> {
-    match Server::new(alloc, OpenGate, device(alloc)) {
+fn new_server(alloc: Global, opening: Opening) -> Result<OpenServer, Fail> {
+    match open(alloc, opening) {
         Ok(server) => Ok(server),
-        Err(_) => Ok(Server::new(alloc, OpenGate, device(alloc))?),
+        Err(_) => Ok(open(alloc, opening)?),
     }
 }
 
@@ -182,18 +190,30 @@ fn is_closed(alloc: Global, closed: Result<Closed, CloseFault>) -> bool {
     }
 }
 
-// It passes as well where any one allocation is refused, as by `rt try --test --fail-alloc N`.
+/// Whether a server that begins so explains itself, with memory wanting at most once.
+fn is_explained<R: Wait>(rt: &R, alloc: Global, opening: Opening) -> Result<bool, Fail> {
+    let asked = make_messages(alloc, u64::from(opening.holds_file))?;
+    let mut passes = room(alloc)?;
+    let server = new_server(alloc, opening)?;
+    let came = run(rt, &server, &asked, &mut passes);
+    let closed = is_closed(alloc, server.close(passes));
+    Ok(match came {
+        Some(came) => came.fits && came.wanting < 2 && closed,
+        None => false,
+    })
+}
+
+// They pass as well where any one allocation is refused, as by `rt try --test --fail-alloc N`.
 #[test]
 fn a_refused_growth_leaves_a_server_that_explains_itself(rt: HostRuntime) -> Result<(), Fail> {
-    let alloc = rt.alloc();
-    let asked = make_messages(alloc)?;
-    let mut passes = room(alloc)?;
-    let server = new_server(alloc)?;
-    let came = run(&rt, &server, &asked, &mut passes);
-    let closed = is_closed(alloc, server.close(passes));
-    match came {
-        Some(came) => assert!(rt; came.fits && came.wanting < 2 && closed),
-        None => assert!(rt; false),
-    }
+    assert!(rt; is_explained(&rt, rt.alloc(), PLAIN)?);
+    Ok(())
+}
+
+#[test]
+fn a_refused_growth_leaves_a_strict_server_that_explains_itself(
+    rt: HostRuntime,
+) -> Result<(), Fail> {
+    assert!(rt; is_explained(&rt, rt.alloc(), STRICT_WITH_FILE)?);
     Ok(())
 }

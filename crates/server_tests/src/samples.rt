@@ -3,8 +3,10 @@
 ghost use Rattle.std.specs.Prelude.{◌≡◌, []};
 
 use certificate::write_certificate;
-use journal_server::{Closed, OpenGate, Server, SimDevice};
+use journal_server::{Closed, OpenGate, Profile, Server, SimDevice, Start};
+use nfs3_types::{Data, Name};
 use std::alloc::{AllocError, Global};
+use tree_starts::{StartNode, StartObject};
 use witness_check::{Verdict, check};
 
 /// A server that holds no call.
@@ -15,6 +17,46 @@ pub fn device(alloc: Global) -> SimDevice
     ensures { result.device ≡ record { records = []; mark = 0; faults = 0 } }
 {
     SimDevice::new(alloc, None, None, None)
+}
+
+/// How a server begins.
+#[derive(Clone, Copy)]
+pub struct Opening {
+    /// How strictly its replies are judged.
+    pub profile: Profile,
+    /// It holds the file `abc` at the name `z`.
+    pub holds_file: bool,
+}
+
+/// Plain, with nothing.
+pub const PLAIN: Opening = Opening {
+    profile: Profile::Plain,
+    holds_file: false,
+};
+
+/// Strict, with a file.
+pub const STRICT_WITH_FILE: Opening = Opening {
+    profile: Profile::Strict,
+    holds_file: true,
+};
+
+impl Opening {
+    /// What the server holds at first.
+    pub fn start(self, alloc: Global) -> Result<Start, AllocError> {
+        if !self.holds_file {
+            return Ok(Start::empty(alloc));
+        }
+        let mut objects = Vec::with_capacity(alloc, 1)?;
+        objects.push(StartObject {
+            parent: 0,
+            name: Name::from_slice(alloc, b"z".as_slice())?,
+            node: StartNode::File(Data::from_slice(alloc, b"abc".as_slice())?),
+        })?;
+        match Start::new(alloc, objects) {
+            Ok(start) => Ok(start),
+            Err(_) => Err(AllocError),
+        }
+    }
 }
 
 /// A server that holds no call, over a device that never fails.

@@ -1,71 +1,62 @@
-//! Replies that are failures.
+//! Replies that are failures. The object of the call's first handle, and a RENAME's second directory, are as they were.
 
+use crate::change::Change;
 use crate::scene::Scene;
-use nfs3_types::{Answer, Failure, Held, NfsCall, NfsReply, Optional, RenameWcc, WccData};
-use std::alloc::{AllocError, Global};
+use nfs3_types::{
+    Answer, Failure, FileAttributes, FileHandle, NfsCall, NfsReply, Optional, WccData,
+};
+use std::alloc::AllocError;
 
-/// No attributes, before and after.
-pub(crate) fn no_attributes() -> WccData {
-    WccData {
-        before: Optional::none(),
-        after: Optional::none(),
+/// A failure, with the scene in which its call stays without effect.
+#[derive(Clone, Copy)]
+struct Failing<'s> {
+    scene: &'s Scene<'s>,
+    failure: Failure,
+}
+
+impl Failing<'_> {
+    /// The answer to a call that changes nothing, with the attributes of a handle's object.
+    fn look<S>(
+        &self,
+        handle: &FileHandle,
+    ) -> Result<Answer<S, Optional<FileAttributes>>, AllocError> {
+        let attributes = self.scene.attributes(handle)?;
+        Ok(Answer::Failed(self.failure, attributes))
+    }
+
+    /// The answer to a call that changes something, with the attributes of a handle's object before and after.
+    fn change<S>(&self, handle: &FileHandle) -> Result<Answer<S, WccData>, AllocError> {
+        let wcc = self.scene.wcc(handle, &Change::Nothing)?;
+        Ok(Answer::Failed(self.failure, wcc))
     }
 }
 
-/// The same of both directories of a RENAME.
-pub(crate) fn no_attributes_of_both(alloc: Global) -> Result<Held<RenameWcc>, AllocError> {
-    Held::new(
-        alloc,
-        RenameWcc {
-            from: no_attributes(),
-            to: no_attributes(),
-        },
-    )
-}
-
-/// A failure of a call that changes nothing.
-fn failed_look(call: &NfsCall, failure: Failure) -> Option<NfsReply> {
-    match call {
-        NfsCall::GetAttr(_) => Some(NfsReply::GetAttr(Answer::Failed(failure, ()))),
-        NfsCall::Lookup(_) => Some(NfsReply::Lookup(Answer::Failed(failure, Optional::none()))),
-        NfsCall::ReadLink(_) => Some(NfsReply::ReadLink(Answer::Failed(failure, Optional::none()))),
-        NfsCall::Read(_) => Some(NfsReply::Read(Answer::Failed(failure, Optional::none()))),
-        NfsCall::ReadDir(_) => Some(NfsReply::ReadDir(Answer::Failed(failure, Optional::none()))),
-        NfsCall::ReadDirPlus(_) => Some(NfsReply::ReadDirPlus(Answer::Failed(
-            failure,
-            Optional::none(),
-        ))),
-        _ => None,
-    }
-}
-
-/// A failure of a call that changes a file or a directory.
-fn failed_change(call: &NfsCall, failure: Failure) -> Option<NfsReply> {
-    match call {
-        NfsCall::SetAttr(_) => Some(NfsReply::SetAttr(Answer::Failed(failure, no_attributes()))),
-        NfsCall::Write(_) => Some(NfsReply::Write(Answer::Failed(failure, no_attributes()))),
-        NfsCall::Create(_) => Some(NfsReply::Create(Answer::Failed(failure, no_attributes()))),
-        NfsCall::MkDir(_) => Some(NfsReply::MkDir(Answer::Failed(failure, no_attributes()))),
-        NfsCall::SymLink(_) => Some(NfsReply::SymLink(Answer::Failed(failure, no_attributes()))),
-        NfsCall::Remove(_) => Some(NfsReply::Remove(Answer::Failed(failure, no_attributes()))),
-        NfsCall::RmDir(_) => Some(NfsReply::RmDir(Answer::Failed(failure, no_attributes()))),
-        NfsCall::Commit(_) => Some(NfsReply::Commit(Answer::Failed(failure, no_attributes()))),
-        _ => None,
-    }
-}
-
-/// A call's failure. Optional attributes are absent.
+/// A call's failure.
 pub(crate) fn failed(
     scene: &Scene<'_>,
     call: &NfsCall,
     failure: Failure,
 ) -> Result<NfsReply, AllocError> {
-    if let Some(reply) = failed_look(call, failure) {
-        return Ok(reply);
-    }
-    if let Some(reply) = failed_change(call, failure) {
-        return Ok(reply);
-    }
-    let both = no_attributes_of_both(scene.alloc)?;
-    Ok(NfsReply::Rename(Answer::Failed(failure, both)))
+    let failing = Failing { scene, failure };
+    let reply = match call {
+        NfsCall::GetAttr(_) => NfsReply::GetAttr(Answer::Failed(failure, ())),
+        NfsCall::SetAttr(call) => NfsReply::SetAttr(failing.change(&call.object)?),
+        NfsCall::Lookup(place) => NfsReply::Lookup(failing.look(&place.directory)?),
+        NfsCall::ReadLink(link) => NfsReply::ReadLink(failing.look(link)?),
+        NfsCall::Read(call) => NfsReply::Read(failing.look(&call.file)?),
+        NfsCall::Write(call) => NfsReply::Write(failing.change(&call.file)?),
+        NfsCall::Create(call) => NfsReply::Create(failing.change(&call.place.directory)?),
+        NfsCall::MkDir(call) => NfsReply::MkDir(failing.change(&call.place.directory)?),
+        NfsCall::SymLink(call) => NfsReply::SymLink(failing.change(&call.place.directory)?),
+        NfsCall::Remove(place) => NfsReply::Remove(failing.change(&place.directory)?),
+        NfsCall::RmDir(place) => NfsReply::RmDir(failing.change(&place.directory)?),
+        NfsCall::Rename(call) => {
+            let both = scene.wcc_of_both(call, &Change::Nothing)?;
+            NfsReply::Rename(Answer::Failed(failure, both))
+        }
+        NfsCall::ReadDir(call) => NfsReply::ReadDir(failing.look(&call.directory)?),
+        NfsCall::ReadDirPlus(call) => NfsReply::ReadDirPlus(failing.look(&call.directory)?),
+        NfsCall::Commit(call) => NfsReply::Commit(failing.change(&call.file)?),
+    };
+    Ok(reply)
 }

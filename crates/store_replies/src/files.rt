@@ -2,61 +2,26 @@
 
 ghost use Rattle.std.specs.Prelude.{◌≤◌, length};
 
+use crate::attributes::Known;
 use crate::change::Change;
 use crate::decision::{Decision, Stop};
-use crate::failed::no_attributes;
 use crate::scene::Scene;
 use nfs3_types::{
-    Answer, CommitArguments, CommitSuccess, Data, Device, Failure, FileAttributes, FileHandle,
-    FileType, Held, LinkText, NfsReply, Optional, ReadArguments, ReadLinkSuccess, ReadSuccess,
-    SetAttrArguments, Time, Verifier, WriteArguments, WriteSuccess,
+    Answer, CommitArguments, CommitSuccess, Data, Failure, FileHandle, Held, LinkText, NfsReply,
+    ReadArguments, ReadLinkSuccess, ReadSuccess, SetAttrArguments, Verifier, WriteArguments,
+    WriteSuccess,
 };
-use object_store::{Content, Node};
+use object_store::Content;
 
 /// The most bytes that a READ gives, and that a list and a link's text may have.
 pub(crate) const TRANSFER_LIMIT: usize = 1_048_576;
-/// The mode of each object: its owner reads and writes it, everybody else reads it.
-const MODE: u32 = 420;
-
-/// The type and the size of an object.
-fn type_and_size(node: &Node) -> (FileType, u64) {
-    match &node.content {
-        Content::Directory(_) => (FileType::Directory, 0),
-        Content::File(file) => (FileType::Regular, file.bytes.len() as u64),
-        Content::Link(text) => (FileType::SymbolicLink, text.len() as u64),
-    }
-}
-
-/// An object's attributes. What isn't known of it is 0.
-fn attributes_of(node: &Node) -> FileAttributes {
-    let (file_type, size) = type_and_size(node);
-    let start = Time {
-        seconds: 0,
-        nanoseconds: 0,
-    };
-    FileAttributes {
-        file_type,
-        mode: MODE,
-        link_count: 1,
-        user: 0,
-        group: 0,
-        size,
-        used: 0,
-        device: Device { major: 0, minor: 0 },
-        file_system: 0,
-        file_number: node.number,
-        access_time: start,
-        modify_time: start,
-        change_time: start,
-    }
-}
 
 pub(crate) fn get_attributes<'a>(
     scene: &Scene<'_>,
     object: &FileHandle,
 ) -> Result<Decision<'a>, Stop> {
     let node = scene.live(object)?;
-    let attributes = Held::new(scene.alloc, attributes_of(node))?;
+    let attributes = Held::new(scene.alloc, Known::of(node).attributes())?;
     Ok(Decision::look(NfsReply::GetAttr(Answer::Done(attributes))))
 }
 
@@ -74,8 +39,9 @@ pub(crate) fn set_attributes<'a>(
             Change::Nothing
         }
     };
+    let wcc = scene.wcc(&call.object, &change)?;
     Ok(Decision {
-        reply: NfsReply::SetAttr(Answer::Done(no_attributes())),
+        reply: NfsReply::SetAttr(Answer::Done(wcc)),
         change,
     })
 }
@@ -89,7 +55,7 @@ pub(crate) fn read_link<'a>(scene: &Scene<'_>, link: &FileHandle) -> Result<Deci
         return Err(Stop::Failed(Failure::NameTooLong));
     }
     let success = ReadLinkSuccess {
-        attributes: Optional::none(),
+        attributes: scene.attributes(link)?,
         target: LinkText::from_slice(scene.alloc, text.as_slice())?,
     };
     Ok(Decision::look(NfsReply::ReadLink(Answer::Done(success))))
@@ -110,7 +76,7 @@ pub(crate) fn read<'a>(scene: &Scene<'_>, call: &'a ReadArguments) -> Result<Dec
     let found = part(file.bytes.as_slice(), call.offset, count);
     let left = (file.bytes.len() as u64).saturating_sub(call.offset);
     let success = ReadSuccess {
-        attributes: Optional::none(),
+        attributes: scene.attributes(&call.file)?,
         count: found.len() as u32,
         eof: left <= found.len() as u64,
         bytes: Data::from_slice(scene.alloc, found)?,
@@ -121,12 +87,6 @@ pub(crate) fn read<'a>(scene: &Scene<'_>, call: &'a ReadArguments) -> Result<Dec
 pub(crate) fn write<'a>(scene: &Scene<'_>, call: &'a WriteArguments) -> Result<Decision<'a>, Stop> {
     let (object, _) = scene.file(&call.file)?;
     let bytes = call.bytes.as_slice();
-    let success = WriteSuccess {
-        wcc: no_attributes(),
-        count: bytes.len() as u32,
-        level: call.level,
-        verifier: Verifier { value: scene.era },
-    };
     // A WRITE of no bytes may lie anywhere, and makes no file longer.
     let change = if bytes.is_empty() {
         Change::Nothing
@@ -136,6 +96,12 @@ pub(crate) fn write<'a>(scene: &Scene<'_>, call: &'a WriteArguments) -> Result<D
             offset: call.offset,
             bytes,
         }
+    };
+    let success = WriteSuccess {
+        wcc: scene.wcc(&call.file, &change)?,
+        count: bytes.len() as u32,
+        level: call.level,
+        verifier: Verifier { value: scene.era },
     };
     Ok(Decision {
         reply: NfsReply::Write(Answer::Done(success)),
@@ -149,7 +115,7 @@ pub(crate) fn commit<'a>(
 ) -> Result<Decision<'a>, Stop> {
     scene.file(&call.file)?;
     let success = CommitSuccess {
-        wcc: no_attributes(),
+        wcc: scene.wcc(&call.file, &Change::Nothing)?,
         verifier: Verifier { value: scene.era },
     };
     Ok(Decision::look(NfsReply::Commit(Answer::Done(success))))

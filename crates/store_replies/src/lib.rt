@@ -2,6 +2,7 @@
 //! Nothing is proved of it: the server's book judges each reply.
 #![tactic(auto)]
 
+mod attributes;
 mod change;
 mod decision;
 mod failed;
@@ -10,7 +11,9 @@ mod listing;
 mod names_of;
 mod renaming;
 mod scene;
+mod site;
 
-pub use change::{Change, NewObject, Prepared, Renaming, Site};
+pub use change::{Change, NewObject, Renaming};
 pub use decision::{Decision, decide};
 pub use scene::Scene;
+pub use site::{Prepared, Site};

@@ -10,7 +10,7 @@ use nfs3_types::{
 };
 use std::alloc::{AllocError, Global};
 
-/// The bytes of a list without entries: the status, the absent attributes, the verifier, and the two flags at its end.
+/// The bytes of a list without entries: the status, the flag of the attributes, the verifier, and the two flags at its end.
 const EMPTY_LIST: usize = 24;
 /// The bytes of an entry without its name: a flag, the object's number, the name's length and the cookie.
 const PLAIN_ENTRY: usize = 24;
@@ -29,10 +29,16 @@ struct Span {
 }
 
 /// The names behind a cookie that fit into so many bytes.
-fn fitting(names: &Names, cookie: u64, bytes: u32, entry: usize) -> Result<Span, Failure> {
+fn fitting(
+    scene: &Scene<'_>,
+    names: &Names,
+    cookie: u64,
+    bytes: u32,
+    entry: usize,
+) -> Result<Span, Failure> {
     let room = (bytes as usize).min(TRANSFER_LIMIT);
     let behind = cookie as usize;
-    let mut used = EMPTY_LIST;
+    let mut used = EMPTY_LIST.saturating_add(scene.attributes_length());
     let mut count: usize = 0;
     for (name, _) in names.iter().skip(behind) {
         let size = entry.saturating_add(name.len()).saturating_add(3) / 4 * 4;
@@ -126,9 +132,9 @@ pub(crate) fn list<'a>(
     call: &'a ReadDirArguments,
 ) -> Result<Decision<'a>, Stop> {
     let (_, names) = scene.directory(&call.directory)?;
-    let span = fitting(names, call.cookie, call.count, PLAIN_ENTRY)?;
+    let span = fitting(scene, names, call.cookie, call.count, PLAIN_ENTRY)?;
     let success = ReadDirSuccess {
-        attributes: Optional::none(),
+        attributes: scene.attributes(&call.directory)?,
         verifier: Verifier { value: 0 },
         entries: Entries::new(entries(scene, names, span)?),
         eof: span.whole,
@@ -143,9 +149,15 @@ pub(crate) fn list_plus<'a>(
     call: &'a ReadDirPlusArguments,
 ) -> Result<Decision<'a>, Stop> {
     let (_, names) = scene.directory(&call.directory)?;
-    let span = fitting(names, call.cookie, call.whole_count, ENTRY_WITH_HANDLE)?;
+    let span = fitting(
+        scene,
+        names,
+        call.cookie,
+        call.whole_count,
+        ENTRY_WITH_HANDLE,
+    )?;
     let success = ReadDirPlusSuccess {
-        attributes: Optional::none(),
+        attributes: scene.attributes(&call.directory)?,
         verifier: Verifier { value: 0 },
         entries: Entries::new(entries_plus(scene, names, span)?),
         eof: span.whole,

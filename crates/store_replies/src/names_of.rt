@@ -2,12 +2,11 @@
 
 use crate::change::{Change, NewObject};
 use crate::decision::{Decision, Stop};
-use crate::failed::no_attributes;
 use crate::files::TRANSFER_LIMIT;
 use crate::scene::{Scene, is_plain};
 use nfs3_types::{
     Answer, CreateArguments, CreateMode, CreateSuccess, DirectoryName, Failure, Held,
-    LookupSuccess, MkDirArguments, NfsReply, Optional, SymLinkArguments,
+    LookupSuccess, MkDirArguments, NfsReply, SymLinkArguments,
 };
 use object_store::{Content, Node};
 use std::alloc::AllocError;
@@ -26,19 +25,25 @@ pub(crate) fn look_up<'a>(scene: &Scene<'_>, place: &DirectoryName) -> Result<De
     let object = found(scene, place)?;
     let success = LookupSuccess {
         object: scene.handle(object)?,
-        attributes: Optional::none(),
-        directory_attributes: Optional::none(),
+        attributes: scene.attributes_after(object, &Change::Nothing)?,
+        directory_attributes: scene.attributes(&place.directory)?,
     };
     let success = Held::new(scene.alloc, success)?;
     Ok(Decision::look(NfsReply::Lookup(Answer::Done(success))))
 }
 
-/// What stands behind the status of a CREATE, a MKDIR or a SYMLINK that succeeded: the object's handle.
-fn created(scene: &Scene<'_>, object: u64) -> Result<Held<CreateSuccess>, AllocError> {
+/// What stands behind the status of a CREATE, a MKDIR or a SYMLINK that succeeded: the object's handle and attributes, and
+/// those of the directory.
+fn created(
+    scene: &Scene<'_>,
+    place: &DirectoryName,
+    object: u64,
+    change: &Change<'_>,
+) -> Result<Held<CreateSuccess>, AllocError> {
     let success = CreateSuccess {
         object: Some(scene.handle(object)?),
-        attributes: Optional::none(),
-        wcc: no_attributes(),
+        attributes: scene.attributes_after(object, change)?,
+        wcc: scene.wcc(&place.directory, change)?,
     };
     Held::new(scene.alloc, success)
 }
@@ -108,7 +113,7 @@ fn create_change<'a>(
         name,
         object: new_file(&call.mode),
     };
-    Ok((scene.number, change))
+    Ok((scene.object, change))
 }
 
 pub(crate) fn create<'a>(
@@ -116,7 +121,7 @@ pub(crate) fn create<'a>(
     call: &'a CreateArguments,
 ) -> Result<Decision<'a>, Stop> {
     let (object, change) = create_change(scene, call)?;
-    let reply = NfsReply::Create(Answer::Done(created(scene, object)?));
+    let reply = NfsReply::Create(Answer::Done(created(scene, &call.place, object, &change)?));
     Ok(Decision { reply, change })
 }
 
@@ -125,12 +130,13 @@ pub(crate) fn make_directory<'a>(
     call: &'a MkDirArguments,
 ) -> Result<Decision<'a>, Stop> {
     let directory = vacant(scene, &call.place)?;
-    let reply = NfsReply::MkDir(Answer::Done(created(scene, scene.number)?));
     let change = Change::Make {
         directory,
         name: call.place.name.as_slice(),
         object: NewObject::Directory,
     };
+    let success = created(scene, &call.place, scene.object, &change)?;
+    let reply = NfsReply::MkDir(Answer::Done(success));
     Ok(Decision { reply, change })
 }
 
@@ -143,12 +149,13 @@ pub(crate) fn make_link<'a>(
         return Err(Stop::Failed(Failure::NameTooLong));
     }
     let directory = vacant(scene, &call.place)?;
-    let reply = NfsReply::SymLink(Answer::Done(created(scene, scene.number)?));
     let change = Change::Make {
         directory,
         name: call.place.name.as_slice(),
         object: NewObject::Link(text),
     };
+    let success = created(scene, &call.place, scene.object, &change)?;
+    let reply = NfsReply::SymLink(Answer::Done(success));
     Ok(Decision { reply, change })
 }
 
@@ -169,13 +176,15 @@ pub(crate) fn remove<'a>(
     if node.is_directory() {
         return Err(Stop::Failed(Failure::IsDirectory));
     }
+    let change = Change::Remove {
+        directory,
+        name: place.name.as_slice(),
+        object: node.number,
+    };
+    let wcc = scene.wcc(&place.directory, &change)?;
     Ok(Decision {
-        reply: NfsReply::Remove(Answer::Done(no_attributes())),
-        change: Change::Remove {
-            directory,
-            name: place.name.as_slice(),
-            object: node.number,
-        },
+        reply: NfsReply::Remove(Answer::Done(wcc)),
+        change,
     })
 }
 
@@ -188,12 +197,14 @@ pub(crate) fn remove_directory<'a>(
     if !names.is_empty() {
         return Err(Stop::Failed(Failure::NotEmpty));
     }
+    let change = Change::Remove {
+        directory,
+        name: place.name.as_slice(),
+        object: node.number,
+    };
+    let wcc = scene.wcc(&place.directory, &change)?;
     Ok(Decision {
-        reply: NfsReply::RmDir(Answer::Done(no_attributes())),
-        change: Change::Remove {
-            directory,
-            name: place.name.as_slice(),
-            object: node.number,
-        },
+        reply: NfsReply::RmDir(Answer::Done(wcc)),
+        change,
     })
 }

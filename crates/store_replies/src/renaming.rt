@@ -2,7 +2,6 @@
 
 use crate::change::{Change, Renaming};
 use crate::decision::{Decision, Stop};
-use crate::failed::no_attributes_of_both;
 use crate::scene::{Scene, is_plain};
 use nfs3_types::{Answer, Failure, NfsReply, RenameArguments};
 use object_store::Node;
@@ -62,7 +61,7 @@ pub(crate) fn rename<'a>(
     call: &'a RenameArguments,
 ) -> Result<Decision<'a>, Stop> {
     let change = rename_change(scene, call)?;
-    let both = no_attributes_of_both(scene.alloc)?;
+    let both = scene.wcc_of_both(call, &change)?;
     Ok(Decision {
         reply: NfsReply::Rename(Answer::Done(both)),
         change,

@@ -4,6 +4,7 @@ use names::Names;
 use nfs3_types::{Failure, FileHandle};
 use object_store::{Content, File, Held, Node, number_of};
 use std::alloc::{AllocError, Global};
+use tree_starts::Profile;
 
 /// What a call sees: the objects that it has taken out, and the numbers that its reply is made of.
 #[derive(Clone, Copy)]
@@ -12,10 +13,12 @@ pub struct Scene<'a> {
     pub alloc: Global,
     /// The objects that the call has taken out.
     pub held: &'a Held,
-    /// The call's number, which an object that it makes gets.
-    pub number: u64,
+    /// The number that an object which this call makes gets.
+    pub object: u64,
     /// The era, which is the write verifier.
     pub era: u64,
+    /// Whether the reply carries attributes: under the strict profile alone.
+    pub profile: Profile,
 }
 
 impl<'a> Scene<'a> {

@@ -1,13 +1,14 @@
 //! What a line asks for.
 
-use crate::numbers::{Faults, parse_faults, split_u32, split_u64, split_word};
+use crate::numbers::{split_u32, split_u64, split_word};
+use crate::opening::Opening;
 use anyhow::{Result, bail};
 
 /// What a line asks for.
 #[derive(Clone, Copy)]
 pub enum Command<'a> {
-    /// A new book, over a device of which these calls fail.
-    New(Faults),
+    /// A new book that begins so.
+    New(Opening<'a>),
     /// A call that comes on this lane.
     Begin(u32, Asked<'a>),
     /// A call that comes on this lane as this message, whatever it is.
@@ -98,7 +99,7 @@ impl<'a> Command<'a> {
     pub fn parse(line: &'a str) -> Result<Command<'a>> {
         let (word, rest) = split_word(line);
         match word {
-            "new" => Ok(Command::New(parse_faults(rest)?)),
+            "new" => Ok(Command::New(Opening::parse(rest)?)),
             "begin" => parse_begin(rest),
             "raw" => parse_raw(rest),
             "place" => parse_place(rest),

@@ -5,7 +5,7 @@ use crate::book_telling::{
     tell_answered, tell_begun, tell_check, tell_journal, tell_rebuilt, tell_text, tell_tree,
 };
 use crate::letters::read_letters;
-use crate::numbers::Faults;
+use crate::opening::Opening;
 use crate::telling::tell_done;
 use anyhow::{Context, Result};
 use nfs3_msgs::read_result;
@@ -38,15 +38,11 @@ impl Drop for Driver {
     }
 }
 
-// A book over a device of which these calls fail.
-fn new_book(alloc: Global, faults: Faults) -> Result<Book<SimDevice>> {
-    let Faults {
-        append,
-        barrier,
-        recover,
-    } = faults;
-    let device = SimDevice::new(alloc, Some(append), Some(barrier), Some(recover));
-    Ok(Book::new(alloc, device)?)
+// A book that begins so.
+fn new_book(alloc: Global, opening: Opening<'_>) -> Result<Book<SimDevice>> {
+    let start = opening.start(alloc)?;
+    let device = opening.faults.device(alloc);
+    Ok(Book::new_from(alloc, device, opening.profile, start)?)
 }
 
 // The message of a call.
@@ -65,16 +61,11 @@ fn message_of(alloc: Global, asked: Asked<'_>) -> Result<Vec<u8>> {
 }
 
 impl Driver {
-    /// With a book whose device never fails.
+    /// With a book whose device never fails, of a server that holds nothing.
     pub fn new(alloc: Global) -> Result<Driver> {
-        let faults = Faults {
-            append: 0,
-            barrier: 0,
-            recover: 0,
-        };
         Ok(Driver {
             alloc,
-            book: new_book(alloc, faults)?,
+            book: new_book(alloc, Opening::plain())?,
             tokens: Vec::new(alloc),
         })
     }
@@ -123,8 +114,8 @@ impl Driver {
     }
 
     // Begins anew, with a new book.
-    fn renew<W: Write>(&mut self, output: &mut W, faults: Faults) -> Result<()> {
-        self.book = new_book(self.alloc, faults)?;
+    fn renew<W: Write>(&mut self, output: &mut W, opening: Opening<'_>) -> Result<()> {
+        self.book = new_book(self.alloc, opening)?;
         writeln!(output, "ok")?;
         Ok(())
     }
@@ -132,7 +123,7 @@ impl Driver {
     // Does what a command asks for, and tells what came of it.
     fn obey<W: Write>(&mut self, output: &mut W, command: Command<'_>) -> Result<()> {
         match command {
-            Command::New(faults) => self.renew(output, faults),
+            Command::New(opening) => self.renew(output, opening),
             Command::Begin(lane, asked) => {
                 let message = message_of(self.alloc, asked)?;
                 self.tell_begin(output, lane, message.as_slice())

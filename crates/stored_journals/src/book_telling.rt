@@ -3,7 +3,7 @@
 use crate::letters::tell_letters;
 use crate::telling::tell_certificate;
 use anyhow::Result;
-use recorder::{AnswerFault, BeginFault, Book, JournalDevice, SimDevice, Token, rebuild};
+use recorder::{AnswerFault, BeginFault, Book, JournalDevice, SimDevice, Token, rebuild_from};
 use replay_law::Replayable;
 use std::alloc::Global;
 use std::io::Write;
@@ -51,15 +51,17 @@ fn tree_of(alloc: Global, book: &Book<SimDevice>) -> Result<Vec<u8>> {
     Ok(text)
 }
 
-// The bytes of the tree that the journal alone gives.
+// The bytes of the tree that the journal gives behind what stood at first.
 fn tree_rebuilt(alloc: Global, book: &Book<SimDevice>) -> Result<Vec<u8>> {
-    let tree = rebuild(alloc, book.device().records())?;
+    let history = book.history();
+    let records = book.device().records();
+    let tree = rebuild_from(alloc, history.profile(), history.start(), records)?;
     let mut text = Vec::new(alloc);
     tree.print_state(&mut text)?;
     Ok(text)
 }
 
-/// Tells whether the journal alone gives a book's tree.
+/// Tells whether the journal gives a book's tree behind what stood at first.
 pub fn tell_rebuilt<W: Write>(output: &mut W, alloc: Global, book: &Book<SimDevice>) -> Result<()> {
     let text = tree_of(alloc, book)?;
     match tree_rebuilt(alloc, book) {

@@ -8,6 +8,7 @@ mod book_driver;
 mod book_telling;
 mod letters;
 mod numbers;
+mod opening;
 mod passes;
 mod server_command;
 mod server_driver;

@@ -1,6 +1,7 @@
 //! What a line asks for.
 
-use crate::numbers::{Faults, parse_faults, split_u64, split_word};
+use crate::numbers::{split_u64, split_word};
+use crate::opening::Opening;
 use anyhow::{Context, Result, bail};
 
 /// What a line asks for of a server.
@@ -18,9 +19,9 @@ pub enum Command<'a> {
     Close(&'a str),
 }
 
-/// What the first line of a server asks for: which calls of its device fail.
-pub fn parse_server(line: &str) -> Result<Faults> {
-    parse_faults(line.strip_prefix("server ").context("no server")?)
+/// What the first line of a server says: how it begins.
+pub fn parse_server(line: &str) -> Result<Opening<'_>> {
+    Opening::parse(line.strip_prefix("server ").context("no server")?)
 }
 
 impl<'a> Command<'a> {

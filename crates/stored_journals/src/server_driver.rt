@@ -1,7 +1,7 @@
 //! A server that obeys commands.
 
 use crate::letters::read_letters;
-use crate::numbers::Faults;
+use crate::opening::Opening;
 use crate::passes::Passes;
 use crate::server_command::{Command, parse_server};
 use crate::server_telling::{tell_answered, tell_closed};
@@ -15,15 +15,11 @@ use std::sync::Wait;
 
 type SimServer = Server<OpenGate, SimDevice>;
 
-// A server over a device of which these calls fail.
-fn new_server(alloc: Global, faults: Faults) -> Result<SimServer> {
-    let Faults {
-        append,
-        barrier,
-        recover,
-    } = faults;
-    let device = SimDevice::new(alloc, Some(append), Some(barrier), Some(recover));
-    Ok(Server::new(alloc, OpenGate, device)?)
+// A server that begins so.
+fn new_server(alloc: Global, opening: Opening<'_>) -> Result<SimServer> {
+    let start = opening.start(alloc)?;
+    let device = opening.faults.device(alloc);
+    Ok(Server::new_from(alloc, OpenGate, device, opening.profile, start)?)
 }
 
 // Joins so many times, or until the server refuses.

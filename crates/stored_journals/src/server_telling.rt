@@ -4,8 +4,8 @@ use crate::letters::tell_letters;
 use crate::telling::tell_certificate;
 use anyhow::Result;
 use certificate::Certificate;
-use history_file::write_history;
-use journal_server::{CallFault, CloseFault, Closed};
+use history_file::{WriteFault, write_history, write_history_from};
+use journal_server::{CallFault, CloseFault, Closed, Profile};
 use nfs_history::History;
 use sha2::{Digest, Sha256};
 use std::alloc::Global;
@@ -60,6 +60,17 @@ fn tell_verdict<W: Write>(
     Ok(())
 }
 
+// The file of a history: of version 1 where nothing stood at first and attributes aren't judged, else of version 2.
+fn file_of(alloc: Global, history: &History) -> Result<Vec<u8>, WriteFault> {
+    let root = history.root().as_slice();
+    let profile = history.profile();
+    let start = history.start();
+    if profile == Profile::Plain && start.objects().is_empty() {
+        return write_history(alloc, root, history.events());
+    }
+    write_history_from(alloc, root, profile, start, history.events())
+}
+
 /// Tells the certificate of a server that was closed, what its history's file is, and the verdict; or why it wasn't closed.
 pub fn tell_closed<W: Write>(
     output: &mut W,
@@ -70,7 +81,7 @@ pub fn tell_closed<W: Write>(
         Ok(closed) => {
             let (history, certificate) = closed.into_parts();
             tell_certificate(output, alloc, &certificate)?;
-            let file = write_history(alloc, history.root().as_slice(), history.events())?;
+            let file = file_of(alloc, &history)?;
             write!(output, " ")?;
             tell_digest(output, alloc, file.as_slice())?;
             tell_verdict(output, alloc, &history, &certificate)

@@ -35,8 +35,8 @@ fn name_of(pick: u64) -> &'static [u8]
 // How many names there are to pick from, with those that come more often.
 const PICKS: u64 = 30;
 
-// The first so many bytes, at most 64.
-fn bytes_of(count: u64) -> &'static [u8]
+/// The first so many bytes, at most 64.
+pub fn bytes_of(count: u64) -> &'static [u8]
     ensures { length result.now ≤ 64 }
 {
     let all = BYTES.as_slice();

@@ -1,6 +1,6 @@
 //! How much was done.
 
-use journal_server::Closed;
+use journal_server::{Closed, Profile};
 use nfs_history::RecordedCall;
 use std::io;
 use std::io::Eprint;
@@ -10,6 +10,10 @@ use std::io::Eprint;
 pub struct Figures {
     /// Servers that were made.
     pub servers: u64,
+    /// Those of them that held objects at first.
+    pub started: u64,
+    /// Those whose replies carried attributes.
+    pub strict: u64,
     /// Calls that clients made, refused ones too.
     pub calls: u64,
     /// Calls that stand in histories.
@@ -46,6 +50,8 @@ impl Figures {
     pub fn none() -> Figures {
         Figures {
             servers: 0,
+            started: 0,
+            strict: 0,
             calls: 0,
             recorded: 0,
             answered: 0,
@@ -59,6 +65,8 @@ impl Figures {
         let known = closed.history.recorded_calls();
         Figures {
             servers: 1,
+            started: !closed.history.start().objects().is_empty() as u64,
+            strict: (closed.history.profile() == Profile::Strict) as u64,
             calls,
             recorded: known.len() as u64,
             answered: known.iter().filter(|call| call.end.is_some()).count() as u64,
@@ -71,6 +79,8 @@ impl Figures {
     pub fn with(self, more: Figures) -> Figures {
         Figures {
             servers: self.servers.saturating_add(more.servers),
+            started: self.started.saturating_add(more.started),
+            strict: self.strict.saturating_add(more.strict),
             calls: self.calls.saturating_add(more.calls),
             recorded: self.recorded.saturating_add(more.recorded),
             answered: self.answered.saturating_add(more.answered),
@@ -83,6 +93,8 @@ impl Figures {
     pub fn tell<R: Eprint>(&self, rt: &R) -> io::Result<()> {
         let Figures {
             servers,
+            started,
+            strict,
             calls,
             recorded,
             answered,
@@ -90,7 +102,7 @@ impl Figures {
             overlapped,
         } = *self;
         eprintln!(rt;
-            "servers {servers}, calls {calls}, recorded {recorded}, answered {answered}, crashes {crashes}, overlapped {overlapped}"
+            "servers {servers}, from starts {started}, strict {strict}, calls {calls}, recorded {recorded}, answered {answered}, crashes {crashes}, overlapped {overlapped}"
         )
     }
 }

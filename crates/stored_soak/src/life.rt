@@ -8,6 +8,7 @@ use crate::figures::Figures;
 use crate::gate::Jitter;
 use crate::known::Known;
 use crate::random::Random;
+use crate::starting::{profile_of, start_of};
 use journal_server::{Closed, CrashFault, Pass, Server, SimDevice};
 use std::alloc::{AllocError, Global};
 use std::sync::Wait;
@@ -205,7 +206,8 @@ pub fn live<R: Wait + Clock + Threads + Sync>(
         device_fails: seed % 2 == 1,
     };
     let device = new_device(alloc, &mut random, shared.device_fails);
-    let server = Server::new(alloc, Jitter::new(rt), device)?;
+    let start = start_of(alloc, seed, &known)?;
+    let server = Server::new_from(alloc, Jitter::new(rt), device, profile_of(seed), start)?;
     let gathered = match shared.run(rt, &server) {
         Ok(told) => gather(alloc, told),
         Err(error) => Err(error),

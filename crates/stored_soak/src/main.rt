@@ -1,4 +1,5 @@
-//! Lets clients call journal servers on threads, over crashes and failing devices, and checks that each server explains what it did.
+//! Lets clients call journal servers on threads, over crashes and failing devices, some of which hold objects at first or are strict, and checks that each
+//! server explains what it did.
 //! `stored_soak 3` does it with three servers, `stored_soak 60s` for a minute; `figures` behind it tells how much was done. It says `ok`,
 //! or what went wrong, and then ends with status 1. `stored_soak bench THREADS KIND CALLS` measures one server.
 #![tactic(auto)]
@@ -12,6 +13,7 @@ mod known;
 mod life;
 mod random;
 mod soak;
+mod starting;
 mod told;
 mod words;
 

@@ -1,11 +1,12 @@
 use Rattle.std.proofs.Common.{◌≡◌, Some, refl, sym}
 use Rattle.std.proofs.lemmas.Result.{IfOk-weaker}
 use Rattle.replay_law.specs.Run.{state_after}
-use Rattle.tree_nodes.specs.Tree.{Tree, opening}
-use Rattle.file_tree.specs.Success.{next_tree}
+use Rattle.tree_nodes.specs.Tree.{Tree}
+use Rattle.file_tree.specs.StartTree.{start_tree}
+use Rattle.book_machine.specs.Book.{next_by}
 use Rattle.book_ledger.specs.declared.placed.Condition.TheVariants as codes
 use Rattle.book_ledger.specs.declared.ledger.Ledger.{Ledger}
-use Rattle.book_ledger.specs.Inside.{Goes}
+use Rattle.book_ledger.specs.Inside.{Goes, setting_in}
 use Rattle.book_ledger.specs.Undoing.{steps_kept, LeadBack, GoesDown, IsReady}
 use Rattle.book_ledger.proofs.CrashSteps.{can_go_back, can_run_front, goes_downed, goes_treeless, ready_anew, ready_back}
 use Rattle.book_ledger.proofs.ledger.Ledger.prepare_crash.Goals as goal
@@ -59,5 +60,5 @@ returns-in-None-clause-ready c =
     let new : Ledger = record old { history = c.reserve.new.self; over = c.reserve-2.new.self; tree = c.take.new.self; condition = codes.Down } in
     let goes : Goes GoesDown old new =
     goes_treeless old new c.requires.alive c.reserve.ensures.known c.reserve.ensures.events c.reserve-2.ensures.items refl refl refl c.take.ensures.after refl refl in
-    IfOk-weaker c.tree_behind.result (λ (tree : Tree). state_after (next_tree old.binds) opening (steps_kept new c.front_with.result) ≡ Some tree) (IsReady old c.args.keep c.args.lost)
+    IfOk-weaker c.tree_behind.result (λ (tree : Tree). state_after (next_by (setting_in new)) (start_tree new.history.known.head.start) (steps_kept new c.front_with.result) ≡ Some tree) (IsReady old c.args.keep c.args.lost)
     (λ tree runs. ready_anew old new c.args.keep c.args.lost c.front_with.result tree goes c.front_with.ensures runs) c.tree_behind.ensures

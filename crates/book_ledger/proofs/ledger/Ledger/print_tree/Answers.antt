@@ -2,8 +2,10 @@ use Rattle.std.proofs.Common.{◌≡◌, ◌≤◌, ℕ, ◌++◌, length, Some,
 use Rattle.std.proofs.lemmas.Result.{on_ok_weaker}
 use Rattle.replay_law.specs.Run.{state_after}
 use Rattle.tree_nodes.specs.Printed.{tree_text}
-use Rattle.tree_nodes.specs.Tree.{Tree, opening}
-use Rattle.file_tree.specs.Success.{next_tree}
+use Rattle.tree_nodes.specs.Tree.{Tree}
+use Rattle.file_tree.specs.StartTree.{start_tree}
+use Rattle.book_machine.specs.Book.{next_by}
+use Rattle.book_ledger.specs.Inside.{setting_in}
 use Rattle.book_ledger.specs.Undoing.{steps_kept}
 use Rattle.book_ledger.proofs.CrashSteps.{can_run_again, all_behind_is}
 use Rattle.book_ledger.proofs.ledger.Ledger.print_tree.Goals as goal
@@ -23,6 +25,6 @@ returns-in_ok-tree_behind-in-None-clause-ok c =
     let count : length self.placed.items ≡ c.len.result = omega (arith, self.placed.ok.0, c.len.ensures) in
     on_ok_weaker c.print_state-in-None.result
     (λ printed device t tree is.
-    let found = sym (ap (λ (n : ℕ). state_after (next_tree self.binds) opening (steps_kept self n)) count ∙ c.in_ok-tree_behind-in-None.ensures) ∙ all_behind_is self device t ∙ is in
+    let found = sym (ap (λ (n : ℕ). state_after (next_by (setting_in self)) (start_tree self.history.known.head.start) (steps_kept self n)) count ∙ c.in_ok-tree_behind-in-None.ensures) ∙ all_behind_is self device t ∙ is in
     printed ∙ ap (λ (x : Tree). c.args.out.now.items ++ tree_text x) (one found))
     c.print_state-in-None.ensures.ok
