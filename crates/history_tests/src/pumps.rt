@@ -21,7 +21,7 @@ fn noted(rt: &impl Wait, log: &Mutex<TapLog>) -> usize {
 
 /// What a client sends, how a pump of it ends, and how many events are noted and what is written by then.
 struct Pumped {
-    stream: Stream,
+    stream: Stream<'static>,
     end: PumpEnd,
     events: usize,
     written: &'static [u8],
@@ -116,6 +116,48 @@ fn what_is_noted_is_forwarded(rt: HostRuntime) -> Result<(), Fail> {
         let log = shared_log(rt.alloc())?;
         assert!(rt; ends(&rt, rt.alloc(), 1, &log, want));
     }
+    Ok(())
+}
+
+/// The record of the call with zeros behind it, of so many bytes.
+fn long_frame(alloc: Global, length: u32) -> Result<Vec<u8>, AllocError> {
+    let mut frame = Vec::new(alloc);
+    let mark = length | 0x8000_0000;
+    frame.extend_from_slice(mark.to_be_bytes().as_slice())?;
+    frame.extend_from_slice(CALL)?;
+    frame.resize(length as usize + 4, 0)?;
+    Ok(frame)
+}
+
+/// Whether a pump notes and writes all of a record that comes in pieces of so many bytes, and ends as its stream does.
+fn is_pumped(
+    rt: &impl Wait,
+    alloc: Global,
+    frame: &[u8],
+    at_once: usize,
+) -> Result<bool, AllocError> {
+    let log = shared_log(alloc)?;
+    let mut stream = Stream {
+        bytes: frame,
+        at_once,
+        then: Then::End,
+    };
+    let mut out = Vec::new(alloc);
+    let end = pump_calls(rt, alloc, &mut stream, &mut out, 1, &log);
+    Ok(end == PumpEnd::End && out.as_slice() == frame && noted(rt, &log) == 1)
+}
+
+#[test]
+fn a_record_of_nearly_two_megabytes_is_forwarded(rt: HostRuntime) -> Result<(), Fail> {
+    let frame = long_frame(rt.alloc(), 2_097_148)?;
+    assert!(rt; is_pumped(&rt, rt.alloc(), frame.as_slice(), 65_536)?);
+    Ok(())
+}
+
+#[test]
+fn a_record_in_forty_thousand_pieces_is_forwarded(rt: HostRuntime) -> Result<(), Fail> {
+    let frame = long_frame(rt.alloc(), 40_000)?;
+    assert!(rt; is_pumped(&rt, rt.alloc(), frame.as_slice(), 1)?);
     Ok(())
 }
 

@@ -14,13 +14,13 @@ pub(crate) enum Then {
 
 /// Gives some bytes, at most so many at a time.
 #[derive(Clone, Copy)]
-pub(crate) struct Stream {
-    pub(crate) bytes: &'static [u8],
+pub(crate) struct Stream<'a> {
+    pub(crate) bytes: &'a [u8],
     pub(crate) at_once: usize,
     pub(crate) then: Then,
 }
 
-impl Read for Stream {
+impl Read for Stream<'_> {
     fn read(&mut self, buf: &mut [u8]) -> io::Result<usize> {
         if !self.bytes.is_empty() {
             let most = self.at_once.min(buf.len());
