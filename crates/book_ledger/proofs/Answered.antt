@@ -9,8 +9,8 @@ use Rattle.nfs3_types.specs.declared.calls.NfsCall.TheVariants as calls
 use Rattle.nfs3_types.specs.declared.replies.NfsReply.{NfsReply}
 use Rattle.nfs3_types.specs.declared.replies.Outcome.{Outcome}
 use Rattle.nfs3_types.specs.declared.replies.Outcome.TheVariants as outcomes
-use Rattle.nfs3_types.specs.Procedures.{is_answered, procedure_answered}
-use Rattle.nfs3_msgs.specs.Messages.{IsResult, result_text}
+use Rattle.nfs3_types.specs.Procedures.{is_answered}
+use Rattle.nfs3_msgs.specs.Messages.{result_text}
 use Rattle.history_file.specs.declared.event.Event.TheVariants as owns
 use Rattle.nfs_history.specs.declared.history.Meaning.TheVariants as meanings
 use Rattle.nfs_history.specs.declared.history.RecordedCall.{RecordedCall}
@@ -52,7 +52,8 @@ use Rattle.book_ledger.specs.declared.placed.Condition.TheVariants as codes
 use Rattle.book_ledger.specs.declared.ledger.Ledger.{Ledger}
 use Rattle.book_ledger.specs.Inside.{asked_by, placed_in, era_in, made_in, condition_of, book_of, ArePlaced, IsShort, AreTied, OnlyHistory, StandsAt}
 use Rattle.book_ledger.specs.Refusals.{IsNow, IsAnswerable}
-use Rattle.book_ledger.specs.Turns.{IsDurableAt, IsAnswerAt}
+use Rattle.book_ledger.specs.Turns.{IsDurableAt, IsAnswerAt, AnswersAt}
+use Rattle.book_ledger.specs.Spelling.{Spelled, IsSpelled, IsPlacedWith, IsOfCall}
 use Rattle.book_ledger.proofs.Runs.{IsReplyTo, IsSound, sound}
 use Rattle.book_ledger.proofs.Tied.{over_in, placed_now, tied_with, book_with}
 use Rattle.book_ledger.proofs.Events.{history_is}
@@ -432,30 +433,10 @@ durable_turn ledger device t number place mark stands b call outcome call_is out
   go true h = ((λ e. absurd (wrong e)), (λ d. absurd (far_durable ledger device t number place mark stands.0 stands.1 stands.2 lt (moved (h.0 refl)) d)))
   go false h = ((λ e. free_durable ledger device t number place mark stands.0 stands.1 stands.2 (λ q. wrong (h.1 (back q)))), (λ d. refl))
 
-pub answer_so : {V E : Type 0} (r : Result V E) (items : V → List ℕ) (ledger : Ledger) (number place : ℕ) (p : PlacedCall) (call : RecordedCall) (reply : NfsReply) → slice_get ledger.placed.items place ≡ Some p
-    → call_at ledger.history.known.calls number ≡ Some call → p.outcome ≡ outcomes.Received reply → IfOk r (λ m. items m ≡ reply_message call.xid reply)
-    → IfOk r (λ m. IsReply (items m) (record { xid = call.xid; body = success (result_text reply) }) × IsResult (procedure_answered reply) (result_text reply) reply) → IfOk r (λ m. IsAnswerAt ledger number place (items m))
-answer_so (Ok m) items ledger number place p call reply stands at received text spelled = record {
-  placed = p;
-  stands = stands;
-  call = call;
-  recorded = at;
-  reply = reply;
-  received = received;
-  spelled = text;
-  is_reply = spelled.0;
-  is_result = spelled.1;
-}
-answer_so (Err e) items ledger number place p call reply stands at received text spelled = tt
-
-pub returns_by : {E : Type 0} (r : Result NfsReply E) (ledger : Ledger) (number place : ℕ) (answer : List ℕ) (item : PlacedCall) (said : NfsReply) → (given : IsAnswerAt ledger number place answer) → item ≡ given.placed → item.outcome ≡ outcomes.Received said
-    → IfOk r (λ m. m ≡ said) → IfOk r (λ m. Returns answer m)
-returns_by (Err e) ledger number place answer item said given is out same = tt
-returns_by (Ok m) ledger number place answer item said given is out same =
-    subst (λ (s : NfsReply). Returns answer s) (sym (same ∙ its said (sym out ∙ ap (λ (p : PlacedCall). p.outcome) is ∙ given.received)))
-    (record { value = record { xid = given.call.xid; body = success (result_text given.reply) }; results = result_text given.reply; is_reply = given.is_reply; accepted = refl; result = given.is_result }) where
-      its : (s : NfsReply) → outcomes.Received s ≡ outcomes.Received given.reply → s ≡ given.reply
-      its s e = cc
+pub returns_spelled : (message answer : List ℕ) (said reply : NfsReply) (xid : ℕ) → IsSpelled xid reply answer → message ≡ answer → said ≡ reply → Returns message said
+returns_spelled message answer said reply xid s m r =
+    subst (λ (n : NfsReply). Returns message n) (sym r) (subst (λ (a : List ℕ). Returns a reply) (sym m)
+    (record { value = record { xid = xid; body = success (result_text reply) }; results = result_text reply; is_reply = s.is_reply; accepted = refl; result = s.is_result }))
 
 pub put_so : (old new : HistoryValue) (given call : RecordedCall) (o : Option RecordedCall) (message answer : List ℕ) → o ≡ Some given → o ≡ Some call → message ≡ answer → Follows old (owns.Reply given.lane message) new
     → Follows old (owns.Reply call.lane answer) new
@@ -464,9 +445,9 @@ put_so old new given call o message answer e f same follows =
       one : Some given ≡ Some call → given ≡ call
       one g = cc
 
-pub on_ok_by : {X E : Type 0} (r : Result X E) (A B : Type 0) → (A → B) → OnOk r A → OnOk r B
-on_ok_by (Ok x) A B goes a = goes a
-on_ok_by (Err e) A B goes a = tt
+pub on_ok_of : {X E : Type 0} (r : Result X E) (P Q : X → Type 0) (B : Type 0) → ((x : X) → P x → Q x → B) → IfOk r P → IfOk r Q → OnOk r B
+on_ok_of (Ok x) P Q B goes p q = goes x p q
+on_ok_of (Err e) P Q B goes p q = tt
 
 pub if_err_by : {X E : Type 0} (r : Result X E) (P Q : E → Type 0) (H : Type 0) → ((e : E) → P e → H → Q e) → IfErr r P → OnErr r H → IfErr r Q
 if_err_by (Ok x) P Q H goes p h = tt
@@ -511,3 +492,46 @@ far_from b P e told p = wrong b e (told p) where
   wrong : (b : Bool) → b ≡ false → IsTrue b → ⊥
   wrong true f h = absurd (cc)
   wrong false f h = absurd (cc)
+
+-- ---- a reply that was spelled ahead
+
+pub spelled_so : {E : Type 0} (r : Result Spelled E) (ledger : Ledger) (number place : ℕ) (p : PlacedCall) (call : RecordedCall) (reply : NfsReply) → slice_get ledger.placed.items place ≡ Some p
+    → call_at ledger.history.known.calls number ≡ Some call → p.outcome ≡ outcomes.Received reply → IfOk r (λ s. s ≡ record { xid = call.xid; reply = reply }) → IfOk r (AnswersAt ledger number place)
+spelled_so (Err e) ledger number place p call reply stands at received is = tt
+spelled_so (Ok s) ledger number place p call reply stands at received is = subst (AnswersAt ledger number place) (sym is) (λ answer it. record {
+  placed = p;
+  stands = stands;
+  call = call;
+  recorded = at;
+  reply = reply;
+  received = received;
+  spelled = it.message;
+  is_reply = it.is_reply;
+  is_result = it.is_result;
+})
+
+placed_with : (recorded : List RecordedCall) (xs : List PlacedCall) (place number : ℕ) (reply : NfsReply) (p : PlacedCall) → slice_get xs place ≡ Some p → p.number ≡ number → IsPlacedWith (map (placed_in recorded) xs) number reply
+    → p.outcome ≡ outcomes.Received reply
+placed_with recorded [] place number reply p at named all = absurd (cc)
+placed_with recorded (x ∷ xs) zero number reply p at named all = sym (ap (λ (y : PlacedCall). y.outcome) (one at)) ∙ all.0 (ap (λ (y : PlacedCall). y.number) (one at) ∙ named) where
+  one : Some x ≡ Some p → x ≡ p
+  one f = cc
+placed_with recorded (x ∷ xs) (suc place) number reply p at named all = placed_with recorded xs place number reply p at named all.1
+
+-- where the call was placed with it, and it is spelled to the call
+pub answers_at : (ledger : Ledger) (device : Device) (t : AreTied ledger device) (number place : ℕ) (stands : StandsAt ledger number place) (s : Spelled) → IsPlacedWith (book_of ledger device).placed number s.reply
+    → IsOfCall ledger.history.known.calls number s.xid → AnswersAt ledger number place s
+answers_at ledger device t number place stands s all of answer it =
+    let call = its_call ledger device t number place stands in
+    let same = sym (of call.0 call.1) in
+    record {
+      placed = stands.0;
+      stands = stands.1;
+      call = call.0;
+      recorded = call.1;
+      reply = s.reply;
+      received = placed_with ledger.history.known.calls ledger.placed.items place number s.reply stands.0 stands.1 stands.2 all;
+      spelled = it.message ∙ ap (λ (n : ℕ). reply_message n s.reply) same;
+      is_reply = subst (λ (n : ℕ). IsReply answer (record { xid = n; body = success (result_text s.reply) })) same it.is_reply;
+      is_result = it.is_result;
+    }

@@ -276,3 +276,9 @@ module _ (old prepared : Ledger) (device : Device) (number : ℕ) (turn : IsTurn
   step_refused new outcome reply steps.NotAllowed is stayed none =
       (refused_step old prepared device number reply turn same tree_then.0 tree_then.1 new stayed (subst (HasNoStep prepared number) is (none refl))).1
   step_refused new outcome reply steps.NoMemory is stayed none = (unstepped old prepared device number reply turn same new stayed).1
+
+-- memory ran out ahead of it all
+pub unspelled : (old : Ledger) (device : Device) (number : ℕ) (turn : IsTurn old device number) (reply : NfsReply) → PlaceStops (book_of old device) number reply place.NoMemory × IsLeft (book_of old device) place.NoMemory (book_of old device)
+unspelled old device number turn reply = ((turn.running, turn.now, turn.unplaced), record { alive = λ dead. clash (sym turn.running ∙ dead); downed = refl }) where
+  clash : is_running ≡ is_dead → ⊥
+  clash e = cc

@@ -4,6 +4,7 @@ pub mod Recordable
 pub mod Serving
 pub mod Refusals
 pub mod Sending
+pub mod Spelling
 pub mod Turns
 pub mod Inside
 pub mod Undoing

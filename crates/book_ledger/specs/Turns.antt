@@ -13,6 +13,7 @@ use Rattle.book_machine.specs.Book.{Book}
 use Rattle.book_machine.specs.Book.Condition.{running}
 use Rattle.book_machine.specs.Steps.{IsUnplaced, IsDurable, reply_message}
 use Rattle.book_ledger.specs.Refusals.{IsOver, IsCutShort, IsNow, IsAnswerable}
+use Rattle.book_ledger.specs.Spelling.{Spelled, IsSpelled}
 use Rattle.book_ledger.specs.declared.placed.PlacedCall.{PlacedCall}
 use Rattle.book_ledger.specs.declared.ledger.Ledger.{Ledger}
 use Rattle.book_ledger.specs.declared.fault.TokenFault.{TokenFault}
@@ -57,3 +58,7 @@ pub record IsAnswerAt (ledger : Ledger) (number place : ℕ) (answer : List ℕ)
   pub spelled : answer ≡ reply_message call.xid reply
   pub is_reply : IsReply answer (record { xid = call.xid; body = success (result_text reply) })
   pub is_result : IsResult (procedure_answered reply) (result_text reply) reply
+
+-- each message of this reply is the one with which the call at this place was placed
+abbrev pub AnswersAt : Ledger → ℕ → ℕ → Spelled → Type 0
+AnswersAt ledger number place spelled = (answer : List ℕ) → IsSpelled spelled.xid spelled.reply answer → IsAnswerAt ledger number place answer

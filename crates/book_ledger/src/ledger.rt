@@ -14,6 +14,7 @@ use journal_rebuild::{binds_at_first, tree_at_first};
 use nfs_history::{Event, History, LaneState};
 use nfs3_types::FileHandle;
 use std::alloc::{AllocError, Global};
+use std::mem;
 
 /// The history that was recorded, and its serial order.
 pub struct Ledger {
@@ -112,12 +113,12 @@ impl Ledger {
         self.condition = Condition::Dead;
     }
 
-    /// All records are on stable storage.
-    pub fn settle(&mut self)
+    /// All records are on stable storage. What took their steps back is given up.
+    pub fn settle(&mut self) -> Vec<Undo>
         requires { self.old.condition ≡ Condition.Running }
         ensures { Settles self.old self.new }
     {
-        self.undos.clear();
+        mem::replace(&mut self.undos, Vec::new(self.alloc))
     }
 
     /// Closes a lane.

@@ -14,6 +14,7 @@ mod lookups;
 mod placed;
 mod placing;
 mod served;
+mod spelled;
 mod token;
 
 pub use fault::{
@@ -22,4 +23,5 @@ pub use fault::{
 pub use ledger::Ledger;
 pub use placed::{CallState, Condition, EraOver, PlacedCall};
 pub use placing::TreeStep;
+pub use spelled::SpelledReply;
 pub use token::Token;

@@ -2,10 +2,6 @@
 
 ghost use Rattle.std.specs.Prelude.{◌≡◌, ◌≢◌, ◌+◌, ◌-◌, ◌<◌, ◌≤◌, length, slice_set, vec_len, vec_capacity, Some, None, Err, IfOk, IfErr, OnOk, OnErr, IsSome, MatchBool, is_some, true};
 ghost use Rattle.xdr_records.specs.Record.{record_limit};
-ghost use Rattle.rpc_reader.specs.Messages.{IsReply};
-ghost use Rattle.rpc_reader.specs.Values.Body.{success};
-ghost use Rattle.nfs3_types.specs.Procedures.{procedure_answered};
-ghost use Rattle.nfs3_msgs.specs.Messages.{IsResult, result_text};
 ghost use Rattle.nfs3_types.specs.declared.replies.Outcome.TheVariants.{Received};
 ghost use Rattle.tree_nodes.specs.Tree.{entry_of};
 ghost use Rattle.tree_handles.specs.Binding.{object_of};
@@ -15,6 +11,7 @@ ghost use Rattle.book_machine.specs.Steps.{reply_message, journal_record};
 ghost use Rattle.book_ledger.specs.Inside.{IsAsked, IsTied, Goes, asked_by, object_in};
 ghost use Rattle.book_ledger.specs.Recordable.{may_make};
 ghost use Rattle.book_ledger.specs.PlaceSteps.{with_own, without_own, bound_if, HasRoom, IsSame, HasLost, NameAlike, TakesStep, HasStepped, HasNoStep, HasStayed, IsReceived, IsNumbered, ShowsNow, MayGive, GivesAllowed, StopsWhere, IsShortAnswer, IsSayable, IsEntry, HasPlaced};
+ghost use Rattle.book_ledger.specs.Spelling.{IsSpelled, IsSpelledTo, IsOfCall};
 
 use crate::calls::{is_recorded, may_make, verifier_of};
 use crate::fault::PlaceFault;
@@ -22,6 +19,7 @@ use crate::ledger::Ledger;
 use crate::lookups::{call_asked, message_of, object_made, object_of_call};
 use crate::placed::{CallState, Condition, PlacedCall};
 use crate::served::is_served;
+use crate::spelled::SpelledReply;
 use file_tree::{Binds, FileTree, Profile, Undo};
 use journal_records::put_record;
 use nfs3_msgs::put_result;
@@ -30,6 +28,15 @@ use replay_law::StepFault;
 use rpc_reader::{ReplyBody, put_reply};
 use std::alloc::{AllocError, Global};
 use xdr_records::RECORD_LIMIT;
+
+/// Room for the results of most replies: those without data and entries have at most 232 bytes.
+const MOST_RESULTS: usize = 240;
+
+/// The bytes of a reply's head (RFC 5531, section 9).
+const REPLY_HEAD: usize = 24;
+
+/// The bytes of a record beside its messages: a number, two lengths and their padding.
+const RECORD_HEAD: usize = 24;
 
 /// A step that a call took in the tree.
 #[derive(Drop)]
@@ -46,12 +53,11 @@ pub(crate) fn reply_message(
     xid: u32,
     reply: &NfsReply,
 ) -> Result<Vec<u8>, AllocError>
-    ensures message { IfOk result (λ m. m.items ≡ reply_message xid reply.now) }
-    ensures spelled { IfOk result (λ m. IsReply m.items (record { xid = xid; body = success (result_text reply.now) }) × IsResult (procedure_answered reply.now) (result_text reply.now) reply.now) }
+    ensures { IfOk result (λ m. IsSpelled xid reply.now m.items) }
 {
-    let mut results = Vec::new(alloc);
+    let mut results = Vec::with_capacity(alloc, MOST_RESULTS)?;
     put_result(&mut results, reply)?;
-    let mut message = Vec::new(alloc);
+    let mut message = Vec::with_capacity(alloc, results.len().saturating_add(REPLY_HEAD))?;
     put_reply(&mut message, xid, &ReplyBody::Success(results.as_slice()))?;
     Ok(message)
 }
@@ -67,7 +73,7 @@ fn record_of(
     requires answer { length answer.now ≤ record_limit }
     ensures { IfOk result (λ bytes. bytes.items ≡ journal_record number message.now answer.now) }
 {
-    let mut bytes = Vec::new(alloc);
+    let mut bytes = Vec::with_capacity(alloc, message.len() + answer.len() + RECORD_HEAD)?;
     put_record(&mut bytes, number, message, answer)?;
     Ok(bytes)
 }
@@ -197,21 +203,39 @@ impl Ledger {
         }
     }
 
-    /// The journal's record of a call with its reply, where it has one.
-    fn entry_of(&self, number: u64, outcome: &Outcome) -> Result<Option<Vec<u8>>, PlaceFault>
+    /// The message of a reply to a call.
+    pub fn spell(&self, number: u64, reply: &NfsReply) -> Result<Vec<u8>, AllocError>
+        requires { IsAsked self.now.history.known.calls number }
+        ensures { IfOk result (λ answer. IsSpelledTo self.now.history.known.calls number (Received reply.now) answer.items) }
+    {
+        reply_message(self.alloc, self.history.call(number).xid, reply)
+    }
+
+    /// Whether a reply was spelled to this call.
+    pub fn is_of_call(&self, number: u64, spelled: &SpelledReply) -> bool
+        requires { IsAsked self.now.history.known.calls number }
+        ensures { result ≡ true → IsOfCall self.now.history.known.calls number spelled.now.xid }
+    {
+        self.history.call(number).xid == spelled.xid()
+    }
+
+    /// The journal's record of a call with its reply, of which this is the message, where it has one.
+    fn entry_of(
+        &self,
+        number: u64,
+        outcome: &Outcome,
+        answer: &[u8],
+    ) -> Result<Option<Vec<u8>>, PlaceFault>
         requires tied { IsTied self.now }
         requires asked { IsAsked self.now.history.known.calls number }
         requires received { IsReceived outcome.now }
+        requires spelled { IsSpelledTo self.now.history.known.calls number outcome.now answer.now }
         ensures entry { IfOk result (IsEntry self.now number outcome.now) }
         ensures fits { OnOk result (IsShortAnswer self.now number outcome.now) }
         ensures said { OnOk result (IsSayable self.now number outcome.now) }
         ensures refused { IfErr result (StopsWhere (¬ IsShortAnswer self.now number outcome.now)) }
     {
-        let Outcome::Received(reply) = outcome else {
-            unreachable!();
-        };
         let asked = self.history.call(number);
-        let answer = reply_message(self.alloc, asked.xid, reply)?;
         if answer.len() > RECORD_LIMIT {
             return Err(PlaceFault::NotLegal);
         }
@@ -219,20 +243,22 @@ impl Ledger {
             return Ok(None);
         }
         let message = message_of(&self.history, asked);
-        let bytes = record_of(self.alloc, number, message, answer.as_slice())?;
+        let bytes = record_of(self.alloc, number, message, answer)?;
         Ok(Some(bytes))
     }
 
-    /// What a call with this outcome puts into the journal, where it may be placed and the tree allows it. Room is set aside for its
-    /// place.
+    /// What a call with this outcome puts into the journal, where it may be placed and the tree allows it. `answer` is the message of its
+    /// reply. Room is set aside for its place.
     pub fn prepare_place(
         &mut self,
         number: u64,
         outcome: &Outcome,
+        answer: &[u8],
     ) -> Result<Option<Vec<u8>>, PlaceFault>
         requires tied { IsTied self.old }
         requires asked { IsAsked self.old.history.known.calls number }
         requires received { IsReceived outcome.now }
+        requires spelled { IsSpelledTo self.old.history.known.calls number outcome.now answer.now }
         requires stands { IsSome self.old.tree }
         ensures same { IsSame self.old self.new }
         ensures room { OnOk result (HasRoom self.new) }
@@ -241,7 +267,7 @@ impl Ledger {
         ensures refused { IfErr result (StopsWhere (¬ (IsNumbered self.new number × ShowsNow self.new number outcome.now × MayGive self.new number outcome.now × IsShortAnswer self.new number outcome.now))) }
     {
         self.check_reply(number, outcome)?;
-        let entry = self.entry_of(number, outcome)?;
+        let entry = self.entry_of(number, outcome, answer)?;
         self.placed.reserve(1)?;
         self.undos.reserve(1)?;
         Ok(entry)

@@ -1,10 +1,13 @@
 -- What a server does with its book at one hold of the book's lock: the step that was asked for, or what its refusal leaves.
-use Rattle.std.specs.Prelude.{◌≡◌, ◌⊎◌, ◌+◌, ◌<◌, ◌≤◌, ℕ, List, true, length, min, Bool, Some}
+use Rattle.std.specs.Prelude.{◌≡◌, ◌⊎◌, ◌+◌, ◌<◌, ◌≤◌, ℕ, List, true, length, min, Bool, Option, Some, None}
+use Rattle.std.specs.declared.vec.Vec.{Vec}
+use Rattle.std.specs.declared.alloc.Global.{Global}
 use Rattle.nfs3_types.specs.declared.replies.NfsReply.{NfsReply}
 use Rattle.tree_nodes.specs.Printed.{tree_text}
 use Rattle.tree_nodes.specs.Tree.{Tree}
 use Rattle.book_machine.specs.Book.{Book, tree_of}
-use Rattle.book_machine.specs.Steps.{Flushes, Crashes}
+use Rattle.book_machine.specs.Steps.{Places, Flushes, Answers, Crashes}
+use Rattle.book_ledger.specs.Sending.{IsSent}
 use Rattle.book_ledger.specs.Refusals.{BeginStops, PlaceStops, FlushStops, AnswerStops, CloseStops, CrashStops, after_place, after_flush, after_crash}
 use Rattle.journal_server.specs.declared.fault.CallFault.{CallFault}
 use Rattle.journal_server.specs.declared.fault.CallFault.TheVariants as call_fault
@@ -25,6 +28,11 @@ BeginRefused lost old lane message told new = IsLost lost call_fault.Down old to
 
 abbrev pub PlaceRefused : Book → ℕ → NfsReply → CallFault → Book → Type 0
 PlaceRefused old number reply told new = Tells place_told (λ fault. PlaceStops old number reply fault × (new ≡ after_place old fault)) told
+
+-- the call is placed with this reply, and answered with this message; without one it stays placed
+abbrev pub HasReplied : Book → ℕ → NfsReply → Book → Option (Vec ℕ Global) → Type 0
+HasReplied old number reply new (Some message) = (placed : Book) × Places old number reply placed × Answers placed number new × IsSent placed.history message.items new.history
+HasReplied old number reply new None = Places old number reply new
 
 -- so many records are on stable storage: they were, or all are now
 abbrev pub IsSettled : ℕ → Book → Book → Type 0

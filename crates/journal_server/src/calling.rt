@@ -1,6 +1,6 @@
 //! Calls.
 
-ghost use Rattle.std.specs.Prelude.{◌≡◌, ◌≢◌, [], IfOk, IfErr, OnErr};
+ghost use Rattle.std.specs.Prelude.{◌≡◌, ◌≢◌, IfOk, IfErr, OnErr};
 ghost use Rattle.book_machine.specs.Steps.{IsRecordable};
 ghost use Rattle.journal_server.specs.Passing.{IsToRecord, IsNoted, IsAsBefore, IsAnswered, MayStop};
 
@@ -10,7 +10,7 @@ use crate::gate::{Gate, Point};
 use crate::server::Server;
 use nfs_history::Message;
 use nfs3_types::NfsCall;
-use recorder::JournalDevice;
+use recorder::{JournalDevice, Token, Undo};
 use server_passes::{Exchange, Pass};
 use server_requests::{Request, read_request};
 use std::sync::Wait;
@@ -54,31 +54,73 @@ impl<G: Gate, D: JournalDevice> Server<G, D> {
     {
         let message = Message::from_slice(self.alloc, message)?;
         let call = call.copy()?;
-        self.desk.lock(rt).begin(lane, message, call)
+        self.lock_desk(rt).begin(lane, message, call)
     }
 
-    /// Puts so many records on stable storage, if they have to be there.
-    fn flush<R: Wait>(&self, rt: &R, records: Option<u64>) -> Result<(), CallFault>
+    /// Puts so many records on stable storage. What is given up is dropped after the book's lock.
+    fn flush<R: Wait>(&self, rt: &R, records: u64) -> Result<(), CallFault>
         ensures { IfErr result (λ fault. fault ≢ CallFault.BadRecord) }
     {
-        match records {
-            Some(records) => self.desk.lock(rt).flush(records),
-            None => Ok(()),
+        let given = self.lock_desk(rt).flush(self.alloc, records)?;
+        drop(given);
+        Ok(())
+    }
+
+    /// Puts so many records on stable storage, and answers a call, at one hold of the book's lock. What is given up comes with the reply,
+    /// to be dropped after the lock.
+    fn flush_and_answer<R: Wait>(
+        &self,
+        rt: &R,
+        token: Token,
+        records: u64,
+    ) -> Result<(Vec<u8>, Vec<Undo>), CallFault>
+        ensures { IfErr result (λ fault. fault ≢ CallFault.BadRecord) }
+    {
+        let mut desk = self.lock_desk(rt);
+        let given = desk.flush(self.alloc, records)?;
+        let reply = desk.answer(token)?;
+        Ok((reply, given))
+    }
+
+    /// Answers a call, once so many records are on stable storage.
+    fn answer_safe<R: Wait>(
+        &self,
+        rt: &R,
+        lane: u32,
+        begun: Begun,
+        records: u64,
+    ) -> Result<Vec<u8>, CallFault>
+        ensures { IfErr result (λ fault. fault ≢ CallFault.BadRecord) }
+    {
+        if self.gate.listens() {
+            self.flush(rt, records)?;
+            self.gate.at(lane, Point::Flushed);
+            return self.lock_desk(rt).answer(begun.token);
         }
+        let (reply, given) = self.flush_and_answer(rt, begun.token, records)?;
+        drop(given);
+        self.gate.at(lane, Point::Flushed);
+        Ok(reply)
     }
 
-    /// Answers a call, with a copy of the reply in the room that was made for it.
-    fn answer<R: Wait>(&self, rt: &R, begun: Begun, room: Vec<u8>) -> Result<Told, CallFault>
-        requires { room.items ≡ [] }
+    /// Answers a call that was placed.
+    fn answer<R: Wait>(
+        &self,
+        rt: &R,
+        lane: u32,
+        begun: Begun,
+        records: Option<u64>,
+    ) -> Result<Vec<u8>, CallFault>
         ensures { IfErr result (λ fault. fault ≢ CallFault.BadRecord) }
     {
-        let mut copy = room;
-        let reply = self.desk.lock(rt).answer(begun.token)?;
-        copy.extend_from_slice(reply.as_slice())?;
-        Ok(Told { reply, copy })
+        if let Some(records) = records {
+            return self.answer_safe(rt, lane, begun, records);
+        }
+        self.gate.at(lane, Point::Flushed);
+        self.lock_desk(rt).answer(begun.token)
     }
 
-    /// Takes a call from its begin to its answer.
+    /// Takes a call from its begin to its answer. A copy of the reply is put into the room that was made for it.
     fn run<R: Wait>(
         &self,
         rt: &R,
@@ -91,11 +133,15 @@ impl<G: Gate, D: JournalDevice> Server<G, D> {
     {
         let begun = self.begin(rt, lane, message, call)?;
         self.gate.at(lane, Point::Begun);
-        let (records, room) = self.place(rt, lane, begun, call)?.into_parts();
+        let (records, room, answered) = self.place(rt, lane, begun, call)?.into_parts();
         self.gate.at(lane, Point::Placed);
-        self.flush(rt, records)?;
-        self.gate.at(lane, Point::Flushed);
-        self.answer(rt, begun, room)
+        let reply = match answered {
+            Some(reply) => reply,
+            None => self.answer(rt, lane, begun, records)?,
+        };
+        let mut copy = room;
+        copy.extend_from_slice(reply.as_slice())?;
+        Ok(Told { reply, copy })
     }
 
     /// Answers a call that is recorded, and notes it in the pass. All room that the pass needs is made ahead, so that what was answered

@@ -15,7 +15,7 @@ impl<G: Gate, D: JournalDevice> Server<G, D> {
         extra: u64,
         objects: &mut ObjectTable,
     ) -> Result<(), CrashFault> {
-        let mut desk = self.desk.lock(rt);
+        let mut desk = self.lock_desk(rt);
         let text = desk.crash(self.alloc, extra)?;
         match read_objects(self.alloc, text.as_slice()) {
             Ok(table) => {

@@ -3,20 +3,20 @@
 ghost use Rattle.std.specs.Prelude.{◌≡◌, ◌≢◌, [], IfOk, OnOk, IfErr, length, true};
 ghost use Rattle.book_machine.specs.Steps.{opening_book, IsRecordable, Begins, Places, Answers, Closes};
 ghost use Rattle.book_ledger.specs.Sending.{IsSent};
-ghost use Rattle.journal_server.specs.Desks.{BeginRefused, PlaceRefused, IsSettled, FlushRefused, AnswerRefused, CloseRefused, kept_of, HasText, IsLeft, CrashRefused};
+ghost use Rattle.journal_server.specs.Desks.{BeginRefused, PlaceRefused, HasReplied, IsSettled, FlushRefused, AnswerRefused, CloseRefused, kept_of, HasText, IsLeft, CrashRefused};
 
 use crate::fault::{CallFault, CrashFault, JoinFault};
 use nfs_history::Message;
 use nfs3_types::{Answer, NfsCall, NfsReply, StableHow};
-use recorder::{Book, JournalDevice, Profile, Start, Token};
+use recorder::{Book, JournalDevice, Profile, SpelledReply, Start, Token, Undo};
 use server_passes::Pass;
 use std::alloc::{AllocError, Global};
 
 /// How many passes a server gives out.
 const MOST_LANES: u32 = 65_535;
 
-/// What stands under the book's lock. A server calls each function below at one hold of the lock, so that the book takes the step that
-/// the function's clauses name, or none but what a refusal leaves.
+/// What stands under the book's lock. A server calls the functions below while it holds the lock, so that the book takes the steps that
+/// their clauses name, or none but what a refusal leaves.
 pub struct Desk<D: JournalDevice> {
     /// The book.
     pub book: Book<D>,
@@ -46,6 +46,8 @@ pub struct Begun {
     pub era: u64,
     /// The number that an object which it makes gets.
     pub object: u64,
+    /// Its transaction number.
+    pub xid: u32,
 }
 
 /// Whether a reply may go out only once its records are on stable storage (RFC 1813, sections 4.7 and 4.8).
@@ -109,11 +111,13 @@ impl<D: JournalDevice> Desk<D> {
     fn begun(&self, token: Token) -> Begun
         ensures { result.token ≡ token }
     {
-        let first = self.book.history().start().objects().len() as u64;
+        let history = self.book.history();
+        let first = history.start().objects().len() as u64;
         Begun {
             token,
-            era: self.book.history().eras(),
+            era: history.eras(),
             object: first.saturating_add(token.number()),
+            xid: history.find_call(token.number()).map_or(0, |call| call.xid),
         }
     }
 
@@ -133,29 +137,58 @@ impl<D: JournalDevice> Desk<D> {
         }
     }
 
-    /// Places a call with this reply, and gives how many records the journal has then.
-    pub fn place(&mut self, token: Token, reply: NfsReply) -> Result<u64, CallFault>
+    /// Places a call with this reply, whose message was made ahead, and gives how many records the journal has then.
+    pub fn place(
+        &mut self,
+        token: Token,
+        reply: NfsReply,
+        spelled: &SpelledReply,
+    ) -> Result<u64, CallFault>
+        requires { spelled.now.reply ≡ reply }
         ensures placed { IfOk result (λ records. Places self.old.book token.number reply self.new.book × (records ≡ length self.new.book.device.records)) }
         ensures refused { IfErr result (λ told. PlaceRefused self.old.book token.number reply told self.new.book) }
         ensures fault { IfErr result (λ fault. fault ≢ CallFault.BadRecord) }
     {
-        match self.book.place(token, reply) {
+        match self.book.place_spelled(token, reply, spelled) {
             Ok(()) => Ok(self.book.device().len()),
             Err(fault) => Err(CallFault::from(fault)),
         }
     }
 
-    /// Puts so many records on stable storage, if they aren't there.
-    pub fn flush(&mut self, records: u64) -> Result<(), CallFault>
+    /// Places a call with this reply, whose message was made ahead, and answers it. Where it can't be answered as yet, since its records
+    /// have to be on stable storage first or memory ran out, it stays placed and there is no message.
+    pub fn reply(
+        &mut self,
+        token: Token,
+        reply: NfsReply,
+        spelled: SpelledReply,
+    ) -> Result<Option<Vec<u8>>, CallFault>
+        requires { spelled.reply ≡ reply }
+        ensures replied { IfOk result (HasReplied self.old.book token.number reply self.new.book) }
+        ensures refused { IfErr result (λ told. PlaceRefused self.old.book token.number reply told self.new.book) }
+        ensures fault { IfErr result (λ fault. fault ≢ CallFault.BadRecord) }
+    {
+        match self.book.place_spelled(token, reply, &spelled) {
+            Ok(()) => {}
+            Err(fault) => return Err(CallFault::from(fault)),
+        }
+        match self.book.answer_spelled(token, spelled) {
+            Ok(message) => Ok(Some(message)),
+            Err(_) => Ok(None),
+        }
+    }
+
+    /// Puts so many records on stable storage, if they aren't there, and gives what took their steps back, to be dropped after the lock.
+    pub fn flush(&mut self, alloc: Global, records: u64) -> Result<Vec<Undo>, CallFault>
         ensures settled { OnOk result (IsSettled records self.old.book self.new.book) }
         ensures refused { IfErr result (λ told. FlushRefused records self.old.book told self.new.book) }
         ensures fault { IfErr result (λ fault. fault ≢ CallFault.BadRecord) }
     {
         if self.book.device().mark() >= records {
-            return Ok(());
+            return Ok(Vec::new(alloc));
         }
-        match self.book.flush() {
-            Ok(()) => Ok(()),
+        match self.book.flush_giving() {
+            Ok(given) => Ok(given),
             Err(fault) => Err(CallFault::from(fault)),
         }
     }

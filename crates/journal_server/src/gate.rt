@@ -17,6 +17,13 @@ pub enum Point {
 pub trait Gate: Drop {
     /// The call of this lane has come so far.
     fn at(&self, lane: u32, point: Point);
+
+    /// Whether it listens: then a call comes to each point by itself. For a gate that doesn't, the book takes the last steps of a call
+    /// one behind the other at one hold of its lock: a call whose reply promises nothing is placed and answered, another one is put on
+    /// stable storage and answered. Such a gate may not be told of `Flushed`.
+    fn listens(&self) -> bool {
+        true
+    }
 }
 
 /// A gate that is always open.
@@ -25,4 +32,8 @@ pub struct OpenGate;
 
 impl Gate for OpenGate {
     fn at(&self, _lane: u32, _point: Point) {}
+
+    fn listens(&self) -> bool {
+        false
+    }
 }

@@ -14,13 +14,13 @@ impl<G: Gate, D: JournalDevice> Server<G, D> {
     pub fn join_lane<R: Wait>(&self, rt: &R) -> Result<Pass, JoinFault>
         ensures { IfOk result (λ pass. pass.exchanges ≡ []) }
     {
-        self.desk.lock(rt).join(self.alloc)
+        self.lock_desk(rt).join(self.alloc)
     }
 
     /// Closes the pass's lane. What the pass knows stays, for `close`.
     pub fn leave<R: Wait>(&self, rt: &R, pass: &mut Pass) -> Result<(), CallFault>
         ensures { pass.new ≡ pass.old }
     {
-        self.desk.lock(rt).leave(pass.lane())
+        self.lock_desk(rt).leave(pass.lane())
     }
 }

@@ -10,13 +10,12 @@ mod fault;
 mod gate;
 mod joining;
 mod placing;
-mod room;
 mod server;
 
 pub use closing::{Closed, close_book};
 pub use desk::{Begun, Desk};
 pub use fault::{CallFault, CrashFault, JoinFault};
 pub use gate::{Gate, OpenGate, Point};
-pub use recorder::{JournalDevice, Profile, SimDevice, Start};
+pub use recorder::{JournalDevice, Profile, SimDevice, SpelledReply, Start, Undo};
 pub use server::Server;
 pub use server_passes::{CloseFault, Exchange, Pass, match_passes};

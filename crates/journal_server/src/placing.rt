@@ -1,15 +1,14 @@
 //! How a call gets its place in the serial order.
 
-ghost use Rattle.std.specs.Prelude.{◌≡◌, ◌≢◌, [], IfOk, IfErr};
+ghost use Rattle.std.specs.Prelude.{◌≡◌, ◌≢◌, [], IfErr};
 
 use crate::desk::{Begun, promises};
 use crate::fault::CallFault;
 use crate::gate::{Gate, Point};
-use crate::room::room_for;
 use crate::server::Server;
 use nfs3_types::{NfsCall, NfsReply};
 use object_store::{Held, ObjectTable, Targets};
-use recorder::JournalDevice;
+use recorder::{JournalDevice, SpelledReply};
 use std::alloc::AllocError;
 use std::sync::Wait;
 use store_replies::{Decision, Prepared, Scene, Site, decide};
@@ -20,35 +19,71 @@ pub(crate) struct Placed {
     pub records: Option<u64>,
     /// Room for a copy of its reply.
     pub room: Vec<u8>,
+    /// The message of its reply, where it was answered at once.
+    pub answer: Option<Vec<u8>>,
     ghost empty: { room.items ≡ [] },
 }
 
 impl Drop for Placed {
     fn drop(self) {
-        let Placed { records: _, room } = self;
+        let Placed {
+            records: _,
+            room,
+            answer,
+        } = self;
         drop(room);
+        drop(answer);
     }
 }
 
 impl Placed {
-    /// How many records have to be on stable storage, and the room.
-    pub(crate) fn into_parts(self) -> (Option<u64>, Vec<u8>)
+    /// The call, where it was answered at once: then its reply goes out, whatever becomes of the objects.
+    fn if_answered(self) -> Result<Placed, CallFault>
+        ensures { IfErr result (λ fault. fault ≢ CallFault.BadRecord) }
+    {
+        if self.answer.is_some() {
+            Ok(self)
+        } else {
+            Err(CallFault::Down)
+        }
+    }
+
+    /// How many records have to be on stable storage, the room, and the message.
+    pub(crate) fn into_parts(self) -> (Option<u64>, Vec<u8>, Option<Vec<u8>>)
         ensures { result.1.items ≡ [] }
     {
-        let Placed { records, room } = self;
-        (records, room)
+        let Placed {
+            records,
+            room,
+            answer,
+        } = self;
+        (records, room, answer)
     }
 }
 
 impl<G: Gate, D: JournalDevice> Server<G, D> {
-    /// Room for a copy of a reply's message.
-    fn room_for(&self, reply: &NfsReply) -> Result<Vec<u8>, AllocError>
-        ensures { IfOk result (λ room. room.items ≡ []) }
+    /// Gives a call its place with a reply whose message was made ahead. Behind it stay so many records that have to be on stable storage
+    /// ahead of its answer, if any, or the message, where it is answered at the same hold of the book's lock.
+    fn put_reply<R: Wait>(
+        &self,
+        rt: &R,
+        begun: Begun,
+        reply: NfsReply,
+        spelled: SpelledReply,
+    ) -> Result<(Option<u64>, Option<Vec<u8>>), CallFault>
+        requires { spelled.reply ≡ reply }
+        ensures { IfErr result (λ fault. fault ≢ CallFault.BadRecord) }
     {
-        Vec::with_capacity(self.alloc, room_for(self.profile, reply))
+        let promises = promises(&reply);
+        if !promises && !self.gate.listens() {
+            let answer = self.lock_desk(rt).reply(begun.token, reply, spelled)?;
+            return Ok((None, answer));
+        }
+        let records = self.lock_desk(rt).place(begun.token, reply, &spelled)?;
+        Ok((promises.then_some(records), None))
     }
 
-    /// Gives a call its place, under the book's lock.
+    /// Gives a call its place. The message of its reply is made ahead of the book's lock, and so is room for a copy of it.
     fn place_reply<R: Wait>(
         &self,
         rt: &R,
@@ -57,18 +92,19 @@ impl<G: Gate, D: JournalDevice> Server<G, D> {
     ) -> Result<Placed, CallFault>
         ensures { IfErr result (λ fault. fault ≢ CallFault.BadRecord) }
     {
-        let room = self.room_for(&reply)?;
-        let promises = promises(&reply);
-        let records = self.desk.lock(rt).place(begun.token, reply)?;
+        let spelled = SpelledReply::new(self.alloc, begun.xid, &reply)?;
+        let room = Vec::with_capacity(self.alloc, spelled.answer().len())?;
+        let (records, answer) = self.put_reply(rt, begun, reply, spelled)?;
         Ok(Placed {
-            records: promises.then_some(records),
+            records,
             room,
+            answer,
         })
     }
 
     /// Says that the objects are lost.
     fn lose<R: Wait>(&self, rt: &R) {
-        self.desk.lock(rt).lose();
+        self.lock_desk(rt).lose();
     }
 
     /// Gives a call its place where its change is prepared, and makes the change.
@@ -88,7 +124,7 @@ impl<G: Gate, D: JournalDevice> Server<G, D> {
             Ok(placed) => {
                 if site.make(rt, held, &change, prepared).is_err() {
                     self.lose(rt);
-                    return Err(CallFault::Down);
+                    return placed.if_answered();
                 }
                 Ok(placed)
             }

@@ -7,7 +7,14 @@ use crate::gate::Gate;
 use object_store::{ObjectTable, read_objects};
 use recorder::{JournalDevice, Profile, Start};
 use std::alloc::{AllocError, Global};
-use std::sync::{Mutex, RwLock};
+use std::hint::spin_loop;
+use std::sync::{Mutex, MutexGuard, RwLock, Wait};
+
+/// How often a thread looks for the book's lock before it sleeps, some microseconds in all.
+const LOOKS: u32 = 50;
+
+/// How long it waits between two looks, in pauses of the processor.
+const PAUSES: u32 = 20;
 
 /// A server that any number of threads call at the same time. A call takes its objects out of their table and gives them back. The
 /// book stands under one lock, which is taken last and held for one step of the book.
@@ -21,7 +28,25 @@ pub struct Server<G: Gate, D: JournalDevice> {
     pub(crate) desk: Mutex<Desk<D>>,
 }
 
+/// Waits for a moment.
+fn pause() {
+    for _ in 0..PAUSES {
+        spin_loop();
+    }
+}
+
 impl<G: Gate, D: JournalDevice> Server<G, D> {
+    /// The book's lock. It is mostly held for a microsecond or two, so a thread that finds it taken looks for it a while before it sleeps.
+    pub(crate) fn lock_desk<R: Wait>(&self, rt: &R) -> MutexGuard<'_, Desk<D>> {
+        for _ in 0..LOOKS {
+            if let Some(desk) = self.desk.try_lock() {
+                return desk;
+            }
+            pause();
+        }
+        self.desk.lock(rt)
+    }
+
     /// A server that holds these objects at first, over an empty device. Under the strict profile its replies carry attributes, and its
     /// history is judged by them.
     pub fn new_from(

@@ -16,14 +16,15 @@ ghost use Rattle.certificate.specs.CertificateText.{IsCertificate};
 ghost use Rattle.witness_check.specs.Witness.{IsWitness};
 ghost use Rattle.served_laws.specs.ServedPlan.{EachServed};
 ghost use Rattle.book_ledger.specs.Sending.{IsSent};
+ghost use Rattle.book_ledger.specs.Spelling.{IsSpelledTo, IsPlacedWith};
 ghost use Rattle.book_ledger.specs.Refusals.{IsNow, PlaceStops, BeginRefused, PlaceRefused, FlushRefused, AnswerRefused, CloseRefused, CrashRefused};
 
 use book_ledger::{
     AnswerFault, BeginFault, CloseFault, Condition, CrashFault, FlushFault, Ledger, PlaceFault,
-    Token,
+    SpelledReply, Token,
 };
 use certificate::Certificate;
-use file_tree::{Profile, Start};
+use file_tree::{Profile, Start, Undo};
 use journal_device::{DevFault, JournalDevice};
 use nfs_history::{History, Message};
 use nfs3_types::{NfsCall, NfsReply, Outcome};
@@ -117,16 +118,17 @@ impl<D: JournalDevice> Book<D> {
         self.ledger.begin_read(lane, message, call)
     }
 
-    /// Places a call whose turn it is.
-    fn put_place(&mut self, number: u64, outcome: Outcome) -> Result<(), PlaceFault>
+    /// Places a call whose turn it is, with the reply of which this is the message.
+    fn put_place(&mut self, number: u64, outcome: Outcome, answer: &[u8]) -> Result<(), PlaceFault>
         requires running { self.old.condition ≡ running }
         requires now { IsNow self.old number }
         requires unplaced { IsUnplaced self.old.placed number }
         requires received { IsReceived outcome }
+        requires spelled { IsSpelledTo self.old.history.known.calls number outcome answer.now }
         ensures placed { OnOk result ((reply : NfsReply) → outcome ≡ Received reply → Places self.old number reply self.new) }
         ensures refused { IfErr result (λ fault. (reply : NfsReply) → outcome ≡ Received reply → PlaceStops self.old number reply fault × IsLeft self.old fault self.new) }
     {
-        let entry = self.ledger.prepare_place(number, &outcome)?;
+        let entry = self.ledger.prepare_place(number, &outcome, answer)?;
         let step = self.ledger.step(number, &outcome)?;
         match put_entry(&mut self.device, &entry) {
             Ok(()) => {
@@ -142,13 +144,49 @@ impl<D: JournalDevice> Book<D> {
         }
     }
 
+    /// Places a call whose turn it is.
+    fn put_reply(&mut self, number: u64, reply: NfsReply) -> Result<(), PlaceFault>
+        requires running { self.old.condition ≡ running }
+        requires now { IsNow self.old number }
+        requires unplaced { IsUnplaced self.old.placed number }
+        ensures placed { OnOk result (Places self.old number reply self.new) }
+        ensures refused { IfErr result (λ fault. PlaceStops self.old number reply fault × IsLeft self.old fault self.new) }
+    {
+        match self.ledger.spell(number, &reply) {
+            Ok(answer) => self.put_place(number, Outcome::Received(reply), answer.as_slice()),
+            Err(_) => Err(PlaceFault::NoMemory),
+        }
+    }
+
+    /// Places a call whose turn it is, with a reply that was spelled ahead. Where it was spelled to another call its message is made
+    /// again.
+    fn put_spelled(
+        &mut self,
+        number: u64,
+        reply: NfsReply,
+        spelled: &SpelledReply,
+    ) -> Result<(), PlaceFault>
+        requires running { self.old.condition ≡ running }
+        requires now { IsNow self.old number }
+        requires unplaced { IsUnplaced self.old.placed number }
+        requires same { spelled.now.reply ≡ reply }
+        ensures placed { OnOk result (Places self.old number reply self.new) }
+        ensures refused { IfErr result (λ fault. PlaceStops self.old number reply fault × IsLeft self.old fault self.new) }
+    {
+        if self.ledger.is_of_call(number, spelled) {
+            self.put_place(number, Outcome::Received(reply), spelled.answer())
+        } else {
+            self.put_reply(number, reply)
+        }
+    }
+
     /// Gives a call the next place in the serial order, with its reply.
     pub fn place(&mut self, token: Token, reply: NfsReply) -> Result<(), PlaceFault>
         ensures placed { OnOk result (Places self.old token.number reply self.new) }
         ensures refused { PlaceRefused self.old token.number reply result self.new }
     {
         self.ledger.check_unplaced(token.number())?;
-        match self.put_place(token.number(), Outcome::Received(reply)) {
+        match self.put_reply(token.number(), reply) {
             Ok(()) => Ok(()),
             Err(fault) => {
                 self.ledger.go_down();
@@ -157,8 +195,30 @@ impl<D: JournalDevice> Book<D> {
         }
     }
 
-    /// Puts all records on stable storage.
-    pub fn flush(&mut self) -> Result<(), FlushFault>
+    /// The same, with a reply whose message was made ahead: it isn't made again.
+    pub fn place_spelled(
+        &mut self,
+        token: Token,
+        reply: NfsReply,
+        spelled: &SpelledReply,
+    ) -> Result<(), PlaceFault>
+        requires { spelled.now.reply ≡ reply }
+        ensures placed { OnOk result (Places self.old token.number reply self.new) }
+        ensures refused { PlaceRefused self.old token.number reply result self.new }
+    {
+        self.ledger.check_unplaced(token.number())?;
+        match self.put_spelled(token.number(), reply, spelled) {
+            Ok(()) => Ok(()),
+            Err(fault) => {
+                self.ledger.go_down();
+                Err(fault)
+            }
+        }
+    }
+
+    /// Puts all records on stable storage, and gives what took their steps back, which nothing needs any more: who holds a lock drops it
+    /// after the lock.
+    pub fn flush_giving(&mut self) -> Result<Vec<Undo>, FlushFault>
         ensures flushed { OnOk result (Flushes self.old self.new) }
         ensures refused { FlushRefused self.old result self.new }
     {
@@ -168,14 +228,25 @@ impl<D: JournalDevice> Book<D> {
             Condition::Dead => return Err(FlushFault::Down),
         }
         match self.device.barrier() {
-            Ok(()) => {
-                self.ledger.settle();
-                Ok(())
-            }
+            Ok(()) => Ok(self.ledger.settle()),
             Err(_) => {
                 self.ledger.go_down();
                 Err(FlushFault::DeviceFault)
             }
+        }
+    }
+
+    /// Puts all records on stable storage.
+    pub fn flush(&mut self) -> Result<(), FlushFault>
+        ensures flushed { OnOk result (Flushes self.old self.new) }
+        ensures refused { FlushRefused self.old result self.new }
+    {
+        match self.flush_giving() {
+            Ok(given) => {
+                drop(given);
+                Ok(())
+            }
+            Err(fault) => Err(fault),
         }
     }
 
@@ -187,6 +258,21 @@ impl<D: JournalDevice> Book<D> {
         ensures refused { AnswerRefused self.old token.number result self.new }
     {
         self.ledger.answer(token.number(), self.device.mark())
+    }
+
+    /// The same, of a call that was placed with this reply, whose message was made ahead: it isn't made again.
+    pub fn answer_spelled(
+        &mut self,
+        token: Token,
+        spelled: SpelledReply,
+    ) -> Result<Vec<u8>, AnswerFault>
+        requires { IsPlacedWith self.old.placed token.number spelled.reply }
+        ensures answered { OnOk result (Answers self.old token.number self.new) }
+        ensures sent { IfOk result (λ message. IsSent self.old.history message.items self.new.history) }
+        ensures refused { AnswerRefused self.old token.number result self.new }
+    {
+        self.ledger
+            .answer_spelled(token.number(), self.device.mark(), spelled)
     }
 
     /// Closes a lane: no more calls come on it.

@@ -7,8 +7,8 @@ mod book;
 
 pub use book::Book;
 pub use book_ledger::{
-    AnswerFault, BeginFault, CloseFault, CrashFault, FlushFault, PlaceFault, Token,
+    AnswerFault, BeginFault, CloseFault, CrashFault, FlushFault, PlaceFault, SpelledReply, Token,
 };
-pub use file_tree::{Profile, Start};
+pub use file_tree::{Profile, Start, Undo};
 pub use journal_device::{DevFault, JournalDevice, Record, SimDevice};
 pub use journal_rebuild::{RebuildFault, rebuild, rebuild_from};

@@ -1,14 +1,17 @@
 //! How many calls a second a server answers, and how long its book is held for each.
 
+ghost use Rattle.std.specs.Prelude.{◌≡◌};
+
 use crate::random::Random;
 use crate::told::{made_object, number_at, procedure_of};
 use anyhow::{Context, Result, bail};
 use client_calls::{Creation, Level, create, read, remove, rename, write};
 use history_file::Event;
-use journal_server::{CallFault, Closed, OpenGate, Pass, Server, SimDevice};
+use journal_server::{
+    CallFault, Closed, Desk, OpenGate, Pass, Profile, Server, SimDevice, SpelledReply, Start,
+};
 use nfs3_msgs::read_result;
 use nfs3_types::{NfsReply, Procedure};
-use recorder::Book;
 use rpc_reader::{ReplyBody, read_reply};
 use std::alloc::Global;
 use std::io::Print;
@@ -192,12 +195,14 @@ fn run_threads<R: Wait + Threads + Clock + Sync>(
     Some((passes, taken))
 }
 
-// A call and its reply as they stand in a history.
+// A call and its reply as they stand in a history, with the reply's message, which a server makes ahead of its book's lock.
 struct Recorded {
     message: Vec<u8>,
     reply: NfsReply,
+    spelled: SpelledReply,
     /// Whether it is answered once its record is safe.
     is_safe: bool,
+    ghost same: { spelled.reply ≡ reply },
 }
 
 impl Drop for Recorded {
@@ -205,10 +210,12 @@ impl Drop for Recorded {
         let Recorded {
             message,
             reply,
+            spelled,
             is_safe: _,
         } = self;
         drop(message);
         drop(reply);
+        drop(spelled);
     }
 }
 
@@ -221,13 +228,29 @@ fn read_exchange(alloc: Global, message: &[u8], reply: &[u8]) -> Result<Recorded
     let ReplyBody::Success(results) = head.body else {
         bail!("a call failed");
     };
+    let reply = read_result(alloc, procedure.number(), results)?;
     Ok(Recorded {
         message: Vec::from_slice(alloc, message)?,
-        reply: read_result(alloc, procedure.number(), results)?,
+        spelled: SpelledReply::new(alloc, head.xid, &reply)?,
+        reply,
         is_safe: procedure.changes_the_tree()
             && procedure != Procedure::Write
             && number_at(results, 0, 4) == 0,
     })
+}
+
+impl Recorded {
+    fn into_parts(self) -> (Vec<u8>, NfsReply, SpelledReply, bool)
+        ensures { result.2.reply ≡ result.1 }
+    {
+        let Recorded {
+            message,
+            reply,
+            spelled,
+            is_safe,
+        } = self;
+        (message, reply, spelled, is_safe)
+    }
 }
 
 // The calls of a history in which each call is answered before the next one comes.
@@ -246,26 +269,19 @@ fn recorded_calls(alloc: Global, events: &[Event]) -> Result<Vec<Recorded>> {
     Ok(calls)
 }
 
-// The steps of a book for one call.
-fn keep_book(book: &mut Book<SimDevice>, call: Recorded) -> Result<usize> {
-    let (message, reply, is_safe) = call.into_parts();
-    let token = book.begin(1, message.as_slice())?;
-    book.place(token, reply)?;
+// The steps of a book for one call, as a server takes them under its book's lock; but the call's message is read here, too.
+fn keep_book(alloc: Global, desk: &mut Desk<SimDevice>, call: Recorded) -> Result<()> {
+    let (message, reply, spelled, is_safe) = call.into_parts();
+    let token = desk.book.begin(1, message.as_slice())?;
     if is_safe {
-        book.flush()?;
+        let records = desk.place(token, reply, &spelled)?;
+        drop(desk.flush(alloc, records)?);
+        drop(desk.answer(token)?);
+        return Ok(());
     }
-    let answer = book.answer(token)?;
-    Ok(answer.len())
-}
-
-impl Recorded {
-    fn into_parts(self) -> (Vec<u8>, NfsReply, bool) {
-        let Recorded {
-            message,
-            reply,
-            is_safe,
-        } = self;
-        (message, reply, is_safe)
+    match desk.reply(token, reply, spelled)? {
+        Some(_) => Ok(()),
+        None => bail!("a call that promised nothing wasn't answered"),
     }
 }
 
@@ -273,10 +289,11 @@ impl Recorded {
 fn measure_book<R: Clock>(rt: &R, alloc: Global, closed: &Closed) -> Result<u64> {
     let calls = recorded_calls(alloc, closed.history.events())?;
     let count = (calls.len() as u64).max(1);
-    let mut book = Book::new(alloc, SimDevice::new(alloc, None, None, None))?;
+    let device = SimDevice::new(alloc, None, None, None);
+    let mut desk = Desk::new_from(alloc, device, Profile::Plain, Start::empty(alloc))?;
     let start = Instant::now(rt)?;
     for call in calls {
-        keep_book(&mut book, call)?;
+        keep_book(alloc, &mut desk, call)?;
     }
     let taken = u64::try_from(start.elapsed(rt)?.as_micros())?;
     Ok(taken.saturating_mul(1000) / count)

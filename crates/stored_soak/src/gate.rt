@@ -12,14 +12,16 @@ const EACH: u64 = 17;
 #[derive(Drop)]
 pub struct Jitter<'r, R> {
     rt: &'r R,
+    listens: bool,
     count: AtomicU64,
 }
 
 impl<'r, R> Jitter<'r, R> {
-    /// Before the first call.
-    pub fn new(rt: &'r R) -> Jitter<'r, R> {
+    /// Before the first call. Where it doesn't listen, the server may take the last steps of a call at one hold of its book's lock.
+    pub fn new(rt: &'r R, listens: bool) -> Jitter<'r, R> {
         Jitter {
             rt,
+            listens,
             count: AtomicU64::new(0),
         }
     }
@@ -30,5 +32,9 @@ impl<'r, R: Clock> Gate for Jitter<'r, R> {
         if self.count.fetch_add(1, Ordering::SeqCst) % EACH == 0 {
             thread::sleep(self.rt, Duration::from_micros(100));
         }
+    }
+
+    fn listens(&self) -> bool {
+        self.listens
     }
 }

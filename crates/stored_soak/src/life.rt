@@ -207,7 +207,9 @@ pub fn live<R: Wait + Clock + Threads + Sync>(
     };
     let device = new_device(alloc, &mut random, shared.device_fails);
     let start = start_of(alloc, seed, &known)?;
-    let server = Server::new_from(alloc, Jitter::new(rt), device, profile_of(seed), start)?;
+    // Two in five don't listen.
+    let gate = Jitter::new(rt, seed % 5 < 3);
+    let server = Server::new_from(alloc, gate, device, profile_of(seed), start)?;
     let gathered = match shared.run(rt, &server) {
         Ok(told) => gather(alloc, told),
         Err(error) => Err(error),

@@ -9,6 +9,7 @@ use Rattle.book_ledger.specs.Inside.{book_of}
 use Rattle.book_ledger.specs.Refusals.{PlaceStops}
 use Rattle.book_ledger.specs.declared.ledger.Ledger.{Ledger}
 use Rattle.book_ledger.specs.PlaceSteps.{IsNumbered, IsLeft, entry_put}
+use Rattle.book_ledger.specs.Spelling.{IsSpelledTo}
 use Rattle.book_ledger.proofs.BookSteps.{turn_so, asked_so, asked_then, tied_then, free_then, early, stayed_then, step_refused}
 use Rattle.book_ledger.proofs.BookPlace.{within_so, placed_then, lost_then}
 use Rattle.recorder.proofs.book.Book.put_place.Goals as goal
@@ -19,6 +20,9 @@ prepare_place-requires-clause-asked g c =
     let device = g.D.JournalDevice.device c.self.inside.device in
     asked_so c.self.inside.ledger device c.args.number
     (turn_so c.self.inside.ledger device c.args.self.now c.args.number c.self.invariant c.self.view_is c.requires.running c.requires.now c.requires.unplaced)
+
+pub prepare_place-requires-clause-spelled : goal.prepare_place-requires-clause-spelled
+prepare_place-requires-clause-spelled g c = subst (λ (b : Book). IsSpelledTo b.history.known.calls c.args.number c.args.outcome c.args.answer.now) (sym c.self.view_is) c.requires.spelled
 
 pub invariant_of-self : goal.invariant_of-self
 invariant_of-self g c =

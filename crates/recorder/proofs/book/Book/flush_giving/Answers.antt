@@ -4,7 +4,7 @@ use Rattle.book_machine.specs.Book.{Book}
 use Rattle.book_ledger.specs.Inside.{AreTied}
 use Rattle.book_ledger.proofs.Standing.{down_isnt, dead_isnt, not_running}
 use Rattle.book_ledger.proofs.Flushed.{running_lives, barrier_failed, flushed_so, downed_tied, downed_so}
-use Rattle.recorder.proofs.book.Book.flush.Goals as goal
+use Rattle.recorder.proofs.book.Book.flush_giving.Goals as goal
 
 pub returns-in-Down : goal.returns-in-Down
 returns-in-Down g c = record {
