@@ -2,7 +2,9 @@
 
 use crate::clients::{join, make_file};
 use crate::doors::{Door, Doors, Flag};
-use crate::samples::{Opening, PLAIN, STRICT_WITH_FILE, device, explains_by};
+use crate::samples::{
+    Opening, PLAIN, PLAIN_WITH_FILE, STRICT, STRICT_WITH_FILE, device, explains_by,
+};
 use journal_server::{CallFault, Closed, Pass, Point, Server, SimDevice};
 use std::alloc::Global;
 use std::sync::Wait;
@@ -113,49 +115,52 @@ fn is_explained<R: Wait + Clock + Threads + Sync>(
     }
 }
 
-/// A call of a plain server with nothing.
-fn plain(point: Point, extra: u64) -> Case {
-    Case {
-        opening: PLAIN,
-        point,
-        extra,
+/// Whether a server closes by the first certificate, plain and strict, and by the second one where it held a file at first.
+fn are_explained<R: Wait + Clock + Threads + Sync>(
+    rt: &R,
+    alloc: Global,
+    point: Point,
+    extra: u64,
+    texts: (&str, &str),
+) -> Result<bool, Fail> {
+    for opening in [PLAIN, STRICT, PLAIN_WITH_FILE, STRICT_WITH_FILE] {
+        let case = Case {
+            opening,
+            point,
+            extra,
+        };
+        let text = if opening.holds_file { texts.1 } else { texts.0 };
+        if !is_explained(rt, alloc, case, text)? {
+            return Ok(false);
+        }
     }
-}
-
-/// The same of a strict server that holds a file.
-fn strict(point: Point, extra: u64) -> Case {
-    Case {
-        opening: STRICT_WITH_FILE,
-        point,
-        extra,
-    }
+    Ok(true)
 }
 
 #[test]
 fn a_call_that_has_begun_is_lost(rt: HostRuntime) -> Result<(), Fail> {
-    assert!(rt; is_explained(&rt, rt.alloc(), plain(Point::Begun, 0), UNPLACED)?);
-    assert!(rt; is_explained(&rt, rt.alloc(), strict(Point::Begun, 0), UNPLACED_BESIDE)?);
+    assert!(rt;
+        are_explained(
+            &rt,
+            rt.alloc(),
+            Point::Begun,
+            0,
+            (UNPLACED, UNPLACED_BESIDE)
+        )?
+    );
     Ok(())
 }
 
 #[test]
 fn a_call_that_was_placed_is_lost_or_kept(rt: HostRuntime) -> Result<(), Fail> {
-    assert!(rt; is_explained(&rt, rt.alloc(), plain(Point::Placed, 0), TAKEN)?);
-    assert!(rt; is_explained(&rt, rt.alloc(), plain(Point::Placed, 1), KEPT)?);
-    Ok(())
-}
-
-#[test]
-fn a_call_placed_beside_a_file_is_lost_or_kept(rt: HostRuntime) -> Result<(), Fail> {
-    assert!(rt; is_explained(&rt, rt.alloc(), strict(Point::Placed, 0), TAKEN_BESIDE)?);
-    assert!(rt; is_explained(&rt, rt.alloc(), strict(Point::Placed, 1), KEPT_BESIDE)?);
+    assert!(rt; are_explained(&rt, rt.alloc(), Point::Placed, 0, (TAKEN, TAKEN_BESIDE))?);
+    assert!(rt; are_explained(&rt, rt.alloc(), Point::Placed, 1, (KEPT, KEPT_BESIDE))?);
     Ok(())
 }
 
 #[test]
 fn a_call_that_is_safe_is_kept(rt: HostRuntime) -> Result<(), Fail> {
-    assert!(rt; is_explained(&rt, rt.alloc(), plain(Point::Flushed, 0), KEPT)?);
-    assert!(rt; is_explained(&rt, rt.alloc(), strict(Point::Flushed, 0), KEPT_BESIDE)?);
+    assert!(rt; are_explained(&rt, rt.alloc(), Point::Flushed, 0, (KEPT, KEPT_BESIDE))?);
     Ok(())
 }
 

@@ -1,7 +1,10 @@
 //! Eight clients in one directory.
 
 use crate::clients::join;
-use crate::samples::{OpenServer, count_answered, explains, open_server};
+use crate::samples::{
+    OpenServer, Opening, PLAIN, PLAIN_WITH_FILE, STRICT, STRICT_WITH_FILE, count_answered,
+    explains, open_server,
+};
 use client_calls::{Creation, Level, create, remove, rename, write};
 use journal_server::{CallFault, Closed, Pass};
 use std::alloc::Global;
@@ -107,8 +110,12 @@ fn run_clients<R: Wait + Threads + Sync>(
 }
 
 /// Closes a server that clients on threads have called.
-fn close_crowd<R: Wait + Threads + Sync>(rt: &R, alloc: Global) -> Result<Closed, Fail> {
-    let server = open_server(alloc)?;
+fn close_crowd<R: Wait + Threads + Sync>(
+    rt: &R,
+    alloc: Global,
+    opening: Opening,
+) -> Result<Closed, Fail> {
+    let server = open_server(alloc, opening)?;
     let passes = match run_clients(rt, alloc, &server) {
         Some(passes) => passes,
         None => Vec::new(alloc),
@@ -116,11 +123,26 @@ fn close_crowd<R: Wait + Threads + Sync>(rt: &R, alloc: Global) -> Result<Closed
     Ok(server.close(passes)?)
 }
 
+/// Whether all calls of eight clients are answered and explained.
+fn is_explained<R: Wait + Threads + Sync>(
+    rt: &R,
+    alloc: Global,
+    opening: Opening,
+) -> Result<bool, Fail> {
+    let closed = close_crowd(rt, alloc, opening)?;
+    Ok(count_answered(&closed) == 1600 && explains(alloc, &closed))
+}
+
 #[test]
 fn eight_clients_in_one_directory_are_explained(rt: HostRuntime) -> Result<(), Fail> {
-    let alloc = rt.alloc();
-    let closed = close_crowd(&rt, alloc)?;
-    assert_eq!(rt; count_answered(&closed), 1600);
-    assert!(rt; explains(alloc, &closed));
+    assert!(rt; is_explained(&rt, rt.alloc(), PLAIN)?);
+    assert!(rt; is_explained(&rt, rt.alloc(), PLAIN_WITH_FILE)?);
+    Ok(())
+}
+
+#[test]
+fn eight_clients_of_a_strict_server_are_explained(rt: HostRuntime) -> Result<(), Fail> {
+    assert!(rt; is_explained(&rt, rt.alloc(), STRICT)?);
+    assert!(rt; is_explained(&rt, rt.alloc(), STRICT_WITH_FILE)?);
     Ok(())
 }

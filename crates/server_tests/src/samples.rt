@@ -34,6 +34,18 @@ pub const PLAIN: Opening = Opening {
     holds_file: false,
 };
 
+/// Plain, with a file.
+pub const PLAIN_WITH_FILE: Opening = Opening {
+    profile: Profile::Plain,
+    holds_file: true,
+};
+
+/// Strict, with nothing.
+pub const STRICT: Opening = Opening {
+    profile: Profile::Strict,
+    holds_file: false,
+};
+
 /// Strict, with a file.
 pub const STRICT_WITH_FILE: Opening = Opening {
     profile: Profile::Strict,
@@ -60,8 +72,9 @@ impl Opening {
 }
 
 /// A server that holds no call, over a device that never fails.
-pub fn open_server(alloc: Global) -> Result<OpenServer, AllocError> {
-    Server::new(alloc, OpenGate, device(alloc))
+pub fn open_server(alloc: Global, opening: Opening) -> Result<OpenServer, AllocError> {
+    let start = opening.start(alloc)?;
+    Server::new_from(alloc, OpenGate, device(alloc), opening.profile, start)
 }
 
 /// Whether a server's certificate is a witness of its history.
