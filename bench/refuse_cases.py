@@ -5,7 +5,8 @@ PROGRAM is `stored_cases`, which makes a call once more where memory ran out, an
 any one allocation refused a run prints the answer, or it ends with a status other than 0 and no answer: the program's own reading and
 writing may fail too. The cases are made of the histories of cases/recorded.txt: each history with its certificate, both read and written
 again, its messages, their arguments and results, its records as a stream, and a search by one worker. Prints a table, and ends with
-status 1 where a run prints anything else, or where of some kind no call was made once more.
+status 1 where a run prints anything else, where of some kind no call was made once more, or where no search was answered by its first
+call: where its workers are refused memory, the plan that follows the replies is judged all the same.
 """
 import os
 import struct
@@ -115,6 +116,9 @@ def main():
     for kind, row in sorted(rows.items()):
         print("| %s | %d | %d | %d | %d |" % (kind, *row))
     print("\n".join(faults), file=sys.stderr, end="\n" if faults else "")
+    if rows["search"][2] == rows["search"][3]:
+        faults.append("no search whose worker was refused memory went on")
+        print(faults[-1], file=sys.stderr)
     sys.exit(1 if faults or any(row[3] == 0 and row[1] > 0 for kind, row in rows.items()) else 0)
 
 

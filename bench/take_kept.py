@@ -1,77 +1,65 @@
 #!/usr/bin/env python3
-"""Gives a copy of the repository the libraries that `rt ci` proved elsewhere on this machine: take_kept.py COPY [CRATE..]
+"""Gives a copy of the repository the libraries that `rt ci` proved in another one: take_kept.py COPY PROVED [CRATE..]
 
-`rt ci` keeps what it proved by the files' content, and `rt check` doesn't look there: in a new copy it proves each library below a crate
-again. This puts the kept ones into the crates' out/, so that a check of CRATE (of all crates, where none is named) begins above them. It
-says how many crates have their library, and which have none: those that changed, and those above them. No verdict rests on it: `rt ci`
-reads nothing of out/.
+PROVED is a copy in which `rt ci` runs, or ran. `rt check` proves each library below a crate again in a copy that has none; this puts those of
+PROVED whose sources are the same into the crates' out/ of COPY, so that a check of CRATE (of all crates, where none is named) begins above
+them. It says how many crates have their library, and which have none: those that changed, those above them, and those that the run hasn't
+come to. Call it again as the run gets on. All libraries of COPY have to come of one run. No verdict rests on it: `rt ci` reads nothing of
+what was in out/.
 """
-import importlib.machinery
-import importlib.util
-import json
 import os
 import shutil
 import sys
+import time
 
-RT = os.path.realpath(shutil.which("rt"))
-
-
-def load_rt():
-    """The program `rt` as a module, which knows what is kept under which sum."""
-    sys.path.insert(0, os.path.dirname(RT))
-    loader = importlib.machinery.SourceFileLoader("rt_program", RT)
-    module = importlib.util.module_from_spec(importlib.util.spec_from_loader("rt_program", loader))
-    loader.exec_module(module)
-    return module
+sys.path.insert(0, os.path.dirname(os.path.realpath(shutil.which("rt"))))
+import rtlib
 
 
-def below_first(crates: list) -> list:
-    """The crates and those below them, each after those that it uses."""
-    found = []
-    for crate in crates:
-        found += [it for it in [*crate.below(), crate] if it not in found]
-    return found
+def crates_at(folder: str) -> dict:
+    """The crates of a copy by their names, each after those that it uses."""
+    os.chdir(folder)
+    return {crate.name: crate for crate in rtlib.crates_below(folder)}
 
 
-def is_same(rt, kept, crate, at: str) -> bool:
-    """Whether the library in the crate's out/ is the one that is kept."""
-    with open(f"{at}/made.json", encoding="utf-8") as made:
-        sums = [total for _, total in json.load(made)["files"]]
-    return crate.is_built() and sums == [rt.rtlib.sum_of(f"{crate.folder}/out/{it}") for it in kept.made(crate, False)]
-
-
-def take(rt, kept, crate) -> bool:
-    """Gives one crate its kept library, where there is one."""
-    key = kept.key(crate)
-    at = kept.place(crate, False, key)
-    if not os.path.isdir(at):
+def is_whole(crate) -> bool:
+    """Whether the run has written the crate's library to its end: half a minute has passed since its last file."""
+    if not os.path.isdir(crate.rlib):
         return False
-    if not is_same(rt, kept, crate, at):
-        shutil.rmtree(f"{crate.folder}/out/rlib", ignore_errors=True)
-        if not kept.give(crate, False, key):
-            return False
-        with open(f"{crate.folder}/out/rlib/stamp", "w", encoding="utf-8") as stamp:
-            stamp.write(crate.stamp())
-    kept.is_built(crate)
-    return crate.is_built()
+    files = [os.path.join(at, name) for at, _, names in os.walk(crate.rlib) for name in names]
+    newest = max(map(os.path.getmtime, files), default=0)
+    return bool(files) and newest + 30 < time.time()
+
+
+def take(crate, proved) -> bool:
+    """Gives one crate the library that was proved of the same sources, where there is one."""
+    if crate.is_built():
+        return True
+    if proved is None or crate.stamp() != proved.stamp() or not is_whole(proved):
+        return False
+    kept = os.path.dirname(crate.rlib)
+    shutil.rmtree(kept, ignore_errors=True)
+    os.makedirs(kept)
+    shutil.copytree(proved.rlib, crate.rlib)
+    with open(f"{kept}/stamp", "w", encoding="utf-8") as stamp:
+        stamp.write(crate.stamp())
+    return True
 
 
 def main() -> int:
     words = sys.argv[1:]
-    if not words or not os.path.isfile(f"{words[0]}/crates.txt"):
+    if len(words) < 2 or not all(os.path.isfile(f"{it}/crates.txt") for it in words[:2]):
         print(__doc__, file=sys.stderr)
         return 2
-    copy, wanted = os.path.realpath(words[0]), words[1:]
-    sys.argv = ["rt"]
-    rt = load_rt()
-    os.chdir(copy)
-    rt.Crate.allowed = rt.handles_of(copy)
-    crates = list(rt.crates_of(copy))
-    kept, without = rt.Kept(crates), []
-    chosen = below_first([it for it in crates if not wanted or it.name in wanted])
-    for crate in chosen:
-        if any(it.name in without for it in crate.below()) or not take(rt, kept, crate):
-            without.append(crate.name)
+    copy, run = (os.path.realpath(it) for it in words[:2])
+    proved = crates_at(run)
+    crates = crates_at(copy)
+    chosen = [name for name, it in crates.items() if not words[2:] or any(name == word or name in {dep.name for dep in crates[word].below()} for word in words[2:])]
+    without = []
+    for name in chosen:
+        below = {dep.name for dep in crates[name].below()}
+        if below & {*without} or not take(crates[name], proved.get(name)):
+            without.append(name)
     print(f"{len(chosen) - len(without)} crates have their library; without:", *(without or ["none"]))
     return 0
 
