@@ -1,0 +1,5 @@
+pub mod Parts
+pub mod Alike
+pub mod Heeded
+pub mod Given
+pub mod Steps

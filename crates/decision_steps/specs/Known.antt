@@ -1,0 +1,17 @@
+-- what is known so far of what handles name: RFC 1813, section 2.5 (`nfs_fh3`: a client knows a handle once a reply gave it)
+use Rattle.std.specs.Prelude.{◌≡◌, ℕ, ◌&&◌, Bool, true, List, Some, is_some}
+use Rattle.std.specs.Option.{option_map_or}
+use Rattle.nfs3_types.specs.declared.calls.NfsCall.{NfsCall}
+use Rattle.tree_handles.specs.Binding.{Bindings, object_of}
+use Rattle.tree_failures.specs.Asked.{first_handle, second_handle}
+
+-- each handle that is bound here names the same object there: the second bindings may be those of a plan of the whole history
+abbrev pub AgreesWith : Bindings → Bindings → Type 0
+AgreesWith known plan = (handle : List ℕ) (object : ℕ) → object_of known handle ≡ Some object → object_of plan handle ≡ Some object
+
+abbrev pub is_known : Bindings → List ℕ → Bool
+is_known known handle = is_some (object_of known handle)
+
+-- whether each handle is bound that a call's arguments name
+abbrev pub knows_handles : Bindings → NfsCall → Bool
+knows_handles known call = is_known known (first_handle call) && option_map_or (is_known known) (second_handle call) true

@@ -1,0 +1,4 @@
+pub mod Known
+pub mod Given
+pub mod Bound
+pub mod Placing

@@ -1,0 +1,2 @@
+-- placing
+use Rattle.std.specs.Prelude.{ℕ}
