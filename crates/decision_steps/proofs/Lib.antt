@@ -3,3 +3,4 @@ pub mod Alike
 pub mod Heeded
 pub mod Given
 pub mod Steps
+pub mod Covering
