@@ -17,7 +17,7 @@ use Rattle.decision_steps.specs.Known.{AgreesWith, is_known, knows_handles}
 use Rattle.decision_steps.specs.Given.{given}
 use Rattle.decision_steps.specs.Bound.{bound_behind, bound_where, with_handle, with_handles, are_bound}
 use Rattle.decision_steps.proofs.Parts.{first_passes, second_passes}
-use Rattle.decision_steps.proofs.Given.{given_same}
+use Rattle.decision_steps.proofs.Replies.{given_same}
 use Rattle.decision_steps.proofs.Steps.{under_same, under_heeds}
 
 -- ---- one pair more
@@ -91,8 +91,8 @@ one_taken known plan pair agrees bound = go (object_of known pair.0) refl where
   go (Some object) is =
       let same : object ≡ pair.1 = same_value object pair.1 (sym (agrees pair.0 object is) ∙ there) in
       (known, ap (λ (b : Bool). cond b (Some known) None) (eq-eqb object pair.1 same), agrees, (λ other named e. e), is ∙ ap Some same) where
-    same_value : (a b : ℕ) → Some a ≡ Some b → a ≡ b
-    same_value a b e = cc
+        same_value : (a b : ℕ) → Some a ≡ Some b → a ≡ b
+        same_value a b e = cc
 
 pub all_taken : (known plan : Bindings) (pairs : List (List ℕ × ℕ)) → AgreesWith known plan → are_bound plan pairs ≡ true → Taken known plan pairs (with_handles known pairs)
 all_taken known plan [] agrees bound = record { more = known; is = refl; agrees = agrees; grows = λ other named e. e; bound = refl }
@@ -144,6 +144,6 @@ follows profile known plan tree after number call outcome agrees knows leads =
       is = taken.is;
       agrees = taken.agrees;
       leads = sym (under_same plan taken.more tree number call (known_same known plan taken.more (first_handle call) agrees taken.grows first)
-      (λ handle is. known_same known plan taken.more handle agrees taken.grows (seconds_known known (second_handle call) handle second is)) profile outcome
-      (heeded, ap (are_bound taken.more) pairs ∙ taken.bound)) ∙ leads;
+          (λ handle is. known_same known plan taken.more handle agrees taken.grows (seconds_known known (second_handle call) handle second is)) profile outcome
+          (heeded, ap (are_bound taken.more) pairs ∙ taken.bound)) ∙ leads;
     }

@@ -1,6 +1,7 @@
 pub mod Parts
 pub mod Alike
 pub mod Heeded
-pub mod Given
+pub mod Replies
 pub mod Steps
 pub mod Covering
+pub mod Adding

@@ -39,7 +39,7 @@ use Rattle.decision_steps.specs.Bound.{are_bound}
 use Rattle.decision_steps.proofs.Parts.{same_on}
 use Rattle.decision_steps.proofs.Alike as alike
 use Rattle.decision_steps.proofs.Heeded.{gives_all, create_gated, make_gated, lookup_gated}
-use Rattle.decision_steps.proofs.Given as of_given
+use Rattle.decision_steps.proofs.Replies as of_given
 
 -- ---- the call and its first place
 
@@ -198,9 +198,9 @@ module _ (binds other : Bindings) (tree : Tree) (number : ℕ) where
     under_same Plain outcome both = next_same outcome both
     under_same Strict outcome both =
         ap (option_and_then (judged binds tree call outcome)) (next_same outcome both) ∙ chain (next_tree other tree number call outcome) where
-      chain : (o : Option Tree) → option_and_then (judged binds tree call outcome) o ≡ option_and_then (judged other tree call outcome) o
-      chain None = refl
-      chain (Some after) = judged_same outcome after
+          chain : (o : Option Tree) → option_and_then (judged binds tree call outcome) o ≡ option_and_then (judged other tree call outcome) o
+          chain None = refl
+          chain (Some after) = judged_same outcome after
 
 -- a call that comes out under a profile comes out under the plain one
 plain_leads : (profile : Profile) (binds : Bindings) (tree after : Tree) (number : ℕ) (call : NfsCall) (outcome : Outcome) → under profile binds tree number call outcome ≡ Some after

@@ -28,3 +28,8 @@ are_bound binds pairs = list_all (λ pair. is_bound binds pair.0 pair.1) pairs
 abbrev pub AreNew : Bindings → List (List ℕ × ℕ) → Type 0
 AreNew known [] = Unit {0}
 AreNew known (pair ∷ pairs) = (object_of known pair.0 ≡ None) × AreNew (bound_behind known (pair ∷ [])) pairs
+
+-- these handles were bound behind those that stood before, which hadn't them
+pub record Adds (before : Bindings) (pairs : List (List ℕ × ℕ)) (after : Bindings) : Type 0 where
+  pub is : after ≡ bound_behind before pairs
+  pub new : AreNew before pairs

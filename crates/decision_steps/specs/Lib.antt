@@ -1,4 +1,5 @@
 pub mod Known
 pub mod Given
 pub mod Bound
+pub mod Listed
 pub mod Placing

@@ -1,9 +1,12 @@
-//! Placing a call in a state of a walk.
+//! Placing calls in the states of a walk: in a tree, with the handles that are bound so far.
 #![tactic(auto)]
 
-ghost use Rattle.std.specs.Prelude.{◌≡◌, true};
+mod asked;
+mod binding;
+mod fault;
+mod given;
+mod state;
 
-pub fn nothing()
-    ensures { true ≡ true }
-{
-}
+pub use binding::BoundHandle;
+pub use fault::PlaceFault;
+pub use state::{State, Step};

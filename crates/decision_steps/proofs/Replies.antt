@@ -155,15 +155,15 @@ module _ (binds other : Bindings) (tree : Tree) (number : ℕ) where
   created call same =
       ap (option_and_then (λ path. creates binds tree number call path (is_plain call.place.name) None (map.get tree (path ++ call.place.name ∷ []))))
       (alike.directory binds other tree call.place.directory same) ∙ chain (directory_of other tree call.place.directory) where
-    one : (path : Names) → creates binds tree number call path (is_plain call.place.name) None (map.get tree (path ++ call.place.name ∷ []))
-        ≡ creates other tree number call path (is_plain call.place.name) None (map.get tree (path ++ call.place.name ∷ []))
-    one path = ap (λ c. cond (is_plain call.place.name) c None) (at_same call.mode (path ++ call.place.name ∷ []) (map.get tree (path ++ call.place.name ∷ [])))
+        one : (path : Names) → creates binds tree number call path (is_plain call.place.name) None (map.get tree (path ++ call.place.name ∷ []))
+            ≡ creates other tree number call path (is_plain call.place.name) None (map.get tree (path ++ call.place.name ∷ []))
+        one path = ap (λ c. cond (is_plain call.place.name) c None) (at_same call.mode (path ++ call.place.name ∷ []) (map.get tree (path ++ call.place.name ∷ [])))
 
-    chain : (directory : Option Names)
-        → option_and_then (λ path. creates binds tree number call path (is_plain call.place.name) None (map.get tree (path ++ call.place.name ∷ []))) directory
-        ≡ option_and_then (λ path. creates other tree number call path (is_plain call.place.name) None (map.get tree (path ++ call.place.name ∷ []))) directory
-    chain None = refl
-    chain (Some path) = one path
+        chain : (directory : Option Names)
+            → option_and_then (λ path. creates binds tree number call path (is_plain call.place.name) None (map.get tree (path ++ call.place.name ∷ []))) directory
+            ≡ option_and_then (λ path. creates other tree number call path (is_plain call.place.name) None (map.get tree (path ++ call.place.name ∷ []))) directory
+        chain None = refl
+        chain (Some path) = one path
 
   pub made : (place : DirectoryName) (content : Content) → Same place.directory → make_entry binds tree number place None content ≡ make_entry other tree number place None content
   made place content same = ap (option_and_then (makes tree number place content true)) (alike.directory binds other tree place.directory same)
