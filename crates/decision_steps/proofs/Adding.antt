@@ -99,3 +99,6 @@ pub lets_last_go : (before binds after : Bindings) (old new : List BoundHandle) 
 lets_last_go before binds after old new bound is items adds =
     let pairs : bound_pairs old ≡ bound_pairs new ++ bound_pair bound ∷ [] = ap bound_pairs items ∙ bound_pairs-append new (bound ∷ []) in
     subst (λ b. Adds before (bound_pairs new) b) (sym is) (lets_go before binds (bound_pairs new) bound.handle bound.object (subst (λ ps. Adds before ps binds) pairs adds))
+
+pub adds_none : (known : Bindings) → Adds known [] known
+adds_none known = record { is = sym (behind_none known); new = tt }

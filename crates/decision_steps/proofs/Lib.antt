@@ -5,3 +5,4 @@ pub mod Replies
 pub mod Steps
 pub mod Covering
 pub mod Adding
+pub mod Answered

@@ -4,7 +4,7 @@ ghost use Rattle.std.specs.Prelude.{◌≡◌, None, Some, Err, OnOk, OnErr};
 ghost use Rattle.tree_handles.specs.Binding.{Bindings, object_of};
 ghost use Rattle.decision_steps.specs.Bound.{with_handle, with_handles, Adds};
 ghost use Rattle.decision_steps.specs.Listed.{given_pair, given_pairs, bound_pairs};
-ghost use Rattle.decision_steps.specs.declared.fault.PlaceFault.TheVariants.{NotLegal};
+ghost use Rattle.decision_steps.specs.declared.fault.PlaceFault.TheVariants.{NotLegal, HandleNotGiven};
 
 use crate::fault::PlaceFault;
 use crate::given::GivenHandle;
@@ -47,6 +47,7 @@ fn bind(
 ) -> Result<(), PlaceFault>
     ensures ok { OnOk result (with_handle binds.old (given_pair given.now) ≡ Some binds.new) }
     ensures not_legal { result ≡ Err NotLegal → with_handle binds.old (given_pair given.now) ≡ None }
+    ensures decided { result ≡ Err HandleNotGiven → ⊥ }
     ensures adds { (before : Bindings) → Adds before (bound_pairs bound.old.items) binds.old → Adds before (bound_pairs bound.new.items) binds.new }
 {
     match binds.object(given.handle.as_slice()) {
@@ -69,6 +70,7 @@ pub(crate) fn bind_all(
 ) -> Result<(), PlaceFault>
     ensures ok { OnOk result (with_handles binds.old (given_pairs given.now) ≡ Some binds.new) }
     ensures not_legal { result ≡ Err NotLegal → with_handles binds.old (given_pairs given.now) ≡ None }
+    ensures decided { result ≡ Err HandleNotGiven → ⊥ }
     ensures adds { (before : Bindings) → Adds before (bound_pairs bound.old.items) binds.old → Adds before (bound_pairs bound.new.items) binds.new }
 {
     for given in given {
