@@ -1,4 +1,4 @@
--- two bindings that bind the handles of a call alike see it alike
+-- two bindings by which the handles of a call name the same in a tree see it alike
 use Rattle.std.proofs.Common.{◌≡◌, ℕ, Bool, true, false, List, [], ◌∷◌, ◌++◌, length, take, Option, Some, None, refl, sym, ap, ◌∙◌, subst}
 use Rattle.std.specs.Prelude.{◌&&◌, ◌||◌, not, nat_le, is_some, is_none, if◌then◌else◌, option_and_then, option_map}
 use Rattle.std.specs.Option.{option_map_or}
@@ -67,21 +67,18 @@ of_entry (calls.Rename call) place e = ap (λ p. p.directory) (same_place call.f
 of_entry _ place e = absurd (cc)
 
 module _ (binds other : Bindings) (tree : Tree) where
-  -- a handle is bound alike
+  -- a handle names the same, or nothing, in the tree
   abbrev pub Same : List ℕ → Type 0
-  Same handle = object_of binds handle ≡ object_of other handle
-
-  pub live : (handle : List ℕ) → Same handle → live_entry binds tree handle ≡ live_entry other tree handle
-  live handle same = ap (option_and_then (entry_of tree)) same
+  Same handle = live_entry binds tree handle ≡ live_entry other tree handle
 
   pub directory : (handle : List ℕ) → Same handle → directory_of binds tree handle ≡ directory_of other tree handle
-  directory handle same = ap (option_and_then (λ e. as_directory e.0 e.1.content)) (live handle same)
+  directory handle same = ap (option_and_then (λ e. as_directory e.0 e.1.content)) same
 
   pub file : (handle : List ℕ) → Same handle → file_of binds tree handle ≡ file_of other tree handle
-  file handle same = ap (option_and_then (λ e. as_file e.0 e.1.object e.1.content)) (live handle same)
+  file handle same = ap (option_and_then (λ e. as_file e.0 e.1.object e.1.content)) same
 
   pub content : (handle : List ℕ) → Same handle → when.content_of binds tree handle ≡ when.content_of other tree handle
-  content handle same = ap (option_map (λ (e : Names × Node). e.1.content)) (live handle same)
+  content handle same = ap (option_map (λ (e : Names × Node). e.1.content)) same
 
   pub entry : (place : DirectoryName) → Same place.directory → named binds tree place ≡ named other tree place
   entry place same =
@@ -90,11 +87,11 @@ module _ (binds other : Bindings) (tree : Tree) where
   -- ---- calls that look, but for those whose replies give handles
 
   pub getattr_is_legal : (object : List ℕ) (reply : NfsReply) → Same object → look.getattr_is_legal binds tree object reply ≡ look.getattr_is_legal other tree object reply
-  getattr_is_legal object (replies.GetAttr (Done attributes)) same = ap (λ o. option_map_or (λ (e : Names × Node). look.shows e.1.content attributes) o false) (live object same)
+  getattr_is_legal object (replies.GetAttr (Done attributes)) same = ap (λ o. option_map_or (λ (e : Names × Node). look.shows e.1.content attributes) o false) same
   getattr_is_legal object _ same = refl
 
   pub readlink_is_legal : (link : List ℕ) (reply : NfsReply) → Same link → look.readlink_is_legal binds tree link reply ≡ look.readlink_is_legal other tree link reply
-  readlink_is_legal link (replies.ReadLink (Done success)) same = ap (λ o. option_map_or (λ (e : Names × Node). look.has_text e.1.content success.target) o false) (live link same)
+  readlink_is_legal link (replies.ReadLink (Done success)) same = ap (λ o. option_map_or (λ (e : Names × Node). look.has_text e.1.content success.target) o false) same
   readlink_is_legal link _ same = refl
 
   pub read_is_legal : (call : ReadArguments) (reply : NfsReply) → Same call.file → look.read_is_legal binds tree call reply ≡ look.read_is_legal other tree call reply
@@ -117,7 +114,7 @@ module _ (binds other : Bindings) (tree : Tree) where
       ap (λ o. if is_some call.attributes.size then option_and_then (λ (entry : FileEntry). made.set_size entry.path entry.object entry.file call.attributes.size) o
       else made.only_if (is_some (live_entry binds tree call.object)) Keep) (file call.object same)
       ∙ ap (λ o. if is_some call.attributes.size then option_and_then (λ (entry : FileEntry). made.set_size entry.path entry.object entry.file call.attributes.size) (file_of other tree call.object)
-      else made.only_if (is_some o) Keep) (live call.object same)
+      else made.only_if (is_some o) Keep) same
 
   pub wrote : (call : WriteArguments) (count : ℕ) (level : Option StableHow) → Same call.file → written.write_change binds tree call count level ≡ written.write_change other tree call count level
   wrote call count level same =
@@ -139,7 +136,7 @@ module _ (binds other : Bindings) (tree : Tree) where
   -- ---- causes of failures
 
   isnt_live : (handle : List ℕ) → Same handle → when.isnt_live binds tree handle ≡ when.isnt_live other tree handle
-  isnt_live handle same = ap is_none (live handle same)
+  isnt_live handle same = ap is_none same
 
   no_directory : (handle : List ℕ) → Same handle → when.is_of_no_directory binds tree handle ≡ when.is_of_no_directory other tree handle
   no_directory handle same = ap (λ o. option_map_or (λ c. not (is_directory c)) o false) (content handle same)

@@ -8,9 +8,10 @@ use Rattle.std.specs.Cmp.Lexicographic.{bytes_decides}
 use Rattle.nfs3_types.specs.declared.calls.NfsCall.{NfsCall}
 use Rattle.nfs3_types.specs.declared.replies.Outcome.{Outcome}
 use Rattle.tree_starts.specs.declared.profile.Profile.{Profile}
-use Rattle.tree_nodes.specs.Tree.{Tree}
+use Rattle.tree_nodes.specs.Tree.{Tree, entry_of}
 use Rattle.tree_handles.specs.Binding.{Bindings, same_bytes, object_of, is_bound}
 use Rattle.tree_handles.specs.Finding.{first_of}
+use Rattle.tree_handles.specs.Live.{live_entry}
 use Rattle.tree_failures.specs.Asked.{first_handle, second_handle}
 use Rattle.file_tree.specs.Setting.{under}
 use Rattle.decision_steps.specs.Known.{AgreesWith, is_known, knows_handles}
@@ -18,7 +19,7 @@ use Rattle.decision_steps.specs.Given.{given}
 use Rattle.decision_steps.specs.Bound.{bound_behind, bound_where, with_handle, with_handles, are_bound}
 use Rattle.decision_steps.proofs.Parts.{first_passes, second_passes}
 use Rattle.decision_steps.proofs.Replies.{given_same}
-use Rattle.decision_steps.proofs.Steps.{under_same, under_heeds}
+use Rattle.decision_steps.proofs.Steps.{SeeAlike, under_same, under_heeds}
 
 -- ---- one pair more
 
@@ -122,6 +123,19 @@ seconds_known known (Some other) handle there e = ap (is_known known) (same_valu
   same_value : (a b : List ℕ) → Some a ≡ Some b → a ≡ b
   same_value a b e = cc
 
+live_same : (binds other : Bindings) (tree : Tree) (handle : List ℕ) → object_of binds handle ≡ object_of other handle → live_entry binds tree handle ≡ live_entry other tree handle
+live_same binds other tree handle same = ap (option_and_then (entry_of tree)) same
+
+-- where all handles of a call are known, all that agree see it alike in every tree
+all_alike : (known plan more : Bindings) (call : NfsCall) → AgreesWith known plan → AgreesWith known more → knows_handles known call ≡ true → (tree : Tree) → SeeAlike plan more tree call
+all_alike known plan more call agrees grows knows tree =
+    let first = first_passes (is_known known (first_handle call)) (option_map_or (is_known known) (second_handle call) true) knows in
+    let second = second_passes (is_known known (first_handle call)) (option_map_or (is_known known) (second_handle call) true) knows in
+    record {
+      first = live_same plan more tree (first_handle call) (known_same known plan more (first_handle call) agrees grows first);
+      second = λ handle is. live_same plan more tree handle (known_same known plan more handle agrees grows (seconds_known known (second_handle call) handle second is));
+    }
+
 -- the handles bound with those of the reply, by which the call leads to the plan's tree
 pub record Follows (profile : Profile) (known plan : Bindings) (tree after : Tree) (number : ℕ) (call : NfsCall) (outcome : Outcome) : Type 0 where
   pub more : Bindings
@@ -133,17 +147,15 @@ pub follows : (profile : Profile) (known plan : Bindings) (tree after : Tree) (n
     → under profile plan tree number call outcome ≡ Some after → Follows profile known plan tree after number call outcome
 follows profile known plan tree after number call outcome agrees knows leads =
     let first = first_passes (is_known known (first_handle call)) (option_map_or (is_known known) (second_handle call) true) knows in
-    let second = second_passes (is_known known (first_handle call)) (option_map_or (is_known known) (second_handle call) true) knows in
     let self : AgreesWith known known = λ other named e. e in
     let pairs : given plan tree number call outcome ≡ given known tree number call outcome =
-    given_same plan known tree number call outcome (known_same known plan known (first_handle call) agrees self first) in
+    given_same plan known tree number call outcome (live_same plan known tree (first_handle call) (known_same known plan known (first_handle call) agrees self first)) in
     let heeded = under_heeds profile plan tree after number call outcome leads in
     let taken = all_taken known plan (given known tree number call outcome) agrees (ap (are_bound plan) (sym pairs) ∙ heeded) in
     record {
       more = taken.more;
       is = taken.is;
       agrees = taken.agrees;
-      leads = sym (under_same plan taken.more tree number call (known_same known plan taken.more (first_handle call) agrees taken.grows first)
-          (λ handle is. known_same known plan taken.more handle agrees taken.grows (seconds_known known (second_handle call) handle second is)) profile outcome
-          (heeded, ap (are_bound taken.more) pairs ∙ taken.bound)) ∙ leads;
+      leads = sym (under_same plan taken.more tree number call outcome (all_alike known plan taken.more call agrees taken.grows knows tree) profile
+          (λ then_too is. all_alike known plan taken.more call agrees taken.grows knows then_too) (heeded, ap (are_bound taken.more) pairs ∙ taken.bound)) ∙ leads;
     }

@@ -4,5 +4,6 @@ pub mod Heeded
 pub mod Replies
 pub mod Steps
 pub mod Covering
+pub mod Unknown
 pub mod Adding
 pub mod Answered

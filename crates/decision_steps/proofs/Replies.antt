@@ -24,7 +24,7 @@ use Rattle.tree_nodes.specs.declared.node.Content.TheVariants as contents
 use Rattle.tree_nodes.specs.Tree.{Names, Tree}
 use Rattle.tree_nodes.proofs.Chains.{passed}
 use Rattle.tree_handles.specs.Binding.{Bindings, object_of, is_bound, gives_object}
-use Rattle.tree_handles.specs.Live.{directory_of}
+use Rattle.tree_handles.specs.Live.{live_entry, directory_of}
 use Rattle.tree_starts.specs.Names.{is_plain}
 use Rattle.tree_failures.specs.Asked.{first_handle, second_handle}
 use Rattle.tree_failures.specs.Failure.{is_permitted}
@@ -59,7 +59,7 @@ lists_bound binds tree entries lists None e = refl
 lists_bound binds tree entries lists (Some path) e = listed_gated binds tree path entries ∙ second_passes (lists path) (list_all (has_its_handle binds tree path) entries) e
 
 -- a failure gives no handle
-failure_gives : (binds : Bindings) (tree : Tree) (number : ℕ) (call : NfsCall) (reply : NfsReply) (failure : Failure)
+pub failure_gives : (binds : Bindings) (tree : Tree) (number : ℕ) (call : NfsCall) (reply : NfsReply) (failure : Failure)
     → failure_in reply ≡ Some failure → given_in binds tree number call reply ≡ []
 failure_gives binds tree number (calls.Lookup place) (replies.Lookup (Done success)) failure e = absurd (cc)
 failure_gives binds tree number (calls.Create call) (replies.Create (Done success)) failure e = absurd (cc)
@@ -118,7 +118,7 @@ ungated x false e = absurd (cc)
 
 module _ (binds other : Bindings) (tree : Tree) (number : ℕ) where
   abbrev pub Same : List ℕ → Type 0
-  Same handle = object_of binds handle ≡ object_of other handle
+  Same handle = live_entry binds tree handle ≡ live_entry other tree handle
 
   pub found_same : (place : DirectoryName) → Same place.directory → object_found binds tree place ≡ object_found other tree place
   found_same place same = ap (option_and_then (λ path. object_named tree path place.name)) (alike.directory binds other tree place.directory same)

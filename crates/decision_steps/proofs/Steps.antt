@@ -24,7 +24,7 @@ use Rattle.tree_nodes.specs.declared.node.Content.TheVariants as contents
 use Rattle.tree_nodes.specs.Tree.{Names, Tree}
 use Rattle.tree_nodes.proofs.Chains.{chained, mapped}
 use Rattle.tree_handles.specs.Binding.{Bindings, object_of, is_bound, gives_object}
-use Rattle.tree_handles.specs.Live.{directory_of}
+use Rattle.tree_handles.specs.Live.{live_entry, directory_of}
 use Rattle.tree_failures.specs.Asked.{first_handle, second_handle, first_place}
 use Rattle.tree_reads.specs.Listing.{is_listing, listed_names_plus, has_its_handle}
 use Rattle.tree_reads.specs.Look.{object_named}
@@ -73,9 +73,14 @@ both_ways x y true true mine theirs e = e
 both_ways x y false c mine theirs e = absurd (cc)
 both_ways x y true false mine theirs e = absurd (cc)
 
+-- the handles of a call name the same in a tree, or nothing
+pub record SeeAlike (binds other : Bindings) (tree : Tree) (call : NfsCall) : Type 0 where
+  pub first : live_entry binds tree (first_handle call) ≡ live_entry other tree (first_handle call)
+  pub second : (handle : List ℕ) → second_handle call ≡ Some handle → live_entry binds tree handle ≡ live_entry other tree handle
+
 module _ (binds other : Bindings) (tree : Tree) (number : ℕ) where
   abbrev pub Same : List ℕ → Type 0
-  Same handle = object_of binds handle ≡ object_of other handle
+  Same handle = live_entry binds tree handle ≡ live_entry other tree handle
 
   abbrev pub Seconds : NfsCall → Type 0
   Seconds call = (handle : List ℕ) → second_handle call ≡ Some handle → Same handle
@@ -154,56 +159,60 @@ module _ (binds other : Bindings) (tree : Tree) (number : ℕ) where
     go None = done call reply first second both
     go (Some failure) = ap (λ b. only_if (is_answered call reply && b) Keep) (alike.permitted binds other tree call first second failure)
 
-  -- ---- the strict profile
+-- ---- the strict profile
 
-  module _ (call : NfsCall) (first : Same (first_handle call)) (second : Seconds call) where
-    told_same : (handle : List ℕ) (any : Tree) → Same handle → told_by binds any handle ≡ told_by other any handle
-    told_same handle any same = ap (option_map (λ (e : Names × Node). told e.1.content)) (alike.live binds other any handle same)
+module _ (binds other : Bindings) (tree after : Tree) (call : NfsCall) (here : SeeAlike binds other tree call) (then_too : SeeAlike binds other after call) where
+  told_same : (handle : List ℕ) (any : Tree) → live_entry binds any handle ≡ live_entry other any handle → told_by binds any handle ≡ told_by other any handle
+  told_same handle any same = ap (option_map (λ (e : Names × Node). told e.1.content)) same
 
-    handle_same : (after : Tree) (reply : NfsReply) (role : Role) (handle : List ℕ) → Same handle
-        → handle_agrees binds tree after reply role handle ≡ handle_agrees other tree after reply role handle
-    handle_same after reply role handle same =
-        ap (λ o. had_size o (pre_size reply role) && fits (told_by binds after handle) (post_attr reply role)) (told_same handle tree same)
-        ∙ ap (λ o. had_size (told_by other tree handle) (pre_size reply role) && fits o (post_attr reply role)) (told_same handle after same)
+  handle_same : (reply : NfsReply) (role : Role) (handle : List ℕ) → live_entry binds tree handle ≡ live_entry other tree handle → live_entry binds after handle ≡ live_entry other after handle
+      → handle_agrees binds tree after reply role handle ≡ handle_agrees other tree after reply role handle
+  handle_same reply role handle before behind =
+      ap (λ o. had_size o (pre_size reply role) && fits (told_by binds after handle) (post_attr reply role)) (told_same handle tree before)
+      ∙ ap (λ o. had_size (told_by other tree handle) (pre_size reply role) && fits o (post_attr reply role)) (told_same handle after behind)
 
-    answer_same : (after : Tree) (reply : NfsReply) (place : DirectoryName) → Same place.directory → answer_agrees binds after reply place ≡ answer_agrees other after reply place
-    answer_same after reply place same =
-        ap (λ o. fits (option_and_then (λ directory. option_and_then (told_of after) (object_named after directory place.name)) o) (post_attr reply roles.Answer)) (alike.directory binds other after place.directory same)
+  answer_same : (reply : NfsReply) (place : DirectoryName) → first_handle call ≡ place.directory → answer_agrees binds after reply place ≡ answer_agrees other after reply place
+  answer_same reply place is =
+      ap (λ o. fits (option_and_then (λ directory. option_and_then (told_of after) (object_named after directory place.name)) o) (post_attr reply roles.Answer))
+      (alike.directory binds other after place.directory (subst (λ handle. live_entry binds after handle ≡ live_entry other after handle) is then_too.first))
 
-    entries_same : (after : Tree) (reply : NfsReply) → entries_agree binds after reply (first_handle call) ≡ entries_agree other after reply (first_handle call)
-    entries_same after reply =
-        ap (λ o. option_map_or (λ (directory : Names). list_all (entry_agrees after directory) (entries_of reply)) o true) (alike.directory binds other after (first_handle call) first)
+  entries_same : (reply : NfsReply) → entries_agree binds after reply (first_handle call) ≡ entries_agree other after reply (first_handle call)
+  entries_same reply =
+      ap (λ o. option_map_or (λ (directory : Names). list_all (entry_agrees after directory) (entries_of reply)) o true) (alike.directory binds other after (first_handle call) then_too.first)
 
-    agrees_same : (after : Tree) (reply : NfsReply) → agrees binds tree after call reply ≡ agrees other tree after call reply
-    agrees_same after reply =
-        ap (λ b. b && option_map_or (handle_agrees binds tree after reply Second) (second_handle call) true && option_map_or (answer_agrees binds after reply) (first_place call) true
-        && entries_agree binds after reply (first_handle call)) (handle_same after reply First (first_handle call) first)
-        ∙ ap (λ b. handle_agrees other tree after reply First (first_handle call) && b && option_map_or (answer_agrees binds after reply) (first_place call) true
-        && entries_agree binds after reply (first_handle call))
-        (same_on (handle_agrees binds tree after reply Second) (handle_agrees other tree after reply Second) (second_handle call) true (λ h is. handle_same after reply Second h (second h is)))
-        ∙ ap (λ b. handle_agrees other tree after reply First (first_handle call) && option_map_or (handle_agrees other tree after reply Second) (second_handle call) true && b
-        && entries_agree binds after reply (first_handle call))
-        (same_on (answer_agrees binds after reply) (answer_agrees other after reply) (first_place call) true (λ place is. answer_same after reply place (subst Same (placed_first call place is) first)))
-        ∙ ap (λ b. handle_agrees other tree after reply First (first_handle call) && option_map_or (handle_agrees other tree after reply Second) (second_handle call) true
-        && option_map_or (answer_agrees other after reply) (first_place call) true && b) (entries_same after reply)
+  agrees_same : (reply : NfsReply) → agrees binds tree after call reply ≡ agrees other tree after call reply
+  agrees_same reply =
+      ap (λ b. b && option_map_or (handle_agrees binds tree after reply Second) (second_handle call) true && option_map_or (answer_agrees binds after reply) (first_place call) true
+      && entries_agree binds after reply (first_handle call)) (handle_same reply First (first_handle call) here.first then_too.first)
+      ∙ ap (λ b. handle_agrees other tree after reply First (first_handle call) && b && option_map_or (answer_agrees binds after reply) (first_place call) true
+      && entries_agree binds after reply (first_handle call))
+      (same_on (handle_agrees binds tree after reply Second) (handle_agrees other tree after reply Second) (second_handle call) true
+      (λ h is. handle_same reply Second h (here.second h is) (then_too.second h is)))
+      ∙ ap (λ b. handle_agrees other tree after reply First (first_handle call) && option_map_or (handle_agrees other tree after reply Second) (second_handle call) true && b
+      && entries_agree binds after reply (first_handle call))
+      (same_on (answer_agrees binds after reply) (answer_agrees other after reply) (first_place call) true (λ place is. answer_same reply place (placed_first call place is)))
+      ∙ ap (λ b. handle_agrees other tree after reply First (first_handle call) && option_map_or (handle_agrees other tree after reply Second) (second_handle call) true
+      && option_map_or (answer_agrees other after reply) (first_place call) true && b) (entries_same reply)
 
-    judged_same : (outcome : Outcome) (after : Tree) → judged binds tree call outcome after ≡ judged other tree call outcome after
-    judged_same (Taken count) after = refl
-    judged_same (Received reply) after = ap (λ b. cond b (Some after) None) (agrees_same after reply)
+  judged_same : (outcome : Outcome) → judged binds tree call outcome after ≡ judged other tree call outcome after
+  judged_same (Taken count) = refl
+  judged_same (Received reply) = ap (λ b. cond b (Some after) None) (agrees_same reply)
 
-    next_same : (outcome : Outcome) → Both (given binds tree number call outcome) → next_tree binds tree number call outcome ≡ next_tree other tree number call outcome
-    next_same outcome both = ap (option_map (changed tree)) (change_alike call outcome first second both)
+module _ (binds other : Bindings) (tree : Tree) (number : ℕ) (call : NfsCall) (outcome : Outcome) (here : SeeAlike binds other tree call) where
+  next_same : Both binds other tree number (given binds tree number call outcome) → next_tree binds tree number call outcome ≡ next_tree other tree number call outcome
+  next_same both = ap (option_map (changed tree)) (change_alike binds other tree number call outcome here.first here.second both)
 
-    pub under_same : (profile : Profile) (outcome : Outcome) → Both (given binds tree number call outcome) → under profile binds tree number call outcome ≡ under profile other tree number call outcome
-    under_same Plain outcome both = next_same outcome both
-    under_same Strict outcome both =
-        ap (option_and_then (judged binds tree call outcome)) (next_same outcome both) ∙ chain (next_tree other tree number call outcome) where
-          chain : (o : Option Tree) → option_and_then (judged binds tree call outcome) o ≡ option_and_then (judged other tree call outcome) o
-          chain None = refl
-          chain (Some after) = judged_same outcome after
+  pub under_same : (profile : Profile) → ((after : Tree) → next_tree other tree number call outcome ≡ Some after → SeeAlike binds other after call)
+      → Both binds other tree number (given binds tree number call outcome) → under profile binds tree number call outcome ≡ under profile other tree number call outcome
+  under_same Plain later both = next_same both
+  under_same Strict later both = ap (option_and_then (judged binds tree call outcome)) (next_same both) ∙ chain (next_tree other tree number call outcome) later where
+    chain : (o : Option Tree) → ((after : Tree) → o ≡ Some after → SeeAlike binds other after call)
+        → option_and_then (judged binds tree call outcome) o ≡ option_and_then (judged other tree call outcome) o
+    chain None later = refl
+    chain (Some after) later = judged_same binds other tree after call here (later after refl) outcome
 
 -- a call that comes out under a profile comes out under the plain one
-plain_leads : (profile : Profile) (binds : Bindings) (tree after : Tree) (number : ℕ) (call : NfsCall) (outcome : Outcome) → under profile binds tree number call outcome ≡ Some after
+pub plain_leads : (profile : Profile) (binds : Bindings) (tree after : Tree) (number : ℕ) (call : NfsCall) (outcome : Outcome) → under profile binds tree number call outcome ≡ Some after
     → (change : Change) × (change_of binds tree number call outcome ≡ Some change)
 plain_leads Plain binds tree after number call outcome e = let found = mapped (changed tree) (change_of binds tree number call outcome) after e in (found.0, found.1)
 plain_leads Strict binds tree after number call outcome e =

@@ -3,9 +3,9 @@
 ghost use Rattle.std.specs.Prelude.{◌≡◌};
 ghost use Rattle.std.specs.Option.{option_copied};
 ghost use Rattle.tree_failures.specs.Asked.{first_handle, second_handle};
-ghost use Rattle.decision_steps.specs.Known.{is_known, knows_handles};
+ghost use Rattle.decision_steps.specs.Known.{is_known, knows_handles, is_failure};
 
-use nfs3_types::{FileHandle, NfsCall};
+use nfs3_types::{FileHandle, NfsCall, Outcome};
 use tree_handles::Binds;
 
 /// The first handle of a call.
@@ -58,5 +58,15 @@ pub(crate) fn knows_handles(binds: &Binds, call: &NfsCall) -> bool
     match second_handle(call) {
         Some(handle) => is_known(binds, handle),
         None => true,
+    }
+}
+
+/// Whether an outcome is a reply that is a failure.
+pub(crate) fn is_failure(outcome: &Outcome) -> bool
+    ensures { result ≡ is_failure outcome.now }
+{
+    match outcome {
+        Outcome::Received(reply) => reply.failure().is_some(),
+        Outcome::Taken(_) => false,
     }
 }

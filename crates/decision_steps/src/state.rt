@@ -12,7 +12,7 @@ ghost use Rattle.decision_steps.specs.Listed.{bound_pairs};
 ghost use Rattle.decision_steps.specs.Placing.{StepsFrom, Covers};
 ghost use Rattle.decision_steps.specs.declared.fault.PlaceFault.TheVariants.{NotLegal, HandleNotGiven};
 
-use crate::asked::knows_handles;
+use crate::asked::{is_failure, knows_handles};
 use crate::binding::{BoundHandle, bind_all, forget_all};
 use crate::fault::PlaceFault;
 use crate::given::given_handles;
@@ -129,7 +129,7 @@ impl State {
     ) -> Result<Undo, PlaceFault>
         requires { IsTrue (knows_handles self.old.binds call.now) }
         ensures covers { (plan : Bindings) (after : Tree) → AgreesWith self.old.binds plan → under profile plan self.old.tree number call.now outcome.now ≡ Some after
-            → Covers result self.new plan after }
+            → Covers result self.old call.now self.new plan after }
         ensures leads { OnOk result (under profile self.new.binds self.old.tree number call.now outcome.now ≡ Some self.new.tree) }
         ensures undo { IfOk result (λ undo. TakesBack undo self.new.tree self.old.tree) }
         ensures adds { (before : Bindings) → Adds before (bound_pairs bound.old.items) self.old.binds → Adds before (bound_pairs bound.new.items) self.new.binds }
@@ -138,6 +138,65 @@ impl State {
     {
         self.bind_given(alloc, number, call, outcome, bound)?;
         self.step(profile, number, call, outcome)
+    }
+
+    /// Places a call whose handles are bound.
+    fn place_known(
+        &mut self,
+        alloc: Global,
+        profile: Profile,
+        number: u64,
+        call: &NfsCall,
+        outcome: &Outcome,
+    ) -> Result<Step, PlaceFault>
+        requires { IsTrue (knows_handles self.old.binds call.now) }
+        ensures covers { (plan : Bindings) (after : Tree) → AgreesWith self.old.binds plan → under profile plan self.old.tree number call.now outcome.now ≡ Some after
+            → Covers result self.old call.now self.new plan after }
+        ensures leads { OnOk result (under profile self.new.binds self.old.tree number call.now outcome.now ≡ Some self.new.tree) }
+        ensures step { IfOk result (λ step. StepsFrom self.old step self.new) }
+        ensures decided { result ≡ Err HandleNotGiven → ⊥ }
+        ensures err { OnErr result (self.new ≡ self.old) }
+    {
+        let mut bound = Vec::new(alloc);
+        match self.bind_and_step(alloc, profile, number, call, outcome, &mut bound) {
+            Ok(undo) => Ok(Step { undo, bound }),
+            Err(fault) => {
+                forget_all(&mut self.binds, bound);
+                Err(fault)
+            }
+        }
+    }
+
+    /// Places a call that names a handle which isn't bound: a failure that is permitted though it names nothing.
+    fn place_unknown(
+        &mut self,
+        alloc: Global,
+        profile: Profile,
+        number: u64,
+        call: &NfsCall,
+        outcome: &Outcome,
+    ) -> Result<Step, PlaceFault>
+        requires { knows_handles self.old.binds call.now ≡ false }
+        ensures covers { (plan : Bindings) (after : Tree) → AgreesWith self.old.binds plan → under profile plan self.old.tree number call.now outcome.now ≡ Some after
+            → Covers result self.old call.now self.new plan after }
+        ensures leads { OnOk result (under profile self.new.binds self.old.tree number call.now outcome.now ≡ Some self.new.tree) }
+        ensures step { IfOk result (λ step. StepsFrom self.old step self.new) }
+        ensures err { OnErr result (self.new ≡ self.old) }
+    {
+        if !is_failure(outcome) {
+            return Err(PlaceFault::HandleNotGiven);
+        }
+        match self
+            .tree
+            .step_under(profile, &self.binds, number, call, outcome)
+        {
+            Ok(undo) => {
+                let bound = Vec::new(alloc);
+                Ok(Step { undo, bound })
+            }
+            Err(StepFault::NotAllowed) => Err(PlaceFault::HandleNotGiven),
+            Err(StepFault::NoMemory) => Err(PlaceFault::NoMemory),
+        }
     }
 
     /// Places a call with its outcome. What the call makes, if anything, is the object of this number. The handles that its
@@ -152,23 +211,17 @@ impl State {
     ) -> Result<Step, PlaceFault>
         // Each binding of all handles that agrees with the state's, and by which the call leads to a tree, is covered.
         ensures covers { (plan : Bindings) (after : Tree) → AgreesWith self.old.binds plan → under profile plan self.old.tree number call.now outcome.now ≡ Some after
-            → Covers result self.new plan after }
+            → Covers result self.old call.now self.new plan after }
         ensures leads { OnOk result (under profile self.new.binds self.old.tree number call.now outcome.now ≡ Some self.new.tree) }
         ensures step { IfOk result (λ step. StepsFrom self.old step self.new) }
 
         ensures undecided { result ≡ Err HandleNotGiven → knows_handles self.old.binds call.now ≡ false }
         ensures err { OnErr result (self.new ≡ self.old) }
     {
-        if !knows_handles(&self.binds, call) {
-            return Err(PlaceFault::HandleNotGiven);
-        }
-        let mut bound = Vec::new(alloc);
-        match self.bind_and_step(alloc, profile, number, call, outcome, &mut bound) {
-            Ok(undo) => Ok(Step { undo, bound }),
-            Err(fault) => {
-                forget_all(&mut self.binds, bound);
-                Err(fault)
-            }
+        if knows_handles(&self.binds, call) {
+            self.place_known(alloc, profile, number, call, outcome)
+        } else {
+            self.place_unknown(alloc, profile, number, call, outcome)
         }
     }
 

@@ -3,7 +3,7 @@ use Rattle.decision_steps.specs.Bound.{Adds}
 use Rattle.decision_steps.specs.Listed.{bound_pairs}
 use Rattle.decision_steps.proofs.Adding.{adds_none}
 use Rattle.decision_steps.proofs.Answered.{state_is}
-use Rattle.decision_steps.proofs.state.State.place.Goals as goal
+use Rattle.decision_steps.proofs.state.State.place_known.Goals as goal
 
 pub returns-in-Err-clause-err : goal.returns-in-Err-clause-err
 returns-in-Err-clause-err c =
