@@ -9,7 +9,7 @@ use nfs3_types::{FileHandle, NfsCall, Outcome};
 use tree_handles::Binds;
 
 /// The first handle of a call.
-fn first_handle(call: &NfsCall) -> &FileHandle
+pub fn first_handle(call: &NfsCall) -> &FileHandle
     ensures { result.now ≡ first_handle call.now }
 {
     match call {
@@ -32,7 +32,7 @@ fn first_handle(call: &NfsCall) -> &FileHandle
 }
 
 /// The second handle, of a RENAME.
-fn second_handle(call: &NfsCall) -> Option<&FileHandle>
+pub fn second_handle(call: &NfsCall) -> Option<&FileHandle>
     ensures { option_copied result ≡ second_handle call.now }
 {
     match call {

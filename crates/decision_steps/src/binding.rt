@@ -1,8 +1,8 @@
 //! Binding the handles that a reply gives, and letting them go again.
 
-ghost use Rattle.std.specs.Prelude.{◌≡◌, None, Some, Err, OnOk, OnErr};
+ghost use Rattle.std.specs.Prelude.{◌≡◌, [], ◌∷◌, None, Some, Err, OnOk, OnErr};
 ghost use Rattle.tree_handles.specs.Binding.{Bindings, object_of};
-ghost use Rattle.decision_steps.specs.Bound.{with_handle, with_handles, Adds};
+ghost use Rattle.decision_steps.specs.Bound.{bound_behind, with_handle, with_handles, Adds};
 ghost use Rattle.decision_steps.specs.Listed.{given_pair, given_pairs, bound_pairs};
 ghost use Rattle.decision_steps.specs.declared.fault.PlaceFault.TheVariants.{NotLegal, HandleNotGiven};
 
@@ -22,14 +22,15 @@ pub struct BoundHandle {
 }
 
 /// Binds a handle that isn't bound.
-fn bind_new(
+pub(crate) fn bind_new(
     binds: &mut Binds,
     given: &GivenHandle<'_>,
     bound: &mut Vec<BoundHandle>,
 ) -> Result<(), AllocError>
     requires { object_of binds.old given.now.handle.now ≡ None }
-    ensures ok { OnOk result (with_handle binds.old (given_pair given.now) ≡ Some binds.new) }
+    ensures ok { OnOk result (binds.new ≡ bound_behind binds.old (given_pair given.now ∷ [])) }
     ensures adds { (before : Bindings) → Adds before (bound_pairs bound.old.items) binds.old → Adds before (bound_pairs bound.new.items) binds.new }
+    ensures err { OnErr result (binds.new ≡ binds.old) }
 {
     let handle = given.handle.clone()?;
     bound.reserve(1)?;

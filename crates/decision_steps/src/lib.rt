@@ -7,6 +7,7 @@ mod fault;
 mod given;
 mod state;
 
+pub use asked::{first_handle, second_handle};
 pub use binding::BoundHandle;
 pub use fault::PlaceFault;
 pub use state::{State, Step};

@@ -1,10 +1,11 @@
 //! A state of a walk, in which calls are placed, one after the other, and taken back.
 
-ghost use Rattle.std.specs.Prelude.{◌≡◌, false, None, Some, Err, IfOk, OnOk, OnErr, IsTrue};
+ghost use Rattle.std.specs.Prelude.{◌≡◌, false, [], None, Some, Err, IfOk, OnOk, OnErr, IsTrue};
 ghost use Rattle.tree_nodes.specs.Tree.{Tree};
 ghost use Rattle.tree_nodes.specs.Undo.{TakesBack};
-ghost use Rattle.tree_handles.specs.Binding.{Bindings};
+ghost use Rattle.tree_handles.specs.Binding.{Bindings, object_of};
 ghost use Rattle.file_tree.specs.Setting.{under};
+ghost use Rattle.file_tree.specs.StartTree.{start_tree};
 ghost use Rattle.decision_steps.specs.Known.{AgreesWith, knows_handles};
 ghost use Rattle.decision_steps.specs.Given.{given};
 ghost use Rattle.decision_steps.specs.Bound.{with_handles, Adds};
@@ -13,16 +14,16 @@ ghost use Rattle.decision_steps.specs.Placing.{StepsFrom, Covers};
 ghost use Rattle.decision_steps.specs.declared.fault.PlaceFault.TheVariants.{NotLegal, HandleNotGiven};
 
 use crate::asked::{is_failure, knows_handles};
-use crate::binding::{BoundHandle, bind_all, forget_all};
+use crate::binding::{BoundHandle, bind_all, bind_new, forget_all};
 use crate::fault::PlaceFault;
-use crate::given::given_handles;
+use crate::given::{GivenHandle, given_handles};
 use file_tree::FileTree;
-use nfs3_types::{NfsCall, Outcome};
+use nfs3_types::{FileHandle, NfsCall, Outcome};
 use replay_law::{Replayable, StepFault};
 use std::alloc::{AllocError, Global};
 use tree_handles::{Binds, View};
 use tree_nodes::Undo;
-use tree_starts::Profile;
+use tree_starts::{Profile, SeenStart};
 
 /// A state: the tree, and the handles that are bound so far. It stands for every binding of all handles of a history that
 /// binds those alike.
@@ -69,6 +70,27 @@ impl Step {
 }
 
 impl State {
+    /// What stands before any call: the tree of what the server held at first, and the root's handle alone.
+    pub fn opening(alloc: Global, root: &[u8], start: &SeenStart<'_>) -> Result<State, AllocError>
+        ensures tree { IfOk result (λ state. state.tree ≡ start_tree start.now) }
+        ensures binds { IfOk result (λ state. state.binds ≡ record { root = root.now; pairs = [] }) }
+        ensures covers { IfOk result (λ state. (plan : Bindings) → plan.root ≡ root.now → AgreesWith state.binds plan) }
+    {
+        Ok(State {
+            tree: FileTree::of_start(alloc, start)?,
+            binds: Binds::of_root(alloc, root)?,
+        })
+    }
+
+    /// The tree, and the handles that are bound.
+    pub fn into_parts(self) -> (FileTree, Binds)
+        ensures tree { result.0 ≡ self.tree }
+        ensures binds { result.1 ≡ self.binds }
+    {
+        let State { tree, binds } = self;
+        (tree, binds)
+    }
+
     /// Takes the tree's step, with the handles bound as they are.
     fn step(
         &mut self,
@@ -223,6 +245,27 @@ impl State {
         } else {
             self.place_unknown(alloc, profile, number, call, outcome)
         }
+    }
+
+    /// Takes a handle that isn't bound for one of this object, which leaves the tree.
+    pub fn guess(
+        &mut self,
+        alloc: Global,
+        handle: &FileHandle,
+        object: u64,
+    ) -> Result<Step, AllocError>
+        requires { object_of self.old.binds handle.now ≡ None }
+        ensures names { OnOk result (object_of self.new.binds handle.now ≡ Some object) }
+        ensures covers { OnOk result ((plan : Bindings) → AgreesWith self.old.binds plan → object_of plan handle.now ≡ Some object → AgreesWith self.new.binds plan) }
+        ensures tree { self.new.tree ≡ self.old.tree }
+        ensures step { IfOk result (λ step. StepsFrom self.old step self.new) }
+        ensures err { OnErr result (self.new ≡ self.old) }
+    {
+        let given = GivenHandle { handle, object };
+        let mut bound = Vec::new(alloc);
+        bind_new(&mut self.binds, &given, &mut bound)?;
+        let undo = Undo::nothing();
+        Ok(Step { undo, bound })
     }
 
     /// Takes the last step back. The state is spent where there is no memory.
