@@ -3,3 +3,4 @@ pub mod Given
 pub mod Bound
 pub mod Listed
 pub mod Placing
+pub mod FaultText

@@ -5,7 +5,11 @@ mod asked;
 mod binding;
 mod fault;
 mod given;
+#[cfg(test)]
+mod requests;
 mod state;
+#[cfg(test)]
+mod tests;
 
 pub use asked::{first_handle, second_handle};
 pub use binding::BoundHandle;
