@@ -1,12 +1,12 @@
 -- pairs that were bound behind others, and are let go again
 use Rattle.std.proofs.Common.{◌≡◌, ℕ, Bool, true, false, cond, List, [], ◌∷◌, ◌++◌, Option, Some, None, refl, sym, ap, ◌∙◌, subst, append_assoc}
-use Rattle.std.specs.Prelude.{not, filter}
+use Rattle.std.specs.Prelude.{not}
 use Rattle.std.specs.Map.{lookup}
 use Rattle.std.specs.Cmp.Lexicographic.{bytes_decides}
 use Rattle.tree_handles.specs.Binding.{Bindings, same_bytes, object_of, pairs_without}
 use Rattle.decision_steps.specs.declared.binding.BoundHandle.{BoundHandle}
 use Rattle.decision_steps.specs.Listed.{bound_pair, bound_pairs}
-use Rattle.decision_steps.specs.Bound.{bound_behind, with_handle, bound_where, AreNew, Adds}
+use Rattle.decision_steps.specs.Bound.{bound_behind, AreNew, Adds}
 
 append_none : {X : Type 0} (xs : List X) → xs ++ [] ≡ xs
 append_none [] = refl

@@ -1,5 +1,5 @@
 -- two bindings by which the handles of a call name the same in a tree see it alike
-use Rattle.std.proofs.Common.{◌≡◌, ℕ, Bool, true, false, List, [], ◌∷◌, ◌++◌, length, take, Option, Some, None, refl, sym, ap, ◌∙◌, subst}
+use Rattle.std.proofs.Common.{◌≡◌, ℕ, Bool, true, false, List, [], ◌∷◌, ◌++◌, length, take, Option, Some, None, refl, ap, ◌∙◌, subst}
 use Rattle.std.specs.Prelude.{◌&&◌, ◌||◌, not, nat_le, is_some, is_none, if◌then◌else◌, option_and_then, option_map}
 use Rattle.std.specs.Option.{option_map_or}
 use Rattle.std.specs.List.{list_any}
@@ -17,9 +17,8 @@ use Rattle.nfs3_types.specs.declared.replies.NfsReply.{NfsReply}
 use Rattle.nfs3_types.specs.declared.replies.NfsReply.TheVariants as replies
 use Rattle.nfs3_types.specs.declared.status.Failure.{Failure}
 use Rattle.tree_nodes.specs.declared.node.Node.{Node}
-use Rattle.tree_nodes.specs.declared.node.Content.{Content}
-use Rattle.tree_nodes.specs.Tree.{Names, Tree, entry_of, is_below, same_path, is_bare}
-use Rattle.tree_handles.specs.Binding.{Bindings, object_of}
+use Rattle.tree_nodes.specs.Tree.{Names, Tree, is_below, same_path, is_bare}
+use Rattle.tree_handles.specs.Binding.{Bindings}
 use Rattle.tree_handles.specs.Live.{FileEntry, live_entry, as_directory, directory_of, as_file, file_of}
 use Rattle.tree_starts.specs.Names.{is_plain}
 use Rattle.tree_handles.specs.Entry.{entry_at, named}

@@ -1,18 +1,14 @@
 -- a call that comes out has its handles bound to the objects that they have to name
-use Rattle.std.proofs.Common.{◌≡◌, ℕ, Bool, true, false, cond, List, [], ◌∷◌, ◌++◌, Option, Some, None, refl, sym, ap, ◌∙◌, replicate}
+use Rattle.std.proofs.Common.{◌≡◌, ℕ, Bool, true, false, cond, List, [], ◌∷◌, ◌++◌, Option, Some, None, refl, ap, ◌∙◌, replicate}
 use Rattle.std.specs.Prelude.{◌&&◌, nat_le, nat_lt, is_none, option_and_then, option_map}
 use Rattle.std.specs.Option.{option_map_or}
 use Rattle.std.specs.List.{list_all, flat_map}
 use Rattle.std.proofs.lemmas.List.Folds.{list_all-append}
 use Rattle.std.specs.FinMap as map
-use Rattle.nfs3_types.specs.declared.calls.NfsCall.{NfsCall}
-use Rattle.nfs3_types.specs.declared.calls.NfsCall.TheVariants as calls
 use Rattle.nfs3_types.specs.declared.calls.CreateMode.{CreateMode}
 use Rattle.nfs3_types.specs.declared.calls.CreateArguments.{CreateArguments}
 use Rattle.nfs3_types.specs.declared.calls.DirectoryName.{DirectoryName}
-use Rattle.nfs3_types.specs.declared.calls.ReadDirPlusArguments.{ReadDirPlusArguments}
 use Rattle.nfs3_types.specs.declared.replies.DirectoryEntryPlus.{DirectoryEntryPlus}
-use Rattle.nfs3_types.specs.declared.replies.NfsReply.{NfsReply}
 use Rattle.nfs3_types.specs.Limits.{file_limit}
 use Rattle.tree_nodes.specs.declared.node.Node.{Node}
 use Rattle.tree_nodes.specs.declared.node.Content.{Content}
@@ -21,13 +17,13 @@ use Rattle.tree_nodes.specs.Tree.{Names, Tree, entry_of}
 use Rattle.tree_nodes.specs.Files.{node_limit, file_node}
 use Rattle.tree_handles.specs.Binding.{Bindings, is_bound, gives_object}
 use Rattle.tree_handles.specs.Live.{directory_of}
-use Rattle.tree_handles.specs.Entry.{entry_at, named}
+use Rattle.tree_handles.specs.Entry.{entry_at}
 use Rattle.tree_starts.specs.Names.{is_plain}
 use Rattle.tree_reads.specs.Look.{object_named, is_object_named}
 use Rattle.tree_reads.specs.Listing.{has_its_handle}
 use Rattle.file_tree.specs.Change.{Change}
-use Rattle.file_tree.specs.Change.Change.{Keep, Put}
-use Rattle.file_tree.specs.Made.{only_if, first_size, first_verifier, create_over, create_absent, create_present, create_at, create_change, make_entry}
+use Rattle.file_tree.specs.Change.Change.{Put}
+use Rattle.file_tree.specs.Made.{only_if, first_size, first_verifier, create_absent, create_present, create_at, create_change, make_entry}
 use Rattle.decision_steps.specs.Given.{given_as, object_found, object_created, given_beside}
 use Rattle.decision_steps.specs.Bound.{are_bound}
 use Rattle.decision_steps.proofs.Parts.{and_true, and_false}

@@ -1,6 +1,6 @@
 -- a call that comes out has the handles of its reply bound, and two bindings that have them bound, and its own alike, lead to one tree
-use Rattle.std.proofs.Common.{◌≡◌, ℕ, Bool, true, false, cond, List, [], ◌∷◌, ◌++◌, Option, Some, None, refl, sym, ap, ◌∙◌, subst}
-use Rattle.std.specs.Prelude.{◌&&◌, option_and_then, option_map}
+use Rattle.std.proofs.Common.{◌≡◌, ℕ, Bool, true, false, cond, List, [], ◌∷◌, ◌++◌, Option, Some, None, refl, sym, ap, ◌∙◌}
+use Rattle.std.specs.Prelude.{◌&&◌, option_and_then}
 use Rattle.std.specs.Option.{option_map_or}
 use Rattle.std.specs.List.{list_all, flat_map}
 use Rattle.std.specs.FinMap as map
@@ -9,31 +9,29 @@ use Rattle.nfs3_types.specs.declared.calls.NfsCall.TheVariants as calls
 use Rattle.nfs3_types.specs.declared.calls.CreateMode.{CreateMode}
 use Rattle.nfs3_types.specs.declared.calls.CreateArguments.{CreateArguments}
 use Rattle.nfs3_types.specs.declared.calls.DirectoryName.{DirectoryName}
-use Rattle.nfs3_types.specs.declared.calls.ReadDirPlusArguments.{ReadDirPlusArguments}
-use Rattle.nfs3_types.specs.declared.replies.Answer.TheVariants.{Done, Failed}
+use Rattle.nfs3_types.specs.declared.replies.Answer.TheVariants.{Done}
 use Rattle.nfs3_types.specs.declared.replies.DirectoryEntryPlus.{DirectoryEntryPlus}
 use Rattle.nfs3_types.specs.declared.replies.NfsReply.{NfsReply}
 use Rattle.nfs3_types.specs.declared.replies.NfsReply.TheVariants as replies
 use Rattle.nfs3_types.specs.declared.replies.Outcome.{Outcome}
 use Rattle.nfs3_types.specs.declared.replies.Outcome.TheVariants.{Received, Taken}
 use Rattle.nfs3_types.specs.declared.status.Failure.{Failure}
-use Rattle.nfs3_types.specs.Procedures.{is_answered, failure_in}
+use Rattle.nfs3_types.specs.Procedures.{failure_in}
 use Rattle.tree_nodes.specs.declared.node.Node.{Node}
 use Rattle.tree_nodes.specs.declared.node.Content.{Content}
 use Rattle.tree_nodes.specs.declared.node.Content.TheVariants as contents
 use Rattle.tree_nodes.specs.Tree.{Names, Tree}
 use Rattle.tree_nodes.proofs.Chains.{passed}
-use Rattle.tree_handles.specs.Binding.{Bindings, object_of, is_bound, gives_object}
+use Rattle.tree_handles.specs.Binding.{Bindings, is_bound, gives_object}
 use Rattle.tree_handles.specs.Live.{live_entry, directory_of}
 use Rattle.tree_starts.specs.Names.{is_plain}
-use Rattle.tree_failures.specs.Asked.{first_handle, second_handle}
-use Rattle.tree_failures.specs.Failure.{is_permitted}
+use Rattle.tree_failures.specs.Asked.{first_handle}
 use Rattle.tree_reads.specs.Look.{object_named, lookup_is_legal}
 use Rattle.tree_reads.specs.Listing.{is_listing, listed_names_plus, has_its_handle, readdirplus_is_legal}
 use Rattle.file_tree.specs.Change.{Change}
 use Rattle.file_tree.specs.Change.Change.{Keep}
 use Rattle.file_tree.specs.Made.{only_if, create_at, create_change, make_entry}
-use Rattle.file_tree.specs.Success.{change_done, change_answered, change_taken, change_of}
+use Rattle.file_tree.specs.Success.{change_done, change_answered, change_of}
 use Rattle.decision_steps.specs.Given.{given_as, object_found, object_created, given_beside, given_in, given}
 use Rattle.decision_steps.specs.Bound.{are_bound}
 use Rattle.decision_steps.proofs.Parts.{and_true, second_passes}

@@ -1,6 +1,6 @@
 -- two bindings that have the handles of a call and its reply alike lead to one tree, under each profile
-use Rattle.std.proofs.Common.{◌≡◌, ℕ, Bool, true, false, cond, List, ◌++◌, Option, Some, None, refl, sym, ap, ◌∙◌, subst}
-use Rattle.std.specs.Prelude.{◌&&◌, ◌||◌, option_and_then, option_map}
+use Rattle.std.proofs.Common.{◌≡◌, ℕ, Bool, true, false, cond, List, Option, Some, None, refl, sym, ap, ◌∙◌, subst}
+use Rattle.std.specs.Prelude.{◌&&◌, option_and_then, option_map}
 use Rattle.std.specs.Option.{option_map_or}
 use Rattle.std.specs.List.{list_all}
 use Rattle.nfs3_types.specs.declared.calls.NfsCall.{NfsCall}
@@ -23,7 +23,7 @@ use Rattle.tree_nodes.specs.declared.node.Node.{Node}
 use Rattle.tree_nodes.specs.declared.node.Content.TheVariants as contents
 use Rattle.tree_nodes.specs.Tree.{Names, Tree}
 use Rattle.tree_nodes.proofs.Chains.{chained, mapped}
-use Rattle.tree_handles.specs.Binding.{Bindings, object_of, is_bound, gives_object}
+use Rattle.tree_handles.specs.Binding.{Bindings, is_bound, gives_object}
 use Rattle.tree_handles.specs.Live.{live_entry, directory_of}
 use Rattle.tree_failures.specs.Asked.{first_handle, second_handle, first_place}
 use Rattle.tree_reads.specs.Listing.{is_listing, listed_names_plus, has_its_handle}
@@ -32,7 +32,7 @@ use Rattle.file_tree.specs.Change.{Change}
 use Rattle.file_tree.specs.Change.Change.{Keep}
 use Rattle.file_tree.specs.Made.{only_if, create_change, make_entry}
 use Rattle.file_tree.specs.Setting.{under}
-use Rattle.file_tree.specs.Strict.{told, told_of, told_by, told_at, fits, had_size, handle_agrees, answer_agrees, entry_agrees, entries_agree, agrees, judged}
+use Rattle.file_tree.specs.Strict.{told, told_of, told_by, fits, had_size, handle_agrees, answer_agrees, entry_agrees, entries_agree, agrees, judged}
 use Rattle.file_tree.specs.Success.{changed, change_done, change_answered, change_taken, change_of, next_tree}
 use Rattle.decision_steps.specs.Given.{object_found, object_created, given_in, given}
 use Rattle.decision_steps.specs.Bound.{are_bound}

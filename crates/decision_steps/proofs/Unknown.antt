@@ -26,7 +26,7 @@ use Rattle.tree_nodes.specs.declared.node.Node.{Node}
 use Rattle.tree_nodes.specs.declared.node.Content.{Content}
 use Rattle.tree_nodes.specs.declared.node.Content.TheVariants as contents
 use Rattle.tree_nodes.specs.Tree.{Names, Tree, entry_of, is_bare}
-use Rattle.tree_nodes.proofs.Chains.{chained, mapped}
+use Rattle.tree_nodes.proofs.Chains.{chained}
 use Rattle.tree_handles.specs.Binding.{Bindings, object_of, gives_object}
 use Rattle.tree_handles.specs.Live.{FileEntry, live_entry, as_directory, directory_of, as_file, file_of}
 use Rattle.tree_handles.specs.Entry.{entry_at, named}

@@ -1,4 +1,4 @@
-use Rattle.std.proofs.Common.{rules, ◌≡◌, sym, [], ap, subst, ◌∙◌}
+use Rattle.std.proofs.Common.{◌≡◌, sym, [], ap, subst}
 use Rattle.decision_steps.specs.Bound.{Adds}
 use Rattle.decision_steps.specs.Listed.{bound_pairs}
 use Rattle.decision_steps.proofs.Adding.{adds_none}

@@ -1,4 +1,4 @@
-use Rattle.std.proofs.Common.{rules, ◌≡◌, ap, ◌∙◌, subst, sym}
+use Rattle.std.proofs.Common.{subst, sym}
 use Rattle.tree_nodes.specs.Undo.{TakesBack}
 use Rattle.decision_steps.proofs.state.State.take_back.Goals as goal
 
