@@ -24,11 +24,11 @@ use Rattle.decision_steps.proofs.Steps.{SeeAlike, under_same, under_heeds}
 -- ---- one pair more
 
 -- of a handle that names this object already
-bound_is : (o : Option ℕ) (object : ℕ) → option_map_or (λ named. named == object) o false ≡ true → o ≡ Some object
+pub bound_is : (o : Option ℕ) (object : ℕ) → option_map_or (λ named. named == object) o false ≡ true → o ≡ Some object
 bound_is None object e = absurd (cc)
 bound_is (Some named) object e = ap Some (eqb-true named object e)
 
-is_bound_of : (binds : Bindings) (handle : List ℕ) (object : ℕ) → object_of binds handle ≡ Some object → is_bound binds handle object ≡ true
+pub is_bound_of : (binds : Bindings) (handle : List ℕ) (object : ℕ) → object_of binds handle ≡ Some object → is_bound binds handle object ≡ true
 is_bound_of binds handle object e = ap (λ o. option_map_or (λ named. named == object) o false) e ∙ eq-eqb object object refl
 
 lookup-behind : (other handle : List ℕ) (object : ℕ) (pairs : List (List ℕ × ℕ))
@@ -127,7 +127,7 @@ live_same : (binds other : Bindings) (tree : Tree) (handle : List ℕ) → objec
 live_same binds other tree handle same = ap (option_and_then (entry_of tree)) same
 
 -- where all handles of a call are known, all that agree see it alike in every tree
-all_alike : (known plan more : Bindings) (call : NfsCall) → AgreesWith known plan → AgreesWith known more → knows_handles known call ≡ true → (tree : Tree) → SeeAlike plan more tree call
+pub all_alike : (known plan more : Bindings) (call : NfsCall) → AgreesWith known plan → AgreesWith known more → knows_handles known call ≡ true → (tree : Tree) → SeeAlike plan more tree call
 all_alike known plan more call agrees grows knows tree =
     let first = first_passes (is_known known (first_handle call)) (option_map_or (is_known known) (second_handle call) true) knows in
     let second = second_passes (is_known known (first_handle call)) (option_map_or (is_known known) (second_handle call) true) knows in

@@ -216,7 +216,7 @@ under_keeps Strict binds tree after number call outcome is leads =
         go true e = cc
         go false e = absurd (cc)
 
-failure_given : (binds : Bindings) (tree : Tree) (number : ℕ) (call : NfsCall) (outcome : Outcome) → is_failure outcome ≡ true → given binds tree number call outcome ≡ []
+pub failure_given : (binds : Bindings) (tree : Tree) (number : ℕ) (call : NfsCall) (outcome : Outcome) → is_failure outcome ≡ true → given binds tree number call outcome ≡ []
 failure_given binds tree number call (Taken count) is = absurd (cc)
 failure_given binds tree number call (Received reply) is = go (failure_in reply) refl is where
   go : (failure : Option Failure) → failure_in reply ≡ failure → is_some failure ≡ true → given_in binds tree number call reply ≡ []

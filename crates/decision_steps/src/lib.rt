@@ -5,6 +5,7 @@ mod asked;
 mod binding;
 mod fault;
 mod given;
+mod law;
 #[cfg(test)]
 mod requests;
 mod state;
@@ -14,4 +15,5 @@ mod tests;
 pub use asked::{first_handle, second_handle};
 pub use binding::BoundHandle;
 pub use fault::PlaceFault;
+pub use law::a_state_stands_for_its_plans;
 pub use state::{State, Step};

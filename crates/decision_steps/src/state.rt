@@ -10,7 +10,7 @@ ghost use Rattle.decision_steps.specs.Known.{AgreesWith, knows_handles};
 ghost use Rattle.decision_steps.specs.Given.{given};
 ghost use Rattle.decision_steps.specs.Bound.{with_handles, Adds};
 ghost use Rattle.decision_steps.specs.Listed.{bound_pairs};
-ghost use Rattle.decision_steps.specs.Placing.{StepsFrom, Covers};
+ghost use Rattle.decision_steps.specs.Placing.{placed_in, StepsFrom, Covers};
 ghost use Rattle.decision_steps.specs.declared.fault.PlaceFault.TheVariants.{NotLegal, HandleNotGiven};
 
 use crate::asked::{is_failure, knows_handles};
@@ -152,7 +152,8 @@ impl State {
         requires { IsTrue (knows_handles self.old.binds call.now) }
         ensures covers { (plan : Bindings) (after : Tree) → AgreesWith self.old.binds plan → under profile plan self.old.tree number call.now outcome.now ≡ Some after
             → Covers result self.old call.now self.new plan after }
-        ensures leads { OnOk result (under profile self.new.binds self.old.tree number call.now outcome.now ≡ Some self.new.tree) }
+        ensures next { OnOk result (placed_in profile self.old number call.now outcome.now ≡ Some self.new) }
+        ensures not_legal { result ≡ Err NotLegal → placed_in profile self.old number call.now outcome.now ≡ None }
         ensures undo { IfOk result (λ undo. TakesBack undo self.new.tree self.old.tree) }
         ensures adds { (before : Bindings) → Adds before (bound_pairs bound.old.items) self.old.binds → Adds before (bound_pairs bound.new.items) self.new.binds }
         ensures decided { result ≡ Err HandleNotGiven → ⊥ }
@@ -174,7 +175,8 @@ impl State {
         requires { IsTrue (knows_handles self.old.binds call.now) }
         ensures covers { (plan : Bindings) (after : Tree) → AgreesWith self.old.binds plan → under profile plan self.old.tree number call.now outcome.now ≡ Some after
             → Covers result self.old call.now self.new plan after }
-        ensures leads { OnOk result (under profile self.new.binds self.old.tree number call.now outcome.now ≡ Some self.new.tree) }
+        ensures next { OnOk result (placed_in profile self.old number call.now outcome.now ≡ Some self.new) }
+        ensures not_legal { result ≡ Err NotLegal → placed_in profile self.old number call.now outcome.now ≡ None }
         ensures step { IfOk result (λ step. StepsFrom self.old step self.new) }
         ensures decided { result ≡ Err HandleNotGiven → ⊥ }
         ensures err { OnErr result (self.new ≡ self.old) }
@@ -201,7 +203,8 @@ impl State {
         requires { knows_handles self.old.binds call.now ≡ false }
         ensures covers { (plan : Bindings) (after : Tree) → AgreesWith self.old.binds plan → under profile plan self.old.tree number call.now outcome.now ≡ Some after
             → Covers result self.old call.now self.new plan after }
-        ensures leads { OnOk result (under profile self.new.binds self.old.tree number call.now outcome.now ≡ Some self.new.tree) }
+        ensures next { OnOk result (placed_in profile self.old number call.now outcome.now ≡ Some self.new) }
+        ensures not_legal { result ≡ Err NotLegal → placed_in profile self.old number call.now outcome.now ≡ None }
         ensures step { IfOk result (λ step. StepsFrom self.old step self.new) }
         ensures err { OnErr result (self.new ≡ self.old) }
     {
@@ -234,7 +237,8 @@ impl State {
         // Each binding of all handles that agrees with the state's, and by which the call leads to a tree, is covered.
         ensures covers { (plan : Bindings) (after : Tree) → AgreesWith self.old.binds plan → under profile plan self.old.tree number call.now outcome.now ≡ Some after
             → Covers result self.old call.now self.new plan after }
-        ensures leads { OnOk result (under profile self.new.binds self.old.tree number call.now outcome.now ≡ Some self.new.tree) }
+        ensures next { OnOk result (placed_in profile self.old number call.now outcome.now ≡ Some self.new) }
+        ensures not_legal { result ≡ Err NotLegal → placed_in profile self.old number call.now outcome.now ≡ None }
         ensures step { IfOk result (λ step. StepsFrom self.old step self.new) }
 
         ensures undecided { result ≡ Err HandleNotGiven → knows_handles self.old.binds call.now ≡ false }
