@@ -5,12 +5,11 @@ use Rattle.std.specs.Prelude.{◌==◌, ◌&&◌, option_and_then, option_map}
 use Rattle.nfs3_types.specs.declared.calls.NfsCall.{NfsCall}
 use Rattle.nfs3_types.specs.declared.replies.Outcome.{Outcome}
 use Rattle.tree_starts.specs.declared.profile.Profile.{Profile}
-use Rattle.tree_nodes.specs.Tree.{Tree}
 use Rattle.tree_nodes.proofs.Chains.{chained, mapped}
 use Rattle.tree_handles.specs.Binding.{Bindings, object_of, is_bound}
 use Rattle.file_tree.specs.Setting.{under}
 use Rattle.decision_steps.specs.declared.state.State.{State}
-use Rattle.decision_steps.specs.Known.{AgreesWith, knows_handles}
+use Rattle.decision_steps.specs.Known.{AgreesWith}
 use Rattle.decision_steps.specs.Given.{given}
 use Rattle.decision_steps.specs.Bound.{bound_behind, bound_where, with_handle, with_handles, are_bound}
 use Rattle.decision_steps.specs.Placing.{placed_in, PlansAreCovered, StatesAreOfPlans, HandlesStayBound}
