@@ -2,11 +2,13 @@
 use Rattle.std.proofs.Common.{◌≡◌, ℕ, Bool, true, false, cond, List, [], ◌∷◌, Option, Some, None, refl, sym, ap, ◌∙◌, subst}
 use Rattle.std.proofs.lemmas.Bool.{eqb-true}
 use Rattle.std.specs.Prelude.{◌==◌, ◌&&◌, option_and_then, option_map}
+use Rattle.std.specs.Map.{lookup}
+use Rattle.std.specs.Cmp.Lexicographic.{bytes_decides}
 use Rattle.nfs3_types.specs.declared.calls.NfsCall.{NfsCall}
 use Rattle.nfs3_types.specs.declared.replies.Outcome.{Outcome}
 use Rattle.tree_starts.specs.declared.profile.Profile.{Profile}
 use Rattle.tree_nodes.proofs.Chains.{chained, mapped}
-use Rattle.tree_handles.specs.Binding.{Bindings, object_of, is_bound}
+use Rattle.tree_handles.specs.Binding.{Bindings, same_bytes, object_of, is_bound}
 use Rattle.file_tree.specs.Setting.{under}
 use Rattle.decision_steps.specs.declared.state.State.{State}
 use Rattle.decision_steps.specs.Known.{AgreesWith}
@@ -55,6 +57,26 @@ bound_too more plan (pair ∷ pairs) agrees bound =
     let here = first_passes (is_bound more pair.0 pair.1) (are_bound more pairs) bound in
     ap (λ b. b && are_bound plan pairs) (is_bound_of plan pair.0 pair.1 (agrees pair.0 pair.1 (bound_is (object_of more pair.0) pair.1 here)))
     ∙ bound_too more plan pairs agrees (second_passes (is_bound more pair.0 pair.1) (are_bound more pairs) bound)
+
+-- so has one whose pairs are among them
+looked_up : (known : Bindings) (pairs : List (List ℕ × ℕ)) (handle : List ℕ) (object : ℕ) → are_bound known pairs ≡ true → lookup (same_bytes handle) pairs ≡ Some object
+    → object_of known handle ≡ Some object
+looked_up known [] handle object bound e = absurd (cc)
+looked_up known (pair ∷ pairs) handle object bound e =
+    go (same_bytes handle pair.0) refl e (looked_up known pairs handle object (second_passes (is_bound known pair.0 pair.1) (are_bound known pairs) bound)) where
+      go : (b : Bool) → same_bytes handle pair.0 ≡ b → cond b (Some pair.1) (lookup (same_bytes handle) pairs) ≡ Some object → (lookup (same_bytes handle) pairs ≡ Some object → object_of known handle ≡ Some object)
+          → object_of known handle ≡ Some object
+      go true same e later =
+          ap (object_of known) ((bytes_decides handle pair.0).0 same)
+          ∙ bound_is (object_of known pair.0) pair.1 (first_passes (is_bound known pair.0 pair.1) (are_bound known pairs) bound) ∙ e
+      go false same e later = later e
+
+pub bound_agree : (other known : Bindings) (pairs : List (List ℕ × ℕ)) → are_bound known pairs ≡ true → other.root ≡ known.root → other.pairs ≡ pairs → AgreesWith other known
+bound_agree other known pairs bound root is handle object e =
+    go (same_bytes handle known.root) refl (ap (λ r. cond (same_bytes handle r) (Some 0) (lookup (same_bytes handle) other.pairs)) (sym root) ∙ e) where
+      go : (b : Bool) → same_bytes handle known.root ≡ b → cond b (Some 0) (lookup (same_bytes handle) other.pairs) ≡ Some object → object_of known handle ≡ Some object
+      go true same e = ap (λ (b : Bool). cond b (Some 0) (lookup (same_bytes handle) known.pairs)) same ∙ e
+      go false same e = looked_up known pairs handle object bound (ap (lookup (same_bytes handle)) (sym is) ∙ e)
 
 -- the parts of a state after a call
 pub record IsAfter (profile : Profile) (state next : State) (number : ℕ) (call : NfsCall) (outcome : Outcome) : Type 0 where

@@ -2,7 +2,7 @@
 
 ghost use Rattle.std.specs.Prelude.{◌≡◌, [], ◌∷◌, None, Some, Err, OnOk, OnErr};
 ghost use Rattle.tree_handles.specs.Binding.{Bindings, object_of};
-ghost use Rattle.decision_steps.specs.Bound.{bound_behind, with_handle, with_handles, Adds};
+ghost use Rattle.decision_steps.specs.Bound.{bound_behind, with_handle, with_handles, are_bound, Adds};
 ghost use Rattle.decision_steps.specs.Listed.{given_pair, given_pairs, bound_pairs};
 ghost use Rattle.decision_steps.specs.declared.fault.PlaceFault.TheVariants.{NotLegal, HandleNotGiven};
 
@@ -88,4 +88,16 @@ pub(crate) fn forget_all(binds: &mut Binds, bound: Vec<BoundHandle>)
     while let Some(last) = bound.pop() {
         binds.forget(last.handle.as_slice());
     }
+}
+
+/// Whether each of these handles is bound to its object.
+pub(crate) fn are_bound(binds: &Binds, bound: &[BoundHandle]) -> bool
+    ensures { result ≡ are_bound binds.now (bound_pairs bound.now) }
+{
+    for one in bound {
+        if binds.object(one.handle.as_slice()) != Some(one.object) {
+            return false;
+        }
+    }
+    true
 }

@@ -8,13 +8,13 @@ ghost use Rattle.file_tree.specs.Setting.{under};
 ghost use Rattle.file_tree.specs.StartTree.{start_tree};
 ghost use Rattle.decision_steps.specs.Known.{AgreesWith, knows_handles};
 ghost use Rattle.decision_steps.specs.Given.{given};
-ghost use Rattle.decision_steps.specs.Bound.{with_handles, Adds};
+ghost use Rattle.decision_steps.specs.Bound.{with_handles, are_bound, Adds};
 ghost use Rattle.decision_steps.specs.Listed.{bound_pairs};
 ghost use Rattle.decision_steps.specs.Placing.{placed_in, StepsFrom, Covers};
 ghost use Rattle.decision_steps.specs.declared.fault.PlaceFault.TheVariants.{NotLegal, HandleNotGiven};
 
 use crate::asked::{is_failure, knows_handles};
-use crate::binding::{BoundHandle, bind_all, bind_new, forget_all};
+use crate::binding::{BoundHandle, are_bound, bind_all, bind_new, forget_all};
 use crate::fault::PlaceFault;
 use crate::given::{GivenHandle, given_handles};
 use file_tree::FileTree;
@@ -270,6 +270,15 @@ impl State {
         bind_new(&mut self.binds, &given, &mut bound)?;
         let undo = Undo::nothing();
         Ok(Step { undo, bound })
+    }
+
+    /// Whether each of these handles is bound to its object. Where those are all that another state has bound, that one stands for each
+    /// plan that this one stands for, if their trees are the same.
+    pub fn binds_all(&self, bound: &[BoundHandle]) -> bool
+        ensures value { result ≡ are_bound self.now.binds (bound_pairs bound.now) }
+        ensures covered { IsTrue result → (other : Bindings) → other.root ≡ self.now.binds.root → other.pairs ≡ bound_pairs bound.now → AgreesWith other self.now.binds }
+    {
+        are_bound(&self.binds, bound)
     }
 
     /// Takes the last step back. The state is spent where there is no memory.

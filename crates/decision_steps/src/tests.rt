@@ -324,7 +324,8 @@ fn is_taken_back(alloc: Global) -> Result<bool, PlaceFault> {
     };
     let mut state = opening(alloc)?;
     let step = place(alloc, Profile::Plain, &mut state, 1, made)?;
-    let was_bound = state.binds.object(&[0xaa]) == Some(1);
+    let was_bound = state.binds.object(&[0xaa]) == Some(1)
+        && state.binds_all(step.bound.as_slice());
     let mut state = state.take_back(step)?;
     let is_gone = state.binds.object(&[0xaa]).is_none() && state.tree.nodes().count() == 1;
     drop(place(alloc, Profile::Plain, &mut state, 2, made)?);
