@@ -1,4 +1,4 @@
-use Rattle.std.proofs.Common.{◌≡◌, true, sym, ◌∙◌}
+use Rattle.std.proofs.Common.{sym, ◌∙◌}
 use Rattle.decision_steps.specs.Listed.{bound_pairs}
 use Rattle.decision_steps.proofs.Placed.{bound_agree}
 use Rattle.decision_steps.proofs.state.State.binds_all.Goals as goal
