@@ -1,0 +1,10 @@
+pub mod Parts
+pub mod Alike
+pub mod Heeded
+pub mod Replies
+pub mod Steps
+pub mod Covering
+pub mod Unknown
+pub mod Adding
+pub mod Placed
+pub mod Answered

@@ -1,0 +1,23 @@
+use Rattle.std.proofs.Common.{◌≡◌, true, false, None, refl, rules}
+use Rattle.file_tree.specs.Setting.{under}
+use Rattle.decision_steps.specs.Known.{is_failure}
+use Rattle.decision_steps.proofs.Unknown.{success_names, failure_names}
+use Rattle.decision_steps.proofs.Answered.{kept_covers}
+use Rattle.decision_steps.proofs.state.State.place_unknown.Goals as goal
+
+pub returns-then-not-is_failure-clause-covers : goal.returns-then-not-is_failure-clause-covers
+returns-then-not-is_failure-clause-covers c =
+    let fails : is_failure c.args.outcome.now ≡ false = search rules in
+    λ plan after agrees leads. success_names c.args.profile c.args.self.now.binds plan c.args.self.now.tree after c.args.number c.args.call.now c.args.outcome.now agrees leads c.requires fails
+
+pub returns-in-Ok-clause-covers : goal.returns-in-Ok-clause-covers
+returns-in-Ok-clause-covers c =
+    let fails : is_failure c.args.outcome.now ≡ true = search rules in
+    λ plan after agrees leads. kept_covers c.args.profile c.args.self.now.binds plan c.args.self.now.tree after c.args.number c.args.call.now c.args.outcome.now agrees leads fails
+    (record { tree = c.step_under.new.self; binds = c.args.self.now.binds }) refl c.in-Ok.ensures.next
+
+pub returns-in-Err-NotAllowed-clause-covers : goal.returns-in-Err-NotAllowed-clause-covers
+returns-in-Err-NotAllowed-clause-covers c =
+    let fails : is_failure c.args.outcome.now ≡ true = search rules in
+    let refused : under c.args.profile c.args.self.now.binds c.args.self.now.tree c.args.number c.args.call.now c.args.outcome.now ≡ None = search rules in
+    λ plan after agrees leads. failure_names c.args.profile c.args.self.now.binds plan c.args.self.now.tree after c.args.number c.args.call.now c.args.outcome.now agrees leads fails refused

@@ -1,0 +1,6 @@
+pub mod Known
+pub mod Given
+pub mod Bound
+pub mod Listed
+pub mod Placing
+pub mod FaultText

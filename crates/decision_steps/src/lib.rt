@@ -1,0 +1,19 @@
+//! Placing calls in the states of a walk: in a tree, with the handles that are bound so far.
+#![tactic(auto)]
+
+mod asked;
+mod binding;
+mod fault;
+mod given;
+mod law;
+#[cfg(test)]
+mod requests;
+mod state;
+#[cfg(test)]
+mod tests;
+
+pub use asked::{first_handle, second_handle};
+pub use binding::BoundHandle;
+pub use fault::PlaceFault;
+pub use law::a_state_stands_for_its_plans;
+pub use state::{State, Step};
