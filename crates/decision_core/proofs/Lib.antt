@@ -1,0 +1,8 @@
+pub mod Orders
+pub mod Walk
+pub mod Sets
+pub mod Awaits
+pub mod Waiting
+pub mod OneEvent
+pub mod ErasWalk
+mod ErasExample

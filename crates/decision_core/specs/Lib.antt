@@ -1,0 +1,9 @@
+pub mod Times
+pub mod Decide
+pub mod States
+pub mod Layers
+pub mod Events
+pub mod Walked
+pub mod Eras
+pub mod ErasExample
+pub mod Register
