@@ -3,13 +3,13 @@ use Rattle.std.proofs.Common.{◌≡◌, inl, inr, ◌==◌, ℕ, ◌+◌, ◌�
 use Rattle.std.proofs.lemmas.Bool.{cases_eq, ne_eqb, eqb-true}
 use Rattle.decision_core.specs.Times.{IsAmong}
 use Rattle.decision_core.specs.Eras.{IsNumbering, order_of, IsEraWitness}
-use Rattle.decision_core.specs.ErasExample.{times, by, plan, Change}
+use Rattle.decision_core.specs.ErasExample.{times, by, start, plan, Change}
 
 abbrev Crash : ℕ → Type 0
 Crash e = IsTrue (times.is_call (by.crash e)) × (by.era_of (by.crash e) ≡ e) × (by.is_real (by.crash e) ≡ false)
 
 abbrev Ends : ℕ → Type 0
-Ends e = times.end_of (by.crash e) ≡ Some (by.start (e + 1))
+Ends e = times.end_of (by.crash e) ≡ Some (start (e + 1))
 
 -- what holds of the four holds of each call
 each : (P : ℕ → Type 0) → P 1 → P 2 → P 11 → P 12 → ((n : ℕ) → IsTrue (times.is_call n) → P n)
@@ -33,10 +33,10 @@ each P a b c d n known = elim (cases_eq n 1) [
   none : (p q r s : Bool) → p ≡ false → q ≡ false → r ≡ false → s ≡ false → IsTrue (cond p true (cond q true (cond r true (cond s true false)))) → ⊥
   none p q r s np nq nr ns known = grind (arith, np, nq, nr, ns, known)
 
-pub numbered : IsNumbering times by
+pub numbered : IsNumbering times by 2 start
 numbered = record {
-  begins_late = each (λ n. by.start (by.era_of n) ≤ times.begin_of n) (omega arith) (omega arith) (omega arith) (omega arith);
-  begins_early = each (λ n. times.begin_of n ≤ by.start (by.era_of n + 1)) (omega arith) (omega arith) (omega arith) (omega arith);
+  begins_late = each (λ n. start (by.era_of n) ≤ times.begin_of n) (omega arith) (omega arith) (omega arith) (omega arith);
+  begins_early = each (λ n. times.begin_of n ≤ start (by.era_of n + 1)) (omega arith) (omega arith) (omega arith) (omega arith);
   ends_late = λ n at known. each (λ k. times.end_of k ≡ Some at → times.begin_of k ≤ at)
       (λ is. let e : 2 ≡ at = cc in omega (arith, e)) (λ is. let e : 6 ≡ at = cc in omega (arith, e)) (λ is. let e : 4 ≡ at = cc in omega (arith, e)) (λ is. let e : 7 ≡ at = cc in omega (arith, e)) n known;
   rises = λ e f up. omega (arith, up);
@@ -52,7 +52,7 @@ known_if false false true s at ends = refl
 known_if false false false true at ends = refl
 known_if false false false false at ends = absurd cc
 
-pub has_witness : IsEraWitness Change times by 0 plan
+pub has_witness : IsEraWitness Change times by 2 0 plan
 has_witness = record {
   as_many_eras = refl;
   shape = (

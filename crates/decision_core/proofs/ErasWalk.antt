@@ -4,7 +4,7 @@ use Rattle.std.specs.List.{AllByRecursion, list_any}
 use Rattle.std.proofs.lemmas.Bool.{true≢false, eq-eqb, ne_eqb}
 use Rattle.decision_core.specs.Times.{Times, Precedes, RespectsOrder, IsAmong, IsOnce}
 use Rattle.decision_core.specs.Decide.{Leads, IsTold, IsWitness}
-use Rattle.decision_core.specs.Eras.{PlanEra, Numbering, IsEra, IsNumbering, part_of, order_of, EraShape, PlanShape, untold, PlanRuns, EraState, is_placed, EraNext, IsEraWitness}
+use Rattle.decision_core.specs.Eras.{PlanEra, Numbering, IsEra, IsNumbering, part_of, order_of, EraShape, PlanShape, untold, PlanRuns, EraState, is_placed, first_of, EraNext, IsEraWitness}
 use Rattle.decision_core.proofs.Orders.{all_ahead, all_behind, all_at, all_of_each, which_part}
 use Rattle.decision_core.proofs.Walk.{leads_joined}
 
@@ -47,15 +47,15 @@ module _ (times : Times) where
       subst (λ k. ¬ Precedes times y k) same (all_at (λ m. ¬ Precedes times m z) ys y (all_behind (λ m. ¬ Precedes times m z) xs ys respects.0) second)
   respects_across (z ∷ xs) ys x y respects (inr first) second = respects_across xs ys x y respects.1 first second
 
-  module _ (by : Numbering) (numbered : IsNumbering times by) where
+  module _ (by : Numbering) (count : ℕ) (start : ℕ → ℕ) (numbered : IsNumbering times by count start) where
     some_is : (a b : ℕ) → Some a ≡ Some b → a ≡ b
     some_is a b same = cc
 
     -- a crash precedes no call of its era
-    no_crash_before : (e x : ℕ) → IsEra by e → IsTrue (times.is_call x) → by.era_of x ≡ e → ¬ Precedes times (by.crash e) x
+    no_crash_before : (e x : ℕ) → IsEra count e → IsTrue (times.is_call x) → by.era_of x ≡ e → ¬ Precedes times (by.crash e) x
     no_crash_before e x inside known same before =
-        let at : before.0 ≡ by.start (e + 1) = some_is before.0 (by.start (e + 1)) (sym before.1 ∙ numbered.crash_ends e inside) in
-        let early : times.begin_of x ≤ by.start (e + 1) = subst (λ k. times.begin_of x ≤ by.start (k + 1)) same (numbered.begins_early x known) in
+        let at : before.0 ≡ start (e + 1) = some_is before.0 (start (e + 1)) (sym before.1 ∙ numbered.crash_ends e inside) in
+        let early : times.begin_of x ≤ start (e + 1) = subst (λ k. times.begin_of x ≤ start (k + 1)) same (numbered.begins_early x known) in
         absurd (omega (arith, at, early, before.2))
 
     -- nothing precedes what is of an earlier era
@@ -71,7 +71,7 @@ module _ (times : Times) where
     abbrev pub IsOf : ℕ → ℕ → Type 0
     IsOf e n = IsTrue (times.is_call n) × (by.era_of n ≡ e)
 
-    module _ (e : ℕ) (era : PlanEra) (inside : IsEra by e) (shape : EraShape times by e era) where
+    module _ (e : ℕ) (era : PlanEra) (inside : IsEra count e) (shape : EraShape times by e era) where
       abbrev IsReal : ℕ → Type 0
       IsReal n = IsTrue (times.is_call n) × (by.era_of n ≡ e) × IsTrue (by.is_real n)
 
@@ -105,9 +105,9 @@ module _ (times : Times) where
 
     -- these eras, the first of which has this number, are eras of the history
     abbrev pub AreEras : ℕ → List PlanEra → Type 0
-    AreEras e eras = (1 ≤ e) × (e + length eras ≤ by.count + 1)
+    AreEras e eras = (1 ≤ e) × (e + length eras ≤ count + 1)
 
-    first_era : (e : ℕ) (era : PlanEra) (eras : List PlanEra) → AreEras e (era ∷ eras) → IsEra by e
+    first_era : (e : ℕ) (era : PlanEra) (eras : List PlanEra) → AreEras e (era ∷ eras) → IsEra count e
     first_era e era eras within = (within.0, omega (arith, within.1))
 
     later : (e : ℕ) (era : PlanEra) (eras : List PlanEra) → AreEras e (era ∷ eras) → AreEras (e + 1) eras
@@ -160,13 +160,13 @@ behind_has (x ∷ xs) calls n (inr among) = behind_has xs (x ∷ calls) n among
 
 module _ {Tree : Type 0} (Change : Tree → ℕ → Tree → Type 0) (by : Numbering) where
   -- a step puts its call ahead of what is placed
-  calls_of : (state after : EraState Change) (n : ℕ) → EraNext Change by state n after → after.calls ≡ n ∷ state.calls
+  calls_of : (state after : EraState Tree) (n : ℕ) → EraNext Change by state n after → after.calls ≡ n ∷ state.calls
   calls_of state after n (inl (real, era, (tree, changes, inl stays))) = ap (λ s. s.calls) stays
   calls_of state after n (inl (real, era, (tree, changes, inr first))) = ap (λ s. s.calls) first.3
   calls_of state after n (inr crash) = ap (λ s. s.calls) crash.1
 
   -- so what is placed is told
-  pub eras_told : IsTold (is_placed Change) (EraNext Change by)
+  pub eras_told : IsTold is_placed (EraNext Change by)
   eras_told = record {
     adds = λ state after n next. ap (list_any (λ m. m == n)) (calls_of state after n next) ∙ ap (λ b. b || list_any (λ m. m == n) state.calls) (eq-eqb n n refl);
     keeps = λ state after n m next other. ap (list_any (λ k. k == m)) (calls_of state after n next) ∙ ap (λ b. b || list_any (λ k. k == m) state.calls) (ne_eqb n m (λ same. other (sym same)));
@@ -175,36 +175,36 @@ module _ {Tree : Type 0} (Change : Tree → ℕ → Tree → Type 0) (by : Numbe
   -- calls of the era run as they do on the tree
   leads_real : (e : ℕ) (tree : Tree) (base : Option Tree) (calls xs : List ℕ) (last : Tree) → AllByRecursion (λ n. IsTrue (by.is_real n) × (by.era_of n ≡ e)) xs
       → Leads untold Change tree xs last
-      → Leads (is_placed Change) (EraNext Change by) (record { tree = tree; base = base; era = e; calls = calls }) xs (record { tree = last; base = base; era = e; calls = placed_behind xs calls })
+      → Leads is_placed (EraNext Change by) (record { tree = tree; base = base; era = e; calls = calls }) xs (record { tree = last; base = base; era = e; calls = placed_behind xs calls })
   leads_real e tree base calls [] last real run = ap (λ t. record { tree = t; base = base; era = e; calls = calls }) run
   leads_real e tree base calls (x ∷ xs) last real run =
       (record { tree = run.0; base = base; era = e; calls = x ∷ calls }, inl (real.0.0, real.0.1, (run.0, run.1, inl refl)), leads_real e run.0 base (x ∷ calls) xs last real.1 run.2)
 
-  module _ (times : Times) (numbered : IsNumbering times by) where
+  module _ (times : Times) (count : ℕ) (start : ℕ → ℕ) (numbered : IsNumbering times by count start) where
     -- the lost places run, and the crash takes them away
     leads_lost : (e : ℕ) (base last : Tree) (calls lost : List ℕ) → AllByRecursion (λ n. IsTrue (by.is_real n) × (by.era_of n ≡ e)) lost → AllByRecursion (λ n. ¬ IsTrue (by.is_stable n)) lost
         → ((m : ℕ) → IsTrue (by.is_stable m) → by.era_of m ≡ e → IsAmong calls m) → Leads untold Change base lost last
-        → Leads (is_placed Change) (EraNext Change by) (record { tree = base; base = None; era = e; calls = calls }) (lost ++ by.crash e ∷ [])
+        → Leads is_placed (EraNext Change by) (record { tree = base; base = None; era = e; calls = calls }) (lost ++ by.crash e ∷ [])
         (record { tree = base; base = None; era = e + 1; calls = by.crash e ∷ placed_behind lost calls })
     leads_lost e base last calls [] real unstable has run =
         (record { tree = base; base = None; era = e + 1; calls = by.crash e ∷ calls }, inr (refl, refl), refl)
     leads_lost e base last calls (x ∷ lost) real unstable has run =
-        let behind_first : EraState Change = record { tree = run.0; base = Some base; era = e; calls = x ∷ calls } in
-        let at_last : EraState Change = record { tree = last; base = Some base; era = e; calls = placed_behind lost (x ∷ calls) } in
-        let behind_crash : EraState Change = record { tree = base; base = None; era = e + 1; calls = by.crash e ∷ placed_behind lost (x ∷ calls) } in (
+        let behind_first : EraState Tree = record { tree = run.0; base = Some base; era = e; calls = x ∷ calls } in
+        let at_last : EraState Tree = record { tree = last; base = Some base; era = e; calls = placed_behind lost (x ∷ calls) } in
+        let behind_crash : EraState Tree = record { tree = base; base = None; era = e + 1; calls = by.crash e ∷ placed_behind lost (x ∷ calls) } in (
           behind_first,
           inl (real.0.0, real.0.1, (run.0, run.1, inr (refl, unstable.0, has, refl))),
-          leads_joined (is_placed Change) (EraNext Change by) behind_first lost (by.crash e ∷ []) at_last behind_crash
+          leads_joined is_placed (EraNext Change by) behind_first lost (by.crash e ∷ []) at_last behind_crash
               (leads_real e run.0 (Some base) (x ∷ calls) lost last real.1 run.2) (behind_crash, inr (refl, refl), refl),
         )
 
     -- an era runs with its crash
     leads_part : (e : ℕ) (era : PlanEra) (shape : EraShape times by e era) (tree base last : Tree) (calls : List ℕ) → Leads untold Change tree era.kept base → Leads untold Change base era.lost last
-        → Leads (is_placed Change) (EraNext Change by) (record { tree = tree; base = None; era = e; calls = calls }) (part_of by e era)
+        → Leads is_placed (EraNext Change by) (record { tree = tree; base = None; era = e; calls = calls }) (part_of by e era)
         (record { tree = base; base = None; era = e + 1; calls = by.crash e ∷ placed_behind era.lost (placed_behind era.kept calls) })
     leads_part e era shape tree base last calls kept lost =
         let first = placed_behind era.kept calls in
-        let behind_crash : EraState Change = record { tree = base; base = None; era = e + 1; calls = by.crash e ∷ placed_behind era.lost first } in
+        let behind_crash : EraState Tree = record { tree = base; base = None; era = e + 1; calls = by.crash e ∷ placed_behind era.lost first } in
         let real : AllByRecursion (λ n. IsTrue (by.is_real n) × (by.era_of n ≡ e)) (era.kept ++ era.lost) =
         all_of_each (λ n. IsTrue (by.is_real n) × (by.era_of n ≡ e)) (era.kept ++ era.lost) (λ n among.
         let r = all_at (λ k. IsTrue (times.is_call k) × (by.era_of k ≡ e) × IsTrue (by.is_real k)) (era.kept ++ era.lost) n shape.calls among in (r.2, r.1)) in
@@ -213,35 +213,35 @@ module _ {Tree : Type 0} (Change : Tree → ℕ → Tree → Type 0) (by : Numbe
         let unstable : AllByRecursion (λ n. ¬ IsTrue (by.is_stable n)) era.lost =
         all_of_each (λ n. ¬ IsTrue (by.is_stable n)) era.lost (λ n among stable.
         once_across era.kept era.lost n n shape.once (shape.stable n stable (all_at (λ k. IsTrue (by.is_real k) × (by.era_of k ≡ e)) era.lost n real_lost among).1) among refl) in
-        subst (λ o. Leads (is_placed Change) (EraNext Change by) (record { tree = tree; base = None; era = e; calls = calls }) o behind_crash) (sym (append_assoc era.kept era.lost (by.crash e ∷ [])))
-        (leads_joined (is_placed Change) (EraNext Change by) (record { tree = tree; base = None; era = e; calls = calls }) era.kept (era.lost ++ by.crash e ∷ [])
+        subst (λ o. Leads is_placed (EraNext Change by) (record { tree = tree; base = None; era = e; calls = calls }) o behind_crash) (sym (append_assoc era.kept era.lost (by.crash e ∷ [])))
+        (leads_joined is_placed (EraNext Change by) (record { tree = tree; base = None; era = e; calls = calls }) era.kept (era.lost ++ by.crash e ∷ [])
         (record { tree = base; base = None; era = e; calls = first }) behind_crash
         (leads_real e tree None calls era.kept base real_kept kept)
         (leads_lost e base last first era.lost real_lost unstable (λ m stable same. behind_has era.kept calls m (shape.stable m stable same)) lost))
 
     -- so do all eras
     leads_plan : (e : ℕ) (eras : List PlanEra) → PlanShape times by e eras → (tree : Tree) (calls : List ℕ) → PlanRuns Change tree eras
-        → (last : EraState Change) × Leads (is_placed Change) (EraNext Change by) (record { tree = tree; base = None; era = e; calls = calls }) (order_of by e eras) last
+        → (last : EraState Tree) × Leads is_placed (EraNext Change by) (record { tree = tree; base = None; era = e; calls = calls }) (order_of by e eras) last
     leads_plan e [] shape tree calls runs = (record { tree = tree; base = None; era = e; calls = calls }, refl)
     leads_plan e (era ∷ eras) shape tree calls runs =
         let after = by.crash e ∷ placed_behind era.lost (placed_behind era.kept calls) in
         let more = leads_plan (e + 1) eras shape.1 runs.0 after runs.4 in (
           more.0,
-          leads_joined (is_placed Change) (EraNext Change by) (record { tree = tree; base = None; era = e; calls = calls }) (part_of by e era) (order_of by (e + 1) eras)
+          leads_joined is_placed (EraNext Change by) (record { tree = tree; base = None; era = e; calls = calls }) (part_of by e era) (order_of by (e + 1) eras)
               (record { tree = runs.0; base = None; era = e + 1; calls = after }) more.0 (leads_part e era shape.0 tree runs.0 runs.1 calls runs.2 runs.3) more.1,
         )
 
     -- the theorem: a witness in eras with cuts is a witness as one order, so where no order is one, no plan of eras is
-    pub eras_are_one_order : (opening : Tree) (eras : List PlanEra) → IsEraWitness Change times by opening eras
-        → IsWitness (is_placed Change) (EraNext Change by) times (record { tree = opening; base = None; era = 1; calls = [] }) (order_of by 1 eras)
+    pub eras_are_one_order : (opening : Tree) (eras : List PlanEra) → IsEraWitness Change times by count opening eras
+        → IsWitness is_placed (EraNext Change by) times (first_of opening) (order_of by 1 eras)
     eras_are_one_order opening eras witness =
         let run = leads_plan 1 eras witness.shape opening [] witness.runs in
-        let within : (1 ≤ 1) × (1 + length eras ≤ by.count + 1) = (omega arith, omega (arith, witness.as_many_eras)) in
+        let within : (1 ≤ 1) × (1 + length eras ≤ count + 1) = (omega arith, omega (arith, witness.as_many_eras)) in
         record {
           calls = all_of_each (λ n. IsTrue (times.is_call n)) (order_of by 1 eras) (λ n among.
-              (all_at (λ m. IsTrue (times.is_call m) × (1 ≤ by.era_of m)) (order_of by 1 eras) n (order_calls times by numbered 1 eras within witness.shape) among).0);
-          once = order_once times by numbered 1 eras within witness.shape;
-          respects = order_respects times by numbered 1 eras within witness.shape;
+              (all_at (λ m. IsTrue (times.is_call m) × (1 ≤ by.era_of m)) (order_of by 1 eras) n (order_calls times by count start numbered 1 eras within witness.shape) among).0);
+          once = order_once times by count start numbered 1 eras within witness.shape;
+          respects = order_respects times by count start numbered 1 eras within witness.shape;
           complete = witness.complete;
           last = run.0;
           runs = run.1;

@@ -11,28 +11,26 @@ pub record PlanEra : Type 0 where
   pub kept : List ℕ
   pub lost : List ℕ
 
--- how many eras there are, which numbers stand for calls, which for crashes, in which era each is, and at which event
--- each era begins
+-- which numbers stand for calls and not for crashes, which for calls that no crash may take away, in which era each is, and the
+-- number of each era's crash
 pub record Numbering : Type 0 where
-  pub count : ℕ
   pub is_real : ℕ → Bool
   pub is_stable : ℕ → Bool
   pub era_of : ℕ → ℕ
   pub crash : ℕ → ℕ
-  pub start : ℕ → ℕ
 
--- the eras are numbered from 1
-abbrev pub IsEra : Numbering → ℕ → Type 0
-IsEra by e = (1 ≤ e) × (e ≤ by.count)
+-- so many eras are numbered from 1
+abbrev pub IsEra : ℕ → ℕ → Type 0
+IsEra count e = (1 ≤ e) × (e ≤ count)
 
--- the times of such numbers: an era's crash is at the beginning of the next
-pub record IsNumbering (times : Times) (by : Numbering) : Type 0 where
-  pub begins_late : (n : ℕ) → IsTrue (times.is_call n) → by.start (by.era_of n) ≤ times.begin_of n
-  pub begins_early : (n : ℕ) → IsTrue (times.is_call n) → times.begin_of n ≤ by.start (by.era_of n + 1)
+-- the times of such numbers, where each era begins at its event: an era's crash is at the beginning of the next
+pub record IsNumbering (times : Times) (by : Numbering) (count : ℕ) (start : ℕ → ℕ) : Type 0 where
+  pub begins_late : (n : ℕ) → IsTrue (times.is_call n) → start (by.era_of n) ≤ times.begin_of n
+  pub begins_early : (n : ℕ) → IsTrue (times.is_call n) → times.begin_of n ≤ start (by.era_of n + 1)
   pub ends_late : (n at : ℕ) → IsTrue (times.is_call n) → times.end_of n ≡ Some at → times.begin_of n ≤ at
-  pub rises : (e f : ℕ) → e ≤ f → by.start e ≤ by.start f
-  pub crash_call : (e : ℕ) → IsEra by e → IsTrue (times.is_call (by.crash e)) × (by.era_of (by.crash e) ≡ e) × (by.is_real (by.crash e) ≡ false)
-  pub crash_ends : (e : ℕ) → IsEra by e → times.end_of (by.crash e) ≡ Some (by.start (e + 1))
+  pub rises : (e f : ℕ) → e ≤ f → start e ≤ start f
+  pub crash_call : (e : ℕ) → IsEra count e → IsTrue (times.is_call (by.crash e)) × (by.era_of (by.crash e) ≡ e) × (by.is_real (by.crash e) ≡ false)
+  pub crash_ends : (e : ℕ) → IsEra count e → times.end_of (by.crash e) ≡ Some (start (e + 1))
 
 -- an era with its crash
 abbrev pub part_of : Numbering → ℕ → PlanEra → List ℕ
@@ -58,29 +56,33 @@ PlanShape times by e (era ∷ eras) = EraShape times by e era × PlanShape times
 abbrev pub untold : {Tree : Type 0} → Tree → ℕ → Bool
 untold tree n = false
 
+-- a point of a walk over eras: the tree, the tree at the era's cut once a place is lost, the era, and what is placed
+pub record EraState (Tree : Type 0) : Type 0 where
+  pub tree : Tree
+  pub base : Option Tree
+  pub era : ℕ
+  pub calls : List ℕ
+
+abbrev pub is_placed : {Tree : Type 0} → EraState Tree → ℕ → Bool
+is_placed state n = list_any (λ m. m == n) state.calls
+
+-- where the first era begins
+abbrev pub first_of : {Tree : Type 0} → Tree → EraState Tree
+first_of tree = record { tree = tree; base = None; era = 1; calls = [] }
+
+-- all stable calls of the era are placed
+abbrev pub HasStable : {Tree : Type 0} → Numbering → EraState Tree → Type 0
+HasStable by state = (m : ℕ) → IsTrue (by.is_stable m) → by.era_of m ≡ state.era → IsAmong state.calls m
+
 module _ {Tree : Type 0} (Change : Tree → ℕ → Tree → Type 0) where
   -- each era runs, from the tree that the kept places of the eras ahead of it lead to
   abbrev pub PlanRuns : Tree → List PlanEra → Type 0
   PlanRuns tree [] = Unit {0}
   PlanRuns tree (era ∷ eras) = (base : Tree) × (last : Tree) × Leads untold Change tree era.kept base × Leads untold Change base era.lost last × PlanRuns base eras
 
-  -- a state of the walk: the tree, the tree at the era's cut once a place is lost, the era, and what is placed
-  pub record EraState : Type 0 where
-    pub tree : Tree
-    pub base : Option Tree
-    pub era : ℕ
-    pub calls : List ℕ
-
-  abbrev pub is_placed : EraState → ℕ → Bool
-  is_placed state n = list_any (λ m. m == n) state.calls
-
-  -- all stable calls of the era are placed
-  abbrev pub HasStable : Numbering → EraState → Type 0
-  HasStable by state = (m : ℕ) → IsTrue (by.is_stable m) → by.era_of m ≡ state.era → IsAmong state.calls m
-
   -- a call of the era changes the tree; one that isn't stable may be the first lost, where all stable ones are placed; a crash goes
   -- back to the tree ahead of the first lost
-  abbrev pub EraNext : Numbering → EraState → ℕ → EraState → Type 0
+  abbrev pub EraNext : Numbering → EraState Tree → ℕ → EraState Tree → Type 0
   EraNext by state n after =
       (IsTrue (by.is_real n) × (by.era_of n ≡ state.era)
       × ((tree : Tree) × Change state.tree n tree
@@ -90,8 +92,8 @@ module _ {Tree : Type 0} (Change : Tree → ℕ → Tree → Type 0) where
       ⊎ ((n ≡ by.crash state.era) × (after ≡ record { tree = unwrap_or state.base state.tree; base = None; era = state.era + 1; calls = n ∷ state.calls }))
 
   -- a plan of eras is a witness: it has the history's shape, its eras run, and each answered call has its place (a crash has by its era)
-  pub record IsEraWitness (times : Times) (by : Numbering) (opening : Tree) (eras : List PlanEra) : Type 0 where
-    pub as_many_eras : length eras ≡ by.count
+  pub record IsEraWitness (times : Times) (by : Numbering) (count : ℕ) (opening : Tree) (eras : List PlanEra) : Type 0 where
+    pub as_many_eras : length eras ≡ count
     pub shape : PlanShape times by 1 eras
     pub runs : PlanRuns opening eras
     pub complete : (n at : ℕ) → times.end_of n ≡ Some at → IsAmong (order_of by 1 eras) n

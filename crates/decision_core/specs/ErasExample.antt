@@ -12,7 +12,11 @@ abbrev pub times : Times
 times = record { is_call = λ n. pick n true true true true false; begin_of = λ n. pick n 1 5 4 7 0; end_of = λ n. pick n (Some 2) (Some 6) (Some 4) (Some 7) None }
 
 abbrev pub by : Numbering
-by = record { count = 2; is_real = λ n. pick n true true false false false; is_stable = λ n. n == 2; era_of = λ n. pick n 1 2 1 2 0; crash = λ e. 10 + e; start = λ e. 3 * e - 2 }
+by = record { is_real = λ n. pick n true true false false false; is_stable = λ n. n == 2; era_of = λ n. pick n 1 2 1 2 0; crash = λ e. 10 + e }
+
+-- the eras begin at events 1 and 4, and the second ends at 7
+abbrev pub start : ℕ → ℕ
+start e = 3 * e - 2
 
 abbrev pub plan : List PlanEra
 plan = record { kept = []; lost = 1 ∷ [] } ∷ (record { kept = 2 ∷ []; lost = [] } ∷ [])
@@ -23,4 +27,4 @@ Change tree n after = after ≡ n
 
 -- the numbering is one, and the plan is a witness
 abbrev pub SomePlanIsWitness : Type 0
-SomePlanIsWitness = IsNumbering times by × IsEraWitness Change times by 0 plan
+SomePlanIsWitness = IsNumbering times by 2 start × IsEraWitness Change times by 2 0 plan
