@@ -1,0 +1,4 @@
+pub mod Times
+pub mod Machine
+pub mod Plans
+pub mod Laws

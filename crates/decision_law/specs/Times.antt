@@ -1,0 +1,86 @@
+-- When the calls and the crashes of a history begin and end, as a walk over its events knows them (Herlihy and Wing 1990, section
+-- 2; that a crash is one more call, sent and answered at once, is this project's own). Call n of a history has number n; the crash that
+-- ends era e, or behind the last era the end of the events, has a number behind those of the calls.
+use Rattle.std.specs.Prelude.{ℕ, zero, suc, ◌+◌, ◌-◌, ◌&&◌, ◌||◌, nat_le, Bool, true, false, cond, List, [], ◌∷◌, length, Option, Some, None, is_none, is_some, option_and_then}
+use Rattle.std.specs.Option.{option_map_or}
+use Rattle.history_file.specs.Event.{Event}
+use Rattle.history_file.specs.Event.Event.{call, reply, close, crash}
+use Rattle.nfs_history.specs.declared.history.RecordedCall.{RecordedCall}
+use Rattle.nfs_history.specs.declared.knowing.KnownCalls.{KnownCalls}
+use Rattle.nfs_history.specs.Precedence.{call_at, begin_of}
+use Rattle.order_check.specs.Places.{may_take, is_wanted, passes}
+use Rattle.cut_check.specs.declared.effect.Effect.{Effect}
+use Rattle.cut_check.specs.declared.effect.Effect.TheVariants.{Nothing, Lasting, Unstable, Committed}
+use Rattle.cut_check.specs.Effect.{effect_of}
+use Rattle.cut_check.specs.Places.{answered_with}
+use Rattle.decision_core.specs.Times.{Times}
+use Rattle.decision_core.specs.Eras.{Numbering}
+
+-- the event of a crash with so many ahead of it, among events that are numbered from i on; behind the last event, where there are fewer
+abbrev pub crash_at : ℕ → ℕ → List Event → ℕ
+crash_at i k [] = i
+crash_at i k (call lane message ∷ events) = crash_at (i + 1) k events
+crash_at i k (reply lane message ∷ events) = crash_at (i + 1) k events
+crash_at i k (close lane ∷ events) = crash_at (i + 1) k events
+crash_at i zero (crash ∷ events) = i
+crash_at i (suc k) (crash ∷ events) = crash_at (i + 1) k events
+
+-- where an era begins: at the crash that ends the era ahead of it, the first one ahead of all events
+abbrev pub era_start : List Event → ℕ → ℕ
+era_start events zero = 0
+era_start events (suc zero) = 0
+era_start events (suc (suc k)) = crash_at 1 k events
+
+-- an unanswered call that changes the tree, which a plan may take as done
+abbrev pub may_be_taken : RecordedCall → Bool
+may_be_taken recorded = is_none recorded.«end» && (may_take recorded.meaning None || may_take recorded.meaning (Some 0))
+
+-- a call that may have a place in a plan
+abbrev pub may_stand : RecordedCall → Bool
+may_stand recorded = is_wanted recorded || may_be_taken recorded
+
+-- when the reply came that a plan has to give: none, of a call that need have no place
+abbrev pub answered_end : RecordedCall → Option ℕ
+answered_end recorded = cond (is_wanted recorded) recorded.«end» None
+
+abbrev pub is_lasting : Effect → Bool
+is_lasting Lasting = true
+is_lasting (Unstable object offset count) = false
+is_lasting (Committed object offset count) = false
+is_lasting Nothing = false
+
+-- an answered call whose success is on stable storage whatever stands behind it: a change other than WRITE, or a WRITE that was
+-- answered as synced
+abbrev pub lasts : RecordedCall → Bool
+lasts recorded = is_some recorded.«end» && option_map_or (λ a. is_lasting (effect_of None a.0 a.1)) (answered_with recorded.meaning recorded.outcome) false
+
+module _ (known : KnownCalls) where
+  -- the number is that of a call, and not of a crash
+  abbrev pub is_of_call : ℕ → Bool
+  is_of_call n = nat_le n (length known.calls)
+
+  -- the era that a crash with this number ends
+  abbrev pub era_ended : ℕ → ℕ
+  era_ended n = n - length known.calls
+
+  -- the era of a call, or of a crash
+  abbrev pub era_of_number : ℕ → ℕ
+  era_of_number n = cond (is_of_call n) (option_map_or (λ recorded. recorded.era) (call_at known.calls n) 0) (era_ended n)
+
+  abbrev pub numbering_of : Numbering
+  numbering_of = record {
+    is_real = is_of_call;
+    is_stable = λ n. is_of_call n && passes lasts (call_at known.calls n);
+    era_of = era_of_number;
+    crash = λ e. length known.calls + e;
+  }
+
+  module _ (events : List Event) where
+    -- the crash that ends era e begins and ends where the next era begins
+    abbrev pub times_of : Times
+    times_of = record {
+      is_call = λ n. cond (is_of_call n) (passes may_stand (call_at known.calls n)) (nat_le (era_ended n) known.eras);
+      begin_of = λ n. cond (is_of_call n) (begin_of known.calls n) (era_start events (era_ended n + 1));
+      end_of = λ n. cond (is_of_call n) (option_and_then answered_end (call_at known.calls n))
+          (cond (nat_le (era_ended n) known.eras) (Some (era_start events (era_ended n + 1))) None);
+    }

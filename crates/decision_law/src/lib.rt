@@ -1,0 +1,7 @@
+//! Why a walk that comes to nothing shows that a history has no witness. No code runs: each law is the contract of a function that
+//! does nothing.
+#![tactic(auto)]
+
+mod laws;
+
+pub use laws::{eras_are_numbered, no_order_no_witness};
