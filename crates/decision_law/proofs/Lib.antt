@@ -2,6 +2,7 @@ pub mod Starts
 pub mod Numbered
 pub mod Placed
 pub mod Runs
-pub mod Stable
 pub mod Shapes
+pub mod Effects
+pub mod Kept
 pub mod Orders

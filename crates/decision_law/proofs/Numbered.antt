@@ -126,8 +126,8 @@ module _ (known : KnownCalls) (events : List Event) where
     within : (e : ℕ) → IsEra known.eras e → nat_le (era_ended known (length known.calls + e)) known.eras ≡ true
     within e inside = let h = inside.1 in grind (arith, h)
 
-    pub numbered : IsNumbering (times_of known events) (numbering_of known) known.eras (era_start events)
-    numbered = record {
+    pub numbered : (never_lost : ℕ → Bool) → IsNumbering (times_of known events) (numbering_of known never_lost) known.eras (era_start events)
+    numbered never_lost = record {
       begins_late = begins_late;
       begins_early = begins_early;
       ends_late = ends_late;

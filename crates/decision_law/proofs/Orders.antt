@@ -11,22 +11,26 @@ use Rattle.certificate.specs.declared.plan.Certificate.{Certificate}
 use Rattle.certificate.specs.declared.plan.Place.{Place}
 use Rattle.certificate.specs.declared.plan.EraPlan.{EraPlan}
 use Rattle.certificate.specs.Plan.{call_of, cut_of}
-use Rattle.order_check.specs.Places.{order_from, is_wanted, may_place, passes}
+use Rattle.order_check.specs.Places.{order_from, is_wanted, is_placeable}
 use Rattle.order_check.specs.Shape.{is_named}
 use Rattle.tree_handles.specs.Binding.{Bindings}
 use Rattle.witness_check.specs.Run.{base_of}
 use Rattle.witness_check.specs.Witness.{IsWitness}
 use Rattle.decision_core.specs.Times.{IsAmong}
-use Rattle.decision_core.specs.Eras.{PlanEra, part_of, order_of, IsEraWitness}
+use Rattle.decision_core.specs.Eras.{PlanEra, part_of, order_of, PlanRuns, IsEraWitness}
+use Rattle.decision_core.proofs.Orders.{all_ahead, all_behind}
 use Rattle.decision_core.proofs.Walk.{among_ahead, among_last}
 use Rattle.decision_core.proofs.ErasWalk.{eras_are_one_order}
 use Rattle.decision_law.specs.Times.{era_start, is_of_call, era_ended, numbering_of, times_of}
+use Rattle.cut_check.specs.Places.{era_at}
+use Rattle.decision_law.specs.NeverLost.{AreNeverLost}
 use Rattle.decision_law.specs.Machine.{Changes, IsOrder}
 use Rattle.decision_law.specs.Plans.{cut_era, whole_era, eras_of_plan}
 use Rattle.decision_law.specs.Laws.{binds_of}
 use Rattle.decision_law.proofs.Numbered.{numbered, which, wanted_end, of_call, crash_end}
-use Rattle.decision_law.proofs.Runs.{MayBePlaced, plan_runs}
-use Rattle.decision_law.proofs.Shapes.{at_era, named_among, named_parts, numbers_parted, Facts, IsPlaced, all_placed, facts_behind, plan_shape}
+use Rattle.decision_law.proofs.Runs.{MayBePlaced, plan_runs, have_run}
+use Rattle.decision_law.proofs.Shapes.{at_era, all_map, named_among, named_parts, numbers_parted, Facts, plan_shape}
+use Rattle.decision_law.proofs.Kept.{are_kept}
 
 -- as many eras
 pub as_many : (eras : List EraPlan) → length (eras_of_plan eras) ≡ length eras
@@ -39,32 +43,32 @@ among_behind : (xs ys : List ℕ) (n : ℕ) → IsAmong ys n → IsAmong (xs ++ 
 among_behind [] ys n among = among
 among_behind (x ∷ xs) ys n among = inr (among_behind xs ys n among)
 
-module _ (known : KnownCalls) where
+module _ (known : KnownCalls) (never_lost : ℕ → Bool) where
   -- the calls of an era are in its part
-  in_part : (e : ℕ) (era : EraPlan) (parts : PlanEra) (n : ℕ) → parts.kept ++ parts.lost ≡ map call_of era.places → IsAmong (map call_of era.places) n → IsAmong (part_of (numbering_of known) e parts) n
-  in_part e era parts n is among = among_ahead (parts.kept ++ parts.lost) ((numbering_of known).crash e ∷ []) n (subst (λ l. IsAmong l n) (sym is) among)
+  in_part : (e : ℕ) (era : EraPlan) (parts : PlanEra) (n : ℕ) → parts.kept ++ parts.lost ≡ map call_of era.places → IsAmong (map call_of era.places) n → IsAmong (part_of (numbering_of known never_lost) e parts) n
+  in_part e era parts n is among = among_ahead (parts.kept ++ parts.lost) ((numbering_of known never_lost).crash e ∷ []) n (subst (λ l. IsAmong l n) (sym is) among)
 
   -- what is named is in the order
-  pub named_in_order : (e : ℕ) (eras : List EraPlan) (n : ℕ) → is_named (order_from e eras) n ≡ true → IsAmong (order_of (numbering_of known) e (eras_of_plan eras)) n
+  pub named_in_order : (e : ℕ) (eras : List EraPlan) (n : ℕ) → is_named (order_from e eras) n ≡ true → IsAmong (order_of (numbering_of known never_lost) e (eras_of_plan eras)) n
   named_in_order e [] n named = absurd cc
   named_in_order e (era ∷ []) n named = elim (named_parts (map (at_era e) era.places) [] n named) [
-    | inl here ↦ among_ahead (part_of (numbering_of known) e (whole_era era)) [] n (in_part e era (whole_era era) n (append-nil (map call_of era.places)) (named_among e era.places n here))
+    | inl here ↦ among_ahead (part_of (numbering_of known never_lost) e (whole_era era)) [] n (in_part e era (whole_era era) n (append-nil (map call_of era.places)) (named_among e era.places n here))
     | inr later ↦ absurd cc
   ]
   named_in_order e (era ∷ following ∷ eras) n named = elim (named_parts (map (at_era e) era.places) (order_from (e + 1) (following ∷ eras)) n named) [
-    | inl here ↦ among_ahead (part_of (numbering_of known) e (cut_era era)) (order_of (numbering_of known) (e + 1) (eras_of_plan (following ∷ eras))) n
+    | inl here ↦ among_ahead (part_of (numbering_of known never_lost) e (cut_era era)) (order_of (numbering_of known never_lost) (e + 1) (eras_of_plan (following ∷ eras))) n
         (in_part e era (cut_era era) n (numbers_parted (cut_of era) era.places) (named_among e era.places n here))
-    | inr later ↦ among_behind (part_of (numbering_of known) e (cut_era era)) (order_of (numbering_of known) (e + 1) (eras_of_plan (following ∷ eras))) n
+    | inr later ↦ among_behind (part_of (numbering_of known never_lost) e (cut_era era)) (order_of (numbering_of known never_lost) (e + 1) (eras_of_plan (following ∷ eras))) n
         (named_in_order (e + 1) (following ∷ eras) n later)
   ]
 
   -- so is each crash
-  crash_in_order : (e : ℕ) (eras : List PlanEra) (f : ℕ) → e ≤ f → f < e + length eras → IsAmong (order_of (numbering_of known) e eras) ((numbering_of known).crash f)
+  crash_in_order : (e : ℕ) (eras : List PlanEra) (f : ℕ) → e ≤ f → f < e + length eras → IsAmong (order_of (numbering_of known never_lost) e eras) ((numbering_of known never_lost).crash f)
   crash_in_order e [] f from to = absurd (omega (arith, from, to))
   crash_in_order e (era ∷ eras) f from to = elim (either e f from) [
-    | inl same ↦ among_ahead (part_of (numbering_of known) e era) (order_of (numbering_of known) (e + 1) eras) ((numbering_of known).crash f)
-        (subst (λ k. IsAmong (part_of (numbering_of known) e era) ((numbering_of known).crash k)) same (among_last (era.kept ++ era.lost) ((numbering_of known).crash e)))
-    | inr later ↦ among_behind (part_of (numbering_of known) e era) (order_of (numbering_of known) (e + 1) eras) ((numbering_of known).crash f)
+    | inl same ↦ among_ahead (part_of (numbering_of known never_lost) e era) (order_of (numbering_of known never_lost) (e + 1) eras) ((numbering_of known never_lost).crash f)
+        (subst (λ k. IsAmong (part_of (numbering_of known never_lost) e era) ((numbering_of known never_lost).crash k)) same (among_last (era.kept ++ era.lost) ((numbering_of known never_lost).crash e)))
+    | inr later ↦ among_behind (part_of (numbering_of known never_lost) e era) (order_of (numbering_of known never_lost) (e + 1) eras) ((numbering_of known never_lost).crash f)
         (crash_in_order (e + 1) eras f later (omega (arith, to)))
   ] where
     either : (e f : ℕ) → e ≤ f → (e ≡ f) ⊎ (e + 1 ≤ f)
@@ -80,7 +84,18 @@ module _ (known : KnownCalls) where
   at_most : (a b : ℕ) → nat_le a b ≡ true → a ≤ b
   at_most a b is = grind (arith, is)
 
-  module _ (seen : Recording) (plan : Certificate) (are : AreCallsOf seen known) (witness : IsWitness known plan) where
+  -- each place may be placed
+  may_be : (e : ℕ) (eras : List EraPlan) → AllByRecursion (λ p. IsTrue (is_placeable known.calls p)) (order_from e eras) → AllByRecursion (λ era. MayBePlaced known.calls era.places) eras
+  may_be e [] right = tt
+  may_be e (era ∷ eras) right = (
+    all_map (λ p. IsTrue (is_placeable known.calls p)) e era.places (all_ahead (λ p. IsTrue (is_placeable known.calls p)) (map (at_era e) era.places) (order_from (e + 1) eras) right),
+    may_be (e + 1) eras (all_behind (λ p. IsTrue (is_placeable known.calls p)) (map (at_era e) era.places) (order_from (e + 1) eras) right),
+  )
+
+  module _ (seen : Recording) (plan : Certificate) (are : AreCallsOf seen known) (told : AreNeverLost known never_lost) (witness : IsWitness known plan) where
+    runs : PlanRuns (Changes known (binds_of known plan)) (base_of known) (eras_of_plan plan.eras)
+    runs = plan_runs known (binds_of known plan) (base_of known) plan.eras (may_be 1 plan.eras witness.shape.right) witness.runs
+
     facts : Facts known seen.events are.calls (binds_of known plan) 1 plan.eras
     facts = record {
       of_their_eras = witness.shape.of_their_eras;
@@ -89,21 +104,10 @@ module _ (known : KnownCalls) where
       fits = witness.shape.cuts;
       complete = λ n recorded stands wanted later. witness.shape.complete n recorded stands wanted;
       respects = witness.order;
-      cuts = witness.cuts;
+      ran = have_run known (binds_of known plan) (base_of known) plan.eras runs;
     }
 
-    -- each place may be placed
-    may_be : (e : ℕ) (eras : List EraPlan) → Facts known seen.events are.calls (binds_of known plan) e eras → AllByRecursion (λ era. MayBePlaced known.calls era.places) eras
-    may_be e [] all = tt
-    may_be e (era ∷ eras) all = (
-      each era.places (all_placed known seen.events are.calls (binds_of known plan) e era eras all),
-      may_be (e + 1) eras (facts_behind known seen.events are.calls (binds_of known plan) e era eras all),
-    ) where
-      each : (places : List Place) → AllByRecursion (IsPlaced known seen.events are.calls (binds_of known plan) e) places → MayBePlaced known.calls places
-      each [] placed = tt
-      each (place ∷ places) placed = (ap (passes (may_place place)) placed.0.1 ∙ placed.0.3, each places placed.1)
-
-    complete : (n at : ℕ) → (times_of known seen.events).end_of n ≡ Some at → IsAmong (order_of (numbering_of known) 1 (eras_of_plan plan.eras)) n
+    complete : (n at : ℕ) → (times_of known seen.events).end_of n ≡ Some at → IsAmong (order_of (numbering_of known never_lost) 1 (eras_of_plan plan.eras)) n
     complete n at ends = elim (which known seen.events n) [
       | inl is ↦ let c = wanted_end (call_at known.calls n) at (sym (of_call known seen.events n _ _ is) ∙ ends) in
           named_in_order 1 plan.eras n (witness.shape.complete n c.0 c.1 c.2)
@@ -113,18 +117,20 @@ module _ (known : KnownCalls) where
           let same : length known.calls + era_ended known n ≡ n = omega (arith, behind) in
           let many = as_many plan.eras in
           let eras = witness.shape.as_many_eras in
-          subst (IsAmong (order_of (numbering_of known) 1 (eras_of_plan plan.eras))) same
+          subst (IsAmong (order_of (numbering_of known never_lost) 1 (eras_of_plan plan.eras))) same
           (crash_in_order 1 (eras_of_plan plan.eras) (era_ended known n) (omega (arith, behind)) (omega (arith, most, many, eras)))
     ]
 
-    pub era_witness : IsEraWitness (Changes known (binds_of known plan)) (times_of known seen.events) (numbering_of known) known.eras (base_of known) (eras_of_plan plan.eras)
+    pub era_witness : IsEraWitness (Changes known (binds_of known plan)) (times_of known seen.events) (numbering_of known never_lost) known.eras (base_of known) (eras_of_plan plan.eras)
     era_witness = record {
       as_many_eras = as_many plan.eras ∙ witness.shape.as_many_eras;
-      shape = plan_shape known seen.events are.calls (binds_of known plan) 1 plan.eras facts;
-      runs = plan_runs known (binds_of known plan) (base_of known) plan.eras (may_be 1 plan.eras facts) witness.runs;
+      shape = plan_shape known seen.events are.calls (binds_of known plan) never_lost told plan.eras
+          (are_kept known seen.events are.calls (binds_of known plan) plan.eras witness.verifiers facts never_lost told witness.cuts) 1 plan.eras facts
+          (omega arith, (λ k era at. let same : suc k ≡ 1 + k = omega arith in subst (λ j. era_at plan.eras j ≡ Some era) same at));
+      runs = runs;
       complete = complete;
     }
 
-    pub is_order : IsOrder known seen.events (binds_of known plan) (order_of (numbering_of known) 1 (eras_of_plan plan.eras))
-    is_order = eras_are_one_order (Changes known (binds_of known plan)) (numbering_of known) (times_of known seen.events) known.eras (era_start seen.events) (numbered known seen.events are.calls)
-        (base_of known) (eras_of_plan plan.eras) era_witness
+    pub is_order : IsOrder known seen.events never_lost (binds_of known plan) (order_of (numbering_of known never_lost) 1 (eras_of_plan plan.eras))
+    is_order = eras_are_one_order (Changes known (binds_of known plan)) (numbering_of known never_lost) (times_of known seen.events) known.eras (era_start seen.events)
+        (numbered known seen.events are.calls never_lost) (base_of known) (eras_of_plan plan.eras) era_witness

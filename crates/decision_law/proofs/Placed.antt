@@ -18,6 +18,7 @@ use Rattle.replay_law.specs.Run.{TakenStep}
 use Rattle.order_check.specs.Places.{is_judged, is_wanted, may_take, may_place, passes}
 use Rattle.witness_check.specs.Run.{step_with, step_of_call, step_at}
 use Rattle.decision_law.specs.Times.{may_stand, may_be_taken, is_of_call}
+use Rattle.decision_law.specs.NeverLost.{IsAnswered, IsLasting, IsCommitted, IsShownLater, IsNeverLost}
 use Rattle.decision_law.specs.Machine.{MayComeOut}
 use Rattle.decision_law.proofs.Numbered.{passing}
 
@@ -116,3 +117,13 @@ step_placed calls (Taken n count) recorded stands may =
       came_out = inr (count, none_parts recorded.«end» ends.0, ends.1, refl);
       is_step = ap (option_and_then (step_of_call (Taken n count))) stands ∙ ap (λ m. step_with n m (outcomes.Taken count)) p.1;
     }
+
+-- an answered call has to have a place
+pub answered_wanted : (known : KnownCalls) (n : ℕ) (recorded : RecordedCall) (call : NfsCall) (outcome : Outcome) (at : ℕ) → IsAnswered known n recorded call outcome at → is_wanted recorded ≡ true
+answered_wanted known n recorded call outcome at a = ap (λ m. is_judged m && is_some recorded.outcome) a.judged ∙ ap is_some a.answer
+
+-- so has one that is never lost
+pub wanted_call : (known : KnownCalls) (n : ℕ) (recorded : RecordedCall) → IsNeverLost known n recorded → (call_at known.calls n ≡ Some recorded) × (is_wanted recorded ≡ true)
+wanted_call known n recorded (inl lasts) = (lasts.answered.stands, answered_wanted known n recorded lasts.call lasts.outcome lasts.at lasts.answered)
+wanted_call known n recorded (inr (inl c)) = (c.answered.stands, answered_wanted known n recorded (calls.Write c.write) _ c.at c.answered)
+wanted_call known n recorded (inr (inr s)) = (s.answered.stands, answered_wanted known n recorded (calls.Write s.write) _ s.at s.answered)

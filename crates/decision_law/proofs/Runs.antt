@@ -116,3 +116,26 @@ module _ (known : KnownCalls) (binds : Bindings) where
         leads (drop (cut_of era) era.places) p.0 run.0 (all_behind Places (take (cut_of era) era.places) (drop (cut_of era) era.places) both) p.2,
         plan_runs p.0 (following ∷ eras) may.1 (rest_run tree p.0 era (following ∷ eras) every p.1),
       )
+
+  -- a place whose call changed some tree
+  abbrev pub HasRun : Place → Type 0
+  HasRun place = (tree : Tree) × (after : Tree) × Changes known binds tree (call_of place) after
+
+  led : (places : List Place) (tree last : Tree) → Leads untold (Changes known binds) tree (map call_of places) last → AllByRecursion HasRun places
+  led [] tree last run = tt
+  led (place ∷ places) tree last run = ((tree, run.0, run.1), led places run.0 last run.2)
+
+  joined : (P : Place → Type 0) (xs ys : List Place) → AllByRecursion P xs → AllByRecursion P ys → AllByRecursion P (xs ++ ys)
+  joined P [] ys first second = second
+  joined P (x ∷ xs) ys first second = (first.0, joined P xs ys first.1 second)
+
+  -- each place of a plan that runs has run
+  pub have_run : (tree : Tree) (eras : List EraPlan) → PlanRuns (Changes known binds) tree (eras_of_plan eras) → AllByRecursion (λ era. AllByRecursion HasRun era.places) eras
+  have_run tree [] runs = tt
+  have_run tree (era ∷ []) runs = (led era.places tree runs.0 runs.2, tt)
+  have_run tree (era ∷ following ∷ eras) runs = (
+    subst (AllByRecursion HasRun) (take-append-drop (cut_of era) era.places)
+        (joined HasRun (take (cut_of era) era.places) (drop (cut_of era) era.places) (led (take (cut_of era) era.places) tree runs.0 runs.2)
+        (led (drop (cut_of era) era.places) runs.0 runs.1 runs.3)),
+    have_run runs.0 (following ∷ eras) runs.4,
+  )

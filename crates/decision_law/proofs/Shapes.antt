@@ -2,7 +2,7 @@
 use Rattle.std.proofs.Common.{◌≡◌, ◌≢◌, ◌⊎◌, ◌==◌, ◌&&◌, ◌||◌, inl, inr, ℕ, zero, suc, ◌+◌, ◌<◌, ◌≤◌, nat_le, Bool, true, false, IsTrue, List, [], ◌∷◌, ◌++◌, length, take, drop, map, Option, Some, None, IfSome, unwrap_or, refl, sym, ap, subst, ◌∙◌, arith, append-nil}
 use Rattle.std.specs.Prelude.{option_and_then}
 use Rattle.std.specs.List.{AllByRecursion, list_any}
-use Rattle.std.proofs.lemmas.Bool.{eqb-true}
+use Rattle.std.proofs.lemmas.Bool.{eqb-true, false≢true}
 use Rattle.std.proofs.lemmas.List.{take-append-drop, map-append}
 use Rattle.std.proofs.lemmas.List.Folds.{list_any-append}
 use Rattle.history_file.specs.Event.{Event}
@@ -21,22 +21,22 @@ use Rattle.order_check.specs.Shape.{is_named, NameDifferentCalls}
 use Rattle.order_check.specs.Order as order
 use Rattle.tree_handles.specs.Binding.{Bindings}
 use Rattle.cut_check.specs.Places.{era_at}
-use Rattle.cut_check.specs.Cut.{KeepsStable, CutsKeepStable}
 use Rattle.decision_core.specs.Times.{Times, Precedes, RespectsOrder, IsAmong, IsOnce}
 use Rattle.decision_core.specs.Eras.{PlanEra, EraShape, PlanShape}
 use Rattle.decision_core.proofs.Orders.{all_ahead, all_behind}
-use Rattle.decision_law.specs.Times.{may_stand, lasts, is_of_call, era_ended, era_of_number, numbering_of, times_of}
+use Rattle.decision_law.specs.Times.{may_stand, is_of_call, era_ended, era_of_number, numbering_of, times_of}
+use Rattle.decision_law.specs.NeverLost.{IsAnswered, IsNeverLost, AreNeverLost}
 use Rattle.decision_law.specs.Plans.{cut_era, whole_era, eras_of_plan}
 use Rattle.decision_law.proofs.Numbered.{passing, wanted_end, of_call, its_era}
-use Rattle.decision_law.proofs.Placed.{and_parts, is_call_number, stands_placed}
-use Rattle.decision_law.proofs.Stable.{IsLastingCall, lasting_call, never_lost}
+use Rattle.decision_law.proofs.Placed.{and_parts, is_call_number, stands_placed, wanted_call}
+use Rattle.decision_law.proofs.Runs.{HasRun}
 
 -- ---- places as numbers
 
 abbrev pub at_era : ℕ → Place → OrderedPlace
 at_era e place = record { era = e; place = place }
 
-all_map : (P : OrderedPlace → Type 0) (e : ℕ) (places : List Place) → AllByRecursion P (map (at_era e) places) → AllByRecursion (λ place. P (at_era e place)) places
+pub all_map : (P : OrderedPlace → Type 0) (e : ℕ) (places : List Place) → AllByRecursion P (map (at_era e) places) → AllByRecursion (λ place. P (at_era e place)) places
 all_map P e [] all = tt
 all_map P e (place ∷ places) all = (all.0, all_map P e places all.1)
 
@@ -94,14 +94,14 @@ among_cases (x ∷ xs) ys n (inl same) = inl (inl same)
 among_cases (x ∷ xs) ys n (inr among) = elim (among_cases xs ys n among) [ inl ahead ↦ inl (inr ahead) | inr behind ↦ inr behind ]
 
 -- the place of a call that stands among those of places
-record PlaceOf (places : List Place) (n : ℕ) : Type 0 where
-  ahead : List Place
-  place : Place
-  behind : List Place
-  stands : places ≡ ahead ++ place ∷ behind
-  names : call_of place ≡ n
+pub record PlaceOf (places : List Place) (n : ℕ) : Type 0 where
+  pub ahead : List Place
+  pub place : Place
+  pub behind : List Place
+  pub stands : places ≡ ahead ++ place ∷ behind
+  pub names : call_of place ≡ n
 
-place_of : (places : List Place) (n : ℕ) → IsAmong (map call_of places) n → PlaceOf places n
+pub place_of : (places : List Place) (n : ℕ) → IsAmong (map call_of places) n → PlaceOf places n
 place_of [] n among = absurd among
 place_of (place ∷ places) n (inl same) = record { ahead = []; place = place; behind = places; stands = refl; names = same }
 place_of (place ∷ places) n (inr among) =
@@ -113,12 +113,13 @@ later_eras : (e : ℕ) (eras : List EraPlan) → AllByRecursion (λ p. e ≤ p.e
 later_eras e [] = tt
 later_eras e (era ∷ eras) = joined (λ p. e ≤ p.era) (map (at_era e) era.places) (order_from (e + 1) eras) (here e era.places)
     (all_weaker (λ p. e + 1 ≤ p.era) (λ p. e ≤ p.era) (λ p later. omega (arith, later)) (order_from (e + 1) eras) (later_eras (e + 1) eras)) where
-  joined : (P : OrderedPlace → Type 0) (xs ys : List OrderedPlace) → AllByRecursion P xs → AllByRecursion P ys → AllByRecursion P (xs ++ ys)
-  joined P [] ys first second = second
-  joined P (x ∷ xs) ys first second = (first.0, joined P xs ys first.1 second)
-  here : (e : ℕ) (places : List Place) → AllByRecursion (λ p. e ≤ p.era) (map (at_era e) places)
-  here e [] = tt
-  here e (place ∷ places) = (omega arith, here e places)
+      joined : (P : OrderedPlace → Type 0) (xs ys : List OrderedPlace) → AllByRecursion P xs → AllByRecursion P ys → AllByRecursion P (xs ++ ys)
+      joined P [] ys first second = second
+      joined P (x ∷ xs) ys first second = (first.0, joined P xs ys first.1 second)
+
+      here : (e : ℕ) (places : List Place) → AllByRecursion (λ p. e ≤ p.era) (map (at_era e) places)
+      here e [] = tt
+      here e (place ∷ places) = (omega arith, here e places)
 
 -- what passes two tests
 both_pass : (t u : RecordedCall → Bool) (o : Option RecordedCall) → passes t o ≡ true → passes u o ≡ true → (recorded : RecordedCall) × (o ≡ Some recorded) × (t recorded ≡ true) × (u recorded ≡ true)
@@ -136,12 +137,6 @@ cut_fits (Some kept) many fits = fits
 pub numbers_parted : (cut : ℕ) (places : List Place) → map call_of (take cut places) ++ map call_of (drop cut places) ≡ map call_of places
 numbers_parted cut places = sym (map-append call_of (take cut places) (drop cut places)) ∙ ap (map call_of) (take-append-drop cut places)
 
--- ---- the cuts of the eras behind the first
-
-pub cuts_behind : (binds : Bindings) (calls : List RecordedCall) (era : EraPlan) (eras : List EraPlan) → CutsKeepStable binds calls (era ∷ eras) → CutsKeepStable binds calls eras
-cuts_behind binds calls era eras cuts zero other at less = absurd cc
-cuts_behind binds calls era eras cuts (suc k) other at less = cuts (suc (suc k)) other at (omega (arith, less))
-
 module _ (known : KnownCalls) (events : List Event) (are : AreRecorded (calls_of events) known.calls) (binds : Bindings) where
   -- what is asked of a plan, of these eras, the first of which has this number
   pub record Facts (e : ℕ) (eras : List EraPlan) : Type 0 where
@@ -151,7 +146,7 @@ module _ (known : KnownCalls) (events : List Event) (are : AreRecorded (calls_of
     pub fits : AllByRecursion (λ era. IfSome era.cut (λ kept. kept ≤ length era.places)) eras
     pub complete : (n : ℕ) (recorded : RecordedCall) → call_at known.calls n ≡ Some recorded → is_wanted recorded ≡ true → e ≤ recorded.era → is_named (order_from e eras) n ≡ true
     pub respects : order.EachEraRespectsOrder known.calls eras
-    pub cuts : CutsKeepStable binds known.calls eras
+    pub ran : AllByRecursion (λ era. AllByRecursion (HasRun known binds) era.places) eras
 
   -- a placed call is there, of its era, and may be placed so
   abbrev pub IsPlaced : ℕ → Place → Type 0
@@ -198,13 +193,6 @@ module _ (known : KnownCalls) (events : List Event) (are : AreRecorded (calls_of
     respects_so e places placed.1 respects.1,
   )
 
-  -- a call that no crash may take away
-  pub stable_call : (n : ℕ) → IsTrue ((numbering_of known).is_stable n) → (recorded : RecordedCall) × (call_at known.calls n ≡ Some recorded) × IsLastingCall recorded × (is_of_call known n ≡ true)
-  stable_call n stable =
-      let p = and_parts (is_of_call known n) (passes lasts (call_at known.calls n)) stable in
-      let c = passing lasts (call_at known.calls n) p.1 in
-      (c.0, c.1, lasting_call c.0 c.2, p.0)
-
   -- a call of a later era isn't of this one
   not_later : (e : ℕ) (eras : List EraPlan) (n : ℕ) (recorded : RecordedCall) → AllByRecursion (λ p. IsTrue (is_of_era known.calls p)) (order_from (e + 1) eras)
       → call_at known.calls n ≡ Some recorded → recorded.era ≡ e → is_named (order_from (e + 1) eras) n ≡ true → ⊥
@@ -216,8 +204,8 @@ module _ (known : KnownCalls) (events : List Event) (are : AreRecorded (calls_of
       let eras_same : c.0.era ≡ recorded.era = era_same c.0 recorded same in
       let at_place = same_era c.0.era p.0.era c.2 in
       omega (arith, eras_same, at_place, era, p.1.1) where
-    era_same : (a b : RecordedCall) → Some a ≡ Some b → a.era ≡ b.era
-    era_same a b same = let is : a ≡ b = cc in ap (λ r. r.era) is
+        era_same : (a b : RecordedCall) → Some a ≡ Some b → a.era ≡ b.era
+        era_same a b same = let is : a ≡ b = cc in ap (λ r. r.era) is
 
   -- a wanted call of the first era has a place there
   pub named_here : (e : ℕ) (era : EraPlan) (eras : List EraPlan) → Facts e (era ∷ eras) → (n : ℕ) (recorded : RecordedCall) → call_at known.calls n ≡ Some recorded → is_wanted recorded ≡ true
@@ -241,7 +229,7 @@ module _ (known : KnownCalls) (events : List Event) (are : AreRecorded (calls_of
           | inr behind ↦ behind
         ];
     respects = facts.respects.1;
-    cuts = cuts_behind binds known.calls era eras facts.cuts;
+    ran = facts.ran.1;
   } where
     earlier : (n : ℕ) (recorded : RecordedCall) → call_at known.calls n ≡ Some recorded → e + 1 ≤ recorded.era → is_named (map (at_era e) era.places) n ≡ true → ⊥
     earlier n recorded stands later named =
@@ -253,10 +241,54 @@ module _ (known : KnownCalls) (events : List Event) (are : AreRecorded (calls_of
         let of_era = at.2 in
         omega (arith, eras_same, of_era, later)
 
+  -- what is known of one era
+  pub record EraFacts (e : ℕ) (era : EraPlan) : Type 0 where
+    pub placed : AllByRecursion (IsPlaced e) era.places
+    pub respects : order.RespectsOrder known.calls era.places
+    pub ran : AllByRecursion (HasRun known binds) era.places
+    pub fits : cut_of era ≤ length era.places
+    pub named : (n : ℕ) (recorded : RecordedCall) → call_at known.calls n ≡ Some recorded → is_wanted recorded ≡ true → recorded.era ≡ e → IsAmong (map call_of era.places) n
+
+  pub first_facts : (e : ℕ) (era : EraPlan) (eras : List EraPlan) → Facts e (era ∷ eras) → EraFacts e era
+  first_facts e era eras facts = record {
+    placed = all_placed e era eras facts;
+    respects = facts.respects.0;
+    ran = facts.ran.0;
+    fits = cut_fits era.cut (length era.places) facts.fits.0;
+    named = named_here e era eras facts;
+  }
+
+  -- the era of a wanted call
+  pub record EraOf (e : ℕ) (eras : List EraPlan) (n : ℕ) (recorded : RecordedCall) : Type 0 where
+    pub further : ℕ
+    pub is_of : recorded.era ≡ e + further
+    pub era : EraPlan
+    pub there : era_at eras (suc further) ≡ Some era
+    pub placed : AllByRecursion (IsPlaced recorded.era) era.places
+    pub among : IsAmong (map call_of era.places) n
+
+  pub era_of_call : (e : ℕ) (eras : List EraPlan) → Facts e eras → (n : ℕ) (recorded : RecordedCall) → call_at known.calls n ≡ Some recorded → is_wanted recorded ≡ true → e ≤ recorded.era → EraOf e eras n recorded
+  era_of_call e [] facts n recorded stands wanted from = absurd (false≢true (facts.complete n recorded stands wanted from))
+  era_of_call e (era ∷ eras) facts n recorded stands wanted from = elim (either e recorded.era from) [
+    | inl same ↦ record {
+      further = 0;
+      is_of = omega (arith, same);
+      era = era;
+      there = refl;
+      placed = subst (λ k. AllByRecursion (IsPlaced k) era.places) same (all_placed e era eras facts);
+      among = named_here e era eras facts n recorded stands wanted (sym same);
+    }
+    | inr later ↦
+        let o = era_of_call (e + 1) eras (facts_behind e era eras facts) n recorded stands wanted later in
+        record { further = suc o.further; is_of = let h = o.is_of in omega (arith, h); era = o.era; there = o.there; placed = o.placed; among = o.among }
+  ] where
+    either : (e f : ℕ) → e ≤ f → (e ≡ f) ⊎ (e + 1 ≤ f)
+    either e f from = grind (arith, from)
+
   -- an era's shape, however its places are parted
-  shape_of : (e : ℕ) (era : EraPlan) (eras : List EraPlan) → Facts e (era ∷ eras) → (parts : PlanEra) → parts.kept ++ parts.lost ≡ map call_of era.places
-      → ((n : ℕ) → IsTrue ((numbering_of known).is_stable n) → era_of_number known n ≡ e → IsAmong parts.kept n) → EraShape (times_of known events) (numbering_of known) e parts
-  shape_of e era eras facts parts is stable =
+  shape_of : (never_lost : ℕ → Bool) (e : ℕ) (era : EraPlan) (eras : List EraPlan) → Facts e (era ∷ eras) → (parts : PlanEra) → parts.kept ++ parts.lost ≡ map call_of era.places
+      → ((n : ℕ) → IsTrue (never_lost n) → era_of_number known n ≡ e → IsAmong parts.kept n) → EraShape (times_of known events) (numbering_of known never_lost) e parts
+  shape_of never_lost e era eras facts parts is stable =
       let placed = all_placed e era eras facts in
       record {
         calls = subst (AllByRecursion (IsReal e)) (sym is) (all_numbers (IsReal e) era.places (all_weaker (IsPlaced e) (λ place. IsReal e (call_of place)) (real e) era.places placed));
@@ -265,38 +297,54 @@ module _ (known : KnownCalls) (events : List Event) (are : AreRecorded (calls_of
         stable = stable;
       }
 
-  stable_here : (e : ℕ) (era : EraPlan) (eras : List EraPlan) → Facts e (era ∷ eras) → (n : ℕ) → IsTrue ((numbering_of known).is_stable n) → era_of_number known n ≡ e → IsAmong (map call_of era.places) n
-  stable_here e era eras facts n stable is =
-      let c = stable_call n stable in
-      named_here e era eras facts n c.0 c.1 c.2.wanted (sym (its_era known events are n c.3 c.0 c.1) ∙ is)
+  module _ (never_lost : ℕ → Bool) (told : AreNeverLost known never_lost) where
+    -- a call that is never lost has a place in its era
+    place_here : (e : ℕ) (era : EraPlan) → EraFacts e era → (n : ℕ) → IsTrue (never_lost n) → era_of_number known n ≡ e
+        → (recorded : RecordedCall) × IsNeverLost known n recorded × (recorded.era ≡ e) × IsAmong (map call_of era.places) n
+    place_here e era facts n never is =
+        let call = told n never in
+        let w = wanted_call known n call.0 call.1 in
+        let of_era : call.0.era ≡ e = sym (its_era known events are n (is_call_number known n call.0 w.0) call.0 w.0) ∙ is in
+        (call.0, call.1, of_era, facts.named n call.0 w.0 w.1 of_era)
 
-  -- a stable call isn't past the cut
-  stable_kept : (e : ℕ) (era : EraPlan) (eras : List EraPlan) → Facts e (era ∷ eras) → KeepsStable binds known.calls era
-      → (n : ℕ) → IsTrue ((numbering_of known).is_stable n) → era_of_number known n ≡ e → IsAmong (map call_of (take (cut_of era) era.places)) n
-  stable_kept e era eras facts keeps n stable is =
-      elim (among_cases (map call_of (take (cut_of era) era.places)) (map call_of (drop (cut_of era) era.places)) n
-      (subst (λ l. IsAmong l n) (sym (numbers_parted (cut_of era) era.places)) (stable_here e era eras facts n stable is))) [
-        | inl kept ↦ kept
-        | inr lost ↦ absurd (never lost)
-      ] where
-    never : IsAmong (map call_of (drop (cut_of era) era.places)) n → ⊥
-    never lost =
-        let c = stable_call n stable in
-        let p = place_of (drop (cut_of era) era.places) n lost in
-        let both : AllByRecursion (IsPlaced e) (take (cut_of era) era.places ++ drop (cut_of era) era.places) = subst (AllByRecursion (IsPlaced e)) (sym (take-append-drop (cut_of era) era.places)) (all_placed e era eras facts) in
-        let at : IsPlaced e p.place = (all_behind (IsPlaced e) p.ahead (p.place ∷ p.behind) (subst (AllByRecursion (IsPlaced e)) p.stands (all_behind (IsPlaced e) (take (cut_of era) era.places) (drop (cut_of era) era.places) both))).0 in
-        let same : Some c.0 ≡ Some at.0 = sym c.1 ∙ (ap (call_at known.calls) (sym p.names) ∙ at.1) in
-        let it : c.0 ≡ at.0 = cc in
-        never_lost binds known.calls era p.ahead p.place p.behind at.0 (cut_fits era.cut (length era.places) facts.fits.0) keeps p.stands at.1 (subst IsLastingCall it c.2) at.3
+    -- no such call is past the cut of an era that a crash ended
+    abbrev pub AreKept : List EraPlan → Type 0
+    AreKept whole = (e : ℕ) (era : EraPlan) → era_at whole e ≡ Some era → e < length whole → EraFacts e era
+        → (n : ℕ) (recorded : RecordedCall) → IsNeverLost known n recorded → recorded.era ≡ e → ¬ IsAmong (map call_of (drop (cut_of era) era.places)) n
 
-  pub plan_shape : (e : ℕ) (eras : List EraPlan) → Facts e eras → PlanShape (times_of known events) (numbering_of known) e (eras_of_plan eras)
-  plan_shape e [] facts = tt
-  plan_shape e (era ∷ []) facts = (
-    shape_of e era [] facts (whole_era era) (append-nil (map call_of era.places)) (stable_here e era [] facts),
-    tt,
-  )
-  plan_shape e (era ∷ following ∷ eras) facts = (
-    shape_of e era (following ∷ eras) facts (cut_era era) (numbers_parted (cut_of era) era.places)
-        (stable_kept e era (following ∷ eras) facts (facts.cuts 1 era refl (omega arith))),
-    plan_shape (e + 1) (following ∷ eras) (facts_behind e era (following ∷ eras) facts),
-  )
+    module _ (whole : List EraPlan) (kept : AreKept whole) where
+      -- a call that is never lost isn't past the cut
+      kept_here : (e : ℕ) (era : EraPlan) → EraFacts e era → era_at whole e ≡ Some era → e < length whole
+          → (n : ℕ) → IsTrue (never_lost n) → era_of_number known n ≡ e → IsAmong (map call_of (take (cut_of era) era.places)) n
+      kept_here e era facts at less n never is =
+          let p = place_here e era facts n never is in
+          elim (among_cases (map call_of (take (cut_of era) era.places)) (map call_of (drop (cut_of era) era.places)) n
+          (subst (λ l. IsAmong l n) (sym (numbers_parted (cut_of era) era.places)) p.3)) [
+            | inl ahead ↦ ahead
+            | inr lost ↦ absurd (kept e era at less facts n p.0 p.1 p.2 lost)
+          ]
+
+      -- these eras are the last ones of the plan
+      abbrev pub AreLast : ℕ → List EraPlan → Type 0
+      AreLast e eras = (e + length eras ≡ length whole + 1) × ((k : ℕ) (era : EraPlan) → era_at eras (suc k) ≡ Some era → era_at whole (e + k) ≡ Some era)
+
+      last_behind : (e : ℕ) (era : EraPlan) (eras : List EraPlan) → AreLast e (era ∷ eras) → AreLast (e + 1) eras
+      last_behind e era eras last = (
+        (let h = last.0 in omega (arith, h)),
+        (λ k other at. let same : e + suc k ≡ e + 1 + k = omega arith in subst (λ j. era_at whole j ≡ Some other) same (last.1 (suc k) other at)),
+      )
+
+      first_last : (e : ℕ) (era : EraPlan) (eras : List EraPlan) → AreLast e (era ∷ eras) → era_at whole e ≡ Some era
+      first_last e era eras last = let same : e + 0 ≡ e = omega arith in subst (λ j. era_at whole j ≡ Some era) same (last.1 0 era refl)
+
+      pub plan_shape : (e : ℕ) (eras : List EraPlan) → Facts e eras → AreLast e eras → PlanShape (times_of known events) (numbering_of known never_lost) e (eras_of_plan eras)
+      plan_shape e [] facts last = tt
+      plan_shape e (era ∷ []) facts last = (
+        shape_of never_lost e era [] facts (whole_era era) (append-nil (map call_of era.places)) (λ n never is. (place_here e era (first_facts e era [] facts) n never is).3),
+        tt,
+      )
+      plan_shape e (era ∷ following ∷ eras) facts last = (
+        shape_of never_lost e era (following ∷ eras) facts (cut_era era) (numbers_parted (cut_of era) era.places)
+            (kept_here e era (first_facts e era (following ∷ eras) facts) (first_last e era (following ∷ eras) last) (let h = last.0 in omega (arith, h))),
+        plan_shape (e + 1) (following ∷ eras) (facts_behind e era (following ∷ eras) facts) (last_behind e era (following ∷ eras) last),
+      )

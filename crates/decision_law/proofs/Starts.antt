@@ -40,8 +40,8 @@ start_rises events e (suc f) up =
       | inl below ↦ let h = start_rises events e f below in let g = start_rises_one events f in omega (arith, h, g)
       | inr same ↦ subst (λ k. era_start events k ≤ era_start events (suc f)) (sym same) (omega arith)
     ] where
-  either : (e f : ℕ) → e ≤ suc f → (e ≤ f) ⊎ (e ≡ suc f)
-  either e f up = grind (arith, up)
+      either : (e f : ℕ) → e ≤ suc f → (e ≤ f) ⊎ (e ≡ suc f)
+      either e f up = grind (arith, up)
 
 -- ---- calls among events
 

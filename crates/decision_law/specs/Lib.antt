@@ -1,4 +1,5 @@
 pub mod Times
+pub mod NeverLost
 pub mod Machine
 pub mod Plans
 pub mod Laws

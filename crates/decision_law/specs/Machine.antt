@@ -1,5 +1,5 @@
 -- What placing a call of a history leads to, where it is known what each handle names (the rules are those of a plan's run).
-use Rattle.std.specs.Prelude.{◌≡◌, ◌⊎◌, ℕ, List, length, Option, Some, None, IsTrue}
+use Rattle.std.specs.Prelude.{◌≡◌, ◌⊎◌, ℕ, Bool, List, length, Option, Some, None, IsTrue}
 use Rattle.nfs3_types.specs.declared.calls.NfsCall.{NfsCall}
 use Rattle.nfs3_types.specs.declared.replies.Outcome.{Outcome}
 use Rattle.nfs3_types.specs.declared.replies.Outcome.TheVariants as outcomes
@@ -41,10 +41,10 @@ module _ (known : KnownCalls) where
   abbrev pub first_point : Point
   first_point = first_of (base_of known)
 
-  -- what placing a call or a crash leads to
-  abbrev pub Next : Bindings → Point → ℕ → Point → Type 0
-  Next binds = EraNext (Changes binds) (numbering_of known)
+  -- what placing a call or a crash leads to, where these calls are told never to be lost
+  abbrev pub Next : (ℕ → Bool) → Bindings → Point → ℕ → Point → Type 0
+  Next never_lost binds = EraNext (Changes binds) (numbering_of known never_lost)
 
   -- the order of calls and crashes has all answered calls and all crashes, respects real time, and runs
-  abbrev pub IsOrder : List Event → Bindings → List ℕ → Type 0
-  IsOrder events binds order = core.IsWitness is_placed (Next binds) (times_of known events) first_point order
+  abbrev pub IsOrder : List Event → (ℕ → Bool) → Bindings → List ℕ → Type 0
+  IsOrder events never_lost binds order = core.IsWitness is_placed (Next never_lost binds) (times_of known events) first_point order

@@ -1,7 +1,7 @@
 -- When the calls and the crashes of a history begin and end, as a walk over its events knows them (Herlihy and Wing 1990, section
 -- 2; that a crash is one more call, sent and answered at once, is this project's own). Call n of a history has number n; the crash that
 -- ends era e, or behind the last era the end of the events, has a number behind those of the calls.
-use Rattle.std.specs.Prelude.{ℕ, zero, suc, ◌+◌, ◌-◌, ◌&&◌, ◌||◌, nat_le, Bool, true, false, cond, List, [], ◌∷◌, length, Option, Some, None, is_none, is_some, option_and_then}
+use Rattle.std.specs.Prelude.{ℕ, zero, suc, ◌+◌, ◌-◌, ◌&&◌, ◌||◌, nat_le, Bool, cond, List, [], ◌∷◌, length, Option, Some, None, is_none, option_and_then}
 use Rattle.std.specs.Option.{option_map_or}
 use Rattle.history_file.specs.Event.{Event}
 use Rattle.history_file.specs.Event.Event.{call, reply, close, crash}
@@ -9,10 +9,6 @@ use Rattle.nfs_history.specs.declared.history.RecordedCall.{RecordedCall}
 use Rattle.nfs_history.specs.declared.knowing.KnownCalls.{KnownCalls}
 use Rattle.nfs_history.specs.Precedence.{call_at, begin_of}
 use Rattle.order_check.specs.Places.{may_take, is_wanted, passes}
-use Rattle.cut_check.specs.declared.effect.Effect.{Effect}
-use Rattle.cut_check.specs.declared.effect.Effect.TheVariants.{Nothing, Lasting, Unstable, Committed}
-use Rattle.cut_check.specs.Effect.{effect_of}
-use Rattle.cut_check.specs.Places.{answered_with}
 use Rattle.decision_core.specs.Times.{Times}
 use Rattle.decision_core.specs.Eras.{Numbering}
 
@@ -43,17 +39,6 @@ may_stand recorded = is_wanted recorded || may_be_taken recorded
 abbrev pub answered_end : RecordedCall → Option ℕ
 answered_end recorded = cond (is_wanted recorded) recorded.«end» None
 
-abbrev pub is_lasting : Effect → Bool
-is_lasting Lasting = true
-is_lasting (Unstable object offset count) = false
-is_lasting (Committed object offset count) = false
-is_lasting Nothing = false
-
--- an answered call whose success is on stable storage whatever stands behind it: a change other than WRITE, or a WRITE that was
--- answered as synced
-abbrev pub lasts : RecordedCall → Bool
-lasts recorded = is_some recorded.«end» && option_map_or (λ a. is_lasting (effect_of None a.0 a.1)) (answered_with recorded.meaning recorded.outcome) false
-
 module _ (known : KnownCalls) where
   -- the number is that of a call, and not of a crash
   abbrev pub is_of_call : ℕ → Bool
@@ -67,13 +52,9 @@ module _ (known : KnownCalls) where
   abbrev pub era_of_number : ℕ → ℕ
   era_of_number n = cond (is_of_call n) (option_map_or (λ recorded. recorded.era) (call_at known.calls n) 0) (era_ended n)
 
-  abbrev pub numbering_of : Numbering
-  numbering_of = record {
-    is_real = is_of_call;
-    is_stable = λ n. is_of_call n && passes lasts (call_at known.calls n);
-    era_of = era_of_number;
-    crash = λ e. length known.calls + e;
-  }
+  -- a walk is told of these calls that no crash takes them away
+  abbrev pub numbering_of : (ℕ → Bool) → Numbering
+  numbering_of never_lost = record { is_real = is_of_call; is_stable = never_lost; era_of = era_of_number; crash = λ e. length known.calls + e }
 
   module _ (events : List Event) where
     -- the crash that ends era e begins and ends where the next era begins

@@ -1,0 +1,233 @@
+-- A call that is never lost isn't past a cut of a plan that is a witness.
+use Rattle.std.proofs.Common.{◌≡◌, ◌≢◌, ◌⊎◌, inl, inr, ℕ, zero, suc, ◌+◌, ◌<◌, ◌≤◌, ◌||◌, nat_le, Bool, true, false, IsTrue, List, [], ◌∷◌, ◌++◌, length, take, drop, map, Option, Some, None, Contains, refl, sym, ap, subst, ◌∙◌, arith, append_assoc, length-append}
+use Rattle.std.specs.Prelude.{option_map, unwrap_or, option_and_then, nat_lt}
+use Rattle.std.specs.List.{AllByRecursion, list_any}
+use Rattle.std.proofs.lemmas.List.{take-append-drop, map-append, length-take-le, length-map}
+use Rattle.std.proofs.lemmas.List.Elements.{Contains-append_right, Contains-append_left}
+use Rattle.nfs3_types.specs.declared.calls.NfsCall.{NfsCall}
+use Rattle.nfs3_types.specs.declared.calls.NfsCall.TheVariants as calls
+use Rattle.nfs3_types.specs.declared.calls.StableHow.{StableHow}
+use Rattle.nfs3_types.specs.declared.calls.StableHow.TheVariants as levels
+use Rattle.nfs_history.specs.declared.history.Meaning.TheVariants as meanings
+use Rattle.nfs_history.specs.declared.history.RecordedCall.{RecordedCall}
+use Rattle.nfs_history.specs.declared.knowing.KnownCalls.{KnownCalls}
+use Rattle.nfs_history.specs.Calls.{calls_of}
+use Rattle.nfs_history.specs.History.{AreRecorded}
+use Rattle.nfs_history.specs.Precedence.{call_at, begin_of, end_of, Precedes}
+use Rattle.history_file.specs.Event.{Event}
+use Rattle.certificate.specs.declared.plan.Place.{Place}
+use Rattle.certificate.specs.declared.plan.EraPlan.{EraPlan}
+use Rattle.certificate.specs.Plan.{call_of, cut_of}
+use Rattle.order_check.specs.Order.{RespectsOrder}
+use Rattle.order_check.specs.Places.{may_place}
+use Rattle.tree_handles.specs.Binding.{Bindings, object_of}
+use Rattle.cut_check.specs.declared.effect.Effect.{Effect}
+use Rattle.cut_check.specs.declared.effect.Effect.TheVariants.{Nothing, Lasting, Unstable, Committed}
+use Rattle.cut_check.specs.Effect.{of_object, at_level, effect_of}
+use Rattle.cut_check.specs.Stable.{AreCommitted, IsStable, IsStableAt}
+use Rattle.cut_check.specs.Places.{era_at, object_written, effect_at, effects_of}
+use Rattle.cut_check.specs.Cut.{KeepsStable, CutsKeepStable}
+use Rattle.cut_check.specs.Verifier.{writes_bytes_at, loses_write, Shows, VerifiersAgree}
+use Rattle.decision_core.specs.Times.{IsAmong}
+use Rattle.decision_core.proofs.Orders.{all_behind, which_part}
+use Rattle.decision_law.specs.NeverLost.{written, committed, IsAnswered, IsLasting, IsCommitted, IsShownLater, IsNeverLost, AreNeverLost}
+use Rattle.decision_law.proofs.Placed.{answered_wanted}
+use Rattle.decision_law.proofs.Runs.{HasRun}
+use Rattle.decision_law.proofs.Effects.{lasts_so, effect_so, verifier_so, writes_so, object_named}
+use Rattle.decision_law.proofs.Shapes.{PlaceOf, place_of, Facts, IsPlaced, EraFacts, EraOf, era_of_call, AreKept}
+
+contains_first : {X : Type 0} (x : X) (xs : List X) → Contains (x ∷ xs) x
+contains_first x xs = (0, omega arith, refl)
+
+contains_middle : {X : Type 0} (xs : List X) (x : X) (ys : List X) → Contains (xs ++ x ∷ ys) x
+contains_middle xs x ys = Contains-append_right xs (x ∷ ys) x (contains_first x ys)
+
+any_middle : (test : Place → Bool) (xs : List Place) (x : Place) (ys : List Place) → test x ≡ true → list_any test (xs ++ x ∷ ys) ≡ true
+any_middle test [] x ys is = ap (λ b. b || list_any test ys) is
+any_middle test (y ∷ xs) x ys is = ap (λ b. test y || b) (any_middle test xs x ys is) ∙ or_true (test y) where
+  or_true : (b : Bool) → (b || true) ≡ true
+  or_true true = refl
+  or_true false = refl
+
+-- nothing ahead of a place is preceded by its call
+none_ahead : (calls : List RecordedCall) (front : List Place) (place : Place) (back : List Place) → RespectsOrder calls (front ++ place ∷ back)
+    → AllByRecursion (λ first. ¬ Precedes calls (call_of place) (call_of first)) front
+none_ahead calls [] place back respects = tt
+none_ahead calls (first ∷ front) place back respects = (
+  (all_behind (λ later. ¬ Precedes calls (call_of later) (call_of first)) front (place ∷ back) respects.0).0,
+  none_ahead calls front place back respects.1,
+)
+
+-- an UNSTABLE WRITE that is committed is stable, and so is one that was answered as synced
+level_stable : (level : StableHow) (object offset count : ℕ) (behind : List Effect) → AreCommitted object offset count behind → IsStable (at_level level (Unstable object offset count)) behind
+level_stable levels.Unstable object offset count behind are = are
+level_stable levels.DataSync object offset count behind are = tt
+level_stable levels.FileSync object offset count behind are = tt
+
+module _ (known : KnownCalls) (events : List Event) (are : AreRecorded (calls_of events) known.calls) (binds : Bindings) where
+  -- where a lost place stands in its era
+  record IsLostAt (e : ℕ) (era : EraPlan) (n : ℕ) (recorded : RecordedCall) : Type 0 where
+    front : List Place
+    place : Place
+    back : List Place
+    within : List Place
+    lost : drop (cut_of era) era.places ≡ within ++ place ∷ back
+    whole : era.places ≡ front ++ place ∷ back
+    past : cut_of era ≤ length front
+    names : call_of place ≡ n
+    may : may_place place recorded ≡ true
+
+  lost_at : (e : ℕ) (era : EraPlan) → EraFacts known events are binds e era → (n : ℕ) (recorded : RecordedCall) → call_at known.calls n ≡ Some recorded
+      → IsAmong (map call_of (drop (cut_of era) era.places)) n → IsLostAt e era n recorded
+  lost_at e era facts n recorded stands among =
+      let p = place_of (drop (cut_of era) era.places) n among in
+      let kept = take (cut_of era) era.places in
+      let parts : era.places ≡ (kept ++ p.ahead) ++ p.place ∷ p.behind = sym (take-append-drop (cut_of era) era.places) ∙ ap (λ l. kept ++ l) p.stands ∙ sym (append_assoc kept p.ahead (p.place ∷ p.behind)) in
+      let at : IsPlaced known events are binds e p.place = (all_behind (IsPlaced known events are binds e) (kept ++ p.ahead) (p.place ∷ p.behind) (subst (AllByRecursion (IsPlaced known events are binds e)) parts facts.placed)).0 in
+      let same : Some at.0 ≡ Some recorded = sym at.1 ∙ (ap (call_at known.calls) p.names ∙ stands) in
+      let is : at.0 ≡ recorded = cc in
+      let many = length-append kept p.ahead in
+      let cut = length-take-le (cut_of era) era.places facts.fits in
+      record {
+        front = kept ++ p.ahead;
+        place = p.place;
+        back = p.behind;
+        within = p.ahead;
+        lost = p.stands;
+        whole = parts;
+        past = omega (arith, many, cut);
+        names = p.names;
+        may = subst (λ r. may_place p.place r ≡ true) is at.3;
+      }
+
+  -- a stable place isn't lost
+  never_stable : (e : ℕ) (era : EraPlan) (n : ℕ) (recorded : RecordedCall) (at : IsLostAt e era n recorded) → KeepsStable binds known.calls era
+      → IsStable (effect_at binds known.calls at.place) (effects_of binds known.calls at.back) → ⊥
+  never_stable e era n recorded at keeps stable =
+      let ahead = effects_of binds known.calls at.front in
+      let parts : effects_of binds known.calls era.places ≡ ahead ++ effect_at binds known.calls at.place ∷ effects_of binds known.calls at.back =
+      ap (effects_of binds known.calls) at.whole ∙ map-append (effect_at binds known.calls) at.front (at.place ∷ at.back) in
+      let many = length-map at.front (effect_at binds known.calls) in
+      let past = at.past in
+      keeps (length ahead + 1) (omega (arith, many, past)) (record {
+        ahead = ahead;
+        here = effect_at binds known.calls at.place;
+        behind = effects_of binds known.calls at.back;
+        stands = parts;
+        number = refl;
+        stable = stable;
+      })
+
+  -- an answered call at another place of the era
+  answered_place : (e : ℕ) (place : Place) (recorded : RecordedCall) (n : ℕ) (call : NfsCall) (outcome : _) (at : ℕ) → IsPlaced known events are binds e place → call_of place ≡ n → IsAnswered known n recorded call outcome at
+      → IsAnswered known (call_of place) recorded call outcome at × (may_place place recorded ≡ true)
+  answered_place e place recorded n call outcome at placed names answered =
+      let same : Some placed.0 ≡ Some recorded = sym placed.1 ∙ (ap (call_at known.calls) names ∙ answered.stands) in
+      let is : placed.0 ≡ recorded = cc in
+      (subst (λ k. IsAnswered known k recorded call outcome at) (sym names) answered, subst (λ r. may_place place r ≡ true) is placed.3)
+
+  -- ---- the three kinds
+
+  lasting_kept : (e : ℕ) (era : EraPlan) → KeepsStable binds known.calls era → (n : ℕ) (recorded : RecordedCall) → IsLasting known n recorded → IsLostAt e era n recorded → ⊥
+  lasting_kept e era keeps n recorded lasts at =
+      let answered = subst (λ k. IsAnswered known k recorded lasts.call lasts.outcome lasts.at) (sym at.names) lasts.answered in
+      let effect : effect_at binds known.calls at.place ≡ Lasting =
+      effect_so known binds at.place recorded lasts.call lasts.outcome lasts.at answered at.may ∙ lasts_so (object_written binds lasts.call) lasts.call lasts.outcome lasts.lasting in
+      never_stable e era n recorded at keeps (subst (λ x. IsStable x (effects_of binds known.calls at.back)) (sym effect) tt)
+
+  not_write : {a : _} {b : _} → meanings.Judged (calls.Commit a) ≡ meanings.Judged (calls.Write b) → ⊥
+  not_write is = cc
+
+  module _ (e : ℕ) (era : EraPlan) (facts : EraFacts known events are binds e era) (n : ℕ) (recorded : RecordedCall) (c : IsCommitted known n recorded) (of_era : recorded.era ≡ e)
+      (at : IsLostAt e era n recorded) where
+    -- the WRITE's reply came before the COMMIT was sent
+    before : Precedes known.calls n c.later
+    before = (
+      c.at,
+      ap (option_and_then (λ call. call.«end»)) c.answered.stands ∙ c.answered.ended,
+      subst (λ b. c.at < b) (sym (ap (λ o. unwrap_or (option_map (λ call. call.begin) o) 0) c.commit_answered.stands)) c.sent_behind,
+    )
+
+    -- so the COMMIT stands behind
+    commit_behind : IsAmong (map call_of at.back) c.later
+    commit_behind =
+        let among = facts.named c.later c.behind c.commit_answered.stands (answered_wanted known c.later c.behind (calls.Commit c.commit) _ c.commit_at c.commit_answered) (c.same_era ∙ of_era) in
+        let parted : map call_of era.places ≡ map call_of at.front ++ n ∷ map call_of at.back =
+        ap (map call_of) at.whole ∙ map-append call_of at.front (at.place ∷ at.back) ∙ ap (λ k. map call_of at.front ++ k ∷ map call_of at.back) at.names in
+        elim (which_part (map call_of at.front) n (map call_of at.back) c.later (subst (λ l. IsAmong l c.later) parted among)) [
+          | inl ahead ↦ absurd (not_ahead ahead)
+          | inr it ↦ elim it [ inl same ↦ absurd (not_it same) | inr behind ↦ behind ]
+        ] where
+      not_ahead : IsAmong (map call_of at.front) c.later → ⊥
+      not_ahead ahead =
+          let q = place_of at.front c.later ahead in
+          let none = none_ahead known.calls at.front at.place at.back (subst (RespectsOrder known.calls) at.whole facts.respects) in
+          let here = (all_behind (λ first. ¬ Precedes known.calls (call_of at.place) (call_of first)) q.ahead (q.place ∷ q.behind) (subst (AllByRecursion (λ first. ¬ Precedes known.calls (call_of at.place) (call_of first))) q.stands none)).0 in
+          here (subst (λ k. Precedes known.calls k (call_of q.place)) (sym at.names) (subst (λ k. Precedes known.calls n k) (sym q.names) before))
+      not_it : n ≡ c.later → ⊥
+      not_it same =
+          let there : Some recorded ≡ Some c.behind = sym c.answered.stands ∙ (ap (call_at known.calls) same ∙ c.commit_answered.stands) in
+          let is : recorded ≡ c.behind = cc in
+          not_write (sym c.commit_answered.judged ∙ (sym (ap (λ r. r.meaning) is) ∙ c.answered.judged))
+
+    committed_kept : KeepsStable binds known.calls era → ⊥
+    committed_kept keeps =
+        let q = place_of at.back c.later commit_behind in
+        let ran = (all_behind (HasRun known binds) at.front (at.place ∷ at.back) (subst (AllByRecursion (HasRun known binds)) at.whole facts.ran)).0 in
+        let object = object_named known binds (call_of at.place) recorded c.write c.success c.at ran.0 ran.1 (subst (λ k. IsAnswered known k recorded (calls.Write c.write) (written c.success) c.at) (sym at.names) c.answered) ran.2 in
+        let write_effect : effect_at binds known.calls at.place ≡ at_level c.success.level (Unstable object.0 c.write.offset c.success.count) =
+        effect_so known binds at.place recorded (calls.Write c.write) (written c.success) c.at
+        (subst (λ k. IsAnswered known k recorded (calls.Write c.write) (written c.success) c.at) (sym at.names) c.answered) at.may
+        ∙ ap (λ o. at_level c.success.level (of_object (λ named. Unstable named c.write.offset c.success.count) o)) object.1 in
+        let whole_back : at.back ≡ q.ahead ++ q.place ∷ q.behind = q.stands in
+        let placed_back = (all_behind (IsPlaced known events are binds e) at.front (at.place ∷ at.back) (subst (AllByRecursion (IsPlaced known events are binds e)) at.whole facts.placed)).1 in
+        let q_placed : IsPlaced known events are binds e q.place = (all_behind (IsPlaced known events are binds e) q.ahead (q.place ∷ q.behind) (subst (AllByRecursion (IsPlaced known events are binds e)) whole_back placed_back)).0 in
+        let answered = answered_place e q.place c.behind c.later (calls.Commit c.commit) (committed c.commit_success) c.commit_at q_placed q.names c.commit_answered in
+        let commit_effect : effect_at binds known.calls q.place ≡ Committed object.0 c.commit.offset c.commit.count =
+        effect_so known binds q.place c.behind (calls.Commit c.commit) (committed c.commit_success) c.commit_at answered.0 answered.1
+        ∙ ap (λ o. of_object (λ named. Committed named c.commit.offset c.commit.count) o) (ap (object_of binds) c.same_file ∙ object.1) in
+        let effects_back : effects_of binds known.calls at.back ≡ effects_of binds known.calls q.ahead ++ effect_at binds known.calls q.place ∷ effects_of binds known.calls q.behind =
+        ap (effects_of binds known.calls) whole_back ∙ map-append (effect_at binds known.calls) q.ahead (q.place ∷ q.behind) in
+        let has : Contains (effects_of binds known.calls at.back) (effect_at binds known.calls q.place) =
+        subst (λ l. Contains l (effect_at binds known.calls q.place)) (sym effects_back) (contains_middle (effects_of binds known.calls q.ahead) (effect_at binds known.calls q.place) (effects_of binds known.calls q.behind)) in
+        let are_committed : AreCommitted object.0 c.write.offset c.success.count (effects_of binds known.calls at.back) =
+        (Committed object.0 c.commit.offset c.commit.count, subst (Contains (effects_of binds known.calls at.back)) commit_effect has, (c.byte, c.was_written, (refl, c.reached.0, c.reached.1))) in
+        never_stable e era n recorded at keeps
+        (subst (λ x. IsStable x (effects_of binds known.calls at.back)) (sym write_effect) (level_stable c.success.level object.0 c.write.offset c.success.count (effects_of binds known.calls at.back) are_committed))
+
+  module _ (whole : List EraPlan) (verifiers : VerifiersAgree known.calls whole) (facts : Facts known events are binds 1 whole) where
+    shown_kept : (e : ℕ) (era : EraPlan) → era_at whole e ≡ Some era → (n : ℕ) (recorded : RecordedCall) → IsShownLater known n recorded → recorded.era ≡ e → IsLostAt e era n recorded → ⊥
+    shown_kept e era there n recorded s of_era at =
+        let answered = subst (λ k. IsAnswered known k recorded (calls.Write s.write) (written s.success) s.at) (sym at.names) s.answered in
+        let wrote : writes_bytes_at known.calls at.place ≡ true =
+        writes_so known binds at.place recorded (calls.Write s.write) (written s.success) s.at answered at.may ∙ lt_true 0 s.success.count s.wrote in
+        let loses : loses_write known.calls era ≡ true = ap (list_any (writes_bytes_at known.calls)) at.lost ∙ any_middle (writes_bytes_at known.calls) at.within at.place at.back wrote in
+        let shows : Shows known.calls era.places s.success.verifier.value = (
+          at.place,
+          subst (λ l. Contains l at.place) (sym at.whole) (contains_middle at.front at.place at.back),
+          verifier_so known binds at.place recorded (calls.Write s.write) (written s.success) s.at answered at.may,
+        ) in
+        let later_from = s.later_era in
+        let o = era_of_call known events are binds 1 whole facts s.later s.behind s.later_answered.stands (answered_wanted known s.later s.behind s.call s.outcome s.later_at s.later_answered) (omega (arith, later_from)) in
+        let q = place_of o.era.places s.later o.among in
+        let q_placed : IsPlaced known events are binds s.behind.era q.place =
+        (all_behind (IsPlaced known events are binds s.behind.era) q.ahead (q.place ∷ q.behind) (subst (AllByRecursion (IsPlaced known events are binds s.behind.era)) q.stands o.placed)).0 in
+        let later = answered_place s.behind.era q.place s.behind s.later s.call s.outcome s.later_at q_placed q.names s.later_answered in
+        let shows_later : Shows known.calls o.era.places s.success.verifier.value = (
+          q.place,
+          subst (λ l. Contains l q.place) (sym q.stands) (contains_middle q.ahead q.place q.behind),
+          verifier_so known binds q.place s.behind s.call s.outcome s.later_at later.0 later.1 ∙ s.shows,
+        ) in
+        let is_of = o.is_of in
+        verifiers.across e (suc o.further) s.success.verifier.value era o.era (omega (arith, later_from, of_era, is_of)) there o.there loses shows shows_later where
+      lt_true : (a b : ℕ) → a < b → nat_lt a b ≡ true
+      lt_true a b less = grind (arith, less)
+
+    pub are_kept : (never_lost : ℕ → Bool) (told : AreNeverLost known never_lost) → CutsKeepStable binds known.calls whole → AreKept known events are binds never_lost told whole
+    are_kept never_lost told cuts e era there less era_facts n recorded never of_era lost = go never where
+      keeps : KeepsStable binds known.calls era
+      keeps = cuts e era there less
+      go : IsNeverLost known n recorded → ⊥
+      go (inl lasts) = lasting_kept e era keeps n recorded lasts (lost_at e era era_facts n recorded lasts.answered.stands lost)
+      go (inr (inl c)) = committed_kept e era era_facts n recorded c of_era (lost_at e era era_facts n recorded c.answered.stands lost) keeps
+      go (inr (inr s)) = shown_kept e era there n recorded s of_era (lost_at e era era_facts n recorded s.answered.stands lost)
