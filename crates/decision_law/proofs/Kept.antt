@@ -11,10 +11,7 @@ use Rattle.nfs3_types.specs.declared.calls.StableHow.TheVariants as levels
 use Rattle.nfs_history.specs.declared.history.Meaning.TheVariants as meanings
 use Rattle.nfs_history.specs.declared.history.RecordedCall.{RecordedCall}
 use Rattle.nfs_history.specs.declared.knowing.KnownCalls.{KnownCalls}
-use Rattle.nfs_history.specs.Calls.{calls_of}
-use Rattle.nfs_history.specs.History.{AreRecorded}
 use Rattle.nfs_history.specs.Precedence.{call_at, begin_of, end_of, Precedes}
-use Rattle.history_file.specs.Event.{Event}
 use Rattle.certificate.specs.declared.plan.Place.{Place}
 use Rattle.certificate.specs.declared.plan.EraPlan.{EraPlan}
 use Rattle.certificate.specs.Plan.{call_of, cut_of}
@@ -30,6 +27,7 @@ use Rattle.cut_check.specs.Cut.{KeepsStable, CutsKeepStable}
 use Rattle.cut_check.specs.Verifier.{writes_bytes_at, loses_write, Shows, VerifiersAgree}
 use Rattle.decision_core.specs.Times.{IsAmong}
 use Rattle.decision_core.proofs.Orders.{all_behind, which_part}
+use Rattle.decision_law.specs.Times.{AreTimed}
 use Rattle.decision_law.specs.NeverLost.{written, committed, IsAnswered, IsLasting, IsCommitted, IsShownLater, IsNeverLost, AreNeverLost}
 use Rattle.decision_law.proofs.Placed.{answered_wanted}
 use Rattle.decision_law.proofs.Runs.{HasRun}
@@ -64,7 +62,7 @@ level_stable levels.Unstable object offset count behind are = are
 level_stable levels.DataSync object offset count behind are = tt
 level_stable levels.FileSync object offset count behind are = tt
 
-module _ (known : KnownCalls) (events : List Event) (are : AreRecorded (calls_of events) known.calls) (binds : Bindings) where
+module _ (known : KnownCalls) (start : ℕ → ℕ) (timed : AreTimed known start) (binds : Bindings) where
   -- where a lost place stands in its era
   record IsLostAt (e : ℕ) (era : EraPlan) (n : ℕ) (recorded : RecordedCall) : Type 0 where
     front : List Place
@@ -77,13 +75,13 @@ module _ (known : KnownCalls) (events : List Event) (are : AreRecorded (calls_of
     names : call_of place ≡ n
     may : may_place place recorded ≡ true
 
-  lost_at : (e : ℕ) (era : EraPlan) → EraFacts known events are binds e era → (n : ℕ) (recorded : RecordedCall) → call_at known.calls n ≡ Some recorded
+  lost_at : (e : ℕ) (era : EraPlan) → EraFacts known start timed binds e era → (n : ℕ) (recorded : RecordedCall) → call_at known.calls n ≡ Some recorded
       → IsAmong (map call_of (drop (cut_of era) era.places)) n → IsLostAt e era n recorded
   lost_at e era facts n recorded stands among =
       let p = place_of (drop (cut_of era) era.places) n among in
       let kept = take (cut_of era) era.places in
       let parts : era.places ≡ (kept ++ p.ahead) ++ p.place ∷ p.behind = sym (take-append-drop (cut_of era) era.places) ∙ ap (λ l. kept ++ l) p.stands ∙ sym (append_assoc kept p.ahead (p.place ∷ p.behind)) in
-      let at : IsPlaced known events are binds e p.place = (all_behind (IsPlaced known events are binds e) (kept ++ p.ahead) (p.place ∷ p.behind) (subst (AllByRecursion (IsPlaced known events are binds e)) parts facts.placed)).0 in
+      let at : IsPlaced known start timed binds e p.place = (all_behind (IsPlaced known start timed binds e) (kept ++ p.ahead) (p.place ∷ p.behind) (subst (AllByRecursion (IsPlaced known start timed binds e)) parts facts.placed)).0 in
       let same : Some at.0 ≡ Some recorded = sym at.1 ∙ (ap (call_at known.calls) p.names ∙ stands) in
       let is : at.0 ≡ recorded = cc in
       let many = length-append kept p.ahead in
@@ -119,7 +117,7 @@ module _ (known : KnownCalls) (events : List Event) (are : AreRecorded (calls_of
       })
 
   -- an answered call at another place of the era
-  answered_place : (e : ℕ) (place : Place) (recorded : RecordedCall) (n : ℕ) (call : NfsCall) (outcome : _) (at : ℕ) → IsPlaced known events are binds e place → call_of place ≡ n → IsAnswered known n recorded call outcome at
+  answered_place : (e : ℕ) (place : Place) (recorded : RecordedCall) (n : ℕ) (call : NfsCall) (outcome : _) (at : ℕ) → IsPlaced known start timed binds e place → call_of place ≡ n → IsAnswered known n recorded call outcome at
       → IsAnswered known (call_of place) recorded call outcome at × (may_place place recorded ≡ true)
   answered_place e place recorded n call outcome at placed names answered =
       let same : Some placed.0 ≡ Some recorded = sym placed.1 ∙ (ap (call_at known.calls) names ∙ answered.stands) in
@@ -138,7 +136,7 @@ module _ (known : KnownCalls) (events : List Event) (are : AreRecorded (calls_of
   not_write : {a : _} {b : _} → meanings.Judged (calls.Commit a) ≡ meanings.Judged (calls.Write b) → ⊥
   not_write is = cc
 
-  module _ (e : ℕ) (era : EraPlan) (facts : EraFacts known events are binds e era) (n : ℕ) (recorded : RecordedCall) (c : IsCommitted known n recorded) (of_era : recorded.era ≡ e)
+  module _ (e : ℕ) (era : EraPlan) (facts : EraFacts known start timed binds e era) (n : ℕ) (recorded : RecordedCall) (c : IsCommitted known n recorded) (of_era : recorded.era ≡ e)
       (at : IsLostAt e era n recorded) where
     -- the WRITE's reply came before the COMMIT was sent
     before : Precedes known.calls n c.later
@@ -158,17 +156,18 @@ module _ (known : KnownCalls) (events : List Event) (are : AreRecorded (calls_of
           | inl ahead ↦ absurd (not_ahead ahead)
           | inr it ↦ elim it [ inl same ↦ absurd (not_it same) | inr behind ↦ behind ]
         ] where
-      not_ahead : IsAmong (map call_of at.front) c.later → ⊥
-      not_ahead ahead =
-          let q = place_of at.front c.later ahead in
-          let none = none_ahead known.calls at.front at.place at.back (subst (RespectsOrder known.calls) at.whole facts.respects) in
-          let here = (all_behind (λ first. ¬ Precedes known.calls (call_of at.place) (call_of first)) q.ahead (q.place ∷ q.behind) (subst (AllByRecursion (λ first. ¬ Precedes known.calls (call_of at.place) (call_of first))) q.stands none)).0 in
-          here (subst (λ k. Precedes known.calls k (call_of q.place)) (sym at.names) (subst (λ k. Precedes known.calls n k) (sym q.names) before))
-      not_it : n ≡ c.later → ⊥
-      not_it same =
-          let there : Some recorded ≡ Some c.behind = sym c.answered.stands ∙ (ap (call_at known.calls) same ∙ c.commit_answered.stands) in
-          let is : recorded ≡ c.behind = cc in
-          not_write (sym c.commit_answered.judged ∙ (sym (ap (λ r. r.meaning) is) ∙ c.answered.judged))
+          not_ahead : IsAmong (map call_of at.front) c.later → ⊥
+          not_ahead ahead =
+              let q = place_of at.front c.later ahead in
+              let none = none_ahead known.calls at.front at.place at.back (subst (RespectsOrder known.calls) at.whole facts.respects) in
+              let here = (all_behind (λ first. ¬ Precedes known.calls (call_of at.place) (call_of first)) q.ahead (q.place ∷ q.behind) (subst (AllByRecursion (λ first. ¬ Precedes known.calls (call_of at.place) (call_of first))) q.stands none)).0 in
+              here (subst (λ k. Precedes known.calls k (call_of q.place)) (sym at.names) (subst (λ k. Precedes known.calls n k) (sym q.names) before))
+
+          not_it : n ≡ c.later → ⊥
+          not_it same =
+              let there : Some recorded ≡ Some c.behind = sym c.answered.stands ∙ (ap (call_at known.calls) same ∙ c.commit_answered.stands) in
+              let is : recorded ≡ c.behind = cc in
+              not_write (sym c.commit_answered.judged ∙ (sym (ap (λ r. r.meaning) is) ∙ c.answered.judged))
 
     committed_kept : KeepsStable binds known.calls era → ⊥
     committed_kept keeps =
@@ -180,8 +179,8 @@ module _ (known : KnownCalls) (events : List Event) (are : AreRecorded (calls_of
         (subst (λ k. IsAnswered known k recorded (calls.Write c.write) (written c.success) c.at) (sym at.names) c.answered) at.may
         ∙ ap (λ o. at_level c.success.level (of_object (λ named. Unstable named c.write.offset c.success.count) o)) object.1 in
         let whole_back : at.back ≡ q.ahead ++ q.place ∷ q.behind = q.stands in
-        let placed_back = (all_behind (IsPlaced known events are binds e) at.front (at.place ∷ at.back) (subst (AllByRecursion (IsPlaced known events are binds e)) at.whole facts.placed)).1 in
-        let q_placed : IsPlaced known events are binds e q.place = (all_behind (IsPlaced known events are binds e) q.ahead (q.place ∷ q.behind) (subst (AllByRecursion (IsPlaced known events are binds e)) whole_back placed_back)).0 in
+        let placed_back = (all_behind (IsPlaced known start timed binds e) at.front (at.place ∷ at.back) (subst (AllByRecursion (IsPlaced known start timed binds e)) at.whole facts.placed)).1 in
+        let q_placed : IsPlaced known start timed binds e q.place = (all_behind (IsPlaced known start timed binds e) q.ahead (q.place ∷ q.behind) (subst (AllByRecursion (IsPlaced known start timed binds e)) whole_back placed_back)).0 in
         let answered = answered_place e q.place c.behind c.later (calls.Commit c.commit) (committed c.commit_success) c.commit_at q_placed q.names c.commit_answered in
         let commit_effect : effect_at binds known.calls q.place ≡ Committed object.0 c.commit.offset c.commit.count =
         effect_so known binds q.place c.behind (calls.Commit c.commit) (committed c.commit_success) c.commit_at answered.0 answered.1
@@ -195,7 +194,7 @@ module _ (known : KnownCalls) (events : List Event) (are : AreRecorded (calls_of
         never_stable e era n recorded at keeps
         (subst (λ x. IsStable x (effects_of binds known.calls at.back)) (sym write_effect) (level_stable c.success.level object.0 c.write.offset c.success.count (effects_of binds known.calls at.back) are_committed))
 
-  module _ (whole : List EraPlan) (verifiers : VerifiersAgree known.calls whole) (facts : Facts known events are binds 1 whole) where
+  module _ (whole : List EraPlan) (verifiers : VerifiersAgree known.calls whole) (facts : Facts known start timed binds 1 whole) where
     shown_kept : (e : ℕ) (era : EraPlan) → era_at whole e ≡ Some era → (n : ℕ) (recorded : RecordedCall) → IsShownLater known n recorded → recorded.era ≡ e → IsLostAt e era n recorded → ⊥
     shown_kept e era there n recorded s of_era at =
         let answered = subst (λ k. IsAnswered known k recorded (calls.Write s.write) (written s.success) s.at) (sym at.names) s.answered in
@@ -208,10 +207,10 @@ module _ (known : KnownCalls) (events : List Event) (are : AreRecorded (calls_of
           verifier_so known binds at.place recorded (calls.Write s.write) (written s.success) s.at answered at.may,
         ) in
         let later_from = s.later_era in
-        let o = era_of_call known events are binds 1 whole facts s.later s.behind s.later_answered.stands (answered_wanted known s.later s.behind s.call s.outcome s.later_at s.later_answered) (omega (arith, later_from)) in
+        let o = era_of_call known start timed binds 1 whole facts s.later s.behind s.later_answered.stands (answered_wanted known s.later s.behind s.call s.outcome s.later_at s.later_answered) (omega (arith, later_from)) in
         let q = place_of o.era.places s.later o.among in
-        let q_placed : IsPlaced known events are binds s.behind.era q.place =
-        (all_behind (IsPlaced known events are binds s.behind.era) q.ahead (q.place ∷ q.behind) (subst (AllByRecursion (IsPlaced known events are binds s.behind.era)) q.stands o.placed)).0 in
+        let q_placed : IsPlaced known start timed binds s.behind.era q.place =
+        (all_behind (IsPlaced known start timed binds s.behind.era) q.ahead (q.place ∷ q.behind) (subst (AllByRecursion (IsPlaced known start timed binds s.behind.era)) q.stands o.placed)).0 in
         let later = answered_place s.behind.era q.place s.behind s.later s.call s.outcome s.later_at q_placed q.names s.later_answered in
         let shows_later : Shows known.calls o.era.places s.success.verifier.value = (
           q.place,
@@ -220,13 +219,14 @@ module _ (known : KnownCalls) (events : List Event) (are : AreRecorded (calls_of
         ) in
         let is_of = o.is_of in
         verifiers.across e (suc o.further) s.success.verifier.value era o.era (omega (arith, later_from, of_era, is_of)) there o.there loses shows shows_later where
-      lt_true : (a b : ℕ) → a < b → nat_lt a b ≡ true
-      lt_true a b less = grind (arith, less)
+          lt_true : (a b : ℕ) → a < b → nat_lt a b ≡ true
+          lt_true a b less = grind (arith, less)
 
-    pub are_kept : (never_lost : ℕ → Bool) (told : AreNeverLost known never_lost) → CutsKeepStable binds known.calls whole → AreKept known events are binds never_lost told whole
+    pub are_kept : (never_lost : ℕ → Bool) (told : AreNeverLost known never_lost) → CutsKeepStable binds known.calls whole → AreKept known start timed binds never_lost told whole
     are_kept never_lost told cuts e era there less era_facts n recorded never of_era lost = go never where
       keeps : KeepsStable binds known.calls era
       keeps = cuts e era there less
+
       go : IsNeverLost known n recorded → ⊥
       go (inl lasts) = lasting_kept e era keeps n recorded lasts (lost_at e era era_facts n recorded lasts.answered.stands lost)
       go (inr (inl c)) = committed_kept e era era_facts n recorded c of_era (lost_at e era era_facts n recorded c.answered.stands lost) keeps

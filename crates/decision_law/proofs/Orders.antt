@@ -1,11 +1,8 @@
 -- A plan that is a witness is a witness of eras, and so one order.
 use Rattle.std.proofs.Common.{◌≡◌, ◌⊎◌, inl, inr, ℕ, zero, suc, ◌+◌, ◌-◌, ◌<◌, ◌≤◌, nat_le, Bool, true, false, cond, IsTrue, List, [], ◌∷◌, ◌++◌, length, take, drop, map, Option, Some, None, refl, sym, ap, subst, ◌∙◌, arith, append-nil}
 use Rattle.std.specs.List.{AllByRecursion}
-use Rattle.history_file.specs.Event.{Event, Recording}
 use Rattle.nfs_history.specs.declared.history.RecordedCall.{RecordedCall}
 use Rattle.nfs_history.specs.declared.knowing.KnownCalls.{KnownCalls}
-use Rattle.nfs_history.specs.Calls.{calls_of}
-use Rattle.nfs_history.specs.History.{AreRecorded, AreCallsOf}
 use Rattle.nfs_history.specs.Precedence.{call_at}
 use Rattle.certificate.specs.declared.plan.Certificate.{Certificate}
 use Rattle.certificate.specs.declared.plan.Place.{Place}
@@ -21,7 +18,7 @@ use Rattle.decision_core.specs.Eras.{PlanEra, part_of, order_of, PlanRuns, IsEra
 use Rattle.decision_core.proofs.Orders.{all_ahead, all_behind}
 use Rattle.decision_core.proofs.Walk.{among_ahead, among_last}
 use Rattle.decision_core.proofs.ErasWalk.{eras_are_one_order}
-use Rattle.decision_law.specs.Times.{era_start, is_of_call, era_ended, numbering_of, times_of}
+use Rattle.decision_law.specs.Times.{AreTimed, is_of_call, era_ended, numbering_of, times_of}
 use Rattle.cut_check.specs.Places.{era_at}
 use Rattle.decision_law.specs.NeverLost.{AreNeverLost}
 use Rattle.decision_law.specs.Machine.{Changes, IsOrder}
@@ -92,11 +89,11 @@ module _ (known : KnownCalls) (never_lost : ℕ → Bool) where
     may_be (e + 1) eras (all_behind (λ p. IsTrue (is_placeable known.calls p)) (map (at_era e) era.places) (order_from (e + 1) eras) right),
   )
 
-  module _ (seen : Recording) (plan : Certificate) (are : AreCallsOf seen known) (told : AreNeverLost known never_lost) (witness : IsWitness known plan) where
+  module _ (start : ℕ → ℕ) (plan : Certificate) (timed : AreTimed known start) (told : AreNeverLost known never_lost) (witness : IsWitness known plan) where
     runs : PlanRuns (Changes known (binds_of known plan)) (base_of known) (eras_of_plan plan.eras)
     runs = plan_runs known (binds_of known plan) (base_of known) plan.eras (may_be 1 plan.eras witness.shape.right) witness.runs
 
-    facts : Facts known seen.events are.calls (binds_of known plan) 1 plan.eras
+    facts : Facts known start timed (binds_of known plan) 1 plan.eras
     facts = record {
       of_their_eras = witness.shape.of_their_eras;
       right = witness.shape.right;
@@ -107,11 +104,11 @@ module _ (known : KnownCalls) (never_lost : ℕ → Bool) where
       ran = have_run known (binds_of known plan) (base_of known) plan.eras runs;
     }
 
-    complete : (n at : ℕ) → (times_of known seen.events).end_of n ≡ Some at → IsAmong (order_of (numbering_of known never_lost) 1 (eras_of_plan plan.eras)) n
-    complete n at ends = elim (which known seen.events n) [
-      | inl is ↦ let c = wanted_end (call_at known.calls n) at (sym (of_call known seen.events n _ _ is) ∙ ends) in
+    complete : (n at : ℕ) → (times_of known start).end_of n ≡ Some at → IsAmong (order_of (numbering_of known never_lost) 1 (eras_of_plan plan.eras)) n
+    complete n at ends = elim (which known start n) [
+      | inl is ↦ let c = wanted_end (call_at known.calls n) at (sym (of_call known start n _ _ is) ∙ ends) in
           named_in_order 1 plan.eras n (witness.shape.complete n c.0 c.1 c.2)
-      | inr is ↦ let within = crash_within (nat_le (era_ended known n) known.eras) (era_start seen.events (era_ended known n + 1)) at (sym (crash_end known seen.events are.calls n is) ∙ ends) in
+      | inr is ↦ let within = crash_within (nat_le (era_ended known n) known.eras) (start (era_ended known n + 1)) at (sym (crash_end known start timed n is) ∙ ends) in
           let behind = behind_calls n is in
           let most = at_most (era_ended known n) known.eras within in
           let same : length known.calls + era_ended known n ≡ n = omega (arith, behind) in
@@ -121,16 +118,16 @@ module _ (known : KnownCalls) (never_lost : ℕ → Bool) where
           (crash_in_order 1 (eras_of_plan plan.eras) (era_ended known n) (omega (arith, behind)) (omega (arith, most, many, eras)))
     ]
 
-    pub era_witness : IsEraWitness (Changes known (binds_of known plan)) (times_of known seen.events) (numbering_of known never_lost) known.eras (base_of known) (eras_of_plan plan.eras)
+    pub era_witness : IsEraWitness (Changes known (binds_of known plan)) (times_of known start) (numbering_of known never_lost) known.eras (base_of known) (eras_of_plan plan.eras)
     era_witness = record {
       as_many_eras = as_many plan.eras ∙ witness.shape.as_many_eras;
-      shape = plan_shape known seen.events are.calls (binds_of known plan) never_lost told plan.eras
-          (are_kept known seen.events are.calls (binds_of known plan) plan.eras witness.verifiers facts never_lost told witness.cuts) 1 plan.eras facts
+      shape = plan_shape known start timed (binds_of known plan) never_lost told plan.eras
+          (are_kept known start timed (binds_of known plan) plan.eras witness.verifiers facts never_lost told witness.cuts) 1 plan.eras facts
           (omega arith, (λ k era at. let same : suc k ≡ 1 + k = omega arith in subst (λ j. era_at plan.eras j ≡ Some era) same at));
       runs = runs;
       complete = complete;
     }
 
-    pub is_order : IsOrder known seen.events never_lost (binds_of known plan) (order_of (numbering_of known never_lost) 1 (eras_of_plan plan.eras))
-    is_order = eras_are_one_order (Changes known (binds_of known plan)) (numbering_of known never_lost) (times_of known seen.events) known.eras (era_start seen.events)
-        (numbered known seen.events are.calls never_lost) (base_of known) (eras_of_plan plan.eras) era_witness
+    pub is_order : IsOrder known start never_lost (binds_of known plan) (order_of (numbering_of known never_lost) 1 (eras_of_plan plan.eras))
+    is_order = eras_are_one_order (Changes known (binds_of known plan)) (numbering_of known never_lost) (times_of known start) known.eras (start)
+        (numbered known start timed never_lost) (base_of known) (eras_of_plan plan.eras) era_witness

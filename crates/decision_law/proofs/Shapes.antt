@@ -5,11 +5,8 @@ use Rattle.std.specs.List.{AllByRecursion, list_any}
 use Rattle.std.proofs.lemmas.Bool.{eqb-true, false≢true}
 use Rattle.std.proofs.lemmas.List.{take-append-drop, map-append}
 use Rattle.std.proofs.lemmas.List.Folds.{list_any-append}
-use Rattle.history_file.specs.Event.{Event}
 use Rattle.nfs_history.specs.declared.history.RecordedCall.{RecordedCall}
 use Rattle.nfs_history.specs.declared.knowing.KnownCalls.{KnownCalls}
-use Rattle.nfs_history.specs.Calls.{calls_of}
-use Rattle.nfs_history.specs.History.{AreRecorded}
 use Rattle.nfs_history.specs.Precedence as precedence
 use Rattle.nfs_history.specs.Precedence.{call_at}
 use Rattle.certificate.specs.declared.plan.Place.{Place}
@@ -24,7 +21,7 @@ use Rattle.cut_check.specs.Places.{era_at}
 use Rattle.decision_core.specs.Times.{Times, Precedes, RespectsOrder, IsAmong, IsOnce}
 use Rattle.decision_core.specs.Eras.{PlanEra, EraShape, PlanShape}
 use Rattle.decision_core.proofs.Orders.{all_ahead, all_behind}
-use Rattle.decision_law.specs.Times.{may_stand, is_of_call, era_ended, era_of_number, numbering_of, times_of}
+use Rattle.decision_law.specs.Times.{AreTimed, may_stand, is_of_call, era_ended, era_of_number, numbering_of, times_of}
 use Rattle.decision_law.specs.NeverLost.{IsAnswered, IsNeverLost, AreNeverLost}
 use Rattle.decision_law.specs.Plans.{cut_era, whole_era, eras_of_plan}
 use Rattle.decision_law.proofs.Numbered.{passing, wanted_end, of_call, its_era}
@@ -137,7 +134,7 @@ cut_fits (Some kept) many fits = fits
 pub numbers_parted : (cut : ℕ) (places : List Place) → map call_of (take cut places) ++ map call_of (drop cut places) ≡ map call_of places
 numbers_parted cut places = sym (map-append call_of (take cut places) (drop cut places)) ∙ ap (map call_of) (take-append-drop cut places)
 
-module _ (known : KnownCalls) (events : List Event) (are : AreRecorded (calls_of events) known.calls) (binds : Bindings) where
+module _ (known : KnownCalls) (start : ℕ → ℕ) (timed : AreTimed known start) (binds : Bindings) where
   -- what is asked of a plan, of these eras, the first of which has this number
   pub record Facts (e : ℕ) (eras : List EraPlan) : Type 0 where
     pub of_their_eras : AllByRecursion (λ p. IsTrue (is_of_era known.calls p)) (order_from e eras)
@@ -166,28 +163,28 @@ module _ (known : KnownCalls) (events : List Event) (are : AreRecorded (calls_of
 
   -- a call of the era
   abbrev IsReal : ℕ → ℕ → Type 0
-  IsReal e n = IsTrue ((times_of known events).is_call n) × (era_of_number known n ≡ e) × IsTrue (is_of_call known n)
+  IsReal e n = IsTrue ((times_of known start).is_call n) × (era_of_number known n ≡ e) × IsTrue (is_of_call known n)
 
   real : (e : ℕ) (place : Place) → IsPlaced e place → IsReal e (call_of place)
   real e place (recorded, stands, era, may) =
       let is = is_call_number known (call_of place) recorded stands in (
-        of_call known events (call_of place) (passes may_stand (call_at known.calls (call_of place))) (nat_le (era_ended known (call_of place)) known.eras) is
+        of_call known start (call_of place) (passes may_stand (call_at known.calls (call_of place))) (nat_le (era_ended known (call_of place)) known.eras) is
             ∙ ap (passes may_stand) stands ∙ stands_placed place recorded may,
-        its_era known events are (call_of place) is recorded stands ∙ era,
+        its_era known start timed (call_of place) is recorded stands ∙ era,
         is,
       )
 
   -- what ends so by the times ends so by the calls
-  not_before : (m n : ℕ) → is_of_call known m ≡ true → is_of_call known n ≡ true → ¬ precedence.Precedes known.calls m n → ¬ Precedes (times_of known events) m n
+  not_before : (m n : ℕ) → is_of_call known m ≡ true → is_of_call known n ≡ true → ¬ precedence.Precedes known.calls m n → ¬ Precedes (times_of known start) m n
   not_before m n is_m is_n not before =
-      let ends = wanted_end (call_at known.calls m) before.0 (sym (of_call known events m (option_and_then _ (call_at known.calls m)) _ is_m) ∙ before.1) in
-      not (before.0, ap (option_and_then (λ call. call.«end»)) ends.1 ∙ ends.3, subst (λ b. before.0 < b) (of_call known events n (precedence.begin_of known.calls n) _ is_n) before.2)
+      let ends = wanted_end (call_at known.calls m) before.0 (sym (of_call known start m (option_and_then _ (call_at known.calls m)) _ is_m) ∙ before.1) in
+      not (before.0, ap (option_and_then (λ call. call.«end»)) ends.1 ∙ ends.3, subst (λ b. before.0 < b) (of_call known start n (precedence.begin_of known.calls n) _ is_n) before.2)
 
-  respects_so : (e : ℕ) (places : List Place) → AllByRecursion (IsPlaced e) places → order.RespectsOrder known.calls places → RespectsOrder (times_of known events) (map call_of places)
+  respects_so : (e : ℕ) (places : List Place) → AllByRecursion (IsPlaced e) places → order.RespectsOrder known.calls places → RespectsOrder (times_of known start) (map call_of places)
   respects_so e [] placed respects = tt
   respects_so e (place ∷ places) placed respects = (
-    all_numbers (λ m. ¬ Precedes (times_of known events) m (call_of place)) places
-        (all_weaker (λ later. IsPlaced e later × ¬ precedence.Precedes known.calls (call_of later) (call_of place)) (λ later. ¬ Precedes (times_of known events) (call_of later) (call_of place))
+    all_numbers (λ m. ¬ Precedes (times_of known start) m (call_of place)) places
+        (all_weaker (λ later. IsPlaced e later × ¬ precedence.Precedes known.calls (call_of later) (call_of place)) (λ later. ¬ Precedes (times_of known start) (call_of later) (call_of place))
         (λ later p. not_before (call_of later) (call_of place) (real e later p.0).2 (real e place placed.0).2 p.1) places
         (all_both (IsPlaced e) (λ later. ¬ precedence.Precedes known.calls (call_of later) (call_of place)) places placed.1 respects.0)),
     respects_so e places placed.1 respects.1,
@@ -287,13 +284,13 @@ module _ (known : KnownCalls) (events : List Event) (are : AreRecorded (calls_of
 
   -- an era's shape, however its places are parted
   shape_of : (never_lost : ℕ → Bool) (e : ℕ) (era : EraPlan) (eras : List EraPlan) → Facts e (era ∷ eras) → (parts : PlanEra) → parts.kept ++ parts.lost ≡ map call_of era.places
-      → ((n : ℕ) → IsTrue (never_lost n) → era_of_number known n ≡ e → IsAmong parts.kept n) → EraShape (times_of known events) (numbering_of known never_lost) e parts
+      → ((n : ℕ) → IsTrue (never_lost n) → era_of_number known n ≡ e → IsAmong parts.kept n) → EraShape (times_of known start) (numbering_of known never_lost) e parts
   shape_of never_lost e era eras facts parts is stable =
       let placed = all_placed e era eras facts in
       record {
         calls = subst (AllByRecursion (IsReal e)) (sym is) (all_numbers (IsReal e) era.places (all_weaker (IsPlaced e) (λ place. IsReal e (call_of place)) (real e) era.places placed));
         once = subst IsOnce (sym is) (once_places e era.places (order_from (e + 1) eras) facts.once);
-        respects = subst (RespectsOrder (times_of known events)) (sym is) (respects_so e era.places placed facts.respects.0);
+        respects = subst (RespectsOrder (times_of known start)) (sym is) (respects_so e era.places placed facts.respects.0);
         stable = stable;
       }
 
@@ -304,7 +301,7 @@ module _ (known : KnownCalls) (events : List Event) (are : AreRecorded (calls_of
     place_here e era facts n never is =
         let call = told n never in
         let w = wanted_call known n call.0 call.1 in
-        let of_era : call.0.era ≡ e = sym (its_era known events are n (is_call_number known n call.0 w.0) call.0 w.0) ∙ is in
+        let of_era : call.0.era ≡ e = sym (its_era known start timed n (is_call_number known n call.0 w.0) call.0 w.0) ∙ is in
         (call.0, call.1, of_era, facts.named n call.0 w.0 w.1 of_era)
 
     -- no such call is past the cut of an era that a crash ended
@@ -337,7 +334,7 @@ module _ (known : KnownCalls) (events : List Event) (are : AreRecorded (calls_of
       first_last : (e : ℕ) (era : EraPlan) (eras : List EraPlan) → AreLast e (era ∷ eras) → era_at whole e ≡ Some era
       first_last e era eras last = let same : e + 0 ≡ e = omega arith in subst (λ j. era_at whole j ≡ Some era) same (last.1 0 era refl)
 
-      pub plan_shape : (e : ℕ) (eras : List EraPlan) → Facts e eras → AreLast e eras → PlanShape (times_of known events) (numbering_of known never_lost) e (eras_of_plan eras)
+      pub plan_shape : (e : ℕ) (eras : List EraPlan) → Facts e eras → AreLast e eras → PlanShape (times_of known start) (numbering_of known never_lost) e (eras_of_plan eras)
       plan_shape e [] facts last = tt
       plan_shape e (era ∷ []) facts last = (
         shape_of never_lost e era [] facts (whole_era era) (append-nil (map call_of era.places)) (λ n never is. (place_here e era (first_facts e era [] facts) n never is).3),

@@ -5,10 +5,11 @@ use Rattle.std.specs.List.{AllByRecursion, slice_get}
 use Rattle.history_file.specs.Event.{Event}
 use Rattle.history_file.specs.Event.Event.{call, reply, close, crash}
 use Rattle.nfs_history.specs.declared.history.RecordedCall.{RecordedCall}
+use Rattle.nfs_history.specs.declared.knowing.KnownCalls.{KnownCalls}
 use Rattle.nfs_history.specs.Calls.{CallEvent, ReplyEvent, first_reply, calls_from, xid_of}
 use Rattle.nfs_history.specs.History.{IsRecorded, AreRecorded}
 use Rattle.nfs_history.specs.Precedence.{call_at}
-use Rattle.decision_law.specs.Times.{crash_at, era_start}
+use Rattle.decision_law.specs.Times.{crash_at, era_start, IsTimed, AreTimed}
 
 -- ---- crashes, one behind the other
 
@@ -140,13 +141,6 @@ pub recorded_at : (P : CallEvent → Type 0) (cs : List CallEvent) (calls : List
 recorded_at P cs calls all are zero recorded stands = absurd cc
 recorded_at P cs calls all are (suc n) recorded stands = recorded_get P cs calls all are n recorded stands
 
--- when a recorded call begins and ends
-pub record IsTimed (events : List Event) (recorded : RecordedCall) : Type 0 where
-  pub of_some_era : 1 ≤ recorded.era
-  pub begins_late : era_start events recorded.era ≤ recorded.begin
-  pub begins_early : recorded.begin ≤ era_start events (recorded.era + 1)
-  pub ends_late : (at : ℕ) → recorded.«end» ≡ Some at → recorded.begin < at
-
 -- the first era begins ahead of all events
 started : (d : ℕ) (events : List Event) (begin : ℕ) → begun 1 d events ≤ begin → era_start events (suc d) ≤ begin
 started zero events begin h = omega arith
@@ -156,19 +150,21 @@ answer_number : (o : Option ReplyEvent) (begin at : ℕ) → ((r : ReplyEvent) �
 answer_number None begin at late is = absurd cc
 answer_number (Some r) begin at late is = let h = late r refl in let same : r.number ≡ at = cc in omega (arith, h, same)
 
-timed : (events : List Event) (c : CallEvent) (recorded : RecordedCall) → IsIn 1 1 events c → IsRecorded c recorded → IsTimed events recorded
+timed : (events : List Event) (c : CallEvent) (recorded : RecordedCall) → IsIn 1 1 events c → IsRecorded c recorded → IsTimed (era_start events) recorded
 timed events c recorded is told =
     let era : recorded.era ≡ suc is.further = (let a = told.era in let b = is.of_era in omega (arith, a, b)) in
     let next : recorded.era + 1 ≡ suc (suc is.further) = omega (arith, era) in
     let begin = told.begin in
     record {
-      of_some_era = omega (arith, era);
       begins_late = subst (λ e. era_start events e ≤ recorded.begin) (sym era) (subst (λ b. era_start events (suc is.further) ≤ b) (sym begin) (started is.further events c.begin is.behind));
       begins_early = subst (λ e. recorded.begin ≤ era_start events e) (sym next) (subst (λ b. b ≤ crash_at 1 is.further events) (sym begin) (let h = is.ahead in omega (arith, h)));
       ends_late = λ at ends. subst (λ b. b < at) (sym begin) (answer_number c.answer c.begin at is.ends (sym told.«end» ∙ ends));
     }
 
-pub timed_at : (events : List Event) (calls : List RecordedCall) → AreRecorded (calls_from 1 1 events) calls → (n : ℕ) (recorded : RecordedCall) → call_at calls n ≡ Some recorded → IsTimed events recorded
-timed_at events calls are n recorded stands =
-    let c = recorded_at (IsIn 1 1 events) (calls_from 1 1 events) calls (all_in 1 1 events) are n recorded stands in
-    timed events c.0 recorded c.1 c.2
+pub are_timed : (events : List Event) (known : KnownCalls) → AreRecorded (calls_from 1 1 events) known.calls → AreTimed known (era_start events)
+are_timed events known are = record {
+  rises = start_rises events;
+  timed = λ n recorded stands.
+      let c = recorded_at (IsIn 1 1 events) (calls_from 1 1 events) known.calls (all_in 1 1 events) are n recorded stands in
+      timed events c.0 recorded c.1 c.2;
+}

@@ -9,7 +9,7 @@ use Rattle.cut_check.specs.Places.{bindings_of}
 use Rattle.witness_check.specs.Run.{base_of}
 use Rattle.witness_check.specs.Witness.{IsWitness}
 use Rattle.decision_core.specs.Eras.{IsNumbering, IsEraWitness, order_of}
-use Rattle.decision_law.specs.Times.{era_start, times_of, numbering_of}
+use Rattle.decision_law.specs.Times.{AreTimed, era_start, times_of, numbering_of}
 use Rattle.decision_law.specs.Machine.{Changes, IsOrder}
 use Rattle.decision_law.specs.NeverLost.{AreNeverLost}
 use Rattle.decision_law.specs.Plans.{eras_of_plan}
@@ -18,22 +18,32 @@ use Rattle.decision_law.specs.Plans.{eras_of_plan}
 abbrev pub binds_of : KnownCalls → Certificate → Bindings
 binds_of known plan = bindings_of known.head.root plan.binds
 
--- the eras of a history are those of its numbers and times
-abbrev pub ErasAreNumbered : Type 0
-ErasAreNumbered = (seen : Recording) (known : KnownCalls) (never_lost : ℕ → Bool) → AreCallsOf seen known
-    → IsNumbering (times_of known seen.events) (numbering_of known never_lost) known.eras (era_start seen.events)
+-- the calls of a history begin and end as its eras say
+abbrev pub CallsAreTimed : Type 0
+CallsAreTimed = (seen : Recording) (known : KnownCalls) → AreCallsOf seen known → AreTimed known (era_start seen.events)
 
--- the eras of a witness are a witness of eras
-abbrev pub ErasAreWitness : Type 0
-ErasAreWitness = (seen : Recording) (known : KnownCalls) (never_lost : ℕ → Bool) (plan : Certificate) → AreCallsOf seen known → AreNeverLost known never_lost → IsWitness known plan
-    → IsEraWitness (Changes known (binds_of known plan)) (times_of known seen.events) (numbering_of known never_lost) known.eras (base_of known) (eras_of_plan plan.eras)
+module _ (known : KnownCalls) (start : ℕ → ℕ) (never_lost : ℕ → Bool) where
+  -- the eras are those of the calls' and the crashes' numbers and times
+  abbrev pub AreNumbered : Type 0
+  AreNumbered = IsNumbering (times_of known start) (numbering_of known never_lost) known.eras start
 
--- a witness is one order, in which each crash is a call
-abbrev pub WitnessIsOrder : Type 0
-WitnessIsOrder = (seen : Recording) (known : KnownCalls) (never_lost : ℕ → Bool) (plan : Certificate) → AreCallsOf seen known → AreNeverLost known never_lost → IsWitness known plan
-    → IsOrder known seen.events never_lost (binds_of known plan) (order_of (numbering_of known never_lost) 1 (eras_of_plan plan.eras))
+  -- the eras of the plan are a witness of eras, and one order, in which each crash is a call
+  abbrev pub HasEraWitness : Certificate → Type 0
+  HasEraWitness plan = IsEraWitness (Changes known (binds_of known plan)) (times_of known start) (numbering_of known never_lost) known.eras (base_of known) (eras_of_plan plan.eras)
 
--- where there is no order, whatever the handles name, no plan is a witness
+  abbrev pub HasOrder : Certificate → Type 0
+  HasOrder plan = IsOrder known start never_lost (binds_of known plan) (order_of (numbering_of known never_lost) 1 (eras_of_plan plan.eras))
+
+  -- no order is there, whatever the handles name
+  abbrev pub HasNoOrder : Type 0
+  HasNoOrder = (binds : Bindings) (order : List ℕ) → ¬ IsOrder known start never_lost binds order
+
+-- what a witness comes to, where the calls are timed and those are never lost of which it is told
+abbrev pub OfEachWitness : (KnownCalls → (ℕ → ℕ) → (ℕ → Bool) → Certificate → Type 0) → Type 0
+OfEachWitness Comes = (known : KnownCalls) (start : ℕ → ℕ) (never_lost : ℕ → Bool) (plan : Certificate) → AreTimed known start → AreNeverLost known never_lost → IsWitness known plan
+    → Comes known start never_lost plan
+
+-- where there is no order no plan is a witness
 abbrev pub NoOrderNoWitness : Type 0
-NoOrderNoWitness = (seen : Recording) (known : KnownCalls) (never_lost : ℕ → Bool) → AreCallsOf seen known → AreNeverLost known never_lost
-    → ((binds : Bindings) (order : List ℕ) → ¬ IsOrder known seen.events never_lost binds order) → (plan : Certificate) → ¬ IsWitness known plan
+NoOrderNoWitness = (known : KnownCalls) (start : ℕ → ℕ) (never_lost : ℕ → Bool) → AreTimed known start → AreNeverLost known never_lost → HasNoOrder known start never_lost
+    → (plan : Certificate) → ¬ IsWitness known plan

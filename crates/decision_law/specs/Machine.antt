@@ -7,7 +7,6 @@ use Rattle.nfs_history.specs.declared.history.Meaning.TheVariants as meanings
 use Rattle.nfs_history.specs.declared.history.RecordedCall.{RecordedCall}
 use Rattle.nfs_history.specs.declared.knowing.KnownCalls.{KnownCalls}
 use Rattle.nfs_history.specs.Precedence.{call_at}
-use Rattle.history_file.specs.Event.{Event}
 use Rattle.order_check.specs.Places.{may_take}
 use Rattle.tree_nodes.specs.Tree.{Tree}
 use Rattle.tree_handles.specs.Binding.{Bindings}
@@ -45,6 +44,6 @@ module _ (known : KnownCalls) where
   abbrev pub Next : (ℕ → Bool) → Bindings → Point → ℕ → Point → Type 0
   Next never_lost binds = EraNext (Changes binds) (numbering_of known never_lost)
 
-  -- the order of calls and crashes has all answered calls and all crashes, respects real time, and runs
-  abbrev pub IsOrder : List Event → (ℕ → Bool) → Bindings → List ℕ → Type 0
-  IsOrder events never_lost binds order = core.IsWitness is_placed (Next never_lost binds) (times_of known events) first_point order
+  -- where the eras begin at these events, the order of calls and crashes has all answered calls and all crashes, respects real time, and runs
+  abbrev pub IsOrder : (ℕ → ℕ) → (ℕ → Bool) → Bindings → List ℕ → Type 0
+  IsOrder start never_lost binds order = core.IsWitness is_placed (Next never_lost binds) (times_of known start) first_point order

@@ -1,7 +1,7 @@
 -- When the calls and the crashes of a history begin and end, as a walk over its events knows them (Herlihy and Wing 1990, section
 -- 2; that a crash is one more call, sent and answered at once, is this project's own). Call n of a history has number n; the crash that
 -- ends era e, or behind the last era the end of the events, has a number behind those of the calls.
-use Rattle.std.specs.Prelude.{ℕ, zero, suc, ◌+◌, ◌-◌, ◌&&◌, ◌||◌, nat_le, Bool, cond, List, [], ◌∷◌, length, Option, Some, None, is_none, option_and_then}
+use Rattle.std.specs.Prelude.{◌≡◌, ℕ, zero, suc, ◌+◌, ◌<◌, ◌≤◌, ◌-◌, ◌&&◌, ◌||◌, nat_le, Bool, cond, List, [], ◌∷◌, length, Option, Some, None, is_none, option_and_then}
 use Rattle.std.specs.Option.{option_map_or}
 use Rattle.history_file.specs.Event.{Event}
 use Rattle.history_file.specs.Event.Event.{call, reply, close, crash}
@@ -26,6 +26,17 @@ abbrev pub era_start : List Event → ℕ → ℕ
 era_start events zero = 0
 era_start events (suc zero) = 0
 era_start events (suc (suc k)) = crash_at 1 k events
+
+-- a call begins in its era, and ends behind its begin, where the eras begin at these events
+pub record IsTimed (start : ℕ → ℕ) (recorded : RecordedCall) : Type 0 where
+  pub begins_late : start recorded.era ≤ recorded.begin
+  pub begins_early : recorded.begin ≤ start (recorded.era + 1)
+  pub ends_late : (at : ℕ) → recorded.«end» ≡ Some at → recorded.begin < at
+
+-- so does each call, and no era begins ahead of an earlier one
+pub record AreTimed (known : KnownCalls) (start : ℕ → ℕ) : Type 0 where
+  pub rises : (e f : ℕ) → e ≤ f → start e ≤ start f
+  pub timed : (n : ℕ) (recorded : RecordedCall) → call_at known.calls n ≡ Some recorded → IsTimed start recorded
 
 -- an unanswered call that changes the tree, which a plan may take as done
 abbrev pub may_be_taken : RecordedCall → Bool
@@ -56,12 +67,12 @@ module _ (known : KnownCalls) where
   abbrev pub numbering_of : (ℕ → Bool) → Numbering
   numbering_of never_lost = record { is_real = is_of_call; is_stable = never_lost; era_of = era_of_number; crash = λ e. length known.calls + e }
 
-  module _ (events : List Event) where
+  module _ (start : ℕ → ℕ) where
     -- the crash that ends era e begins and ends where the next era begins
     abbrev pub times_of : Times
     times_of = record {
       is_call = λ n. cond (is_of_call n) (passes may_stand (call_at known.calls n)) (nat_le (era_ended n) known.eras);
-      begin_of = λ n. cond (is_of_call n) (begin_of known.calls n) (era_start events (era_ended n + 1));
+      begin_of = λ n. cond (is_of_call n) (begin_of known.calls n) (start (era_ended n + 1));
       end_of = λ n. cond (is_of_call n) (option_and_then answered_end (call_at known.calls n))
-          (cond (nat_le (era_ended n) known.eras) (Some (era_start events (era_ended n + 1))) None);
+          (cond (nat_le (era_ended n) known.eras) (Some (start (era_ended n + 1))) None);
     }

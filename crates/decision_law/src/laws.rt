@@ -1,18 +1,25 @@
 //! From a plan of eras to one order of calls and crashes.
 
-ghost use Rattle.decision_law.specs.Laws.{ErasAreNumbered, ErasAreWitness, WitnessIsOrder, NoOrderNoWitness};
+ghost use Rattle.std.specs.Prelude.{ℕ, Bool};
+ghost use Rattle.nfs_history.specs.declared.knowing.KnownCalls.{KnownCalls};
+ghost use Rattle.decision_law.specs.Times.{AreTimed};
+ghost use Rattle.decision_law.specs.Laws.{CallsAreTimed, AreNumbered, HasEraWitness, HasOrder, OfEachWitness, NoOrderNoWitness};
 
-/// The eras of a history follow one another: each call begins in its era and ends behind its begin, and each era's crash is where the
-/// next one begins.
-pub fn eras_are_numbered()
-    ensures { ErasAreNumbered }
+/// The calls of a history begin and end as its eras say: each in its era, and each end behind its begin. So the numbers of its calls
+/// and its crashes are a numbering by eras.
+pub fn calls_are_timed()
+    ensures timed { CallsAreTimed }
+    ensures numbered { (known : KnownCalls) (start : ℕ → ℕ) (never_lost : ℕ → Bool) → AreTimed known start → AreNumbered known start never_lost }
 {}
 
-/// A plan that is a witness is a witness of eras over the machine of the tree's rules under what the plan's handles name (`eras`), and
-/// so one order of calls and crashes that has all answered calls, respects real time and runs (`order`). So where no such order is
-/// there, whatever handles name, no plan is a witness (`none`).
+/// A plan that is a witness is a witness of eras over the machine of the tree's rules, under what the plan's handles name (`eras`); and
+/// so one order of calls and crashes that has all answered calls, respects real time and runs (`order`).
+pub fn a_witness_is_one_order()
+    ensures eras { OfEachWitness HasEraWitness }
+    ensures order { OfEachWitness HasOrder }
+{}
+
+/// Where no order of calls and crashes is there, whatever handles name, no plan is a witness of the history.
 pub fn no_order_no_witness()
-    ensures eras { ErasAreWitness }
-    ensures order { WitnessIsOrder }
-    ensures none { NoOrderNoWitness }
+    ensures { NoOrderNoWitness }
 {}

@@ -4,4 +4,4 @@
 
 mod laws;
 
-pub use laws::{eras_are_numbered, no_order_no_witness};
+pub use laws::{a_witness_is_one_order, calls_are_timed, no_order_no_witness};
