@@ -8,6 +8,7 @@ use Rattle.nfs3_types.specs.declared.calls.NfsCall.{NfsCall}
 use Rattle.nfs3_types.specs.declared.calls.NfsCall.TheVariants as calls
 use Rattle.nfs3_types.specs.declared.calls.StableHow.{StableHow}
 use Rattle.nfs3_types.specs.declared.calls.StableHow.TheVariants as levels
+use Rattle.nfs3_types.specs.declared.replies.Outcome.{Outcome}
 use Rattle.nfs_history.specs.declared.history.Meaning.TheVariants as meanings
 use Rattle.nfs_history.specs.declared.history.RecordedCall.{RecordedCall}
 use Rattle.nfs_history.specs.declared.knowing.KnownCalls.{KnownCalls}
@@ -16,7 +17,7 @@ use Rattle.certificate.specs.declared.plan.Place.{Place}
 use Rattle.certificate.specs.declared.plan.EraPlan.{EraPlan}
 use Rattle.certificate.specs.Plan.{call_of, cut_of}
 use Rattle.order_check.specs.Order.{RespectsOrder}
-use Rattle.order_check.specs.Places.{may_place}
+use Rattle.order_check.specs.Places.{is_wanted, may_place}
 use Rattle.tree_handles.specs.Binding.{Bindings, object_of}
 use Rattle.cut_check.specs.declared.effect.Effect.{Effect}
 use Rattle.cut_check.specs.declared.effect.Effect.TheVariants.{Nothing, Lasting, Unstable, Committed}
@@ -24,7 +25,8 @@ use Rattle.cut_check.specs.Effect.{of_object, at_level, effect_of}
 use Rattle.cut_check.specs.Stable.{AreCommitted, IsStable, IsStableAt}
 use Rattle.cut_check.specs.Places.{era_at, object_written, effect_at, effects_of}
 use Rattle.cut_check.specs.Cut.{KeepsStable, CutsKeepStable}
-use Rattle.cut_check.specs.Verifier.{writes_bytes_at, loses_write, Shows, VerifiersAgree}
+use Rattle.cut_check.specs.Verifier.{verifier_of, writes_bytes_at, loses_write, Shows, VerifiersAgree}
+use Rattle.decision_law.specs.Laws.{ShowsTwoVerifiers}
 use Rattle.decision_core.specs.Times.{IsAmong}
 use Rattle.decision_core.proofs.Orders.{all_behind, which_part}
 use Rattle.decision_law.specs.Times.{AreTimed}
@@ -231,3 +233,35 @@ module _ (known : KnownCalls) (start : ℕ → ℕ) (timed : AreTimed known star
       go (inl lasts) = lasting_kept e era keeps n recorded lasts (lost_at e era era_facts n recorded lasts.answered.stands lost)
       go (inr (inl c)) = committed_kept e era era_facts n recorded c of_era (lost_at e era era_facts n recorded c.answered.stands lost) keeps
       go (inr (inr s)) = shown_kept e era there n recorded s of_era (lost_at e era era_facts n recorded s.answered.stands lost)
+
+    -- ---- verifiers
+
+    -- what an answered call shows is shown in its era
+    pub shown_in : (n : ℕ) (recorded : RecordedCall) (call : NfsCall) (outcome : Outcome) (at : ℕ) → IsAnswered known n recorded call outcome at → 1 ≤ recorded.era → (v : ℕ) → verifier_of call outcome ≡ Some v
+        → (o : EraOf known start timed binds 1 whole n recorded) × Shows known.calls o.era.places v
+    shown_in n recorded call outcome at answered from v shows =
+        let o = era_of_call known start timed binds 1 whole facts n recorded answered.stands (answered_wanted known n recorded call outcome at answered) from in
+        let q = place_of o.era.places n o.among in
+        let q_placed : IsPlaced known start timed binds recorded.era q.place =
+        (all_behind (IsPlaced known start timed binds recorded.era) q.ahead (q.place ∷ q.behind) (subst (AllByRecursion (IsPlaced known start timed binds recorded.era)) q.stands o.placed)).0 in
+        let here = answered_place recorded.era q.place recorded n call outcome at q_placed q.names answered in (
+          o,
+          (
+            q.place,
+            subst (λ l. Contains l q.place) (sym q.stands) (contains_middle q.ahead q.place q.behind),
+            verifier_so known binds q.place recorded call outcome at here.0 here.1 ∙ shows,
+          ),
+        )
+
+    pub no_two : ShowsTwoVerifiers known → (n_from : (n : ℕ) (recorded : RecordedCall) → call_at known.calls n ≡ Some recorded → is_wanted recorded ≡ true → 1 ≤ recorded.era) → ⊥
+    no_two s n_from =
+        let first = shown_in s.n s.recorded s.call s.outcome s.at s.answered (n_from s.n s.recorded s.answered.stands (answered_wanted known s.n s.recorded s.call s.outcome s.at s.answered)) s.one s.shows_one in
+        let second = shown_in s.m s.other s.other_call s.other_outcome s.other_at s.other_answered
+        (n_from s.m s.other s.other_answered.stands (answered_wanted known s.m s.other s.other_call s.other_outcome s.other_at s.other_answered)) s.two s.shows_two in
+        let a = first.0.is_of in
+        let b = second.0.is_of in
+        let e = s.same_era in
+        let same : first.0.further ≡ second.0.further = omega (arith, a, b, e) in
+        let there : Some first.0.era ≡ Some second.0.era = sym first.0.there ∙ (ap (λ k. era_at whole (suc k)) same ∙ second.0.there) in
+        let era_is : first.0.era ≡ second.0.era = cc in
+        s.differ (verifiers.within (suc second.0.further) s.one s.two second.0.era second.0.there (subst (λ x. Shows known.calls x.places s.one) era_is first.1) second.1)

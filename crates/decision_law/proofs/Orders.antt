@@ -23,11 +23,11 @@ use Rattle.cut_check.specs.Places.{era_at}
 use Rattle.decision_law.specs.NeverLost.{AreNeverLost}
 use Rattle.decision_law.specs.Machine.{Changes, IsOrder}
 use Rattle.decision_law.specs.Plans.{cut_era, whole_era, eras_of_plan}
-use Rattle.decision_law.specs.Laws.{binds_of}
+use Rattle.decision_law.specs.Laws.{binds_of, ShowsTwoVerifiers}
 use Rattle.decision_law.proofs.Numbered.{numbered, which, wanted_end, of_call, crash_end}
 use Rattle.decision_law.proofs.Runs.{MayBePlaced, plan_runs, have_run}
-use Rattle.decision_law.proofs.Shapes.{at_era, all_map, named_among, named_parts, numbers_parted, Facts, plan_shape}
-use Rattle.decision_law.proofs.Kept.{are_kept}
+use Rattle.decision_law.proofs.Shapes.{at_era, all_map, named_among, named_parts, numbers_parted, Facts, of_some_era, plan_shape}
+use Rattle.decision_law.proofs.Kept.{are_kept, no_two}
 
 -- as many eras
 pub as_many : (eras : List EraPlan) → length (eras_of_plan eras) ≡ length eras
@@ -131,3 +131,11 @@ module _ (known : KnownCalls) (never_lost : ℕ → Bool) where
     pub is_order : IsOrder known start never_lost (binds_of known plan) (order_of (numbering_of known never_lost) 1 (eras_of_plan plan.eras))
     is_order = eras_are_one_order (Changes known (binds_of known plan)) (numbering_of known never_lost) (times_of known start) known.eras (start)
         (numbered known start timed never_lost) (base_of known) (eras_of_plan plan.eras) era_witness
+
+-- two verifiers in one era
+pub no_two_verifiers : (known : KnownCalls) (start : ℕ → ℕ) (timed : AreTimed known start) (plan : Certificate) → ShowsTwoVerifiers known → ¬ IsWitness known plan
+no_two_verifiers known start timed plan two witness =
+    let none : ℕ → Bool = λ n. false in
+    let told : AreNeverLost known none = λ n never. absurd (cc) in
+    no_two known start timed (binds_of known plan) plan.eras witness.verifiers (facts known none start plan timed told witness) two
+    (λ n recorded stands wanted. of_some_era known start timed (binds_of known plan) plan.eras witness.shape.of_their_eras n recorded stands (witness.shape.complete n recorded stands wanted))

@@ -282,6 +282,19 @@ module _ (known : KnownCalls) (start : ℕ → ℕ) (timed : AreTimed known star
     either : (e f : ℕ) → e ≤ f → (e ≡ f) ⊎ (e + 1 ≤ f)
     either e f from = grind (arith, from)
 
+  -- a wanted call has an era of the plan's
+  pub of_some_era : (eras : List EraPlan) → AllByRecursion (λ p. IsTrue (is_of_era known.calls p)) (order_from 1 eras) → (n : ℕ) (recorded : RecordedCall) → call_at known.calls n ≡ Some recorded
+      → is_named (order_from 1 eras) n ≡ true → 1 ≤ recorded.era
+  of_some_era eras of_their_eras n recorded stands named =
+      let p = named_place (λ q. IsTrue (is_of_era known.calls q) × (1 ≤ q.era)) (order_from 1 eras) n
+      (all_both (λ q. IsTrue (is_of_era known.calls q)) (λ q. 1 ≤ q.era) (order_from 1 eras) of_their_eras (later_eras 1 eras)) named in
+      let c = passing (λ call. nat_le call.era p.0.era && nat_le p.0.era call.era) (call_at known.calls (number_of p.0)) p.1.0 in
+      let same : Some c.0 ≡ Some recorded = sym c.1 ∙ (ap (call_at known.calls) p.2 ∙ stands) in
+      let is : c.0 ≡ recorded = cc in
+      let at_place = same_era c.0.era p.0.era c.2 in
+      let eras_same : c.0.era ≡ recorded.era = ap (λ r. r.era) is in
+      omega (arith, eras_same, at_place, p.1.1)
+
   -- an era's shape, however its places are parted
   shape_of : (never_lost : ℕ → Bool) (e : ℕ) (era : EraPlan) (eras : List EraPlan) → Facts e (era ∷ eras) → (parts : PlanEra) → parts.kept ++ parts.lost ≡ map call_of era.places
       → ((n : ℕ) → IsTrue (never_lost n) → era_of_number known n ≡ e → IsAmong parts.kept n) → EraShape (times_of known start) (numbering_of known never_lost) e parts

@@ -1,17 +1,21 @@
 -- Why a walk over a history's events that comes to nothing shows that no plan is a witness.
-use Rattle.std.specs.Prelude.{ℕ, Bool, List}
+use Rattle.std.specs.Prelude.{◌≡◌, ◌≢◌, ℕ, Bool, List, Some}
+use Rattle.nfs3_types.specs.declared.calls.NfsCall.{NfsCall}
+use Rattle.nfs3_types.specs.declared.replies.Outcome.{Outcome}
 use Rattle.history_file.specs.Event.{Recording}
+use Rattle.nfs_history.specs.declared.history.RecordedCall.{RecordedCall}
 use Rattle.nfs_history.specs.declared.knowing.KnownCalls.{KnownCalls}
 use Rattle.nfs_history.specs.History.{AreCallsOf}
 use Rattle.certificate.specs.declared.plan.Certificate.{Certificate}
 use Rattle.tree_handles.specs.Binding.{Bindings}
 use Rattle.cut_check.specs.Places.{bindings_of}
+use Rattle.cut_check.specs.Verifier.{verifier_of}
 use Rattle.witness_check.specs.Run.{base_of}
 use Rattle.witness_check.specs.Witness.{IsWitness}
 use Rattle.decision_core.specs.Eras.{IsNumbering, IsEraWitness, order_of}
 use Rattle.decision_law.specs.Times.{AreTimed, era_start, times_of, numbering_of}
 use Rattle.decision_law.specs.Machine.{Changes, IsOrder}
-use Rattle.decision_law.specs.NeverLost.{AreNeverLost}
+use Rattle.decision_law.specs.NeverLost.{IsAnswered, AreNeverLost}
 use Rattle.decision_law.specs.Plans.{eras_of_plan}
 
 -- what each handle names by a plan
@@ -47,3 +51,28 @@ OfEachWitness Comes = (known : KnownCalls) (start : ℕ → ℕ) (never_lost : �
 abbrev pub NoOrderNoWitness : Type 0
 NoOrderNoWitness = (known : KnownCalls) (start : ℕ → ℕ) (never_lost : ℕ → Bool) → AreTimed known start → AreNeverLost known never_lost → HasNoOrder known start never_lost
     → (plan : Certificate) → ¬ IsWitness known plan
+
+-- two replies in one era show different write verifiers (RFC 1813, section 3.3.7)
+pub record ShowsTwoVerifiers (known : KnownCalls) : Type 0 where
+  pub n : ℕ
+  pub recorded : RecordedCall
+  pub call : NfsCall
+  pub outcome : Outcome
+  pub at : ℕ
+  pub answered : IsAnswered known n recorded call outcome at
+  pub m : ℕ
+  pub other : RecordedCall
+  pub other_call : NfsCall
+  pub other_outcome : Outcome
+  pub other_at : ℕ
+  pub other_answered : IsAnswered known m other other_call other_outcome other_at
+  pub same_era : recorded.era ≡ other.era
+  pub one : ℕ
+  pub two : ℕ
+  pub shows_one : verifier_of call outcome ≡ Some one
+  pub shows_two : verifier_of other_call other_outcome ≡ Some two
+  pub differ : one ≢ two
+
+-- then no plan is a witness
+abbrev pub TwoVerifiersNoWitness : Type 0
+TwoVerifiersNoWitness = (known : KnownCalls) (start : ℕ → ℕ) → AreTimed known start → ShowsTwoVerifiers known → (plan : Certificate) → ¬ IsWitness known plan

@@ -3,7 +3,7 @@
 ghost use Rattle.std.specs.Prelude.{ℕ, Bool};
 ghost use Rattle.nfs_history.specs.declared.knowing.KnownCalls.{KnownCalls};
 ghost use Rattle.decision_law.specs.Times.{AreTimed};
-ghost use Rattle.decision_law.specs.Laws.{CallsAreTimed, AreNumbered, HasEraWitness, HasOrder, OfEachWitness, NoOrderNoWitness};
+ghost use Rattle.decision_law.specs.Laws.{CallsAreTimed, AreNumbered, HasEraWitness, HasOrder, OfEachWitness, NoOrderNoWitness, TwoVerifiersNoWitness};
 
 /// The calls of a history begin and end as its eras say: each in its era, and each end behind its begin. So the numbers of its calls
 /// and its crashes are a numbering by eras.
@@ -22,4 +22,9 @@ pub fn a_witness_is_one_order()
 /// Where no order of calls and crashes is there, whatever handles name, no plan is a witness of the history.
 pub fn no_order_no_witness()
     ensures { NoOrderNoWitness }
+{}
+
+/// Where two replies in one era show different write verifiers no plan is a witness either.
+pub fn two_verifiers_no_witness()
+    ensures { TwoVerifiersNoWitness }
 {}

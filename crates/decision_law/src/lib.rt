@@ -4,4 +4,6 @@
 
 mod laws;
 
-pub use laws::{a_witness_is_one_order, calls_are_timed, no_order_no_witness};
+pub use laws::{
+    a_witness_is_one_order, calls_are_timed, no_order_no_witness, two_verifiers_no_witness,
+};
