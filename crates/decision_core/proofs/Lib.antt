@@ -4,5 +4,6 @@ pub mod Sets
 pub mod Awaits
 pub mod Waiting
 pub mod OneEvent
+pub mod SpanLaws
 pub mod ErasWalk
 mod ErasExample

@@ -4,6 +4,7 @@ pub mod States
 pub mod Layers
 pub mod Events
 pub mod Walked
+pub mod Spanned
 pub mod Eras
 pub mod ErasExample
 pub mod Register

@@ -6,9 +6,11 @@ mod eras;
 mod extending;
 mod machine;
 mod register;
+mod spans;
 mod states;
 
 pub use deciding::{Event, Walked, decide};
 pub use eras::some_plan_of_eras_is_a_witness;
 pub use machine::{Limits, Machine, Stop};
 pub use register::{Register, RegisterMachine};
+pub use spans::{Span, timeline};

@@ -132,6 +132,7 @@ mod tests {
     use super::*;
     use crate::deciding::{Event, Walked, decide};
     use crate::machine::{Limits, Stop};
+    use crate::spans::{Span, timeline};
     use std::rt::HostRuntime;
 
     /// The event that no order explains, one of these four; 9 where states are left; 8, 7, 6, 5 for each stop.
@@ -186,5 +187,33 @@ mod tests {
             Event::Answered(1),
         ];
         assert!(rt; told(rt.alloc(), &unwritten, 9, 99) == 2);
+    }
+
+    /// The event that no order explains, of these calls; 9 where states are left, 8 where they have no events.
+    fn told_of(alloc: Global, spans: &[Span]) -> usize {
+        match timeline(alloc, spans, 4) {
+            Ok(Some(events)) => told(alloc, events.as_slice(), 9, 99),
+            Ok(None) => 8,
+            Err(_error) => 8,
+        }
+    }
+
+    /// A call with its begin and its end.
+    fn span(number: u64, begin: u64, end: u64) -> Span {
+        Span {
+            number: number,
+            begin: begin,
+            end: Some(end),
+        }
+    }
+
+    #[test]
+    fn calls_by_their_begins_and_ends(rt: HostRuntime) {
+        let stale = [span(1, 1, 2), span(100, 4, 4)];
+        assert!(rt; told_of(rt.alloc(), &stale) == 3);
+        let beside = [span(1, 1, 4), span(101, 2, 3)];
+        assert!(rt; told_of(rt.alloc(), &beside) == 9);
+        let at_one_place = [span(1, 1, 4), span(101, 2, 4)];
+        assert!(rt; told_of(rt.alloc(), &at_one_place) == 8);
     }
 }
