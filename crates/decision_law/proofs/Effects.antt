@@ -1,6 +1,6 @@
 -- What an answered call means for stable storage, where its handle names an object.
-use Rattle.std.proofs.Common.{◌≡◌, ◌⊎◌, inl, inr, ℕ, ◌+◌, ◌<◌, ◌≤◌, nat_le, ◌&&◌, Bool, true, false, IsTrue, List, length, take, Option, Some, None, refl, sym, ap, subst, ◌∙◌, arith}
-use Rattle.std.specs.Prelude.{option_and_then, option_map, nat_lt, is_none, if◌then◌else◌}
+use Rattle.std.proofs.Common.{◌≡◌, inl, inr, ℕ, nat_le, ◌&&◌, true, false, length, take, Option, Some, None, refl, sym, ap, subst, ◌∙◌}
+use Rattle.std.specs.Prelude.{option_and_then, option_map, is_none, if◌then◌else◌}
 use Rattle.std.specs.Option.{option_map_or}
 use Rattle.nfs3_types.specs.declared.calls.NfsCall.{NfsCall}
 use Rattle.nfs3_types.specs.declared.calls.NfsCall.TheVariants as calls
@@ -9,13 +9,11 @@ use Rattle.nfs3_types.specs.declared.calls.StableHow.TheVariants as levels
 use Rattle.nfs3_types.specs.declared.calls.WriteArguments.{WriteArguments}
 use Rattle.nfs3_types.specs.declared.replies.WriteSuccess.{WriteSuccess}
 use Rattle.nfs3_types.specs.declared.replies.Outcome.{Outcome}
-use Rattle.nfs3_types.specs.declared.replies.Outcome.TheVariants as outcomes
 use Rattle.nfs_history.specs.declared.history.Meaning.{Meaning}
 use Rattle.nfs_history.specs.declared.history.Meaning.TheVariants as meanings
 use Rattle.nfs_history.specs.declared.history.RecordedCall.{RecordedCall}
 use Rattle.nfs_history.specs.declared.knowing.KnownCalls.{KnownCalls}
-use Rattle.nfs_history.specs.Precedence.{call_at}
-use Rattle.nfs_history.specs.Success.{write_success, commit_success, succeeded}
+use Rattle.nfs_history.specs.Success.{write_success, commit_success}
 use Rattle.certificate.specs.declared.plan.Place.{Place}
 use Rattle.certificate.specs.declared.plan.Place.TheVariants.{Answered, Taken}
 use Rattle.certificate.specs.Plan.{call_of}
@@ -33,7 +31,7 @@ use Rattle.file_tree.specs.Success.{changed, change_of, next_tree}
 use Rattle.file_tree.specs.Setting.{under, next_in}
 use Rattle.cut_check.specs.declared.effect.Effect.{Effect}
 use Rattle.cut_check.specs.declared.effect.Effect.TheVariants.{Nothing, Lasting, Unstable, Committed}
-use Rattle.cut_check.specs.Effect.{is_synchronous, of_object, at_level, effect_of_write, where_done, effect_of}
+use Rattle.cut_check.specs.Effect.{of_object, at_level, effect_of_write, where_done, effect_of}
 use Rattle.cut_check.specs.Places.{object_written, answered_with, answered_at, effect_at}
 use Rattle.cut_check.specs.Verifier.{verifier_of, writes_bytes, verifier_at, writes_bytes_at}
 use Rattle.decision_law.specs.NeverLost.{written, IsAnswered}

@@ -1,9 +1,9 @@
 -- A call that is never lost isn't past a cut of a plan that is a witness.
-use Rattle.std.proofs.Common.{◌≡◌, ◌≢◌, ◌⊎◌, inl, inr, ℕ, zero, suc, ◌+◌, ◌<◌, ◌≤◌, ◌||◌, nat_le, Bool, true, false, IsTrue, List, [], ◌∷◌, ◌++◌, length, take, drop, map, Option, Some, None, Contains, refl, sym, ap, subst, ◌∙◌, arith, append_assoc, length-append}
+use Rattle.std.proofs.Common.{◌≡◌, inl, inr, ℕ, suc, ◌+◌, ◌<◌, ◌≤◌, ◌||◌, Bool, true, false, List, [], ◌∷◌, ◌++◌, length, take, drop, map, Some, Contains, refl, sym, ap, subst, ◌∙◌, arith, append_assoc, length-append}
 use Rattle.std.specs.Prelude.{option_map, unwrap_or, option_and_then, nat_lt}
 use Rattle.std.specs.List.{AllByRecursion, list_any}
 use Rattle.std.proofs.lemmas.List.{take-append-drop, map-append, length-take-le, length-map}
-use Rattle.std.proofs.lemmas.List.Elements.{Contains-append_right, Contains-append_left}
+use Rattle.std.proofs.lemmas.List.Elements.{Contains-append_right}
 use Rattle.nfs3_types.specs.declared.calls.NfsCall.{NfsCall}
 use Rattle.nfs3_types.specs.declared.calls.NfsCall.TheVariants as calls
 use Rattle.nfs3_types.specs.declared.calls.StableHow.{StableHow}
@@ -12,7 +12,7 @@ use Rattle.nfs3_types.specs.declared.replies.Outcome.{Outcome}
 use Rattle.nfs_history.specs.declared.history.Meaning.TheVariants as meanings
 use Rattle.nfs_history.specs.declared.history.RecordedCall.{RecordedCall}
 use Rattle.nfs_history.specs.declared.knowing.KnownCalls.{KnownCalls}
-use Rattle.nfs_history.specs.Precedence.{call_at, begin_of, end_of, Precedes}
+use Rattle.nfs_history.specs.Precedence.{call_at, Precedes}
 use Rattle.certificate.specs.declared.plan.Place.{Place}
 use Rattle.certificate.specs.declared.plan.EraPlan.{EraPlan}
 use Rattle.certificate.specs.Plan.{call_of, cut_of}
@@ -20,9 +20,9 @@ use Rattle.order_check.specs.Order.{RespectsOrder}
 use Rattle.order_check.specs.Places.{is_wanted, may_place}
 use Rattle.tree_handles.specs.Binding.{Bindings, object_of}
 use Rattle.cut_check.specs.declared.effect.Effect.{Effect}
-use Rattle.cut_check.specs.declared.effect.Effect.TheVariants.{Nothing, Lasting, Unstable, Committed}
-use Rattle.cut_check.specs.Effect.{of_object, at_level, effect_of}
-use Rattle.cut_check.specs.Stable.{AreCommitted, IsStable, IsStableAt}
+use Rattle.cut_check.specs.declared.effect.Effect.TheVariants.{Lasting, Unstable, Committed}
+use Rattle.cut_check.specs.Effect.{of_object, at_level}
+use Rattle.cut_check.specs.Stable.{AreCommitted, IsStable}
 use Rattle.cut_check.specs.Places.{era_at, object_written, effect_at, effects_of}
 use Rattle.cut_check.specs.Cut.{KeepsStable, CutsKeepStable}
 use Rattle.cut_check.specs.Verifier.{verifier_of, writes_bytes_at, loses_write, Shows, VerifiersAgree}
@@ -34,7 +34,7 @@ use Rattle.decision_law.specs.NeverLost.{written, committed, IsAnswered, IsLasti
 use Rattle.decision_law.proofs.Placed.{answered_wanted}
 use Rattle.decision_law.proofs.Runs.{HasRun}
 use Rattle.decision_law.proofs.Effects.{lasts_so, effect_so, verifier_so, writes_so, object_named}
-use Rattle.decision_law.proofs.Shapes.{PlaceOf, place_of, Facts, IsPlaced, EraFacts, EraOf, era_of_call, AreKept}
+use Rattle.decision_law.proofs.Shapes.{place_of, Facts, IsPlaced, EraFacts, EraOf, era_of_call, AreKept}
 
 contains_first : {X : Type 0} (x : X) (xs : List X) → Contains (x ∷ xs) x
 contains_first x xs = (0, omega arith, refl)

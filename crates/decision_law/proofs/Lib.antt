@@ -6,3 +6,4 @@ pub mod Shapes
 pub mod Effects
 pub mod Kept
 pub mod Orders
+pub mod Told

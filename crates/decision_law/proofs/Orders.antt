@@ -1,16 +1,13 @@
 -- A plan that is a witness is a witness of eras, and so one order.
-use Rattle.std.proofs.Common.{◌≡◌, ◌⊎◌, inl, inr, ℕ, zero, suc, ◌+◌, ◌-◌, ◌<◌, ◌≤◌, nat_le, Bool, true, false, cond, IsTrue, List, [], ◌∷◌, ◌++◌, length, take, drop, map, Option, Some, None, refl, sym, ap, subst, ◌∙◌, arith, append-nil}
+use Rattle.std.proofs.Common.{◌≡◌, ◌⊎◌, inl, inr, ℕ, suc, ◌+◌, ◌<◌, ◌≤◌, nat_le, Bool, true, false, cond, IsTrue, List, [], ◌∷◌, ◌++◌, length, map, Some, None, refl, sym, ap, subst, ◌∙◌, arith, append-nil}
 use Rattle.std.specs.List.{AllByRecursion}
-use Rattle.nfs_history.specs.declared.history.RecordedCall.{RecordedCall}
 use Rattle.nfs_history.specs.declared.knowing.KnownCalls.{KnownCalls}
 use Rattle.nfs_history.specs.Precedence.{call_at}
 use Rattle.certificate.specs.declared.plan.Certificate.{Certificate}
-use Rattle.certificate.specs.declared.plan.Place.{Place}
 use Rattle.certificate.specs.declared.plan.EraPlan.{EraPlan}
 use Rattle.certificate.specs.Plan.{call_of, cut_of}
-use Rattle.order_check.specs.Places.{order_from, is_wanted, is_placeable}
+use Rattle.order_check.specs.Places.{order_from, is_placeable}
 use Rattle.order_check.specs.Shape.{is_named}
-use Rattle.tree_handles.specs.Binding.{Bindings}
 use Rattle.witness_check.specs.Run.{base_of}
 use Rattle.witness_check.specs.Witness.{IsWitness}
 use Rattle.decision_core.specs.Times.{IsAmong}

@@ -1,5 +1,5 @@
 -- What a place of a plan says of its call.
-use Rattle.std.proofs.Common.{◌≡◌, ◌⊎◌, inl, inr, ℕ, zero, suc, ◌+◌, ◌<◌, ◌≤◌, nat_le, ◌&&◌, ◌||◌, Bool, true, false, cond, IsTrue, List, [], ◌∷◌, length, Option, Some, None, refl, sym, ap, subst, ◌∙◌, arith}
+use Rattle.std.proofs.Common.{◌≡◌, ◌⊎◌, inl, inr, ℕ, zero, suc, ◌≤◌, nat_le, ◌&&◌, ◌||◌, Bool, true, false, List, length, Option, Some, None, refl, ap, ◌∙◌, arith}
 use Rattle.std.specs.Prelude.{option_and_then, is_some, is_none}
 use Rattle.std.proofs.lemmas.Option.{slice_get_within}
 use Rattle.nfs3_types.specs.declared.calls.NfsCall.{NfsCall}
@@ -14,13 +14,11 @@ use Rattle.nfs_history.specs.Precedence.{call_at}
 use Rattle.certificate.specs.declared.plan.Place.{Place}
 use Rattle.certificate.specs.declared.plan.Place.TheVariants.{Answered, Taken}
 use Rattle.certificate.specs.Plan.{call_of}
-use Rattle.replay_law.specs.Run.{TakenStep}
-use Rattle.order_check.specs.Places.{is_judged, is_wanted, may_take, may_place, passes}
+use Rattle.order_check.specs.Places.{is_judged, is_wanted, may_take, may_place}
 use Rattle.witness_check.specs.Run.{step_with, step_of_call, step_at}
 use Rattle.decision_law.specs.Times.{may_stand, may_be_taken, is_of_call}
-use Rattle.decision_law.specs.NeverLost.{IsAnswered, IsLasting, IsCommitted, IsShownLater, IsNeverLost}
+use Rattle.decision_law.specs.NeverLost.{IsAnswered, IsNeverLost}
 use Rattle.decision_law.specs.Machine.{MayComeOut}
-use Rattle.decision_law.proofs.Numbered.{passing}
 
 pub and_parts : (a b : Bool) → (a && b) ≡ true → (a ≡ true) × (b ≡ true)
 and_parts true b is = (refl, is)
@@ -30,7 +28,7 @@ or_true : (b : Bool) → (b || true) ≡ true
 or_true true = refl
 or_true false = refl
 
-or_from : (a b : Bool) → (a ≡ true) ⊎ (b ≡ true) → (a || b) ≡ true
+pub or_from : (a b : Bool) → (a ≡ true) ⊎ (b ≡ true) → (a || b) ≡ true
 or_from a b (inl is) = ap (λ k. k || b) is
 or_from a b (inr is) = ap (λ k. a || k) is ∙ or_true a
 

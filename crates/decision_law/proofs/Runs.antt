@@ -1,7 +1,7 @@
 -- The eras of a plan run under the machine's rules where they run in the plan.
-use Rattle.std.proofs.Common.{◌≡◌, ℕ, Bool, true, IsTrue, List, [], ◌∷◌, ◌++◌, length, take, drop, map, Option, Some, None, refl, sym, ap, subst, ◌∙◌, append_assoc}
+use Rattle.std.proofs.Common.{◌≡◌, ℕ, IsTrue, List, [], ◌∷◌, ◌++◌, length, take, drop, map, Option, Some, None, refl, sym, ap, subst, ◌∙◌, append_assoc}
 use Rattle.std.specs.Prelude.{IsSome, option_and_then}
-use Rattle.std.specs.List.{AllByRecursion, filter_map, cons_option}
+use Rattle.std.specs.List.{AllByRecursion, cons_option}
 use Rattle.std.proofs.Math.Seq.{take-append_seam}
 use Rattle.std.proofs.lemmas.List.{take-append-drop}
 use Rattle.std.proofs.lemmas.List.Elements.{filter_map-append}
@@ -17,16 +17,16 @@ use Rattle.order_check.specs.Places.{may_place, passes}
 use Rattle.tree_nodes.specs.Tree.{Tree}
 use Rattle.tree_handles.specs.Binding.{Bindings}
 use Rattle.file_tree.specs.Setting.{next_in}
-use Rattle.replay_law.specs.Run.{TakenStep, Era, state_after, kept_steps, EveryEraRuns}
+use Rattle.replay_law.specs.Run.{state_after, kept_steps, EveryEraRuns}
 use Rattle.replay_law.proofs.Runs.{state_after-append}
 use Rattle.witness_check.specs.Run.{step_at, steps_of, era_of}
 use Rattle.decision_core.specs.Decide.{Leads}
 use Rattle.decision_core.specs.Eras.{untold, PlanRuns}
 use Rattle.decision_core.proofs.Orders.{all_ahead, all_behind}
 use Rattle.decision_law.specs.Machine.{Changes}
-use Rattle.decision_law.specs.Plans.{cut_era, whole_era, eras_of_plan}
+use Rattle.decision_law.specs.Plans.{eras_of_plan}
 use Rattle.decision_law.proofs.Numbered.{passing}
-use Rattle.decision_law.proofs.Placed.{IsStep, step_placed}
+use Rattle.decision_law.proofs.Placed.{step_placed}
 
 -- a state that is there
 there : {X : Type 0} (o : Option X) → IsSome o → (x : X) × (o ≡ Some x)

@@ -1,7 +1,7 @@
 -- The eras of a plan have the shape of eras where the plan has its shape, keeps to the order, and loses nothing stable.
-use Rattle.std.proofs.Common.{◌≡◌, ◌≢◌, ◌⊎◌, ◌==◌, ◌&&◌, ◌||◌, inl, inr, ℕ, zero, suc, ◌+◌, ◌<◌, ◌≤◌, nat_le, Bool, true, false, IsTrue, List, [], ◌∷◌, ◌++◌, length, take, drop, map, Option, Some, None, IfSome, unwrap_or, refl, sym, ap, subst, ◌∙◌, arith, append-nil}
+use Rattle.std.proofs.Common.{◌≡◌, ◌≢◌, ◌⊎◌, ◌==◌, ◌&&◌, ◌||◌, inl, inr, ℕ, suc, ◌+◌, ◌<◌, ◌≤◌, nat_le, Bool, true, false, IsTrue, List, [], ◌∷◌, ◌++◌, length, take, drop, map, Option, Some, None, IfSome, unwrap_or, refl, sym, ap, subst, ◌∙◌, arith, append-nil}
 use Rattle.std.specs.Prelude.{option_and_then}
-use Rattle.std.specs.List.{AllByRecursion, list_any}
+use Rattle.std.specs.List.{AllByRecursion}
 use Rattle.std.proofs.lemmas.Bool.{eqb-true, false≢true}
 use Rattle.std.proofs.lemmas.List.{take-append-drop, map-append}
 use Rattle.std.proofs.lemmas.List.Folds.{list_any-append}
@@ -18,11 +18,11 @@ use Rattle.order_check.specs.Shape.{is_named, NameDifferentCalls}
 use Rattle.order_check.specs.Order as order
 use Rattle.tree_handles.specs.Binding.{Bindings}
 use Rattle.cut_check.specs.Places.{era_at}
-use Rattle.decision_core.specs.Times.{Times, Precedes, RespectsOrder, IsAmong, IsOnce}
+use Rattle.decision_core.specs.Times.{Precedes, RespectsOrder, IsAmong, IsOnce}
 use Rattle.decision_core.specs.Eras.{PlanEra, EraShape, PlanShape}
 use Rattle.decision_core.proofs.Orders.{all_ahead, all_behind}
 use Rattle.decision_law.specs.Times.{AreTimed, may_stand, is_of_call, era_ended, era_of_number, numbering_of, times_of}
-use Rattle.decision_law.specs.NeverLost.{IsAnswered, IsNeverLost, AreNeverLost}
+use Rattle.decision_law.specs.NeverLost.{IsNeverLost, AreNeverLost}
 use Rattle.decision_law.specs.Plans.{cut_era, whole_era, eras_of_plan}
 use Rattle.decision_law.proofs.Numbered.{passing, wanted_end, of_call, its_era}
 use Rattle.decision_law.proofs.Placed.{and_parts, is_call_number, stands_placed, wanted_call}

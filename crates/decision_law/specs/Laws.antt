@@ -12,11 +12,14 @@ use Rattle.cut_check.specs.Places.{bindings_of}
 use Rattle.cut_check.specs.Verifier.{verifier_of}
 use Rattle.witness_check.specs.Run.{base_of}
 use Rattle.witness_check.specs.Witness.{IsWitness}
+use Rattle.decision_core.specs.declared.spans.Span.{Span}
+use Rattle.decision_core.specs.Spanned.{AreSpansOf}
 use Rattle.decision_core.specs.Eras.{IsNumbering, IsEraWitness, order_of}
 use Rattle.decision_law.specs.Times.{AreTimed, era_start, times_of, numbering_of}
 use Rattle.decision_law.specs.Machine.{Changes, IsOrder}
 use Rattle.decision_law.specs.NeverLost.{IsAnswered, AreNeverLost}
 use Rattle.decision_law.specs.Plans.{eras_of_plan}
+use Rattle.decision_law.specs.Spans.{AreSpans}
 
 -- what each handle names by a plan
 abbrev pub binds_of : KnownCalls → Certificate → Bindings
@@ -51,6 +54,10 @@ OfEachWitness Comes = (known : KnownCalls) (start : ℕ → ℕ) (never_lost : �
 abbrev pub NoOrderNoWitness : Type 0
 NoOrderNoWitness = (known : KnownCalls) (start : ℕ → ℕ) (never_lost : ℕ → Bool) → AreTimed known start → AreNeverLost known never_lost → HasNoOrder known start never_lost
     → (plan : Certificate) → ¬ IsWitness known plan
+
+-- the spans of a history's calls and crashes are those of its times, so the events that are made of them tell these times
+abbrev pub SpansTell : Type 0
+SpansTell = (known : KnownCalls) (start : ℕ → ℕ) (spans : List Span) → AreTimed known start → AreSpans known start spans → AreSpansOf (times_of known start) spans
 
 -- two replies in one era show different write verifiers (RFC 1813, section 3.3.7)
 pub record ShowsTwoVerifiers (known : KnownCalls) : Type 0 where

@@ -1,7 +1,7 @@
 -- Calls that no crash takes away in any plan that is a witness, whatever handles name there (RFC 1813, section 4.7: a call that
 -- modifies data is on stable storage when it is answered; sections 3.3.7 and 3.3.21: but for an UNSTABLE WRITE, which a COMMIT puts there,
 -- and of which a server that may have lost it shows another verifier).
-use Rattle.std.specs.Prelude.{◌≡◌, ◌⊎◌, ℕ, ◌+◌, ◌<◌, ◌≤◌, Bool, IsTrue, Option, Some, None}
+use Rattle.std.specs.Prelude.{◌≡◌, ◌⊎◌, ℕ, ◌+◌, ◌<◌, ◌≤◌, Bool, IsTrue, Some, None}
 use Rattle.nfs3_types.specs.declared.calls.NfsCall.{NfsCall}
 use Rattle.nfs3_types.specs.declared.calls.NfsCall.TheVariants as calls
 use Rattle.nfs3_types.specs.declared.calls.WriteArguments.{WriteArguments}

@@ -1,5 +1,5 @@
 -- The eras of a plan as lists of calls: those ahead of the cut, and those that the crash takes away.
-use Rattle.std.specs.Prelude.{ℕ, List, [], ◌∷◌, map, take, drop}
+use Rattle.std.specs.Prelude.{List, [], ◌∷◌, map, take, drop}
 use Rattle.certificate.specs.declared.plan.EraPlan.{EraPlan}
 use Rattle.certificate.specs.Plan.{call_of, cut_of}
 use Rattle.decision_core.specs.Eras.{PlanEra}

@@ -3,13 +3,18 @@
 ghost use Rattle.std.specs.Prelude.{ℕ, Bool};
 ghost use Rattle.nfs_history.specs.declared.knowing.KnownCalls.{KnownCalls};
 ghost use Rattle.decision_law.specs.Times.{AreTimed};
-ghost use Rattle.decision_law.specs.Laws.{CallsAreTimed, AreNumbered, HasEraWitness, HasOrder, OfEachWitness, NoOrderNoWitness, TwoVerifiersNoWitness};
+ghost use Rattle.decision_law.specs.Laws.{CallsAreTimed, AreNumbered, HasEraWitness, HasOrder, OfEachWitness, NoOrderNoWitness, SpansTell, TwoVerifiersNoWitness};
 
 /// The calls of a history begin and end as its eras say: each in its era, and each end behind its begin. So the numbers of its calls
 /// and its crashes are a numbering by eras.
 pub fn calls_are_timed()
     ensures timed { CallsAreTimed }
     ensures numbered { (known : KnownCalls) (start : ℕ → ℕ) (never_lost : ℕ → Bool) → AreTimed known start → AreNumbered known start never_lost }
+{}
+
+/// The begins and ends of a history's calls and crashes are those of the times that an order of them keeps to.
+pub fn spans_tell_the_times()
+    ensures { SpansTell }
 {}
 
 /// A plan that is a witness is a witness of eras over the machine of the tree's rules, under what the plan's handles name (`eras`); and

@@ -5,5 +5,6 @@
 mod laws;
 
 pub use laws::{
-    a_witness_is_one_order, calls_are_timed, no_order_no_witness, two_verifiers_no_witness,
+    a_witness_is_one_order, calls_are_timed, no_order_no_witness, spans_tell_the_times,
+    two_verifiers_no_witness,
 };
