@@ -61,6 +61,7 @@ has_witness = record {
       once = (tt, tt);
       respects = (tt, tt);
       stable = λ n stable same. let two : n ≡ 2 = eqb-true n 2 stable in let never : by.era_of 2 ≡ 1 = subst (λ k. by.era_of k ≡ 1) two same in absurd (omega (arith, never));
+      unsaved = (tt, tt);
     },
     (
       record {
@@ -68,6 +69,7 @@ has_witness = record {
         once = (tt, tt);
         respects = (tt, tt);
         stable = λ n stable same. inl (sym (eqb-true n 2 stable));
+        unsaved = tt;
       },
       tt,
     ),

@@ -4,7 +4,7 @@ use Rattle.std.specs.List.{AllByRecursion, list_any}
 use Rattle.std.proofs.lemmas.Bool.{true≢false, eq-eqb, ne_eqb}
 use Rattle.decision_core.specs.Times.{Times, Precedes, RespectsOrder, IsAmong, IsOnce}
 use Rattle.decision_core.specs.Decide.{Leads, IsTold, IsWitness}
-use Rattle.decision_core.specs.Eras.{PlanEra, Numbering, IsEra, IsNumbering, part_of, order_of, EraShape, PlanShape, untold, PlanRuns, EraState, is_placed, first_of, EraNext, IsEraWitness}
+use Rattle.decision_core.specs.Eras.{PlanEra, Numbering, IsEra, IsNumbering, part_of, order_of, NoneSaved, EraShape, PlanShape, untold, PlanRuns, EraState, is_placed, first_of, EraNext, IsEraWitness}
 use Rattle.decision_core.proofs.Orders.{all_ahead, all_behind, all_at, all_of_each, which_part}
 use Rattle.decision_core.proofs.Walk.{leads_joined}
 
@@ -161,8 +161,9 @@ behind_has (x ∷ xs) calls n (inr among) = behind_has xs (x ∷ calls) n among
 module _ {Tree : Type 0} (Change : Tree → ℕ → Tree → Type 0) (by : Numbering) where
   -- a step puts its call ahead of what is placed
   calls_of : (state after : EraState Tree) (n : ℕ) → EraNext Change by state n after → after.calls ≡ n ∷ state.calls
-  calls_of state after n (inl (real, era, (tree, changes, inl stays))) = ap (λ s. s.calls) stays
-  calls_of state after n (inl (real, era, (tree, changes, inr first))) = ap (λ s. s.calls) first.3
+  calls_of state after n (inl (real, era, (tree, changes, inl ahead))) = ap (λ s. s.calls) ahead.1
+  calls_of state after n (inl (real, era, (tree, changes, inr (inl first)))) = ap (λ s. s.calls) first.3
+  calls_of state after n (inl (real, era, (tree, changes, inr (inr behind)))) = ap (λ s. s.calls) behind.3
   calls_of state after n (inr crash) = ap (λ s. s.calls) crash.1
 
   -- so what is placed is told
@@ -172,40 +173,69 @@ module _ {Tree : Type 0} (Change : Tree → ℕ → Tree → Type 0) (by : Numbe
     keeps = λ state after n m next other. ap (list_any (λ k. k == m)) (calls_of state after n next) ∙ ap (λ b. b || list_any (λ k. k == m) state.calls) (ne_eqb n m (λ same. other (sym same)));
   }
 
-  -- calls of the era run as they do on the tree
-  leads_real : (e : ℕ) (tree : Tree) (base : Option Tree) (calls xs : List ℕ) (last : Tree) → AllByRecursion (λ n. IsTrue (by.is_real n) × (by.era_of n ≡ e)) xs
-      → Leads untold Change tree xs last
-      → Leads is_placed (EraNext Change by) (record { tree = tree; base = base; era = e; calls = calls }) xs (record { tree = last; base = base; era = e; calls = placed_behind xs calls })
-  leads_real e tree base calls [] last real run = ap (λ t. record { tree = t; base = base; era = e; calls = calls }) run
-  leads_real e tree base calls (x ∷ xs) last real run =
-      (record { tree = run.0; base = base; era = e; calls = x ∷ calls }, inl (real.0.0, real.0.1, (run.0, run.1, inl refl)), leads_real e run.0 base (x ∷ calls) xs last real.1 run.2)
+  -- calls of the era
+  abbrev AreOf : ℕ → List ℕ → Type 0
+  AreOf e calls = AllByRecursion (λ n. IsTrue (by.is_real n) × (by.era_of n ≡ e)) calls
+
+  -- those ahead of the cut run as they do on the tree
+  leads_kept : (e : ℕ) (tree : Tree) (calls xs : List ℕ) (last : Tree) → AreOf e xs → Leads untold Change tree xs last
+      → Leads is_placed (EraNext Change by) (record { tree = tree; base = None; lost = []; era = e; calls = calls }) xs (record { tree = last; base = None; lost = []; era = e; calls = placed_behind xs calls })
+  leads_kept e tree calls [] last real run = ap (λ t. record { tree = t; base = None; lost = []; era = e; calls = calls }) run
+  leads_kept e tree calls (x ∷ xs) last real run = (
+    record { tree = run.0; base = None; lost = []; era = e; calls = x ∷ calls },
+    inl (real.0.0, real.0.1, (run.0, run.1, inl (refl, refl))),
+    leads_kept e run.0 (x ∷ calls) xs last real.1 run.2,
+  )
+
+  -- what saves none of these
+  abbrev SaveNone : List ℕ → List ℕ → Type 0
+  SaveNone lost xs = AllByRecursion (λ x. AllByRecursion (λ m. ¬ IsTrue (by.saves m x)) lost) xs
+
+  save_none : (x : ℕ) (lost xs : List ℕ) → AllByRecursion (λ later. ¬ IsTrue (by.saves x later)) xs → SaveNone lost xs → SaveNone (x ∷ lost) xs
+  save_none x lost [] first rest = tt
+  save_none x lost (y ∷ xs) first rest = ((first.0, rest.0), save_none x lost xs first.1 rest.1)
+
+  -- those behind the cut run too
+  leads_past : (e : ℕ) (tree base : Tree) (lost calls xs : List ℕ) (last : Tree) → AreOf e xs → SaveNone lost xs → NoneSaved by xs → Leads untold Change tree xs last
+      → Leads is_placed (EraNext Change by) (record { tree = tree; base = Some base; lost = lost; era = e; calls = calls }) xs
+      (record { tree = last; base = Some base; lost = placed_behind xs lost; era = e; calls = placed_behind xs calls })
+  leads_past e tree base lost calls [] last real free unsaved run = ap (λ t. record { tree = t; base = Some base; lost = lost; era = e; calls = calls }) run
+  leads_past e tree base lost calls (x ∷ xs) last real free unsaved run = (
+    record { tree = run.0; base = Some base; lost = x ∷ lost; era = e; calls = x ∷ calls },
+    inl (real.0.0, real.0.1, (run.0, run.1, inr (inr (base, refl, free.0, refl)))),
+    leads_past e run.0 base (x ∷ lost) (x ∷ calls) xs last real.1 (save_none x lost xs unsaved.0 free.1) unsaved.1 run.2,
+  )
 
   module _ (times : Times) (count : ℕ) (start : ℕ → ℕ) (numbered : IsNumbering times by count start) where
+    none_yet : (xs : List ℕ) → SaveNone [] xs
+    none_yet [] = tt
+    none_yet (x ∷ xs) = (tt, none_yet xs)
+
     -- the lost places run, and the crash takes them away
-    leads_lost : (e : ℕ) (base last : Tree) (calls lost : List ℕ) → AllByRecursion (λ n. IsTrue (by.is_real n) × (by.era_of n ≡ e)) lost → AllByRecursion (λ n. ¬ IsTrue (by.is_stable n)) lost
+    leads_lost : (e : ℕ) (base last : Tree) (calls lost : List ℕ) → AreOf e lost → AllByRecursion (λ n. ¬ IsTrue (by.is_stable n)) lost → NoneSaved by lost
         → ((m : ℕ) → IsTrue (by.is_stable m) → by.era_of m ≡ e → IsAmong calls m) → Leads untold Change base lost last
-        → Leads is_placed (EraNext Change by) (record { tree = base; base = None; era = e; calls = calls }) (lost ++ by.crash e ∷ [])
-        (record { tree = base; base = None; era = e + 1; calls = by.crash e ∷ placed_behind lost calls })
-    leads_lost e base last calls [] real unstable has run =
-        (record { tree = base; base = None; era = e + 1; calls = by.crash e ∷ calls }, inr (refl, refl), refl)
-    leads_lost e base last calls (x ∷ lost) real unstable has run =
-        let behind_first : EraState Tree = record { tree = run.0; base = Some base; era = e; calls = x ∷ calls } in
-        let at_last : EraState Tree = record { tree = last; base = Some base; era = e; calls = placed_behind lost (x ∷ calls) } in
-        let behind_crash : EraState Tree = record { tree = base; base = None; era = e + 1; calls = by.crash e ∷ placed_behind lost (x ∷ calls) } in (
+        → Leads is_placed (EraNext Change by) (record { tree = base; base = None; lost = []; era = e; calls = calls }) (lost ++ by.crash e ∷ [])
+        (record { tree = base; base = None; lost = []; era = e + 1; calls = by.crash e ∷ placed_behind lost calls })
+    leads_lost e base last calls [] real unstable unsaved has run =
+        (record { tree = base; base = None; lost = []; era = e + 1; calls = by.crash e ∷ calls }, inr (refl, refl), refl)
+    leads_lost e base last calls (x ∷ lost) real unstable unsaved has run =
+        let behind_first : EraState Tree = record { tree = run.0; base = Some base; lost = x ∷ []; era = e; calls = x ∷ calls } in
+        let at_last : EraState Tree = record { tree = last; base = Some base; lost = placed_behind lost (x ∷ []); era = e; calls = placed_behind lost (x ∷ calls) } in
+        let behind_crash : EraState Tree = record { tree = base; base = None; lost = []; era = e + 1; calls = by.crash e ∷ placed_behind lost (x ∷ calls) } in (
           behind_first,
-          inl (real.0.0, real.0.1, (run.0, run.1, inr (refl, unstable.0, has, refl))),
+          inl (real.0.0, real.0.1, (run.0, run.1, inr (inl (refl, unstable.0, has, refl)))),
           leads_joined is_placed (EraNext Change by) behind_first lost (by.crash e ∷ []) at_last behind_crash
-              (leads_real e run.0 (Some base) (x ∷ calls) lost last real.1 run.2) (behind_crash, inr (refl, refl), refl),
+              (leads_past e run.0 base (x ∷ []) (x ∷ calls) lost last real.1 (save_none x [] lost unsaved.0 (none_yet lost)) unsaved.1 run.2) (behind_crash, inr (refl, refl), refl),
         )
 
     -- an era runs with its crash
     leads_part : (e : ℕ) (era : PlanEra) (shape : EraShape times by e era) (tree base last : Tree) (calls : List ℕ) → Leads untold Change tree era.kept base → Leads untold Change base era.lost last
-        → Leads is_placed (EraNext Change by) (record { tree = tree; base = None; era = e; calls = calls }) (part_of by e era)
-        (record { tree = base; base = None; era = e + 1; calls = by.crash e ∷ placed_behind era.lost (placed_behind era.kept calls) })
+        → Leads is_placed (EraNext Change by) (record { tree = tree; base = None; lost = []; era = e; calls = calls }) (part_of by e era)
+        (record { tree = base; base = None; lost = []; era = e + 1; calls = by.crash e ∷ placed_behind era.lost (placed_behind era.kept calls) })
     leads_part e era shape tree base last calls kept lost =
         let first = placed_behind era.kept calls in
-        let behind_crash : EraState Tree = record { tree = base; base = None; era = e + 1; calls = by.crash e ∷ placed_behind era.lost first } in
-        let real : AllByRecursion (λ n. IsTrue (by.is_real n) × (by.era_of n ≡ e)) (era.kept ++ era.lost) =
+        let behind_crash : EraState Tree = record { tree = base; base = None; lost = []; era = e + 1; calls = by.crash e ∷ placed_behind era.lost first } in
+        let real : AreOf e (era.kept ++ era.lost) =
         all_of_each (λ n. IsTrue (by.is_real n) × (by.era_of n ≡ e)) (era.kept ++ era.lost) (λ n among.
         let r = all_at (λ k. IsTrue (times.is_call k) × (by.era_of k ≡ e) × IsTrue (by.is_real k)) (era.kept ++ era.lost) n shape.calls among in (r.2, r.1)) in
         let real_kept = all_ahead (λ n. IsTrue (by.is_real n) × (by.era_of n ≡ e)) era.kept era.lost real in
@@ -213,27 +243,26 @@ module _ {Tree : Type 0} (Change : Tree → ℕ → Tree → Type 0) (by : Numbe
         let unstable : AllByRecursion (λ n. ¬ IsTrue (by.is_stable n)) era.lost =
         all_of_each (λ n. ¬ IsTrue (by.is_stable n)) era.lost (λ n among stable.
         once_across era.kept era.lost n n shape.once (shape.stable n stable (all_at (λ k. IsTrue (by.is_real k) × (by.era_of k ≡ e)) era.lost n real_lost among).1) among refl) in
-        subst (λ o. Leads is_placed (EraNext Change by) (record { tree = tree; base = None; era = e; calls = calls }) o behind_crash) (sym (append_assoc era.kept era.lost (by.crash e ∷ [])))
-        (leads_joined is_placed (EraNext Change by) (record { tree = tree; base = None; era = e; calls = calls }) era.kept (era.lost ++ by.crash e ∷ [])
-        (record { tree = base; base = None; era = e; calls = first }) behind_crash
-        (leads_real e tree None calls era.kept base real_kept kept)
-        (leads_lost e base last first era.lost real_lost unstable (λ m stable same. behind_has era.kept calls m (shape.stable m stable same)) lost))
+        subst (λ o. Leads is_placed (EraNext Change by) (record { tree = tree; base = None; lost = []; era = e; calls = calls }) o behind_crash) (sym (append_assoc era.kept era.lost (by.crash e ∷ [])))
+        (leads_joined is_placed (EraNext Change by) (record { tree = tree; base = None; lost = []; era = e; calls = calls }) era.kept (era.lost ++ by.crash e ∷ [])
+        (record { tree = base; base = None; lost = []; era = e; calls = first }) behind_crash
+        (leads_kept e tree calls era.kept base real_kept kept)
+        (leads_lost e base last first era.lost real_lost unstable shape.unsaved (λ m stable same. behind_has era.kept calls m (shape.stable m stable same)) lost))
 
     -- so do all eras
     leads_plan : (e : ℕ) (eras : List PlanEra) → PlanShape times by e eras → (tree : Tree) (calls : List ℕ) → PlanRuns Change tree eras
-        → (last : EraState Tree) × Leads is_placed (EraNext Change by) (record { tree = tree; base = None; era = e; calls = calls }) (order_of by e eras) last
-    leads_plan e [] shape tree calls runs = (record { tree = tree; base = None; era = e; calls = calls }, refl)
+        → (last : EraState Tree) × Leads is_placed (EraNext Change by) (record { tree = tree; base = None; lost = []; era = e; calls = calls }) (order_of by e eras) last
+    leads_plan e [] shape tree calls runs = (record { tree = tree; base = None; lost = []; era = e; calls = calls }, refl)
     leads_plan e (era ∷ eras) shape tree calls runs =
         let after = by.crash e ∷ placed_behind era.lost (placed_behind era.kept calls) in
         let more = leads_plan (e + 1) eras shape.1 runs.0 after runs.4 in (
           more.0,
-          leads_joined is_placed (EraNext Change by) (record { tree = tree; base = None; era = e; calls = calls }) (part_of by e era) (order_of by (e + 1) eras)
-              (record { tree = runs.0; base = None; era = e + 1; calls = after }) more.0 (leads_part e era shape.0 tree runs.0 runs.1 calls runs.2 runs.3) more.1,
+          leads_joined is_placed (EraNext Change by) (record { tree = tree; base = None; lost = []; era = e; calls = calls }) (part_of by e era) (order_of by (e + 1) eras)
+              (record { tree = runs.0; base = None; lost = []; era = e + 1; calls = after }) more.0 (leads_part e era shape.0 tree runs.0 runs.1 calls runs.2 runs.3) more.1,
         )
 
     -- the theorem: a witness in eras with cuts is a witness as one order, so where no order is one, no plan of eras is
-    pub eras_are_one_order : (opening : Tree) (eras : List PlanEra) → IsEraWitness Change times by count opening eras
-        → IsWitness is_placed (EraNext Change by) times (first_of opening) (order_of by 1 eras)
+    pub eras_are_one_order : (opening : Tree) (eras : List PlanEra) → IsEraWitness Change times by count opening eras → IsWitness is_placed (EraNext Change by) times (first_of opening) (order_of by 1 eras)
     eras_are_one_order opening eras witness =
         let run = leads_plan 1 eras witness.shape opening [] witness.runs in
         let within : (1 ≤ 1) × (1 + length eras ≤ count + 1) = (omega arith, omega (arith, witness.as_many_eras)) in

@@ -11,13 +11,14 @@ pub record PlanEra : Type 0 where
   pub kept : List ℕ
   pub lost : List ℕ
 
--- which numbers stand for calls and not for crashes, which for calls that no crash may take away, in which era each is, and the
--- number of each era's crash
+-- which numbers stand for calls and not for crashes, which for calls that no crash may take away, in which era each is, the
+-- number of each era's crash, and which call keeps a call from being lost that stands ahead of it
 pub record Numbering : Type 0 where
   pub is_real : ℕ → Bool
   pub is_stable : ℕ → Bool
   pub era_of : ℕ → ℕ
   pub crash : ℕ → ℕ
+  pub saves : ℕ → ℕ → Bool
 
 -- so many eras are numbered from 1
 abbrev pub IsEra : ℕ → ℕ → Type 0
@@ -41,12 +42,19 @@ abbrev pub order_of : Numbering → ℕ → List PlanEra → List ℕ
 order_of by e [] = []
 order_of by e (era ∷ eras) = part_of by e era ++ order_of by (e + 1) eras
 
--- the places of an era: calls of the era, none twice, in an order that respects real time, and each stable one is kept
+-- none of these lost calls is kept by one behind it
+abbrev pub NoneSaved : Numbering → List ℕ → Type 0
+NoneSaved by [] = Unit {0}
+NoneSaved by (n ∷ lost) = AllByRecursion (λ later. ¬ IsTrue (by.saves n later)) lost × NoneSaved by lost
+
+-- the places of an era: calls of the era, none twice, in an order that respects real time, each stable one is kept, and no lost one is
+-- saved
 pub record EraShape (times : Times) (by : Numbering) (e : ℕ) (era : PlanEra) : Type 0 where
   pub calls : AllByRecursion (λ n. IsTrue (times.is_call n) × (by.era_of n ≡ e) × IsTrue (by.is_real n)) (era.kept ++ era.lost)
   pub once : IsOnce (era.kept ++ era.lost)
   pub respects : RespectsOrder times (era.kept ++ era.lost)
   pub stable : (n : ℕ) → IsTrue (by.is_stable n) → by.era_of n ≡ e → IsAmong era.kept n
+  pub unsaved : NoneSaved by era.lost
 
 abbrev pub PlanShape : Times → Numbering → ℕ → List PlanEra → Type 0
 PlanShape times by e [] = Unit {0}
@@ -56,10 +64,11 @@ PlanShape times by e (era ∷ eras) = EraShape times by e era × PlanShape times
 abbrev pub untold : {Tree : Type 0} → Tree → ℕ → Bool
 untold tree n = false
 
--- a point of a walk over eras: the tree, the tree at the era's cut once a place is lost, the era, and what is placed
+-- a point of a walk over eras: the tree, the tree at the era's cut once a place is lost, what is lost then, the era, and what is placed
 pub record EraState (Tree : Type 0) : Type 0 where
   pub tree : Tree
   pub base : Option Tree
+  pub lost : List ℕ
   pub era : ℕ
   pub calls : List ℕ
 
@@ -68,7 +77,7 @@ is_placed state n = list_any (λ m. m == n) state.calls
 
 -- where the first era begins
 abbrev pub first_of : {Tree : Type 0} → Tree → EraState Tree
-first_of tree = record { tree = tree; base = None; era = 1; calls = [] }
+first_of tree = record { tree = tree; base = None; lost = []; era = 1; calls = [] }
 
 -- all stable calls of the era are placed
 abbrev pub HasStable : {Tree : Type 0} → Numbering → EraState Tree → Type 0
@@ -80,16 +89,29 @@ module _ {Tree : Type 0} (Change : Tree → ℕ → Tree → Type 0) where
   PlanRuns tree [] = Unit {0}
   PlanRuns tree (era ∷ eras) = (base : Tree) × (last : Tree) × Leads untold Change tree era.kept base × Leads untold Change base era.lost last × PlanRuns base eras
 
-  -- a call of the era changes the tree; one that isn't stable may be the first lost, where all stable ones are placed; a crash goes
-  -- back to the tree ahead of the first lost
+  -- a call changes the tree: ahead of the cut; as the first that is lost, where all stable ones are placed; or behind it, where it saves
+  -- none that is lost
+  abbrev pub IsAheadOfCut : EraState Tree → ℕ → Tree → EraState Tree → Type 0
+  IsAheadOfCut state n tree after = (state.base ≡ None) × (after ≡ record { tree = tree; base = None; lost = []; era = state.era; calls = n ∷ state.calls })
+
+  abbrev pub IsFirstLost : Numbering → EraState Tree → ℕ → Tree → EraState Tree → Type 0
+  IsFirstLost by state n tree after = (state.base ≡ None) × ¬ IsTrue (by.is_stable n) × HasStable by state
+      × (after ≡ record { tree = tree; base = Some state.tree; lost = n ∷ []; era = state.era; calls = n ∷ state.calls })
+
+  abbrev pub IsBehindCut : Numbering → EraState Tree → ℕ → Tree → EraState Tree → Type 0
+  IsBehindCut by state n tree after = (base : Tree) × (state.base ≡ Some base) × AllByRecursion (λ m. ¬ IsTrue (by.saves m n)) state.lost
+      × (after ≡ record { tree = tree; base = Some base; lost = n ∷ state.lost; era = state.era; calls = n ∷ state.calls })
+
+  -- the era's crash goes back to the tree ahead of the first lost
+  abbrev pub IsCrash : Numbering → EraState Tree → ℕ → EraState Tree → Type 0
+  IsCrash by state n after = (n ≡ by.crash state.era) × (after ≡ record { tree = unwrap_or state.base state.tree; base = None; lost = []; era = state.era + 1; calls = n ∷ state.calls })
+
+  -- a call of the era changes the tree, or the era's crash comes
   abbrev pub EraNext : Numbering → EraState Tree → ℕ → EraState Tree → Type 0
   EraNext by state n after =
       (IsTrue (by.is_real n) × (by.era_of n ≡ state.era)
-      × ((tree : Tree) × Change state.tree n tree
-      × ((after ≡ record { tree = tree; base = state.base; era = state.era; calls = n ∷ state.calls })
-      ⊎ ((state.base ≡ None) × ¬ IsTrue (by.is_stable n) × HasStable by state
-      × (after ≡ record { tree = tree; base = Some state.tree; era = state.era; calls = n ∷ state.calls })))))
-      ⊎ ((n ≡ by.crash state.era) × (after ≡ record { tree = unwrap_or state.base state.tree; base = None; era = state.era + 1; calls = n ∷ state.calls }))
+      × ((tree : Tree) × Change state.tree n tree × (IsAheadOfCut state n tree after ⊎ (IsFirstLost by state n tree after ⊎ IsBehindCut by state n tree after))))
+      ⊎ IsCrash by state n after
 
   -- a plan of eras is a witness: it has the history's shape, its eras run, and each answered call has its place (a crash has by its era)
   pub record IsEraWitness (times : Times) (by : Numbering) (count : ℕ) (opening : Tree) (eras : List PlanEra) : Type 0 where

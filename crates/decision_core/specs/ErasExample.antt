@@ -12,7 +12,7 @@ abbrev pub times : Times
 times = record { is_call = λ n. pick n true true true true false; begin_of = λ n. pick n 1 5 4 7 0; end_of = λ n. pick n (Some 2) (Some 6) (Some 4) (Some 7) None }
 
 abbrev pub by : Numbering
-by = record { is_real = λ n. pick n true true false false false; is_stable = λ n. n == 2; era_of = λ n. pick n 1 2 1 2 0; crash = λ e. 10 + e }
+by = record { is_real = λ n. pick n true true false false false; is_stable = λ n. n == 2; era_of = λ n. pick n 1 2 1 2 0; crash = λ e. 10 + e; saves = λ n m. false }
 
 -- the eras begin at events 1 and 4, and the second ends at 7
 abbrev pub start : ℕ → ℕ
