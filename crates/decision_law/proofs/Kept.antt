@@ -1,5 +1,5 @@
 -- A call that is never lost isn't past a cut of a plan that is a witness.
-use Rattle.std.proofs.Common.{◌≡◌, inl, inr, ℕ, suc, ◌+◌, ◌<◌, ◌≤◌, ◌||◌, Bool, true, false, List, [], ◌∷◌, ◌++◌, length, take, drop, map, Some, Contains, refl, sym, ap, subst, ◌∙◌, arith, append_assoc, length-append}
+use Rattle.std.proofs.Common.{IsTrue, ◌≡◌, inl, inr, ℕ, suc, ◌+◌, ◌<◌, ◌≤◌, ◌||◌, Bool, true, false, List, [], ◌∷◌, ◌++◌, length, take, drop, map, Some, Contains, refl, sym, ap, subst, ◌∙◌, arith, append_assoc, length-append}
 use Rattle.std.specs.Prelude.{option_map, unwrap_or, option_and_then, nat_lt}
 use Rattle.std.specs.List.{AllByRecursion, list_any}
 use Rattle.std.proofs.lemmas.List.{take-append-drop, map-append, length-take-le, length-map}
@@ -28,9 +28,10 @@ use Rattle.cut_check.specs.Cut.{KeepsStable, CutsKeepStable}
 use Rattle.cut_check.specs.Verifier.{verifier_of, writes_bytes_at, loses_write, Shows, VerifiersAgree}
 use Rattle.decision_law.specs.Laws.{ShowsTwoVerifiers}
 use Rattle.decision_core.specs.Times.{IsAmong}
-use Rattle.decision_core.proofs.Orders.{all_behind, which_part}
-use Rattle.decision_law.specs.Times.{AreTimed}
-use Rattle.decision_law.specs.NeverLost.{written, committed, IsAnswered, IsLasting, IsCommitted, IsShownLater, IsNeverLost, AreNeverLost}
+use Rattle.decision_core.specs.Eras.{NoneSaved}
+use Rattle.decision_core.proofs.Orders.{all_behind, all_of_each, which_part}
+use Rattle.decision_law.specs.Times.{AreTimed, numbering_of}
+use Rattle.decision_law.specs.NeverLost.{written, committed, IsAnswered, IsLasting, IsReached, IsCommitted, IsShownLater, IsNeverLost, Hints, AreRight}
 use Rattle.decision_law.proofs.Placed.{answered_wanted}
 use Rattle.decision_law.proofs.Runs.{HasRun}
 use Rattle.decision_law.proofs.Effects.{lasts_so, effect_so, verifier_so, writes_so, object_named}
@@ -77,28 +78,33 @@ module _ (known : KnownCalls) (start : ℕ → ℕ) (timed : AreTimed known star
     names : call_of place ≡ n
     may : may_place place recorded ≡ true
 
+  lost_place : (e : ℕ) (era : EraPlan) → EraFacts known start timed binds e era → (within : List Place) (place : Place) (back : List Place) (recorded : RecordedCall)
+      → drop (cut_of era) era.places ≡ within ++ place ∷ back → call_at known.calls (call_of place) ≡ Some recorded → IsLostAt e era (call_of place) recorded
+  lost_place e era facts within place back recorded lost stands =
+      let kept = take (cut_of era) era.places in
+      let parts : era.places ≡ (kept ++ within) ++ place ∷ back = sym (take-append-drop (cut_of era) era.places) ∙ ap (λ l. kept ++ l) lost ∙ sym (append_assoc kept within (place ∷ back)) in
+      let at : IsPlaced known start timed binds e place = (all_behind (IsPlaced known start timed binds e) (kept ++ within) (place ∷ back) (subst (AllByRecursion (IsPlaced known start timed binds e)) parts facts.placed)).0 in
+      let same : Some at.0 ≡ Some recorded = sym at.1 ∙ stands in
+      let is : at.0 ≡ recorded = cc in
+      let many = length-append kept within in
+      let cut = length-take-le (cut_of era) era.places facts.fits in
+      record {
+        front = kept ++ within;
+        place = place;
+        back = back;
+        within = within;
+        lost = lost;
+        whole = parts;
+        past = omega (arith, many, cut);
+        names = refl;
+        may = subst (λ r. may_place place r ≡ true) is at.3;
+      }
+
   lost_at : (e : ℕ) (era : EraPlan) → EraFacts known start timed binds e era → (n : ℕ) (recorded : RecordedCall) → call_at known.calls n ≡ Some recorded
       → IsAmong (map call_of (drop (cut_of era) era.places)) n → IsLostAt e era n recorded
   lost_at e era facts n recorded stands among =
       let p = place_of (drop (cut_of era) era.places) n among in
-      let kept = take (cut_of era) era.places in
-      let parts : era.places ≡ (kept ++ p.ahead) ++ p.place ∷ p.behind = sym (take-append-drop (cut_of era) era.places) ∙ ap (λ l. kept ++ l) p.stands ∙ sym (append_assoc kept p.ahead (p.place ∷ p.behind)) in
-      let at : IsPlaced known start timed binds e p.place = (all_behind (IsPlaced known start timed binds e) (kept ++ p.ahead) (p.place ∷ p.behind) (subst (AllByRecursion (IsPlaced known start timed binds e)) parts facts.placed)).0 in
-      let same : Some at.0 ≡ Some recorded = sym at.1 ∙ (ap (call_at known.calls) p.names ∙ stands) in
-      let is : at.0 ≡ recorded = cc in
-      let many = length-append kept p.ahead in
-      let cut = length-take-le (cut_of era) era.places facts.fits in
-      record {
-        front = kept ++ p.ahead;
-        place = p.place;
-        back = p.behind;
-        within = p.ahead;
-        lost = p.stands;
-        whole = parts;
-        past = omega (arith, many, cut);
-        names = p.names;
-        may = subst (λ r. may_place p.place r ≡ true) is at.3;
-      }
+      subst (λ k. IsLostAt e era k recorded) p.names (lost_place e era facts p.ahead p.place p.behind recorded p.stands (ap (call_at known.calls) p.names ∙ stands))
 
   -- a stable place isn't lost
   never_stable : (e : ℕ) (era : EraPlan) (n : ℕ) (recorded : RecordedCall) (at : IsLostAt e era n recorded) → KeepsStable binds known.calls era
@@ -138,20 +144,46 @@ module _ (known : KnownCalls) (start : ℕ → ℕ) (timed : AreTimed known star
   not_write : {a : _} {b : _} → meanings.Judged (calls.Commit a) ≡ meanings.Judged (calls.Write b) → ⊥
   not_write is = cc
 
+  -- a WRITE isn't lost where a COMMIT behind it in its era reaches it
+  saved_kept : (e : ℕ) (era : EraPlan) (facts : EraFacts known start timed binds e era) (n : ℕ) (recorded : RecordedCall) (m : ℕ) (behind : RecordedCall) (c : IsReached known n recorded m behind)
+      (at : IsLostAt e era n recorded) → IsAmong (map call_of at.back) m → KeepsStable binds known.calls era → ⊥
+  saved_kept e era facts n recorded m behind c at among keeps =
+      let q = place_of at.back m among in
+      let ran = (all_behind (HasRun known binds) at.front (at.place ∷ at.back) (subst (AllByRecursion (HasRun known binds)) at.whole facts.ran)).0 in
+      let here = subst (λ k. IsAnswered known k recorded (calls.Write c.write) (written c.success) c.at) (sym at.names) c.answered in
+      let object = object_named known binds (call_of at.place) recorded c.write c.success c.at ran.0 ran.1 here ran.2 in
+      let write_effect : effect_at binds known.calls at.place ≡ at_level c.success.level (Unstable object.0 c.write.offset c.success.count) =
+      effect_so known binds at.place recorded (calls.Write c.write) (written c.success) c.at here at.may
+      ∙ ap (λ o. at_level c.success.level (of_object (λ named. Unstable named c.write.offset c.success.count) o)) object.1 in
+      let placed_back = (all_behind (IsPlaced known start timed binds e) at.front (at.place ∷ at.back) (subst (AllByRecursion (IsPlaced known start timed binds e)) at.whole facts.placed)).1 in
+      let q_placed : IsPlaced known start timed binds e q.place = (all_behind (IsPlaced known start timed binds e) q.ahead (q.place ∷ q.behind) (subst (AllByRecursion (IsPlaced known start timed binds e)) q.stands placed_back)).0 in
+      let answered = answered_place e q.place behind m (calls.Commit c.commit) (committed c.commit_success) c.commit_at q_placed q.names c.commit_answered in
+      let commit_effect : effect_at binds known.calls q.place ≡ Committed object.0 c.commit.offset c.commit.count =
+      effect_so known binds q.place behind (calls.Commit c.commit) (committed c.commit_success) c.commit_at answered.0 answered.1
+      ∙ ap (λ o. of_object (λ named. Committed named c.commit.offset c.commit.count) o) (ap (object_of binds) c.same_file ∙ object.1) in
+      let effects_back : effects_of binds known.calls at.back ≡ effects_of binds known.calls q.ahead ++ effect_at binds known.calls q.place ∷ effects_of binds known.calls q.behind =
+      ap (effects_of binds known.calls) q.stands ∙ map-append (effect_at binds known.calls) q.ahead (q.place ∷ q.behind) in
+      let has : Contains (effects_of binds known.calls at.back) (effect_at binds known.calls q.place) =
+      subst (λ l. Contains l (effect_at binds known.calls q.place)) (sym effects_back) (contains_middle (effects_of binds known.calls q.ahead) (effect_at binds known.calls q.place) (effects_of binds known.calls q.behind)) in
+      let are_committed : AreCommitted object.0 c.write.offset c.success.count (effects_of binds known.calls at.back) =
+      (Committed object.0 c.commit.offset c.commit.count, subst (Contains (effects_of binds known.calls at.back)) commit_effect has, (c.byte, c.was_written, (refl, c.reached.0, c.reached.1))) in
+      never_stable e era n recorded at keeps
+      (subst (λ x. IsStable x (effects_of binds known.calls at.back)) (sym write_effect) (level_stable c.success.level object.0 c.write.offset c.success.count (effects_of binds known.calls at.back) are_committed))
+
   module _ (e : ℕ) (era : EraPlan) (facts : EraFacts known start timed binds e era) (n : ℕ) (recorded : RecordedCall) (c : IsCommitted known n recorded) (of_era : recorded.era ≡ e)
       (at : IsLostAt e era n recorded) where
     -- the WRITE's reply came before the COMMIT was sent
     before : Precedes known.calls n c.later
     before = (
-      c.at,
-      ap (option_and_then (λ call. call.«end»)) c.answered.stands ∙ c.answered.ended,
-      subst (λ b. c.at < b) (sym (ap (λ o. unwrap_or (option_map (λ call. call.begin) o) 0) c.commit_answered.stands)) c.sent_behind,
+      c.reaches.at,
+      ap (option_and_then (λ call. call.«end»)) c.reaches.answered.stands ∙ c.reaches.answered.ended,
+      subst (λ b. c.reaches.at < b) (sym (ap (λ o. unwrap_or (option_map (λ call. call.begin) o) 0) c.reaches.commit_answered.stands)) c.sent_behind,
     )
 
     -- so the COMMIT stands behind
     commit_behind : IsAmong (map call_of at.back) c.later
     commit_behind =
-        let among = facts.named c.later c.behind c.commit_answered.stands (answered_wanted known c.later c.behind (calls.Commit c.commit) _ c.commit_at c.commit_answered) (c.same_era ∙ of_era) in
+        let among = facts.named c.later c.behind c.reaches.commit_answered.stands (answered_wanted known c.later c.behind (calls.Commit c.reaches.commit) _ c.reaches.commit_at c.reaches.commit_answered) (c.same_era ∙ of_era) in
         let parted : map call_of era.places ≡ map call_of at.front ++ n ∷ map call_of at.back =
         ap (map call_of) at.whole ∙ map-append call_of at.front (at.place ∷ at.back) ∙ ap (λ k. map call_of at.front ++ k ∷ map call_of at.back) at.names in
         elim (which_part (map call_of at.front) n (map call_of at.back) c.later (subst (λ l. IsAmong l c.later) parted among)) [
@@ -167,34 +199,26 @@ module _ (known : KnownCalls) (start : ℕ → ℕ) (timed : AreTimed known star
 
           not_it : n ≡ c.later → ⊥
           not_it same =
-              let there : Some recorded ≡ Some c.behind = sym c.answered.stands ∙ (ap (call_at known.calls) same ∙ c.commit_answered.stands) in
+              let there : Some recorded ≡ Some c.behind = sym c.reaches.answered.stands ∙ (ap (call_at known.calls) same ∙ c.reaches.commit_answered.stands) in
               let is : recorded ≡ c.behind = cc in
-              not_write (sym c.commit_answered.judged ∙ (sym (ap (λ r. r.meaning) is) ∙ c.answered.judged))
+              not_write (sym c.reaches.commit_answered.judged ∙ (sym (ap (λ r. r.meaning) is) ∙ c.reaches.answered.judged))
 
     committed_kept : KeepsStable binds known.calls era → ⊥
-    committed_kept keeps =
-        let q = place_of at.back c.later commit_behind in
-        let ran = (all_behind (HasRun known binds) at.front (at.place ∷ at.back) (subst (AllByRecursion (HasRun known binds)) at.whole facts.ran)).0 in
-        let object = object_named known binds (call_of at.place) recorded c.write c.success c.at ran.0 ran.1 (subst (λ k. IsAnswered known k recorded (calls.Write c.write) (written c.success) c.at) (sym at.names) c.answered) ran.2 in
-        let write_effect : effect_at binds known.calls at.place ≡ at_level c.success.level (Unstable object.0 c.write.offset c.success.count) =
-        effect_so known binds at.place recorded (calls.Write c.write) (written c.success) c.at
-        (subst (λ k. IsAnswered known k recorded (calls.Write c.write) (written c.success) c.at) (sym at.names) c.answered) at.may
-        ∙ ap (λ o. at_level c.success.level (of_object (λ named. Unstable named c.write.offset c.success.count) o)) object.1 in
-        let whole_back : at.back ≡ q.ahead ++ q.place ∷ q.behind = q.stands in
-        let placed_back = (all_behind (IsPlaced known start timed binds e) at.front (at.place ∷ at.back) (subst (AllByRecursion (IsPlaced known start timed binds e)) at.whole facts.placed)).1 in
-        let q_placed : IsPlaced known start timed binds e q.place = (all_behind (IsPlaced known start timed binds e) q.ahead (q.place ∷ q.behind) (subst (AllByRecursion (IsPlaced known start timed binds e)) whole_back placed_back)).0 in
-        let answered = answered_place e q.place c.behind c.later (calls.Commit c.commit) (committed c.commit_success) c.commit_at q_placed q.names c.commit_answered in
-        let commit_effect : effect_at binds known.calls q.place ≡ Committed object.0 c.commit.offset c.commit.count =
-        effect_so known binds q.place c.behind (calls.Commit c.commit) (committed c.commit_success) c.commit_at answered.0 answered.1
-        ∙ ap (λ o. of_object (λ named. Committed named c.commit.offset c.commit.count) o) (ap (object_of binds) c.same_file ∙ object.1) in
-        let effects_back : effects_of binds known.calls at.back ≡ effects_of binds known.calls q.ahead ++ effect_at binds known.calls q.place ∷ effects_of binds known.calls q.behind =
-        ap (effects_of binds known.calls) whole_back ∙ map-append (effect_at binds known.calls) q.ahead (q.place ∷ q.behind) in
-        let has : Contains (effects_of binds known.calls at.back) (effect_at binds known.calls q.place) =
-        subst (λ l. Contains l (effect_at binds known.calls q.place)) (sym effects_back) (contains_middle (effects_of binds known.calls q.ahead) (effect_at binds known.calls q.place) (effects_of binds known.calls q.behind)) in
-        let are_committed : AreCommitted object.0 c.write.offset c.success.count (effects_of binds known.calls at.back) =
-        (Committed object.0 c.commit.offset c.commit.count, subst (Contains (effects_of binds known.calls at.back)) commit_effect has, (c.byte, c.was_written, (refl, c.reached.0, c.reached.1))) in
-        never_stable e era n recorded at keeps
-        (subst (λ x. IsStable x (effects_of binds known.calls at.back)) (sym write_effect) (level_stable c.success.level object.0 c.write.offset c.success.count (effects_of binds known.calls at.back) are_committed))
+    committed_kept keeps = saved_kept e era facts n recorded c.later c.behind c.reaches at commit_behind keeps
+
+  -- none of the lost calls is saved by one behind it
+  module _ (e : ℕ) (era : EraPlan) (facts : EraFacts known start timed binds e era) (keeps : KeepsStable binds known.calls era) (hints : Hints) (told : AreRight known hints) where
+    none_saved : (within places : List Place) → drop (cut_of era) era.places ≡ within ++ places → NoneSaved (numbering_of known hints) (map call_of places)
+    unfolding lost_place
+    none_saved within [] parts = tt
+    none_saved within (place ∷ places) parts = (
+      all_of_each (λ later. ¬ IsTrue (hints.saves (call_of place) later)) (map call_of places) (λ m among saves. saved m among saves),
+      none_saved (within ++ place ∷ []) places (parts ∙ sym (append_assoc within (place ∷ []) places)),
+    ) where
+      saved : (m : ℕ) → IsAmong (map call_of places) m → IsTrue (hints.saves (call_of place) m) → ⊥
+      saved m among saves =
+          let r = told.saves (call_of place) m saves in
+          saved_kept e era facts (call_of place) r.0 m r.1 r.2 (lost_place e era facts within place places r.0 parts r.2.answered.stands) among keeps
 
   module _ (whole : List EraPlan) (verifiers : VerifiersAgree known.calls whole) (facts : Facts known start timed binds 1 whole) where
     shown_kept : (e : ℕ) (era : EraPlan) → era_at whole e ≡ Some era → (n : ℕ) (recorded : RecordedCall) → IsShownLater known n recorded → recorded.era ≡ e → IsLostAt e era n recorded → ⊥
@@ -224,15 +248,16 @@ module _ (known : KnownCalls) (start : ℕ → ℕ) (timed : AreTimed known star
           lt_true : (a b : ℕ) → a < b → nat_lt a b ≡ true
           lt_true a b less = grind (arith, less)
 
-    pub are_kept : (never_lost : ℕ → Bool) (told : AreNeverLost known never_lost) → CutsKeepStable binds known.calls whole → AreKept known start timed binds never_lost told whole
-    are_kept never_lost told cuts e era there less era_facts n recorded never of_era lost = go never where
-      keeps : KeepsStable binds known.calls era
-      keeps = cuts e era there less
-
-      go : IsNeverLost known n recorded → ⊥
-      go (inl lasts) = lasting_kept e era keeps n recorded lasts (lost_at e era era_facts n recorded lasts.answered.stands lost)
-      go (inr (inl c)) = committed_kept e era era_facts n recorded c of_era (lost_at e era era_facts n recorded c.answered.stands lost) keeps
-      go (inr (inr s)) = shown_kept e era there n recorded s of_era (lost_at e era era_facts n recorded s.answered.stands lost)
+    pub are_kept : (hints : Hints) (told : AreRight known hints) → CutsKeepStable binds known.calls whole → AreKept known start timed binds hints told whole
+    are_kept hints told cuts = record {
+      never = λ e era there less era_facts n recorded never of_era lost. go e era there (cuts e era there less) era_facts n recorded of_era lost never;
+      unsaved = λ e era there less era_facts. none_saved e era era_facts (cuts e era there less) hints told [] (drop (cut_of era) era.places) refl;
+    } where
+      go : (e : ℕ) (era : EraPlan) → era_at whole e ≡ Some era → KeepsStable binds known.calls era → EraFacts known start timed binds e era → (n : ℕ) (recorded : RecordedCall) → recorded.era ≡ e
+          → IsAmong (map call_of (drop (cut_of era) era.places)) n → IsNeverLost known n recorded → ⊥
+      go e era there keeps era_facts n recorded of_era lost (inl lasts) = lasting_kept e era keeps n recorded lasts (lost_at e era era_facts n recorded lasts.answered.stands lost)
+      go e era there keeps era_facts n recorded of_era lost (inr (inl c)) = committed_kept e era era_facts n recorded c of_era (lost_at e era era_facts n recorded c.reaches.answered.stands lost) keeps
+      go e era there keeps era_facts n recorded of_era lost (inr (inr s)) = shown_kept e era there n recorded s of_era (lost_at e era era_facts n recorded s.answered.stands lost)
 
     -- ---- verifiers
 

@@ -7,6 +7,7 @@ use Rattle.nfs_history.specs.declared.knowing.KnownCalls.{KnownCalls}
 use Rattle.nfs_history.specs.Precedence.{call_at, begin_of}
 use Rattle.order_check.specs.Places.{is_wanted, passes}
 use Rattle.decision_core.specs.Eras.{IsEra, IsNumbering}
+use Rattle.decision_law.specs.NeverLost.{Hints}
 use Rattle.decision_law.specs.Times.{IsTimed, AreTimed, may_stand, answered_end, is_of_call, era_ended, era_of_number, numbering_of, times_of}
 
 -- what passes a test is there
@@ -122,8 +123,8 @@ module _ (known : KnownCalls) (start : ℕ → ℕ) where
     within : (e : ℕ) → IsEra known.eras e → nat_le (era_ended known (length known.calls + e)) known.eras ≡ true
     within e inside = let h = inside.1 in grind (arith, h)
 
-    pub numbered : (never_lost : ℕ → Bool) → IsNumbering (times_of known start) (numbering_of known never_lost) known.eras (start)
-    numbered never_lost = record {
+    pub numbered : (hints : Hints) → IsNumbering (times_of known start) (numbering_of known hints) known.eras (start)
+    numbered hints = record {
       begins_late = begins_late;
       begins_early = begins_early;
       ends_late = ends_late;

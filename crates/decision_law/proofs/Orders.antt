@@ -17,7 +17,7 @@ use Rattle.decision_core.proofs.Walk.{among_ahead, among_last}
 use Rattle.decision_core.proofs.ErasWalk.{eras_are_one_order}
 use Rattle.decision_law.specs.Times.{AreTimed, is_of_call, era_ended, numbering_of, times_of}
 use Rattle.cut_check.specs.Places.{era_at}
-use Rattle.decision_law.specs.NeverLost.{AreNeverLost}
+use Rattle.decision_law.specs.NeverLost.{Hints, no_hints, AreRight}
 use Rattle.decision_law.specs.Machine.{Changes, IsOrder}
 use Rattle.decision_law.specs.Plans.{cut_era, whole_era, eras_of_plan}
 use Rattle.decision_law.specs.Laws.{binds_of, ShowsTwoVerifiers}
@@ -37,32 +37,32 @@ among_behind : (xs ys : List ℕ) (n : ℕ) → IsAmong ys n → IsAmong (xs ++ 
 among_behind [] ys n among = among
 among_behind (x ∷ xs) ys n among = inr (among_behind xs ys n among)
 
-module _ (known : KnownCalls) (never_lost : ℕ → Bool) where
+module _ (known : KnownCalls) (hints : Hints) where
   -- the calls of an era are in its part
-  in_part : (e : ℕ) (era : EraPlan) (parts : PlanEra) (n : ℕ) → parts.kept ++ parts.lost ≡ map call_of era.places → IsAmong (map call_of era.places) n → IsAmong (part_of (numbering_of known never_lost) e parts) n
-  in_part e era parts n is among = among_ahead (parts.kept ++ parts.lost) ((numbering_of known never_lost).crash e ∷ []) n (subst (λ l. IsAmong l n) (sym is) among)
+  in_part : (e : ℕ) (era : EraPlan) (parts : PlanEra) (n : ℕ) → parts.kept ++ parts.lost ≡ map call_of era.places → IsAmong (map call_of era.places) n → IsAmong (part_of (numbering_of known hints) e parts) n
+  in_part e era parts n is among = among_ahead (parts.kept ++ parts.lost) ((numbering_of known hints).crash e ∷ []) n (subst (λ l. IsAmong l n) (sym is) among)
 
   -- what is named is in the order
-  pub named_in_order : (e : ℕ) (eras : List EraPlan) (n : ℕ) → is_named (order_from e eras) n ≡ true → IsAmong (order_of (numbering_of known never_lost) e (eras_of_plan eras)) n
+  pub named_in_order : (e : ℕ) (eras : List EraPlan) (n : ℕ) → is_named (order_from e eras) n ≡ true → IsAmong (order_of (numbering_of known hints) e (eras_of_plan eras)) n
   named_in_order e [] n named = absurd cc
   named_in_order e (era ∷ []) n named = elim (named_parts (map (at_era e) era.places) [] n named) [
-    | inl here ↦ among_ahead (part_of (numbering_of known never_lost) e (whole_era era)) [] n (in_part e era (whole_era era) n (append-nil (map call_of era.places)) (named_among e era.places n here))
+    | inl here ↦ among_ahead (part_of (numbering_of known hints) e (whole_era era)) [] n (in_part e era (whole_era era) n (append-nil (map call_of era.places)) (named_among e era.places n here))
     | inr later ↦ absurd cc
   ]
   named_in_order e (era ∷ following ∷ eras) n named = elim (named_parts (map (at_era e) era.places) (order_from (e + 1) (following ∷ eras)) n named) [
-    | inl here ↦ among_ahead (part_of (numbering_of known never_lost) e (cut_era era)) (order_of (numbering_of known never_lost) (e + 1) (eras_of_plan (following ∷ eras))) n
+    | inl here ↦ among_ahead (part_of (numbering_of known hints) e (cut_era era)) (order_of (numbering_of known hints) (e + 1) (eras_of_plan (following ∷ eras))) n
         (in_part e era (cut_era era) n (numbers_parted (cut_of era) era.places) (named_among e era.places n here))
-    | inr later ↦ among_behind (part_of (numbering_of known never_lost) e (cut_era era)) (order_of (numbering_of known never_lost) (e + 1) (eras_of_plan (following ∷ eras))) n
+    | inr later ↦ among_behind (part_of (numbering_of known hints) e (cut_era era)) (order_of (numbering_of known hints) (e + 1) (eras_of_plan (following ∷ eras))) n
         (named_in_order (e + 1) (following ∷ eras) n later)
   ]
 
   -- so is each crash
-  crash_in_order : (e : ℕ) (eras : List PlanEra) (f : ℕ) → e ≤ f → f < e + length eras → IsAmong (order_of (numbering_of known never_lost) e eras) ((numbering_of known never_lost).crash f)
+  crash_in_order : (e : ℕ) (eras : List PlanEra) (f : ℕ) → e ≤ f → f < e + length eras → IsAmong (order_of (numbering_of known hints) e eras) ((numbering_of known hints).crash f)
   crash_in_order e [] f from to = absurd (omega (arith, from, to))
   crash_in_order e (era ∷ eras) f from to = elim (either e f from) [
-    | inl same ↦ among_ahead (part_of (numbering_of known never_lost) e era) (order_of (numbering_of known never_lost) (e + 1) eras) ((numbering_of known never_lost).crash f)
-        (subst (λ k. IsAmong (part_of (numbering_of known never_lost) e era) ((numbering_of known never_lost).crash k)) same (among_last (era.kept ++ era.lost) ((numbering_of known never_lost).crash e)))
-    | inr later ↦ among_behind (part_of (numbering_of known never_lost) e era) (order_of (numbering_of known never_lost) (e + 1) eras) ((numbering_of known never_lost).crash f)
+    | inl same ↦ among_ahead (part_of (numbering_of known hints) e era) (order_of (numbering_of known hints) (e + 1) eras) ((numbering_of known hints).crash f)
+        (subst (λ k. IsAmong (part_of (numbering_of known hints) e era) ((numbering_of known hints).crash k)) same (among_last (era.kept ++ era.lost) ((numbering_of known hints).crash e)))
+    | inr later ↦ among_behind (part_of (numbering_of known hints) e era) (order_of (numbering_of known hints) (e + 1) eras) ((numbering_of known hints).crash f)
         (crash_in_order (e + 1) eras f later (omega (arith, to)))
   ] where
     either : (e f : ℕ) → e ≤ f → (e ≡ f) ⊎ (e + 1 ≤ f)
@@ -86,7 +86,7 @@ module _ (known : KnownCalls) (never_lost : ℕ → Bool) where
     may_be (e + 1) eras (all_behind (λ p. IsTrue (is_placeable known.calls p)) (map (at_era e) era.places) (order_from (e + 1) eras) right),
   )
 
-  module _ (start : ℕ → ℕ) (plan : Certificate) (timed : AreTimed known start) (told : AreNeverLost known never_lost) (witness : IsWitness known plan) where
+  module _ (start : ℕ → ℕ) (plan : Certificate) (timed : AreTimed known start) (told : AreRight known hints) (witness : IsWitness known plan) where
     runs : PlanRuns (Changes known (binds_of known plan)) (base_of known) (eras_of_plan plan.eras)
     runs = plan_runs known (binds_of known plan) (base_of known) plan.eras (may_be 1 plan.eras witness.shape.right) witness.runs
 
@@ -101,7 +101,7 @@ module _ (known : KnownCalls) (never_lost : ℕ → Bool) where
       ran = have_run known (binds_of known plan) (base_of known) plan.eras runs;
     }
 
-    complete : (n at : ℕ) → (times_of known start).end_of n ≡ Some at → IsAmong (order_of (numbering_of known never_lost) 1 (eras_of_plan plan.eras)) n
+    complete : (n at : ℕ) → (times_of known start).end_of n ≡ Some at → IsAmong (order_of (numbering_of known hints) 1 (eras_of_plan plan.eras)) n
     complete n at ends = elim (which known start n) [
       | inl is ↦ let c = wanted_end (call_at known.calls n) at (sym (of_call known start n _ _ is) ∙ ends) in
           named_in_order 1 plan.eras n (witness.shape.complete n c.0 c.1 c.2)
@@ -111,28 +111,27 @@ module _ (known : KnownCalls) (never_lost : ℕ → Bool) where
           let same : length known.calls + era_ended known n ≡ n = omega (arith, behind) in
           let many = as_many plan.eras in
           let eras = witness.shape.as_many_eras in
-          subst (IsAmong (order_of (numbering_of known never_lost) 1 (eras_of_plan plan.eras))) same
+          subst (IsAmong (order_of (numbering_of known hints) 1 (eras_of_plan plan.eras))) same
           (crash_in_order 1 (eras_of_plan plan.eras) (era_ended known n) (omega (arith, behind)) (omega (arith, most, many, eras)))
     ]
 
-    pub era_witness : IsEraWitness (Changes known (binds_of known plan)) (times_of known start) (numbering_of known never_lost) known.eras (base_of known) (eras_of_plan plan.eras)
+    pub era_witness : IsEraWitness (Changes known (binds_of known plan)) (times_of known start) (numbering_of known hints) known.eras (base_of known) (eras_of_plan plan.eras)
     era_witness = record {
       as_many_eras = as_many plan.eras ∙ witness.shape.as_many_eras;
-      shape = plan_shape known start timed (binds_of known plan) never_lost told plan.eras
-          (are_kept known start timed (binds_of known plan) plan.eras witness.verifiers facts never_lost told witness.cuts) 1 plan.eras facts
+      shape = plan_shape known start timed (binds_of known plan) hints told plan.eras
+          (are_kept known start timed (binds_of known plan) plan.eras witness.verifiers facts hints told witness.cuts) 1 plan.eras facts
           (omega arith, (λ k era at. let same : suc k ≡ 1 + k = omega arith in subst (λ j. era_at plan.eras j ≡ Some era) same at));
       runs = runs;
       complete = complete;
     }
 
-    pub is_order : IsOrder known start never_lost (binds_of known plan) (order_of (numbering_of known never_lost) 1 (eras_of_plan plan.eras))
-    is_order = eras_are_one_order (Changes known (binds_of known plan)) (numbering_of known never_lost) (times_of known start) known.eras (start)
-        (numbered known start timed never_lost) (base_of known) (eras_of_plan plan.eras) era_witness
+    pub is_order : IsOrder known start hints (binds_of known plan) (order_of (numbering_of known hints) 1 (eras_of_plan plan.eras))
+    is_order = eras_are_one_order (Changes known (binds_of known plan)) (numbering_of known hints) (times_of known start) known.eras (start)
+        (numbered known start timed hints) (base_of known) (eras_of_plan plan.eras) era_witness
 
 -- two verifiers in one era
 pub no_two_verifiers : (known : KnownCalls) (start : ℕ → ℕ) (timed : AreTimed known start) (plan : Certificate) → ShowsTwoVerifiers known → ¬ IsWitness known plan
 no_two_verifiers known start timed plan two witness =
-    let none : ℕ → Bool = λ n. false in
-    let told : AreNeverLost known none = λ n never. absurd (cc) in
-    no_two known start timed (binds_of known plan) plan.eras witness.verifiers (facts known none start plan timed told witness) two
+    let told : AreRight known no_hints = record { never_lost = λ n never. absurd (cc); saves = λ n m saves. absurd (cc) } in
+    no_two known start timed (binds_of known plan) plan.eras witness.verifiers (facts known no_hints start plan timed told witness) two
     (λ n recorded stands wanted. of_some_era known start timed (binds_of known plan) plan.eras witness.shape.of_their_eras n recorded stands (witness.shape.complete n recorded stands wanted))

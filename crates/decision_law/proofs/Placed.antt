@@ -123,5 +123,5 @@ answered_wanted known n recorded call outcome at a = ap (λ m. is_judged m && is
 -- so has one that is never lost
 pub wanted_call : (known : KnownCalls) (n : ℕ) (recorded : RecordedCall) → IsNeverLost known n recorded → (call_at known.calls n ≡ Some recorded) × (is_wanted recorded ≡ true)
 wanted_call known n recorded (inl lasts) = (lasts.answered.stands, answered_wanted known n recorded lasts.call lasts.outcome lasts.at lasts.answered)
-wanted_call known n recorded (inr (inl c)) = (c.answered.stands, answered_wanted known n recorded (calls.Write c.write) _ c.at c.answered)
+wanted_call known n recorded (inr (inl c)) = (c.reaches.answered.stands, answered_wanted known n recorded (calls.Write c.reaches.write) _ c.reaches.at c.reaches.answered)
 wanted_call known n recorded (inr (inr s)) = (s.answered.stands, answered_wanted known n recorded (calls.Write s.write) _ s.at s.answered)

@@ -19,10 +19,10 @@ use Rattle.order_check.specs.Order as order
 use Rattle.tree_handles.specs.Binding.{Bindings}
 use Rattle.cut_check.specs.Places.{era_at}
 use Rattle.decision_core.specs.Times.{Precedes, RespectsOrder, IsAmong, IsOnce}
-use Rattle.decision_core.specs.Eras.{PlanEra, EraShape, PlanShape}
+use Rattle.decision_core.specs.Eras.{PlanEra, NoneSaved, EraShape, PlanShape}
 use Rattle.decision_core.proofs.Orders.{all_ahead, all_behind}
 use Rattle.decision_law.specs.Times.{AreTimed, may_stand, is_of_call, era_ended, era_of_number, numbering_of, times_of}
-use Rattle.decision_law.specs.NeverLost.{IsNeverLost, AreNeverLost}
+use Rattle.decision_law.specs.NeverLost.{IsNeverLost, Hints, AreRight}
 use Rattle.decision_law.specs.Plans.{cut_era, whole_era, eras_of_plan}
 use Rattle.decision_law.proofs.Numbered.{passing, wanted_end, of_call, its_era}
 use Rattle.decision_law.proofs.Placed.{and_parts, is_call_number, stands_placed, wanted_call}
@@ -296,42 +296,44 @@ module _ (known : KnownCalls) (start : ℕ → ℕ) (timed : AreTimed known star
       omega (arith, eras_same, at_place, p.1.1)
 
   -- an era's shape, however its places are parted
-  shape_of : (never_lost : ℕ → Bool) (e : ℕ) (era : EraPlan) (eras : List EraPlan) → Facts e (era ∷ eras) → (parts : PlanEra) → parts.kept ++ parts.lost ≡ map call_of era.places
-      → ((n : ℕ) → IsTrue (never_lost n) → era_of_number known n ≡ e → IsAmong parts.kept n) → EraShape (times_of known start) (numbering_of known never_lost) e parts
-  shape_of never_lost e era eras facts parts is stable =
+  shape_of : (hints : Hints) (e : ℕ) (era : EraPlan) (eras : List EraPlan) → Facts e (era ∷ eras) → (parts : PlanEra) → parts.kept ++ parts.lost ≡ map call_of era.places
+      → ((n : ℕ) → IsTrue (hints.never_lost n) → era_of_number known n ≡ e → IsAmong parts.kept n) → NoneSaved (numbering_of known hints) parts.lost → EraShape (times_of known start) (numbering_of known hints) e parts
+  shape_of hints e era eras facts parts is stable unsaved =
       let placed = all_placed e era eras facts in
       record {
         calls = subst (AllByRecursion (IsReal e)) (sym is) (all_numbers (IsReal e) era.places (all_weaker (IsPlaced e) (λ place. IsReal e (call_of place)) (real e) era.places placed));
         once = subst IsOnce (sym is) (once_places e era.places (order_from (e + 1) eras) facts.once);
         respects = subst (RespectsOrder (times_of known start)) (sym is) (respects_so e era.places placed facts.respects.0);
         stable = stable;
+        unsaved = unsaved;
       }
 
-  module _ (never_lost : ℕ → Bool) (told : AreNeverLost known never_lost) where
+  module _ (hints : Hints) (told : AreRight known hints) where
     -- a call that is never lost has a place in its era
-    place_here : (e : ℕ) (era : EraPlan) → EraFacts e era → (n : ℕ) → IsTrue (never_lost n) → era_of_number known n ≡ e
+    place_here : (e : ℕ) (era : EraPlan) → EraFacts e era → (n : ℕ) → IsTrue (hints.never_lost n) → era_of_number known n ≡ e
         → (recorded : RecordedCall) × IsNeverLost known n recorded × (recorded.era ≡ e) × IsAmong (map call_of era.places) n
     place_here e era facts n never is =
-        let call = told n never in
+        let call = told.never_lost n never in
         let w = wanted_call known n call.0 call.1 in
         let of_era : call.0.era ≡ e = sym (its_era known start timed n (is_call_number known n call.0 w.0) call.0 w.0) ∙ is in
         (call.0, call.1, of_era, facts.named n call.0 w.0 w.1 of_era)
 
-    -- no such call is past the cut of an era that a crash ended
-    abbrev pub AreKept : List EraPlan → Type 0
-    AreKept whole = (e : ℕ) (era : EraPlan) → era_at whole e ≡ Some era → e < length whole → EraFacts e era
-        → (n : ℕ) (recorded : RecordedCall) → IsNeverLost known n recorded → recorded.era ≡ e → ¬ IsAmong (map call_of (drop (cut_of era) era.places)) n
+    -- no such call is past the cut of an era that a crash ended, and none there is saved
+    pub record AreKept (whole : List EraPlan) : Type 0 where
+      pub never : (e : ℕ) (era : EraPlan) → era_at whole e ≡ Some era → e < length whole → EraFacts e era
+          → (n : ℕ) (recorded : RecordedCall) → IsNeverLost known n recorded → recorded.era ≡ e → ¬ IsAmong (map call_of (drop (cut_of era) era.places)) n
+      pub unsaved : (e : ℕ) (era : EraPlan) → era_at whole e ≡ Some era → e < length whole → EraFacts e era → NoneSaved (numbering_of known hints) (map call_of (drop (cut_of era) era.places))
 
     module _ (whole : List EraPlan) (kept : AreKept whole) where
       -- a call that is never lost isn't past the cut
       kept_here : (e : ℕ) (era : EraPlan) → EraFacts e era → era_at whole e ≡ Some era → e < length whole
-          → (n : ℕ) → IsTrue (never_lost n) → era_of_number known n ≡ e → IsAmong (map call_of (take (cut_of era) era.places)) n
+          → (n : ℕ) → IsTrue (hints.never_lost n) → era_of_number known n ≡ e → IsAmong (map call_of (take (cut_of era) era.places)) n
       kept_here e era facts at less n never is =
           let p = place_here e era facts n never is in
           elim (among_cases (map call_of (take (cut_of era) era.places)) (map call_of (drop (cut_of era) era.places)) n
           (subst (λ l. IsAmong l n) (sym (numbers_parted (cut_of era) era.places)) p.3)) [
             | inl ahead ↦ ahead
-            | inr lost ↦ absurd (kept e era at less facts n p.0 p.1 p.2 lost)
+            | inr lost ↦ absurd (kept.never e era at less facts n p.0 p.1 p.2 lost)
           ]
 
       -- these eras are the last ones of the plan
@@ -347,14 +349,15 @@ module _ (known : KnownCalls) (start : ℕ → ℕ) (timed : AreTimed known star
       first_last : (e : ℕ) (era : EraPlan) (eras : List EraPlan) → AreLast e (era ∷ eras) → era_at whole e ≡ Some era
       first_last e era eras last = let same : e + 0 ≡ e = omega arith in subst (λ j. era_at whole j ≡ Some era) same (last.1 0 era refl)
 
-      pub plan_shape : (e : ℕ) (eras : List EraPlan) → Facts e eras → AreLast e eras → PlanShape (times_of known start) (numbering_of known never_lost) e (eras_of_plan eras)
+      pub plan_shape : (e : ℕ) (eras : List EraPlan) → Facts e eras → AreLast e eras → PlanShape (times_of known start) (numbering_of known hints) e (eras_of_plan eras)
       plan_shape e [] facts last = tt
       plan_shape e (era ∷ []) facts last = (
-        shape_of never_lost e era [] facts (whole_era era) (append-nil (map call_of era.places)) (λ n never is. (place_here e era (first_facts e era [] facts) n never is).3),
+        shape_of hints e era [] facts (whole_era era) (append-nil (map call_of era.places)) (λ n never is. (place_here e era (first_facts e era [] facts) n never is).3) tt,
         tt,
       )
       plan_shape e (era ∷ following ∷ eras) facts last = (
-        shape_of never_lost e era (following ∷ eras) facts (cut_era era) (numbers_parted (cut_of era) era.places)
-            (kept_here e era (first_facts e era (following ∷ eras) facts) (first_last e era (following ∷ eras) last) (let h = last.0 in omega (arith, h))),
+        shape_of hints e era (following ∷ eras) facts (cut_era era) (numbers_parted (cut_of era) era.places)
+            (kept_here e era (first_facts e era (following ∷ eras) facts) (first_last e era (following ∷ eras) last) (let h = last.0 in omega (arith, h)))
+            (kept.unsaved e era (first_last e era (following ∷ eras) last) (let h = last.0 in omega (arith, h)) (first_facts e era (following ∷ eras) facts)),
         plan_shape (e + 1) (following ∷ eras) (facts_behind e era (following ∷ eras) facts) (last_behind e era (following ∷ eras) last),
       )

@@ -6,6 +6,7 @@ use Rattle.nfs_history.specs.Precedence.{call_at}
 use Rattle.order_check.specs.Places.{is_wanted, passes}
 use Rattle.decision_core.specs.declared.spans.Span.{Span}
 use Rattle.decision_core.specs.Spanned.{AreSpansOf}
+use Rattle.decision_law.specs.NeverLost.{no_hints}
 use Rattle.decision_law.specs.Times.{AreTimed, may_stand, may_be_taken, is_of_call, era_ended, times_of}
 use Rattle.decision_law.specs.Spans.{IsOfCall, IsOfCrash, AreSpans}
 use Rattle.decision_law.proofs.Numbered.{passing, wanted_end, which, of_call, its_begin, its_end, crash_begin, crash_end, crash_known, numbered}
@@ -89,5 +90,5 @@ module _ (known : KnownCalls) (start : ℕ → ℕ) (timed : AreTimed known star
       listed = listed;
       only = only;
       known = known_end;
-      late = λ n at ends. (numbered known start timed (λ _. false)).ends_late n at (known_end n at ends) ends;
+      late = λ n at ends. (numbered known start timed no_hints).ends_late n at (known_end n at ends) ends;
     }

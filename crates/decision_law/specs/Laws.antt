@@ -1,5 +1,5 @@
 -- Why a walk over a history's events that comes to nothing shows that no plan is a witness.
-use Rattle.std.specs.Prelude.{◌≡◌, ◌≢◌, ℕ, Bool, List, Some}
+use Rattle.std.specs.Prelude.{◌≡◌, ◌≢◌, ℕ, List, Some}
 use Rattle.nfs3_types.specs.declared.calls.NfsCall.{NfsCall}
 use Rattle.nfs3_types.specs.declared.replies.Outcome.{Outcome}
 use Rattle.history_file.specs.Event.{Recording}
@@ -17,7 +17,7 @@ use Rattle.decision_core.specs.Spanned.{AreSpansOf}
 use Rattle.decision_core.specs.Eras.{IsNumbering, IsEraWitness, order_of}
 use Rattle.decision_law.specs.Times.{AreTimed, era_start, times_of, numbering_of}
 use Rattle.decision_law.specs.Machine.{Changes, IsOrder}
-use Rattle.decision_law.specs.NeverLost.{IsAnswered, AreNeverLost}
+use Rattle.decision_law.specs.NeverLost.{Hints, IsAnswered, AreRight}
 use Rattle.decision_law.specs.Plans.{eras_of_plan}
 use Rattle.decision_law.specs.Spans.{AreSpans}
 
@@ -29,30 +29,30 @@ binds_of known plan = bindings_of known.head.root plan.binds
 abbrev pub CallsAreTimed : Type 0
 CallsAreTimed = (seen : Recording) (known : KnownCalls) → AreCallsOf seen known → AreTimed known (era_start seen.events)
 
-module _ (known : KnownCalls) (start : ℕ → ℕ) (never_lost : ℕ → Bool) where
+module _ (known : KnownCalls) (start : ℕ → ℕ) (hints : Hints) where
   -- the eras are those of the calls' and the crashes' numbers and times
   abbrev pub AreNumbered : Type 0
-  AreNumbered = IsNumbering (times_of known start) (numbering_of known never_lost) known.eras start
+  AreNumbered = IsNumbering (times_of known start) (numbering_of known hints) known.eras start
 
   -- the eras of the plan are a witness of eras, and one order, in which each crash is a call
   abbrev pub HasEraWitness : Certificate → Type 0
-  HasEraWitness plan = IsEraWitness (Changes known (binds_of known plan)) (times_of known start) (numbering_of known never_lost) known.eras (base_of known) (eras_of_plan plan.eras)
+  HasEraWitness plan = IsEraWitness (Changes known (binds_of known plan)) (times_of known start) (numbering_of known hints) known.eras (base_of known) (eras_of_plan plan.eras)
 
   abbrev pub HasOrder : Certificate → Type 0
-  HasOrder plan = IsOrder known start never_lost (binds_of known plan) (order_of (numbering_of known never_lost) 1 (eras_of_plan plan.eras))
+  HasOrder plan = IsOrder known start hints (binds_of known plan) (order_of (numbering_of known hints) 1 (eras_of_plan plan.eras))
 
   -- no order is there, whatever the handles name
   abbrev pub HasNoOrder : Type 0
-  HasNoOrder = (binds : Bindings) (order : List ℕ) → ¬ IsOrder known start never_lost binds order
+  HasNoOrder = (binds : Bindings) (order : List ℕ) → ¬ IsOrder known start hints binds order
 
--- what a witness comes to, where the calls are timed and those are never lost of which it is told
-abbrev pub OfEachWitness : (KnownCalls → (ℕ → ℕ) → (ℕ → Bool) → Certificate → Type 0) → Type 0
-OfEachWitness Comes = (known : KnownCalls) (start : ℕ → ℕ) (never_lost : ℕ → Bool) (plan : Certificate) → AreTimed known start → AreNeverLost known never_lost → IsWitness known plan
-    → Comes known start never_lost plan
+-- what a witness comes to, where the calls are timed and what is told is right
+abbrev pub OfEachWitness : (KnownCalls → (ℕ → ℕ) → Hints → Certificate → Type 0) → Type 0
+OfEachWitness Comes = (known : KnownCalls) (start : ℕ → ℕ) (hints : Hints) (plan : Certificate) → AreTimed known start → AreRight known hints → IsWitness known plan
+    → Comes known start hints plan
 
 -- where there is no order no plan is a witness
 abbrev pub NoOrderNoWitness : Type 0
-NoOrderNoWitness = (known : KnownCalls) (start : ℕ → ℕ) (never_lost : ℕ → Bool) → AreTimed known start → AreNeverLost known never_lost → HasNoOrder known start never_lost
+NoOrderNoWitness = (known : KnownCalls) (start : ℕ → ℕ) (hints : Hints) → AreTimed known start → AreRight known hints → HasNoOrder known start hints
     → (plan : Certificate) → ¬ IsWitness known plan
 
 -- the spans of a history's calls and crashes are those of its times, so the events that are made of them tell these times

@@ -1,5 +1,5 @@
 -- What placing a call of a history leads to, where it is known what each handle names (the rules are those of a plan's run).
-use Rattle.std.specs.Prelude.{◌≡◌, ◌⊎◌, ℕ, Bool, List, length, Option, Some, None, IsTrue}
+use Rattle.std.specs.Prelude.{◌≡◌, ◌⊎◌, ℕ, List, length, Option, Some, None, IsTrue}
 use Rattle.nfs3_types.specs.declared.calls.NfsCall.{NfsCall}
 use Rattle.nfs3_types.specs.declared.replies.Outcome.{Outcome}
 use Rattle.nfs3_types.specs.declared.replies.Outcome.TheVariants as outcomes
@@ -14,6 +14,7 @@ use Rattle.file_tree.specs.Setting.{next_in}
 use Rattle.witness_check.specs.Run.{base_of}
 use Rattle.decision_core.specs.Decide as core
 use Rattle.decision_core.specs.Eras.{EraState, is_placed, first_of, EraNext}
+use Rattle.decision_law.specs.NeverLost.{Hints}
 use Rattle.decision_law.specs.Times.{times_of, numbering_of}
 
 -- how a call may have come out: as its reply says, or, where it has none, as it may be taken
@@ -40,10 +41,10 @@ module _ (known : KnownCalls) where
   abbrev pub first_point : Point
   first_point = first_of (base_of known)
 
-  -- what placing a call or a crash leads to, where these calls are told never to be lost
-  abbrev pub Next : (ℕ → Bool) → Bindings → Point → ℕ → Point → Type 0
-  Next never_lost binds = EraNext (Changes binds) (numbering_of known never_lost)
+  -- what placing a call or a crash leads to, where a walk is told so much
+  abbrev pub Next : Hints → Bindings → Point → ℕ → Point → Type 0
+  Next hints binds = EraNext (Changes binds) (numbering_of known hints)
 
   -- where the eras begin at these events, the order of calls and crashes has all answered calls and all crashes, respects real time, and runs
-  abbrev pub IsOrder : (ℕ → ℕ) → (ℕ → Bool) → Bindings → List ℕ → Type 0
-  IsOrder start never_lost binds order = core.IsWitness is_placed (Next never_lost binds) (times_of known start) first_point order
+  abbrev pub IsOrder : (ℕ → ℕ) → Hints → Bindings → List ℕ → Type 0
+  IsOrder start hints binds order = core.IsWitness is_placed (Next hints binds) (times_of known start) first_point order

@@ -9,6 +9,7 @@ use Rattle.nfs_history.specs.declared.history.RecordedCall.{RecordedCall}
 use Rattle.nfs_history.specs.declared.knowing.KnownCalls.{KnownCalls}
 use Rattle.nfs_history.specs.Precedence.{call_at, begin_of}
 use Rattle.order_check.specs.Places.{may_take, is_wanted, passes}
+use Rattle.decision_law.specs.NeverLost.{Hints}
 use Rattle.decision_core.specs.Times.{Times}
 use Rattle.decision_core.specs.Eras.{Numbering}
 
@@ -63,9 +64,9 @@ module _ (known : KnownCalls) where
   abbrev pub era_of_number : ℕ → ℕ
   era_of_number n = cond (is_of_call n) (option_map_or (λ recorded. recorded.era) (call_at known.calls n) 0) (era_ended n)
 
-  -- a walk is told of these calls that no crash takes them away
-  abbrev pub numbering_of : (ℕ → Bool) → Numbering
-  numbering_of never_lost = record { is_real = is_of_call; is_stable = never_lost; era_of = era_of_number; crash = λ e. length known.calls + e }
+  -- a walk is told so much of what a crash takes away
+  abbrev pub numbering_of : Hints → Numbering
+  numbering_of hints = record { is_real = is_of_call; is_stable = hints.never_lost; era_of = era_of_number; crash = λ e. length known.calls + e; saves = hints.saves }
 
   module _ (start : ℕ → ℕ) where
     -- the crash that ends era e begins and ends where the next era begins

@@ -1,7 +1,8 @@
 //! From a plan of eras to one order of calls and crashes.
 
-ghost use Rattle.std.specs.Prelude.{ℕ, Bool};
+ghost use Rattle.std.specs.Prelude.{ℕ};
 ghost use Rattle.nfs_history.specs.declared.knowing.KnownCalls.{KnownCalls};
+ghost use Rattle.decision_law.specs.NeverLost.{Hints};
 ghost use Rattle.decision_law.specs.Times.{AreTimed};
 ghost use Rattle.decision_law.specs.Laws.{CallsAreTimed, AreNumbered, HasEraWitness, HasOrder, OfEachWitness, NoOrderNoWitness, SpansTell, TwoVerifiersNoWitness};
 
@@ -9,7 +10,7 @@ ghost use Rattle.decision_law.specs.Laws.{CallsAreTimed, AreNumbered, HasEraWitn
 /// and its crashes are a numbering by eras.
 pub fn calls_are_timed()
     ensures timed { CallsAreTimed }
-    ensures numbered { (known : KnownCalls) (start : ℕ → ℕ) (never_lost : ℕ → Bool) → AreTimed known start → AreNumbered known start never_lost }
+    ensures numbered { (known : KnownCalls) (start : ℕ → ℕ) (hints : Hints) → AreTimed known start → AreNumbered known start hints }
 {}
 
 /// The begins and ends of a history's calls and crashes are those of the times that an order of them keeps to.

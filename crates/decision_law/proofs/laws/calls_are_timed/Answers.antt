@@ -6,4 +6,4 @@ pub returns-clause-timed : goal.returns-clause-timed
 returns-clause-timed c = λ seen known are. are_timed seen.events known are.calls
 
 pub returns-clause-numbered : goal.returns-clause-numbered
-returns-clause-numbered c = λ known start never_lost timed. numbered known start timed never_lost
+returns-clause-numbered c = λ known start hints timed. numbered known start timed hints

@@ -6,5 +6,5 @@ use Rattle.decision_law.proofs.Orders.{is_order}
 use Rattle.decision_law.proofs.laws.no_order_no_witness.Goals as goal
 
 pub returns : goal.returns
-returns c = λ known start never_lost timed told none plan witness.
-    none (binds_of known plan) (order_of (numbering_of known never_lost) 1 (eras_of_plan plan.eras)) (is_order known never_lost start plan timed told witness)
+returns c = λ known start hints timed told none plan witness.
+    none (binds_of known plan) (order_of (numbering_of known hints) 1 (eras_of_plan plan.eras)) (is_order known hints start plan timed told witness)
