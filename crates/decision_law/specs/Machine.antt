@@ -12,7 +12,7 @@ use Rattle.tree_nodes.specs.Tree.{Tree}
 use Rattle.tree_handles.specs.Binding.{Bindings}
 use Rattle.file_tree.specs.Setting.{next_in}
 use Rattle.witness_check.specs.Run.{base_of}
-use Rattle.decision_core.specs.Decide as core
+use Rattle.decision_core.specs.Decide.{IsWitness}
 use Rattle.decision_core.specs.Eras.{EraState, is_placed, first_of, EraNext}
 use Rattle.decision_law.specs.NeverLost.{Hints}
 use Rattle.decision_law.specs.Times.{times_of, numbering_of}
@@ -47,4 +47,4 @@ module _ (known : KnownCalls) where
 
   -- where the eras begin at these events, the order of calls and crashes has all answered calls and all crashes, respects real time, and runs
   abbrev pub IsOrder : (ℕ → ℕ) → Hints → Bindings → List ℕ → Type 0
-  IsOrder start hints binds order = core.IsWitness is_placed (Next hints binds) (times_of known start) first_point order
+  IsOrder start hints binds order = IsWitness is_placed (Next hints binds) (times_of known start) first_point order
