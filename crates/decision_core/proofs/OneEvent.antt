@@ -9,7 +9,7 @@ use Rattle.decision_core.specs.Times.{Times, IsAmong, IsUnanswered, IsOpen}
 use Rattle.decision_core.specs.Decide.{IsTold, Extends, HasServing, Covers, IsWitness}
 use Rattle.decision_core.specs.States.{also, Holds}
 use Rattle.decision_core.specs.Layers.{AreKept, ExtendsAll, ForgetsAll}
-use Rattle.decision_core.specs.Events.{StandsAt, Tells, answered_by, AreWaiting, IsWithout, IsAnswerStep, IsEventStep}
+use Rattle.decision_core.specs.Events.{StandsAt, Tells, answered_by, AreWaiting, IsWithout, IsAnswerStep, IsEventStep, HasStateBehind}
 use Rattle.decision_core.proofs.Orders.{all_of_each}
 use Rattle.decision_core.proofs.Walk.{among_ahead, among_last, covers_first, covers_passed, covers_answered, none_left}
 use Rattle.decision_core.proofs.Waiting.{or_last}
@@ -240,6 +240,14 @@ module _ (times : Times) (events : List Event) (tells : Tells times events) wher
             (still_held plan k before after (silent_passed k at) is.0) (kept.0 plan)),
         subst (AreWaiting times (k + 1)) (sym is.1) (waiting_passed k waiting at kept.1),
       )
+
+-- a state is left behind each event at which the walk goes on
+pub still_left : {Plan Point State : Type 0} (StandsFor : Plan → (ℕ → Bool) → Point → State → Type 0) (placed : Point → ℕ → Bool) (Next : Plan → Point → ℕ → Point → Type 0) (event : Event)
+    (waiting left : List ℕ) (before after : List State) → IsEventStep StandsFor placed Next event waiting left before after → 0 < length before → HasStateBehind event after → 0 < length after
+still_left StandsFor placed Next (Called n) waiting left before after step some behind = subst (λ l. 0 < length l) (sym step.0) some
+still_left StandsFor placed Next (Answered n) waiting left before after step some behind = behind
+still_left StandsFor placed Next (AtOnce n) waiting left before after step some behind = behind
+still_left StandsFor placed Next Passed waiting left before after step some behind = subst (λ l. 0 < length l) (sym step.0) some
 
 -- what a list has at a place stands there
 pub stands_itself : (events : List Event) (k : ℕ) (d : Event) → k < length events → StandsAt events k (get_or events k d)

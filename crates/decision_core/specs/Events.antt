@@ -58,3 +58,10 @@ IsAnswer (Called m) n = ⊥
 IsAnswer (Answered m) n = m ≡ n
 IsAnswer (AtOnce m) n = m ≡ n
 IsAnswer Passed n = ⊥
+
+-- behind this event, where it is an answer, there is a state
+abbrev pub HasStateBehind : {State : Type 0} → Event → List State → Type 0
+HasStateBehind (Called n) states = Unit {0}
+HasStateBehind (Answered n) states = 0 < length states
+HasStateBehind (AtOnce n) states = 0 < length states
+HasStateBehind Passed states = Unit {0}

@@ -16,3 +16,8 @@ IfNoWitness P (Left states) = Unit {0}
 abbrev pub NamesAnswer : {State : Type 0} → List Event → Walked State → Type 0
 NamesAnswer events (NoWitness event call) = (event < length events) × IsAnswer (slice_index_or events event Passed) call
 NamesAnswer events (Left states) = Unit {0}
+
+-- where states are left there is one
+abbrev pub HasState : {State : Type 0} → Walked State → Type 0
+HasState (NoWitness event call) = Unit {0}
+HasState (Left states) = 0 < length states.items

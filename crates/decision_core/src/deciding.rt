@@ -1,10 +1,10 @@
 //! The walk over the events of a history.
 
-ghost use Rattle.std.specs.Prelude.{◌≡◌, ℕ, List, [], IfOk, IfSome};
+ghost use Rattle.std.specs.Prelude.{◌≡◌, ℕ, List, [], None, IfOk, IfSome};
 ghost use Rattle.decision_core.specs.Times.{Times};
 ghost use Rattle.decision_core.specs.Decide.{IsWitness};
-ghost use Rattle.decision_core.specs.Events.{Tells, IsAdded, IsWithout, IsAnswerStep, IsEventStep, IsAnswer};
-ghost use Rattle.decision_core.specs.Walked.{NamesAnswer, IfNoWitness};
+ghost use Rattle.decision_core.specs.Events.{Tells, IsAdded, IsWithout, IsAnswerStep, IsEventStep, IsAnswer, HasStateBehind};
+ghost use Rattle.decision_core.specs.Walked.{NamesAnswer, IfNoWitness, HasState};
 
 use crate::extending::{extend, forget_in_all};
 use crate::machine::{Limits, Machine, Stop};
@@ -105,7 +105,8 @@ fn take_event<M: Machine>(
 
 /// The call that is answered at an event, where no state is left behind it.
 fn call_unexplained<S>(event: Event, states: &[S]) -> Option<u64>
-    ensures { IfSome result (λ call. IsAnswer event call × (states.now ≡ [])) }
+    ensures some { IfSome result (λ call. IsAnswer event call × (states.now ≡ [])) }
+    ensures none { result ≡ None → HasStateBehind event states.now }
 {
     if !states.is_empty() {
         return None;
@@ -127,6 +128,7 @@ pub fn decide<M: Machine>(
     limits: Limits,
 ) -> Result<Walked<M::State>, Stop<M::Reason>>
     ensures answer { IfOk result (NamesAnswer events.now) }
+    ensures left { IfOk result HasState }
     ensures none { IfOk result (IfNoWitness ((plan : M.Plan) (times : Times) → Tells times events.now
         → (order : List ℕ) → ¬ IsWitness (M.placed machine.now) (M.Next machine.now plan) times (M.first machine.now plan) order)) }
 {

@@ -29,6 +29,11 @@ pub enum Stop<R> {
 }
 
 impl<R: Drop> From<AllocError> for Stop<R> {
+    ghost use Rattle.std.specs.Prelude.{◌≡◌};
+    ghost use Rattle.decision_core.specs.declared.machine.Stop.TheVariants.{NoMemory};
+
+    ghost from_gives = { λ _ stop. stop ≡ NoMemory };
+
     fn from(_error: AllocError) -> Stop<R> {
         Stop::NoMemory
     }
