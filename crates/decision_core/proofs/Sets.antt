@@ -1,0 +1,106 @@
+-- What loops over states and calls keep.
+use Rattle.std.proofs.Common.{◌≡◌, ◌⊎◌, inl, inr, ℕ, zero, suc, ◌+◌, ◌<◌, ◌≤◌, Bool, true, List, [], ◌∷◌, ◌++◌, length, take, get_or, Contains, sym, subst, ◌∙◌, arith}
+use Rattle.std.specs.List.{AllByRecursion}
+use Rattle.std.proofs.lemmas.Bool.{true≢false}
+use Rattle.std.proofs.lemmas.List.{take_more, take_all}
+use Rattle.decision_core.specs.States.{also, HasFor, Holds, Forgets, TellsPlaced, HasStep}
+use Rattle.decision_core.specs.Layers.{Grows, HasPlacings, IsSortedInto, ForgetsAll}
+
+-- of each of these it holds, or it is among what is left
+abbrev pub DoneOrLeft : {State : Type 0} → (State → Type 0) → List State → List State → Type 0
+DoneOrLeft {State} P states left = (s : State) → Contains states s → P s ⊎ Contains left s
+
+module _ {State : Type 0} where
+  pub first_or_rest : (x : State) (xs : List State) (s : State) → Contains (x ∷ xs) s → (x ≡ s) ⊎ Contains xs s
+  first_or_rest x xs s (zero, inside, is) = inl is
+  first_or_rest x xs s (suc k, inside, is) = inr (k, omega (arith, inside), is)
+
+  pub none_there : (s : State) → Contains [] s → ⊥
+  none_there s there = omega (arith, there.1)
+
+  pub done_start : (P : State → Type 0) (states : List State) → DoneOrLeft P states states
+  done_start P states s there = inr there
+
+  pub done_step : (P Q : State → Type 0) (states : List State) (x : State) (xs left : List State) → left ≡ x ∷ xs → ((s : State) → P s → Q s) → Q x
+      → DoneOrLeft P states left → DoneOrLeft Q states xs
+  done_step P Q states x xs left is weaker here done s there =
+      elim (done s there) [
+        | inl p ↦ inl (weaker s p)
+        | inr in_left ↦ elim (first_or_rest x xs s (subst (λ l. Contains l s) is in_left)) [ inl same ↦ inl (subst Q same here) | inr later ↦ inr later ]
+      ]
+
+  pub done_all : (P : State → Type 0) (states left : List State) → left ≡ [] → DoneOrLeft P states left → (s : State) → Contains states s → P s
+  done_all P states left is done s there =
+      elim (done s there) [ inl p ↦ p | inr in_left ↦ absurd (none_there s (subst (λ l. Contains l s) is in_left)) ]
+
+module _ {X : Type 0} where
+  pub all_push : (P : X → Type 0) (xs : List X) (x : X) → AllByRecursion P xs → P x → AllByRecursion P (xs ++ x ∷ [])
+  all_push P [] x all here = (here, tt)
+  all_push P (y ∷ xs) x all here = (all.0, all_push P xs x all.1 here)
+
+  pub all_weaker : (P Q : X → Type 0) → ((x : X) → P x → Q x) → (xs : List X) → AllByRecursion P xs → AllByRecursion Q xs
+  all_weaker P Q so [] all = tt
+  all_weaker P Q so (x ∷ xs) all = (so x all.0, all_weaker P Q so xs all.1)
+
+  -- one more of a list holds
+  pub one_more : (P Q : X → Type 0) (xs : List X) (i : ℕ) (d : X) → i < length xs → ((x : X) → P x → Q x) → AllByRecursion P (take i xs) → Q (get_or xs i d)
+      → AllByRecursion Q (take (i + 1) xs)
+  one_more P Q xs i d inside so all here =
+      subst (AllByRecursion Q) (sym (take_more xs i d inside)) (all_push Q (take i xs) (get_or xs i d) (all_weaker P Q so (take i xs) all) here)
+
+  -- all of a list hold
+  pub all_gone_over : (P : X → Type 0) (xs : List X) (i : ℕ) → length xs ≤ i → AllByRecursion P (take i xs) → AllByRecursion P xs
+  all_gone_over P xs i past all = subst (AllByRecursion P) (take_all i xs past) all
+
+module _ {Plan Point State : Type 0} (StandsFor : Plan → (ℕ → Bool) → Point → State → Type 0) where
+  -- what replaces a state stands for its points
+  pub held_by : (states : List State) (state : State) (plan : Plan) (gone : ℕ → Bool) (point : Point) → HasFor StandsFor states state → StandsFor plan gone point state → Holds StandsFor plan gone states point
+  held_by states state plan gone point has stands = (has.0, has.1, has.2 plan gone point stands)
+
+  -- what a greater list has
+  pub for_grows : (old new : List State) (state : State) → Grows old new → HasFor StandsFor old state → HasFor StandsFor new state
+  for_grows old new state grows has = (has.0, grows has.0 has.1, has.2)
+
+  pub held_grows : (old new : List State) (plan : Plan) (gone : ℕ → Bool) (point : Point) → Grows old new → Holds StandsFor plan gone old point → Holds StandsFor plan gone new point
+  held_grows old new plan gone point grows held = (held.0, grows held.0 held.1, held.2)
+
+  -- what stands for all that a state forgets
+  abbrev pub HasForgotten : ℕ → List State → State → Type 0
+  HasForgotten n states state = (plan : Plan) (gone : ℕ → Bool) (point : Point) → StandsFor plan gone point state → Holds StandsFor plan (also gone n) states point
+
+  pub forgotten_by : (n : ℕ) (states : List State) (old new : State) → Forgets StandsFor n old new → HasFor StandsFor states new → HasForgotten n states old
+  forgotten_by n states old new forgets has plan gone point stands = held_by states new plan (also gone n) point has (forgets plan gone point stands)
+
+  pub forgotten_grows : (n : ℕ) (old new : List State) (state : State) → Grows old new → HasForgotten n old state → HasForgotten n new state
+  forgotten_grows n old new state grows has plan gone point stands = held_grows old new plan (also gone n) point grows (has plan gone point stands)
+
+  module _ (placed : Point → ℕ → Bool) where
+    module _ (Next : Plan → Point → ℕ → Point → Type 0) where
+      pub forgets_all : (n : ℕ) (before after : List State) → ((s : State) → Contains before s → HasForgotten n after s) → ForgetsAll StandsFor placed Next n before after
+      forgets_all n before after each plan gone point held = each held.0 held.1 plan gone point held.2
+
+      pub sorted_grows : (n : ℕ) (with_old with_new out_old out_new : List State) (state : State) → Grows with_old with_new → Grows out_old out_new
+          → IsSortedInto StandsFor placed Next n with_old out_old state → IsSortedInto StandsFor placed Next n with_new out_new state
+      sorted_grows n with_old with_new out_old out_new state grows_with grows_out sorted plan gone point stands kept =
+          let s = sorted plan gone point stands kept in (
+            (λ is. held_grows with_old with_new plan gone point grows_with (s.0 is)),
+            (λ is. held_grows out_old out_new plan gone point grows_out (s.1 is)),
+          )
+
+      -- a greater list has the step and the placings too
+      pub step_grows : (old new : List State) (n : ℕ) (state : State) → Grows old new → HasStep StandsFor placed Next old n state → HasStep StandsFor placed Next new n state
+      step_grows old new n state grows has plan gone point after stands kept not_placed next = held_grows old new plan gone after grows (has plan gone point after stands kept not_placed next)
+
+      pub placings_grow : (old new : List State) (calls : List ℕ) (state : State) → Grows old new → HasPlacings StandsFor placed Next old calls state → HasPlacings StandsFor placed Next new calls state
+      placings_grow old new calls state grows has =
+          all_weaker (λ n. HasStep StandsFor placed Next old n state) (λ n. HasStep StandsFor placed Next new n state) (λ n p. step_grows old new n state grows p) calls has
+
+      -- the states that a step gives, where others stand for each of them
+      pub step_put : (given new : List State) (n : ℕ) (state : State) → HasStep StandsFor placed Next given n state → ((s : State) → Contains given s → HasFor StandsFor new s) → HasStep StandsFor placed Next new n state
+      step_put given new n state has each plan gone point after stands kept not_placed next =
+          let held = has plan gone point after stands kept not_placed next in
+          held_by new held.0 plan gone after (each held.0 held.1) held.2
+
+      -- a placed call has no step
+      pub step_of_placed : (states : List State) (n : ℕ) (state : State) (answer : Bool) → TellsPlaced StandsFor placed state n answer → answer ≡ true → HasStep StandsFor placed Next states n state
+      step_of_placed states n state answer tells is plan gone point after stands kept not_placed next = absurd (true≢false (sym is ∙ (tells plan gone point stands kept ∙ not_placed)))

@@ -1,0 +1,7 @@
+use Rattle.std.proofs.Common.{take}
+use Rattle.decision_core.specs.Layers.{Grows, HasPlacings}
+use Rattle.decision_core.proofs.extending.place_calls.Given as goal
+
+abbrev pub invariant-loop-call : goal.invariant-loop-call
+invariant-loop-call g l = Grows l.fn.states.items.items l.states.items.items
+    × HasPlacings (g.M.Machine.StandsFor l.machine) (g.M.Machine.placed l.machine) (g.M.Machine.Next l.machine) l.states.items.items (take l.call-index l.calls) l.state

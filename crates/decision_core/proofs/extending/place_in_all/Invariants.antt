@@ -1,0 +1,7 @@
+use Rattle.std.proofs.Common.{take}
+use Rattle.decision_core.specs.Layers.{Grows, HasAllPlacings}
+use Rattle.decision_core.proofs.extending.place_in_all.Given as goal
+
+abbrev pub invariant-loop-state : goal.invariant-loop-state
+invariant-loop-state g l = Grows l.fn.states.items.items l.states.items.items
+    × HasAllPlacings (g.M.Machine.StandsFor l.machine) (g.M.Machine.placed l.machine) (g.M.Machine.Next l.machine) l.states.items.items l.calls (take l.state-index l.each)

@@ -1,0 +1,10 @@
+pub mod Times
+pub mod Decide
+pub mod States
+pub mod Layers
+pub mod Events
+pub mod Walked
+pub mod Spanned
+pub mod Eras
+pub mod ErasExample
+pub mod Register

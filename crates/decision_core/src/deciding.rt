@@ -1,0 +1,153 @@
+//! The walk over the events of a history.
+
+ghost use Rattle.std.specs.Prelude.{◌≡◌, ℕ, List, [], None, IfOk, IfSome};
+ghost use Rattle.decision_core.specs.Times.{Times};
+ghost use Rattle.decision_core.specs.Decide.{IsWitness};
+ghost use Rattle.decision_core.specs.Events.{Tells, IsAdded, IsWithout, IsAnswerStep, IsEventStep, IsAnswer, HasStateBehind};
+ghost use Rattle.decision_core.specs.Walked.{NamesAnswer, IfNoWitness, HasState};
+
+use crate::extending::{extend, forget_in_all};
+use crate::machine::{Limits, Machine, Stop};
+use std::alloc::Global;
+
+/// An event of a history.
+#[derive(Clone, Copy)]
+pub enum Event {
+    /// A call is sent.
+    Called(u64),
+    /// Its reply comes.
+    Answered(u64),
+    /// A call is sent and answered at once, as a crash is.
+    AtOnce(u64),
+    /// Nothing that counts.
+    Passed,
+}
+
+/// What a walk over all events comes to.
+#[derive(Drop)]
+pub enum Walked<S> {
+    /// No order of the calls is a witness: at this event, from 0, the answer of this call, no state is left.
+    NoWitness {
+        /// The event.
+        event: usize,
+        /// The call that is answered there.
+        call: u64,
+    },
+    /// These states are left behind the last event.
+    Left(Vec<S>),
+}
+
+/// Puts a call into a list unless it is n.
+fn add_other<R: Drop>(left: &mut Vec<u64>, call: u64, n: u64) -> Result<(), Stop<R>>
+    ensures { IfOk result (λ _. IsAdded call n left.old.items left.new.items) }
+{
+    if call == n {
+        return Ok(());
+    }
+    if left.push(call).is_err() {
+        return Err(Stop::NoMemory);
+    }
+    Ok(())
+}
+
+/// The calls that are left without this one.
+fn others<R: Drop>(alloc: Global, waiting: &[u64], n: u64) -> Result<Vec<u64>, Stop<R>>
+    ensures { IfOk result (λ left. IsWithout n waiting.now left.items) }
+{
+    let mut left = Vec::new(alloc);
+    for call in waiting {
+        add_other(&mut left, *call, n)?;
+    }
+    Ok(left)
+}
+
+/// What the answer of a call makes of the states and of the open calls.
+fn take_answer<M: Machine>(
+    alloc: Global,
+    machine: &M,
+    states: Vec<M::State>,
+    waiting: Vec<u64>,
+    n: u64,
+    limits: &mut Limits,
+) -> Result<(Vec<M::State>, Vec<u64>), Stop<M::Reason>>
+    ensures { IfOk result (λ pair. IsAnswerStep (M.StandsFor machine.now) (M.placed machine.now) (M.Next machine.now) n waiting.items pair.1.items states.items pair.0.items) }
+{
+    let left = others(alloc, waiting.as_slice(), n)?;
+    let extended = extend(alloc, machine, states, left.as_slice(), n, limits)?;
+    let after = forget_in_all(alloc, machine, extended, n, limits)?;
+    Ok((after, left))
+}
+
+/// What one event makes of them.
+fn take_event<M: Machine>(
+    alloc: Global,
+    machine: &M,
+    states: Vec<M::State>,
+    waiting: Vec<u64>,
+    event: Event,
+    limits: &mut Limits,
+) -> Result<(Vec<M::State>, Vec<u64>), Stop<M::Reason>>
+    ensures { IfOk result (λ pair. IsEventStep (M.StandsFor machine.now) (M.placed machine.now) (M.Next machine.now) event waiting.items pair.1.items states.items pair.0.items) }
+{
+    match event {
+        Event::Called(n) => {
+            let mut waiting = waiting;
+            if waiting.push(n).is_err() {
+                return Err(Stop::NoMemory);
+            }
+            Ok((states, waiting))
+        }
+        Event::Answered(n) => take_answer(alloc, machine, states, waiting, n, limits),
+        Event::AtOnce(n) => take_answer(alloc, machine, states, waiting, n, limits),
+        Event::Passed => Ok((states, waiting)),
+    }
+}
+
+/// The call that is answered at an event, where no state is left behind it.
+fn call_unexplained<S>(event: Event, states: &[S]) -> Option<u64>
+    ensures some { IfSome result (λ call. IsAnswer event call × (states.now ≡ [])) }
+    ensures none { result ≡ None → HasStateBehind event states.now }
+{
+    if !states.is_empty() {
+        return None;
+    }
+    match event {
+        Event::Answered(n) => Some(n),
+        Event::AtOnce(n) => Some(n),
+        Event::Called(_n) => None,
+        Event::Passed => None,
+    }
+}
+
+/// Walks the events with states that stand for all that a plan can have come to. The first answer that leaves none is told: then no
+/// order of the calls is a witness, under any plan. Nothing is said where states are left.
+pub fn decide<M: Machine>(
+    alloc: Global,
+    machine: &M,
+    events: &[Event],
+    limits: Limits,
+) -> Result<Walked<M::State>, Stop<M::Reason>>
+    ensures answer { IfOk result (NamesAnswer events.now) }
+    ensures left { IfOk result HasState }
+    ensures none { IfOk result (IfNoWitness ((plan : M.Plan) (times : Times) → Tells times events.now
+        → (order : List ℕ) → ¬ IsWitness (M.placed machine.now) (M.Next machine.now plan) times (M.first machine.now plan) order)) }
+{
+    let mut limits = limits;
+    let mut states = Vec::new(alloc);
+    if states.push(machine.opening()?).is_err() {
+        return Err(Stop::NoMemory);
+    }
+    let mut waiting = Vec::new(alloc);
+    for (index, event) in events.iter().enumerate() {
+        let (after, left) = take_event(alloc, machine, states, waiting, *event, &mut limits)?;
+        if let Some(call) = call_unexplained(*event, after.as_slice()) {
+            return Ok(Walked::NoWitness {
+                event: index,
+                call: call,
+            });
+        }
+        states = after;
+        waiting = left;
+    }
+    Ok(Walked::Left(states))
+}

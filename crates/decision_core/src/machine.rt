@@ -1,0 +1,96 @@
+//! What a walk asks of a machine.
+
+ghost use Rattle.std.specs.Prelude.{◌≡◌, ℕ, Bool, false, IfOk, IsTrue};
+ghost use Rattle.decision_core.specs.Decide.{IsTold};
+ghost use Rattle.decision_core.specs.States.{Replaces, Forgets, TellsPlaced, HasStep};
+
+use std::alloc::AllocError;
+
+/// How much a walk may do.
+#[derive(Clone, Copy)]
+pub struct Limits {
+    /// How many states may stand at once.
+    pub states: usize,
+    /// How many times a call may be placed in a state.
+    pub steps: u64,
+}
+
+/// Why a walk ends undecided, or that there is no memory.
+#[derive(Drop)]
+pub enum Stop<R> {
+    /// More states would stand at once than may.
+    TooManyStates,
+    /// More steps would be taken than may.
+    TooManySteps,
+    /// The machine doesn't decide a step, for this reason.
+    NotCovered(R),
+    /// There is no memory.
+    NoMemory,
+}
+
+impl<R: Drop> From<AllocError> for Stop<R> {
+    ghost use Rattle.std.specs.Prelude.{◌≡◌};
+    ghost use Rattle.decision_core.specs.declared.machine.Stop.TheVariants.{NoMemory};
+
+    ghost from_gives = { λ _ stop. stop ≡ NoMemory };
+
+    fn from(_error: AllocError) -> Stop<R> {
+        Stop::NoMemory
+    }
+}
+
+/// A machine, in which the calls of a plan are placed one after the other.
+pub trait Machine {
+    /// A state of the walk. It stands for points of plans.
+    type State: Drop;
+
+    /// Why the machine doesn't decide a step.
+    type Reason: Drop;
+
+    // What a plan fixes and the walk leaves open.
+    ghost Plan: { Type 0 };
+
+    // What the calls that a plan has placed so far have led to.
+    ghost Point: { Type 0 };
+
+    // Where a plan begins.
+    ghost first: { Self → Plan → Point };
+
+    // Whether a call is placed.
+    ghost placed: { Self → Point → ℕ → Bool };
+
+    // Under a plan, placing a call leads from the first point to the second.
+    ghost Next: { Self → Plan → Point → ℕ → Point → Type 0 };
+
+    // The state stands for a plan's point, where it may have forgotten of these calls whether they are placed.
+    ghost StandsFor: { Self → Plan → (ℕ → Bool) → Point → Self.State → Type 0 };
+
+    /// The state that stands for where each plan begins.
+    fn opening(&self) -> Result<Self::State, Stop<Self::Reason>>
+        ensures { IfOk result (λ state. (plan : Plan) → StandsFor self.now plan (λ _. false) (first self.now plan) state) };
+
+    /// Whether a call is placed that can't be forgotten.
+    fn is_placed(&self, state: &Self::State, n: u64) -> bool
+        ensures { TellsPlaced (StandsFor self.now) (placed self.now) state.now n result };
+
+    /// States for all that placing the call may lead to.
+    fn step(&self, state: &Self::State, n: u64) -> Result<Vec<Self::State>, Stop<Self::Reason>>
+        ensures { IfOk result (λ states. HasStep (StandsFor self.now) (placed self.now) (Next self.now) states.items n state.now) };
+
+    /// The state, which need not know of this call any more whether it is placed. It isn't asked again.
+    fn forget(&self, state: Self::State, n: u64) -> Self::State
+        ensures { Forgets (StandsFor self.now) n state result };
+
+    /// Whether the second state stands for all that the first stands for.
+    fn is_same(&self, state: &Self::State, other: &Self::State) -> bool
+        ensures { IsTrue result → Replaces (StandsFor self.now) state.now other.now };
+
+    /// A number that is the same of states that are the same. Where it isn't, more states are kept than need be.
+    fn hash(&self, state: &Self::State) -> u64;
+
+    // A placed call is told as placed, and no other.
+    ghost told: { (machine : Self) (plan : Plan) → IsTold (placed machine) (Next machine plan) };
+
+    // Nothing is placed where a plan begins.
+    ghost fresh: { (machine : Self) (plan : Plan) (n : ℕ) → placed machine (first machine plan) n ≡ false };
+}

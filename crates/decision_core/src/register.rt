@@ -1,0 +1,219 @@
+//! A register, as an example of a machine.
+
+ghost use Rattle.std.specs.Prelude.{◌≡◌, [], IfOk, refl};
+ghost use Rattle.decision_core.specs.Register.{RegisterState, register_first, register_next, register_placed, register_told, StandsForItself};
+
+use crate::machine::{Machine, Stop};
+use std::alloc::{AllocError, Global};
+use std::marker::Model;
+
+/// A register with the calls that are placed.
+#[derive(Drop)]
+pub struct Register {
+    alloc: Global,
+    value: u64,
+    calls: Vec<u64>,
+}
+
+impl Model for Register {
+    ghost Value = { RegisterState };
+
+    ghost view = { λ s. record { value = s.value; calls = s.calls.items } };
+}
+
+impl Register {
+    /// A register with nothing placed.
+    pub fn new(alloc: Global) -> Register
+        ensures { result ≡ record { value = 0; calls = [] } }
+    {
+        Register {
+            alloc: alloc,
+            value: 0,
+            calls: Vec::new(alloc),
+        }
+    }
+
+    /// Whether a call is placed.
+    fn has(&self, n: u64) -> bool
+        ensures { result ≡ register_placed self.now n }
+    {
+        self.calls.iter().any(|m| *m == n)
+    }
+
+    /// The register behind a call.
+    fn moved(&self, value: u64, n: u64) -> Result<Register, AllocError>
+        ensures { IfOk result (λ after. after ≡ Rattle.decision_core.specs.Register.moved self.now value n) }
+    {
+        let mut calls = self.calls.clone()?;
+        if calls.push(n).is_err() {
+            return Err(AllocError);
+        }
+        Ok(Register {
+            alloc: self.alloc,
+            value: value,
+            calls: calls,
+        })
+    }
+}
+
+/// The machine of registers. A call below 100 writes its number, another one reads and answers its number less 100.
+#[derive(Drop)]
+pub struct RegisterMachine {
+    alloc: Global,
+}
+
+impl RegisterMachine {
+    /// The machine.
+    pub fn new(alloc: Global) -> RegisterMachine {
+        RegisterMachine { alloc: alloc }
+    }
+}
+
+impl Machine for RegisterMachine {
+    type State = Register;
+
+    type Reason = ();
+
+    ghost Plan = { Unit {0} };
+
+    ghost Point = { RegisterState };
+
+    ghost first = { λ _ _. register_first };
+
+    ghost placed = { λ _. register_placed };
+
+    ghost Next = { λ _ _. register_next };
+
+    ghost StandsFor = { λ _ _ _. StandsForItself };
+
+    fn opening(&self) -> Result<Register, Stop<()>> {
+        Ok(Register::new(self.alloc))
+    }
+
+    fn is_placed(&self, state: &Register, n: u64) -> bool {
+        state.has(n)
+    }
+
+    fn step(&self, state: &Register, n: u64) -> Result<Vec<Register>, Stop<()>> {
+        let mut states = Vec::new(self.alloc);
+        let value = if n < 100 {
+            n
+        } else if n - 100 == state.value {
+            state.value
+        } else {
+            return Ok(states);
+        };
+        let after = state.moved(value, n)?;
+        if states.push(after).is_err() {
+            return Err(Stop::NoMemory);
+        }
+        Ok(states)
+    }
+
+    fn forget(&self, state: Register, _n: u64) -> Register {
+        state
+    }
+
+    fn is_same(&self, state: &Register, other: &Register) -> bool {
+        state.value == other.value && state.calls == other.calls
+    }
+
+    fn hash(&self, state: &Register) -> u64 {
+        state.value
+    }
+
+    ghost told = { λ _ _. register_told };
+
+    ghost fresh = { λ _ _ _. refl };
+}
+
+#[cfg(test)]
+mod tests {
+    use super::*;
+    use crate::deciding::{Event, Walked, decide};
+    use crate::machine::{Limits, Stop};
+    use crate::spans::{Span, timeline};
+    use std::rt::HostRuntime;
+
+    /// The event that no order explains, one of these four; 9 where states are left; 8, 7, 6, 5 for each stop.
+    fn told(alloc: Global, events: &[Event], states: usize, steps: u64) -> usize {
+        let limits = Limits {
+            states: states,
+            steps: steps,
+        };
+        match decide(alloc, &RegisterMachine::new(alloc), events, limits) {
+            Ok(Walked::NoWitness { event, call: _call }) => event,
+            Ok(Walked::Left(_states)) => 9,
+            Err(Stop::TooManyStates) => 8,
+            Err(Stop::TooManySteps) => 7,
+            Err(Stop::NotCovered(_reason)) => 6,
+            Err(Stop::NoMemory) => 5,
+        }
+    }
+
+    #[test]
+    fn a_read_behind_a_write(rt: HostRuntime) {
+        let stale = [
+            Event::Called(1),
+            Event::Answered(1),
+            Event::Called(100),
+            Event::Answered(100),
+        ];
+        assert!(rt; told(rt.alloc(), &stale, 9, 99) == 3);
+        let right = [
+            Event::Called(1),
+            Event::Answered(1),
+            Event::Passed,
+            Event::AtOnce(101),
+        ];
+        assert!(rt; told(rt.alloc(), &right, 9, 99) == 9);
+    }
+
+    #[test]
+    fn a_read_beside_a_write(rt: HostRuntime) {
+        let early = [
+            Event::Called(1),
+            Event::Called(101),
+            Event::Answered(101),
+            Event::Answered(1),
+        ];
+        assert!(rt; told(rt.alloc(), &early, 9, 99) == 9);
+        assert!(rt; told(rt.alloc(), &early, 0, 99) == 8);
+        assert!(rt; told(rt.alloc(), &early, 9, 1) == 7);
+        let unwritten = [
+            Event::Called(1),
+            Event::Called(102),
+            Event::Answered(102),
+            Event::Answered(1),
+        ];
+        assert!(rt; told(rt.alloc(), &unwritten, 9, 99) == 2);
+    }
+
+    /// The event that no order explains, of these calls; 9 where states are left, 8 where they have no events.
+    fn told_of(alloc: Global, spans: &[Span]) -> usize {
+        match timeline(alloc, spans, 4) {
+            Ok(Some(events)) => told(alloc, events.as_slice(), 9, 99),
+            Ok(None) => 8,
+            Err(_error) => 8,
+        }
+    }
+
+    /// A call with its begin and its end.
+    fn span(number: u64, begin: u64, end: u64) -> Span {
+        Span {
+            number: number,
+            begin: begin,
+            end: Some(end),
+        }
+    }
+
+    #[test]
+    fn calls_by_their_begins_and_ends(rt: HostRuntime) {
+        let stale = [span(1, 1, 2), span(100, 4, 4)];
+        assert!(rt; told_of(rt.alloc(), &stale) == 3);
+        let beside = [span(1, 1, 4), span(101, 2, 3)];
+        assert!(rt; told_of(rt.alloc(), &beside) == 9);
+        let at_one_place = [span(1, 1, 4), span(101, 2, 4)];
+        assert!(rt; told_of(rt.alloc(), &at_one_place) == 8);
+    }
+}
