@@ -5,8 +5,9 @@ PROGRAM is `stored_cases`, which makes a call once more where memory ran out, an
 any one allocation refused a run prints the answer, or it ends with a status other than 0 and no answer: the program's own reading and
 writing may fail too. The cases are made of the histories of cases/recorded.txt: each history with its certificate, both read and written
 again, its messages, their arguments and results, its records as a stream, and a search by one worker. Prints a table, and ends with
-status 1 where a run prints anything else, where of some kind no call was made once more, or where no search was answered by its first
-call: where its workers are refused memory, the plan that follows the replies is judged all the same.
+status 1 where a run prints anything else, where of some kind no call was made once more, or where the search of the first case isn't
+answered by its first call for a quarter of its allocations: where its worker is refused memory, the plan that follows the replies is
+judged all the same. (It is for 66 of 140. For 4 it would be, if the search ended there.)
 """
 import os
 import struct
@@ -96,6 +97,8 @@ def tried(library, program, name, kind, asked):
             twice += len(again) > len(sizes)
         elif told or status == 0:
             wrong.append("allocation %d refused: %r %d" % (refused, told, status))
+    if (name, kind) == ("example", "search") and 4 * (answered - twice) < len(sizes):
+        wrong.append("a search whose worker was refused memory didn't go on")
     return kind, len(sizes), answered, twice, ["%s, %s: %s" % (name, kind, fault) for fault in wrong]
 
 
@@ -116,9 +119,6 @@ def main():
     for kind, row in sorted(rows.items()):
         print("| %s | %d | %d | %d | %d |" % (kind, *row))
     print("\n".join(faults), file=sys.stderr, end="\n" if faults else "")
-    if rows["search"][2] == rows["search"][3]:
-        faults.append("no search whose worker was refused memory went on")
-        print(faults[-1], file=sys.stderr)
     sys.exit(1 if faults or any(row[3] == 0 and row[1] > 0 for kind, row in rows.items()) else 0)
 
 
