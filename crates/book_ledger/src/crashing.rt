@@ -9,6 +9,7 @@ ghost use Rattle.file_tree.specs.StartTree.{start_tree};
 ghost use Rattle.journal_device.specs.Device.{Device};
 ghost use Rattle.book_machine.specs.Placing.{front_with};
 ghost use Rattle.book_machine.specs.Book.{next_by, tree_of, records_kept};
+ghost use Rattle.book_machine.specs.Book.Condition.{running};
 ghost use Rattle.book_ledger.specs.Inside.{IsAsked, IsTied, AreTied, Goes, Holds, asked_by, setting_in};
 ghost use Rattle.book_ledger.specs.Undoing.{tree_after, steps_kept, CanRun, CanRunAgain, LeadBack, Loses, GoesDown, IsReady, Restarts};
 
@@ -160,6 +161,15 @@ impl Ledger {
         self.undos.clear();
         self.kept = keep;
         self.condition = Condition::Running;
+    }
+
+    /// The tree, unless memory ran out while a step of it was taken back: then it is worked out when it is needed again.
+    pub fn tree(&self) -> Option<&FileTree>
+        requires { IsTied self.now }
+        ensures tree { IfSome result (λ tree. Holds (λ book. tree_of book ≡ Some tree) self.now) }
+        ensures stands { Holds (λ book. book.condition ≡ running → IsSome result) self.now }
+    {
+        self.tree.as_ref()
     }
 
     /// Appends the tree's bytes.

@@ -3,10 +3,8 @@ use Rattle.std.specs.Prelude.{◌≡◌, ◌⊎◌, ◌+◌, ◌<◌, ◌≤◌,
 use Rattle.std.specs.declared.vec.Vec.{Vec}
 use Rattle.std.specs.declared.alloc.Global.{Global}
 use Rattle.nfs3_types.specs.declared.replies.NfsReply.{NfsReply}
-use Rattle.tree_nodes.specs.Printed.{tree_text}
-use Rattle.tree_nodes.specs.Tree.{Tree}
-use Rattle.book_machine.specs.Book.{Book, tree_of}
-use Rattle.book_machine.specs.Steps.{Places, Flushes, Answers, Crashes}
+use Rattle.book_machine.specs.Book.{Book}
+use Rattle.book_machine.specs.Steps.{Places, Flushes, Answers}
 use Rattle.book_ledger.specs.Sending.{IsSent}
 use Rattle.book_ledger.specs.Refusals.{BeginStops, PlaceStops, FlushStops, AnswerStops, CloseStops, CrashStops, after_place, after_flush, after_crash}
 use Rattle.journal_server.specs.declared.fault.CallFault.{CallFault}
@@ -51,17 +49,6 @@ CloseRefused old lane told new = Tells close_told (λ fault. CloseStops old lane
 abbrev pub kept_of : Book → ℕ → ℕ
 kept_of old extra = min (old.device.mark + extra) (length old.device.records)
 
--- the text is that of the book's tree
-abbrev pub HasText : Book → List ℕ → Type 0
-HasText book text = (tree : Tree) × (tree_of book ≡ Some tree) × (text ≡ tree_text tree)
-
--- and this tree is left
-abbrev pub IsLeft : Book → ℕ → List ℕ → Book → Type 0
-IsLeft old extra text new = Crashes old (kept_of old extra) new × HasText new text
-
--- a crash is refused, or its tree can't be printed for want of memory, so that the objects are lost
-abbrev pub CrashRefused : Bool → Book → ℕ → own.CrashFault → Book → Bool → Type 0
-CrashRefused lost old extra told new lost_then =
-    IsLost lost crash_fault.Down old told new
-    ⊎ Tells crash_told (λ fault. CrashStops old (kept_of old extra) fault × (new ≡ after_crash old fault)) told
-    ⊎ ((told ≡ crash_fault.NoMemory) × Crashes old (kept_of old extra) new × (lost_then ≡ true))
+abbrev pub CrashRefused : Bool → Book → ℕ → own.CrashFault → Book → Type 0
+CrashRefused lost old extra told new =
+    IsLost lost crash_fault.Down old told new ⊎ Tells crash_told (λ fault. CrashStops old (kept_of old extra) fault × (new ≡ after_crash old fault)) told

@@ -3,7 +3,7 @@
 use crate::fault::CrashFault;
 use crate::gate::Gate;
 use crate::server::Server;
-use object_store::{ObjectTable, read_objects};
+use object_store::ObjectTable;
 use recorder::JournalDevice;
 use std::sync::Wait;
 
@@ -16,8 +16,8 @@ impl<G: Gate, D: JournalDevice> Server<G, D> {
         objects: &mut ObjectTable,
     ) -> Result<(), CrashFault> {
         let mut desk = self.lock_desk(rt);
-        let text = desk.crash(self.alloc, extra)?;
-        match read_objects(self.alloc, text.as_slice()) {
+        desk.crash(extra)?;
+        match desk.objects(self.alloc) {
             Ok(table) => {
                 *objects = table;
                 Ok(())

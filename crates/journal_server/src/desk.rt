@@ -1,13 +1,17 @@
 //! What stands under the book's lock.
 
-ghost use Rattle.std.specs.Prelude.{◌≡◌, ◌≢◌, [], IfOk, OnOk, IfErr, length, true};
-ghost use Rattle.book_machine.specs.Steps.{opening_book, IsRecordable, Begins, Places, Answers, Closes};
+ghost use Rattle.std.specs.Prelude.{◌≡◌, ◌≢◌, [], Some, IsSome, IfSome, IfOk, OnOk, IfErr, length, true};
+ghost use Rattle.book_machine.specs.Book.{tree_of};
+ghost use Rattle.book_machine.specs.Book.Condition.{running};
+ghost use Rattle.book_machine.specs.Steps.{opening_book, IsRecordable, Begins, Places, Answers, Closes, Crashes};
 ghost use Rattle.book_ledger.specs.Sending.{IsSent};
-ghost use Rattle.journal_server.specs.Desks.{BeginRefused, PlaceRefused, HasReplied, IsSettled, FlushRefused, AnswerRefused, CloseRefused, kept_of, HasText, IsLeft, CrashRefused};
+ghost use Rattle.journal_server.specs.Desks.{BeginRefused, PlaceRefused, HasReplied, IsSettled, FlushRefused, AnswerRefused, CloseRefused, kept_of, CrashRefused};
 
 use crate::fault::{CallFault, CrashFault, JoinFault};
+use file_tree::FileTree;
 use nfs_history::Message;
 use nfs3_types::{Answer, NfsCall, NfsReply, StableHow};
+use object_store::{ObjectTable, objects_of};
 use recorder::{Book, JournalDevice, Profile, SpelledReply, Start, Token, Undo};
 use server_passes::Pass;
 use std::alloc::{AllocError, Global};
@@ -225,29 +229,19 @@ impl<D: JournalDevice> Desk<D> {
         self.lost = true;
     }
 
-    /// The tree, as it is printed.
-    pub(crate) fn print_tree(&self, alloc: Global) -> Result<Vec<u8>, AllocError>
-        ensures { IfOk result (λ text. HasText self.now.book text.items) }
+    /// The book's tree, which there is while the book is running.
+    pub fn tree(&self) -> Option<&FileTree>
+        ensures tree { IfSome result (λ tree. tree_of self.now.book ≡ Some tree) }
+        ensures stands { self.now.book.condition ≡ running → IsSome result }
     {
-        let mut text = Vec::new(alloc);
-        match self.book.print_tree(&mut text) {
-            Ok(()) => Ok(text),
-            Err(fault) => Err(fault),
-        }
+        self.book.tree()
     }
 
-    /// The tree that a crash left, as it is printed. Where it can't be, the objects are lost.
-    fn print_left(&mut self, alloc: Global) -> Result<Vec<u8>, CrashFault>
-        ensures book { self.new.book ≡ self.old.book }
-        ensures printed { IfOk result (λ text. HasText self.new.book text.items) }
-        ensures lost { IfErr result (λ told. (told ≡ CrashFault.NoMemory) × (self.new.lost ≡ true)) }
-    {
-        match self.print_tree(alloc) {
-            Ok(text) => Ok(text),
-            Err(_) => {
-                self.lost = true;
-                Err(CrashFault::NoMemory)
-            }
+    /// The objects of the book's tree, for a server that begins or comes up again.
+    pub(crate) fn objects(&self, alloc: Global) -> Result<ObjectTable, AllocError> {
+        match self.tree() {
+            Some(tree) => objects_of(alloc, tree.nodes()),
+            None => Err(AllocError),
         }
     }
 
@@ -259,17 +253,18 @@ impl<D: JournalDevice> Desk<D> {
         device.mark().saturating_add(extra).min(device.len())
     }
 
-    /// Crashes: the records on stable storage outlive it, and at most so many more. Gives the tree that is left, as it is printed.
-    pub fn crash(&mut self, alloc: Global, extra: u64) -> Result<Vec<u8>, CrashFault>
-        ensures crashed { IfOk result (λ text. IsLeft self.old.book extra text.items self.new.book) }
-        ensures refused { IfErr result (λ told. CrashRefused self.old.lost self.old.book extra told self.new.book self.new.lost) }
+    /// Crashes: the records on stable storage outlive it, and at most so many more.
+    pub fn crash(&mut self, extra: u64) -> Result<(), CrashFault>
+        ensures crashed { OnOk result (Crashes self.old.book (kept_of self.old.book extra) self.new.book) }
+        ensures refused { IfErr result (λ told. CrashRefused self.old.lost self.old.book extra told self.new.book) }
+        ensures lost { self.new.lost ≡ self.old.lost }
     {
         if self.lost {
             return Err(CrashFault::Down);
         }
         let keep = self.keep(extra);
         match self.book.crash(keep) {
-            Ok(()) => self.print_left(alloc),
+            Ok(()) => Ok(()),
             Err(fault) => Err(CrashFault::from(fault)),
         }
     }

@@ -4,7 +4,7 @@ ghost use Rattle.std.specs.Prelude.{◌≡◌, []};
 
 use crate::desk::Desk;
 use crate::gate::Gate;
-use object_store::{ObjectTable, read_objects};
+use object_store::ObjectTable;
 use recorder::{JournalDevice, Profile, Start};
 use std::alloc::{AllocError, Global};
 use std::hint::spin_loop;
@@ -60,10 +60,7 @@ impl<G: Gate, D: JournalDevice> Server<G, D> {
         requires mark { (D.device device).mark ≡ 0 }
     {
         let desk = Desk::new_from(alloc, device, profile, start)?;
-        let text = desk.print_tree(alloc)?;
-        let Ok(objects) = read_objects(alloc, text.as_slice()) else {
-            return Err(AllocError);
-        };
+        let objects = desk.objects(alloc)?;
         Ok(Server {
             alloc,
             gate,

@@ -12,6 +12,6 @@ mod wanted;
 pub use held::Held;
 pub use node::{Content, File, Node};
 pub use parents::Parents;
-pub use rebuild::{TreeFault, read_objects};
+pub use rebuild::objects_of;
 pub use table::ObjectTable;
 pub use wanted::{Targets, number_of};

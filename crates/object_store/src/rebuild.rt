@@ -1,151 +1,86 @@
-//! The objects of a tree that was printed (docs/FORMATS.md).
+//! The objects of a tree.
 
 use crate::node::{Content, File};
 use crate::table::ObjectTable;
 use names::Names;
-use nfs3_types::FileType;
 use std::alloc::{AllocError, Global};
-use thiserror::Error;
-use xdr_records::{Reader, XdrFault};
+use tree_nodes::Nodes;
 
-/// The numbers of the types of objects in a printed tree.
-const FILE: u32 = FileType::Regular as u32;
+/// The number of the root directory's object.
+const ROOT: u64 = 0;
 
-const DIRECTORY: u32 = FileType::Directory as u32;
-
-const LINK: u32 = FileType::SymbolicLink as u32;
-/// The bound on each opaque's length.
-const NO_BOUND: u32 = u32::MAX;
-
-/// Why no objects were read.
-#[derive(Clone, Copy, Debug, PartialEq, Eq, Drop, Error)]
-pub enum TreeFault {
-    /// The bytes aren't those of a printed tree.
-    #[error("no printed tree")]
-    NoTree,
-    /// A growth was refused.
-    #[error("out of memory")]
-    NoMemory,
-}
-
-impl From<AllocError> for TreeFault {
-    fn from(_error: AllocError) -> TreeFault {
-        TreeFault::NoMemory
-    }
-}
-
-impl From<XdrFault> for TreeFault {
-    fn from(_fault: XdrFault) -> TreeFault {
-        TreeFault::NoTree
-    }
-}
-
-/// The number at the front.
-fn read_number(reader: &mut Reader<'_>) -> Result<u64, TreeFault> {
-    Ok(reader.u64()?)
-}
-
-/// The count, or the number of a kind, at the front.
-fn read_count(reader: &mut Reader<'_>) -> Result<u32, TreeFault> {
-    Ok(reader.u32()?)
-}
-
-/// The bytes at the front.
-fn read_bytes<'a>(reader: &mut Reader<'a>) -> Result<&'a [u8], TreeFault> {
-    Ok(reader.opaque(NO_BOUND)?)
-}
-
-/// The names of the path at the front: how many there are, and the last.
-fn read_path<'a>(reader: &mut Reader<'a>) -> Result<(u32, &'a [u8]), TreeFault> {
-    let count = read_count(reader)?;
-    let mut last: &[u8] = &[];
-    for _ in 0..count {
-        last = read_bytes(reader)?;
-    }
-    Ok((count, last))
-}
-
-/// The verifier at the front, if there is one.
-fn read_verifier(reader: &mut Reader<'_>) -> Result<Option<u64>, TreeFault> {
-    match reader.flag() {
-        Ok(true) => Ok(Some(read_number(reader)?)),
-        Ok(false) => Ok(None),
-        Err(_) => Err(TreeFault::NoTree),
-    }
-}
-
-/// The file at the front.
-fn read_file(alloc: Global, reader: &mut Reader<'_>) -> Result<File, TreeFault> {
-    let bytes = read_bytes(reader)?;
-    let verifier = read_verifier(reader)?;
+/// A copy of a file.
+fn copy_of_file(alloc: Global, file: &tree_nodes::File) -> Result<File, AllocError> {
+    let mut bytes = Vec::with_capacity(alloc, file.bytes.len() as usize)?;
+    file.bytes.put(&mut bytes)?;
     Ok(File {
-        bytes: Vec::from_slice(alloc, bytes)?,
-        verifier,
+        bytes,
+        verifier: file.verifier.as_ref().map(|verifier| verifier.value),
     })
 }
 
-/// The text at the front.
-fn read_text(alloc: Global, reader: &mut Reader<'_>) -> Result<Vec<u8>, TreeFault> {
-    let text = read_bytes(reader)?;
-    Ok(Vec::from_slice(alloc, text)?)
-}
-
-/// What the object at the front holds.
-fn read_content(alloc: Global, reader: &mut Reader<'_>) -> Result<Content, TreeFault> {
-    match read_count(reader)? {
-        FILE => Ok(Content::File(read_file(alloc, reader)?)),
-        DIRECTORY => Ok(Content::Directory(Names::new(alloc))),
-        LINK => Ok(Content::Link(read_text(alloc, reader)?)),
-        _ => Err(TreeFault::NoTree),
+/// A copy of what an object holds; a directory's names aren't in it yet.
+fn copy_of(alloc: Global, content: &tree_nodes::Content) -> Result<Content, AllocError> {
+    match content {
+        tree_nodes::Content::Directory => Ok(Content::Directory(Names::new(alloc))),
+        tree_nodes::Content::File(file) => Ok(Content::File(copy_of_file(alloc, file)?)),
+        tree_nodes::Content::Link(text) => {
+            Ok(Content::Link(Vec::from_slice(alloc, text.as_slice())?))
+        }
     }
 }
 
-/// Puts an object below the last of those on the way to it.
-fn enter_below(
+/// Puts an object of a tree into the table, in its directory, which is there already. Tells whether it is a directory itself.
+fn put_object(
+    alloc: Global,
     table: &mut ObjectTable,
-    above: &[u64],
+    content: &tree_nodes::Content,
+    directory: u64,
     name: &[u8],
     object: u64,
-    is_directory: bool,
-) -> Result<(), AllocError> {
-    let Some(parent) = above.last() else {
-        return Ok(());
-    };
-    table.enter(*parent, name, object)?;
-    if is_directory {
-        table.put_parent(object, *parent)?;
-    }
-    Ok(())
-}
-
-/// Reads one object into the table. The objects on the way to it stand in `above`, the root first.
-fn read_object(
-    alloc: Global,
-    reader: &mut Reader<'_>,
-    table: &mut ObjectTable,
-    above: &mut Vec<u64>,
-) -> Result<(), TreeFault> {
-    let (depth, name) = read_path(reader)?;
-    let object = read_number(reader)?;
-    let content = read_content(alloc, reader)?;
+) -> Result<bool, AllocError> {
+    let content = copy_of(alloc, content)?;
     let is_directory = content.is_directory();
     table.insert(object, content)?;
-    above.truncate(depth as usize);
-    enter_below(table, above.as_slice(), name, object, is_directory)?;
-    above.reserve(1)?;
-    above.push(object).unwrap();
+    table.enter(directory, name, object)?;
+    if is_directory {
+        table.put_parent(object, directory)?;
+    }
+    Ok(is_directory)
+}
+
+/// Puts what a directory has in it into the table. The directories among it go onto `directories`.
+fn put_entries(
+    alloc: Global,
+    table: &mut ObjectTable,
+    nodes: &Nodes,
+    directory: u64,
+    directories: &mut Vec<u64>,
+) -> Result<(), AllocError> {
+    let Some(names) = nodes.names(directory) else {
+        return Ok(());
+    };
+    for (name, object) in names {
+        let Some(node) = nodes.node(object) else {
+            continue;
+        };
+        if put_object(alloc, table, &node.content, directory, name, object)? {
+            directories.push(object)?;
+        }
+    }
     Ok(())
 }
 
-/// The objects of a printed tree.
-pub fn read_objects(alloc: Global, text: &[u8]) -> Result<ObjectTable, TreeFault> {
-    let mut reader = Reader::new(text);
-    let count = read_count(&mut reader)?;
+/// The objects of a tree, from the root down, each with a copy of what it holds.
+pub fn objects_of(alloc: Global, nodes: &Nodes) -> Result<ObjectTable, AllocError> {
     let mut table = ObjectTable::new(alloc)?;
-    let mut above = Vec::new(alloc);
-    for _ in 0..count {
-        read_object(alloc, &mut reader, &mut table, &mut above)?;
+    let mut directories = Vec::new(alloc);
+    directories.push(ROOT)?;
+    for _ in 0..nodes.count() {
+        let Some(directory) = directories.pop() else {
+            break;
+        };
+        put_entries(alloc, &mut table, nodes, directory, &mut directories)?;
     }
-    reader.done()?;
     Ok(table)
 }

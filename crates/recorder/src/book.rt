@@ -1,6 +1,6 @@
 //! The book of a journal server.
 
-ghost use Rattle.std.specs.Prelude.{◌≡◌, ◌++◌, [], IfOk, OnOk, OnErr, length, IfErr};
+ghost use Rattle.std.specs.Prelude.{◌≡◌, ◌++◌, [], Some, IsSome, IfSome, IfOk, OnOk, OnErr, length, IfErr};
 ghost use Rattle.journal_device.specs.Device.{Device, Leaves};
 ghost use Rattle.nfs3_types.specs.declared.replies.NfsReply.{NfsReply};
 ghost use Rattle.nfs3_types.specs.declared.replies.Outcome.TheVariants.{Received};
@@ -24,7 +24,7 @@ use book_ledger::{
     SpelledReply, Token,
 };
 use certificate::Certificate;
-use file_tree::{Profile, Start, Undo};
+use file_tree::{FileTree, Profile, Start, Undo};
 use journal_device::{DevFault, JournalDevice};
 use nfs_history::{History, Message};
 use nfs3_types::{NfsCall, NfsReply, Outcome};
@@ -341,6 +341,14 @@ impl<D: JournalDevice> Book<D> {
         ensures written { IfOk result IsCertificate }
     {
         self.ledger.certificate()
+    }
+
+    /// Its tree, which it has while it is running. It has none if memory ran out while a step was taken back.
+    pub fn tree(&self) -> Option<&FileTree>
+        ensures tree { IfSome result (λ tree. tree_of self.now ≡ Some tree) }
+        ensures stands { self.now.condition ≡ running → IsSome result }
+    {
+        self.ledger.tree()
     }
 
     /// Appends the bytes of its tree, as `docs/FORMATS.md` says.

@@ -4,6 +4,7 @@ pub mod Soundness
 pub mod Chains
 pub mod Found
 pub mod Moving
+pub mod Naming
 pub mod Opening
 pub mod Walks
 pub mod Looking

@@ -19,6 +19,10 @@ name_in names name = map.get names name
 abbrev pub named : Entry → List ℕ → Option ℕ
 named entry name = name_in entry.body.value.names name
 
+-- the names in an object, in their order, with their objects
+abbrev pub names_in : Entry → List (List ℕ × ℕ)
+names_in entry = map.entries entry.body.value.names
+
 abbrev pub child : Table → ℕ → List ℕ → Option ℕ
 child entries object name = option_and_then (λ entry. named entry name) (entry_at entries object)
 

@@ -1,6 +1,6 @@
 //! The nodes of a tree, by the numbers of their objects.
 
-ghost use Rattle.std.specs.Prelude.{List, ◌≡◌, ◌≢◌, ◌<◌, ◌≤◌, ◌+◌, ◌^◌, ℕ, false, true, [], ◌∷◌, ◌++◌, IfOk, OnOk, OnErr, Some, None, IsSome, All, length, option_and_then};
+ghost use Rattle.std.specs.Prelude.{List, ◌≡◌, ◌≢◌, ◌↔◌, ◌<◌, ◌≤◌, ◌+◌, ◌^◌, ℕ, false, true, [], ◌∷◌, ◌++◌, IfOk, OnOk, OnErr, Some, None, IsSome, IfSome, All, length, option_and_then};
 ghost use Rattle.std.specs.Option.{option_copied, option_map};
 ghost use Rattle.std.specs.FinMap as map;
 ghost use Rattle.nfs3_types.specs.Limits.{file_limit};
@@ -13,7 +13,7 @@ ghost use Rattle.file_bytes.specs.Files.{resized, written};
 ghost use Rattle.tree_nodes.specs.Moved.{is_from, moved};
 ghost use Rattle.tree_nodes.specs.Sound.{IsSound};
 ghost use Rattle.tree_nodes.specs.Shown.{Shown, Shown-prop};
-ghost use Rattle.tree_nodes.specs.Place.{node_in, object_above, are_among};
+ghost use Rattle.tree_nodes.specs.Place.{node_in, AreNamesIn, object_above, are_among};
 ghost use Rattle.tree_nodes.specs.Numbered.{IsNumbered};
 ghost use Rattle.tree_nodes.specs.Printed.{entry_text, tree_text, EntryFits, IsPrintable};
 ghost use Rattle.tree_nodes.specs.Paths.{paths_of, LiesIn};
@@ -27,10 +27,11 @@ use crate::node::Node;
 use crate::print::{put_entry, put_word};
 use crate::ranks::{Ranks, TOP};
 use crate::table::{
-    Edit, Entry, child, cut, entry_in, is_bare, lists_all, look_below, node_at, parent_of,
-    place_of, root_alone,
+    Edit, Entry, child, cut, entry_in, is_bare, lists_all, look_below, names_of, node_at,
+    parent_of, place_of, root_alone,
 };
 use crate::undo::{Step, Undo, edit, make, rename, take_back};
+use names::Iter;
 use slots::Slots;
 use std::alloc::{AllocError, Global};
 use std::collections::{BTreeMap, BTreeSet};
@@ -122,6 +123,14 @@ impl Nodes {
         ensures { result ≡ option_map (λ n. n.object) (node_in self.now directory name.now) }
     {
         child(&self.entries, directory, name)
+    }
+
+    /// The names in a directory, in their order, with their objects. A file or a link has none.
+    pub fn names(&self, directory: u64) -> Option<Iter<'_>>
+        ensures names { IfSome result (AreNamesIn self.now directory) }
+        ensures stands { IsSome result ↔ IsSome (entry_of self.now directory) }
+    {
+        names_of(&self.entries, directory)
     }
 
     /// The object of the directory that an object lies in. The root lies in itself (RFC 1813, section 3.3.3).

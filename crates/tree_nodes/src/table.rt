@@ -14,13 +14,13 @@ ghost use Rattle.std.specs.Cmp.Lexicographic.{slice_cmp};
 ghost use Rattle.std.specs.BTreeSet.{contains};
 ghost use Rattle.tree_nodes.specs.Walk.{Held, node_of, IsTree, IsBeyond};
 ghost use Rattle.tree_nodes.specs.Openings.{IsOpening};
-ghost use Rattle.tree_nodes.specs.Table.{name_in, child, placed, held};
+ghost use Rattle.tree_nodes.specs.Table.{name_in, names_in, child, placed, held};
 ghost use Rattle.tree_nodes.specs.TableChanges.{IsSame, HasName, HasPlace};
 
 use crate::bytes::Bytes;
 use crate::node::{Content, File, Node};
 use file_bytes::FileUndo;
-use names::Names;
+use names::{Iter, Names};
 use slots::Slots;
 use std::alloc::{AllocError, Global};
 use std::collections::BTreeSet;
@@ -91,6 +91,16 @@ pub(crate) fn place_of(entries: &Slots<Entry>, object: u64) -> Option<(u64, &Byt
         return None;
     };
     Some((entry.parent, &entry.body.name))
+}
+
+/// The names in a directory, with their objects.
+pub(crate) fn names_of(entries: &Slots<Entry>, directory: u64) -> Option<Iter<'_>>
+    ensures { result ≡ option_map names_in (map.get entries.now directory) }
+{
+    let Some(entry) = entries.get(directory) else {
+        return None;
+    };
+    Some(entry.body.names.iter())
 }
 
 /// Whether no name leads on from an object.
