@@ -97,7 +97,7 @@ pub fn check_cuts_of_calls(
         → (result ≡ Err (CutFault.ShortCut e needed)) ⊎ (result ≡ Err CutFault.NoMemory) }
 {
     match first_short_cut(alloc, calls, binds, certificate.eras.as_slice())? {
-        Some((era, needed)) => Err(CutFault::ShortCut(era, needed)),
+        Some((era, needed)) => Err(CutFault::ShortCut { era, needed }),
         None => Ok(()),
     }
 }

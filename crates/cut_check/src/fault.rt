@@ -8,7 +8,12 @@ use thiserror::Error;
 #[derive(Clone, Copy, Debug, PartialEq, Eq, Error)]
 pub enum CutFault {
     /// The cut of the era is less than the position of its last stable place: the first such era.
-    ShortCut(u64, u64),
+    ShortCut {
+        /// The era.
+        era: u64,
+        /// The position of its last stable place: so many places have to be kept.
+        needed: u64,
+    },
     /// Memory ran out.
     NoMemory,
 }
@@ -21,7 +26,7 @@ impl fmt::Display for CutFault {
 
     fn fmt<W: fmt::Write>(&self, f: &mut fmt::Formatter<W>) -> fmt::Result {
         match self {
-            CutFault::ShortCut(era, needed) => write!(f, "ShortCut {era} {needed}"),
+            CutFault::ShortCut { era, needed } => write!(f, "ShortCut {era} {needed}"),
             CutFault::NoMemory => f.write_str("out of memory"),
         }
     }

@@ -73,7 +73,12 @@ pub enum CallFault {
     /// The result of a call isn't one of its procedure.
     BadResult(u64),
     /// A call that lies outside the model.
-    Outside(u64, Which),
+    Outside {
+        /// The call's number.
+        call: u64,
+        /// What of it lies outside.
+        which: Which,
+    },
 }
 
 impl fmt::Display for CallFault {
@@ -87,7 +92,7 @@ impl fmt::Display for CallFault {
             CallFault::Sealed(number) => write!(f, "Sealed {number}"),
             CallFault::BadArgs(number) => write!(f, "BadArgs {number}"),
             CallFault::BadResult(number) => write!(f, "BadResult {number}"),
-            CallFault::Outside(number, which) => write!(f, "Outside {number} {which}"),
+            CallFault::Outside { call, which } => write!(f, "Outside {call} {which}"),
         }
     }
 }
@@ -126,7 +131,12 @@ pub enum HistoryFault {
     /// The result of a call isn't one of its procedure.
     BadResult(u64),
     /// A call that lies outside the model.
-    Outside(u64, Which),
+    Outside {
+        /// The call's number.
+        call: u64,
+        /// What of it lies outside.
+        which: Which,
+    },
     /// Memory ran out.
     NoMemory,
 }
@@ -153,7 +163,7 @@ impl fmt::Display for HistoryFault {
             HistoryFault::Sealed(number) => write!(f, "Sealed {number}"),
             HistoryFault::BadArgs(number) => write!(f, "BadArgs {number}"),
             HistoryFault::BadResult(number) => write!(f, "BadResult {number}"),
-            HistoryFault::Outside(number, which) => write!(f, "Outside {number} {which}"),
+            HistoryFault::Outside { call, which } => write!(f, "Outside {call} {which}"),
             HistoryFault::NoMemory => f.write_str("out of memory"),
         }
     }
@@ -206,7 +216,7 @@ impl From<CallFault> for HistoryFault {
             CallFault::Sealed(number) => HistoryFault::Sealed(number),
             CallFault::BadArgs(number) => HistoryFault::BadArgs(number),
             CallFault::BadResult(number) => HistoryFault::BadResult(number),
-            CallFault::Outside(number, which) => HistoryFault::Outside(number, which),
+            CallFault::Outside { call, which } => HistoryFault::Outside { call, which },
         }
     }
 }

@@ -84,7 +84,10 @@ fn left_out(number: u64, which: Which, results: Option<&[u8]>) -> CallFault
 {
     match results {
         Some(results) if results.len() < 4 => CallFault::BadResult(number),
-        _ => CallFault::Outside(number, which),
+        _ => CallFault::Outside {
+            call: number,
+            which,
+        },
     }
 }
 
@@ -99,7 +102,10 @@ fn kept_inside(
 {
     match outside_model(&call, &outcome) {
         None => Ok((call, outcome)),
-        Some(which) => Err(CallFault::Outside(number, which)),
+        Some(which) => Err(CallFault::Outside {
+            call: number,
+            which,
+        }),
     }
 }
 

@@ -59,9 +59,14 @@ impl From<AllocError> for ShapeFault {
 /// The fault of a plan's order.
 #[derive(Clone, Copy, Debug, PartialEq, Eq, Error)]
 pub enum OrderFault {
-    /// The first call stands before the second, which had ended when the first began: the first such second
-    /// place, and before it the call that began last.
-    Early(u64, u64),
+    /// A call stands before another one, which had ended when it began: the first such other one, and before it the call that began
+    /// last.
+    Early {
+        /// The call that stands too early.
+        call: u64,
+        /// The other call, which had ended when that one began.
+        ended: u64,
+    },
 }
 
 impl fmt::Display for OrderFault {
@@ -71,7 +76,7 @@ impl fmt::Display for OrderFault {
     ghost output = { λ fault. Some (order_fault_words fault) };
 
     fn fmt<W: fmt::Write>(&self, f: &mut fmt::Formatter<W>) -> fmt::Result {
-        let OrderFault::Early(first, second) = self;
-        write!(f, "Early {first} {second}")
+        let OrderFault::Early { call, ended } = self;
+        write!(f, "Early {call} {ended}")
     }
 }

@@ -44,7 +44,10 @@ fn check_era(history: &LentCalls<'_, '_>, places: &[Place]) -> Result<(), OrderF
         if let Some(other) = latest
             && precedes(history, number, other)
         {
-            return Err(OrderFault::Early(other, number));
+            return Err(OrderFault::Early {
+                call: other,
+                ended: number,
+            });
         }
         latest = Some(began_last(history, latest, number));
     }

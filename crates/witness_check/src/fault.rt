@@ -24,13 +24,23 @@ pub enum Fault {
     Missing(u64),
     /// More places are kept than the era has; the first such era.
     BadCut(u64),
-    /// The first call stands before the second, which had ended when the first began: the first such second
-    /// place, and before it the call that began last.
-    Early(u64, u64),
+    /// A call stands before another one, which had ended when it began: the first such other one, and before it the call that began
+    /// last.
+    Early {
+        /// The call that stands too early.
+        call: u64,
+        /// The other call, which had ended when that one began.
+        ended: u64,
+    },
     /// The call can't have come out so at its place; the first such place.
     Illegal(u64),
     /// The cut of the era is below the position of its last stable place, which is named second; the first such era.
-    ShortCut(u64, u64),
+    ShortCut {
+        /// The era.
+        era: u64,
+        /// The position of its last stable place: so many places have to be kept.
+        needed: u64,
+    },
     /// The era shows two write verifiers, or its cut loses a WRITE whose verifier a later era shows; the first such era.
     Verifier(u64),
 }
@@ -50,9 +60,9 @@ impl fmt::Display for Fault {
             Fault::NotToPlace(call) => write!(f, "NotToPlace {call}"),
             Fault::Missing(call) => write!(f, "Missing {call}"),
             Fault::BadCut(era) => write!(f, "BadCut {era}"),
-            Fault::Early(first, second) => write!(f, "Early {first} {second}"),
+            Fault::Early { call, ended } => write!(f, "Early {call} {ended}"),
             Fault::Illegal(call) => write!(f, "Illegal {call}"),
-            Fault::ShortCut(era, needed) => write!(f, "ShortCut {era} {needed}"),
+            Fault::ShortCut { era, needed } => write!(f, "ShortCut {era} {needed}"),
             Fault::Verifier(era) => write!(f, "Verifier {era}"),
         }
     }
@@ -105,8 +115,8 @@ impl From<OrderFault> for CheckFault {
     ghost from_gives = { λ fault told. told ≡ of_order fault };
 
     fn from(fault: OrderFault) -> CheckFault {
-        let OrderFault::Early(first, second) = fault;
-        CheckFault::No(Fault::Early(first, second))
+        let OrderFault::Early { call, ended } = fault;
+        CheckFault::No(Fault::Early { call, ended })
     }
 }
 
@@ -132,7 +142,7 @@ impl From<CutFault> for CheckFault {
 
     fn from(fault: CutFault) -> CheckFault {
         match fault {
-            CutFault::ShortCut(era, needed) => CheckFault::No(Fault::ShortCut(era, needed)),
+            CutFault::ShortCut { era, needed } => CheckFault::No(Fault::ShortCut { era, needed }),
             CutFault::NoMemory => CheckFault::NoMemory,
         }
     }
