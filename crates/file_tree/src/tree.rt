@@ -130,6 +130,9 @@ impl FileTree {
 
     /// Takes the step of a call with its outcome. What the call makes, if anything, is the object of this number. Under the
     /// strict profile a received reply has to agree with the trees before and after it.
+    ///
+    /// `Ok` gives what takes the step back. `Err(NotAllowed)`: the call can't have come out so in this tree. `Err(NoMemory)` says
+    /// nothing of the call. After an `Err` the tree is as it was.
     pub fn step_under(
         &mut self,
         profile: Profile,
@@ -202,6 +205,7 @@ impl Replayable for FileTree {
         FileTree::of_start(alloc, &start)
     }
 
+    /// `step_under`, with the profile and the binds of the setting; the trait's clauses say the same of `next`, by the lines above.
     fn step(
         &mut self,
         setting: &TreeSetting,

@@ -96,8 +96,9 @@ impl<G: Gate, D: JournalDevice> Server<G, D> {
         desk.into_inner().into_book()
     }
 
-    /// Ends the server, and gives what it recorded, with its certificate. The passes have to tell of all calls that were answered: one
-    /// without an answered call may be left out.
+    /// Ends the server, and returns what it recorded, with its certificate. The passes have to tell of all calls that were answered: a
+    /// pass without an answered call may be left out. An `Err` says what the passes tell that wasn't recorded, or the least lane that
+    /// they leave out, or that memory ran out; the server is gone in any case.
     pub fn close(self, passes: Vec<Pass>) -> Result<Closed, CloseFault>
         // The certificate is a witness of the history.
         ensures explains { IfOk result (λ closed. IsWitness closed.history.known closed.certificate) }

@@ -28,9 +28,8 @@ fn judge_input<I: Input>(alloc: Global, input: &mut I) -> Result<Report, AllocEr
     }
 }
 
-/// Reads a bundle, a history in lower case hex on the first line and a certificate's text behind it, writes
-/// the verdict on it in one line, and gives the exit status: 0 for a yes, 1 for a no, 2 for a refusal or a
-/// failed write, 3 for want of memory.
+/// Reads a bundle (a history in lower case hex on the first line, a certificate's text after it), writes the verdict on it in one line,
+/// and returns the exit status: 0 after `yes`, 1 after `no: ..`, 2 after a refusal or a failed write, 3 if memory ran out.
 pub fn run_bundle<I: Input, O: Output>(alloc: Global, input: &mut I, output: &mut O) -> u8
     ensures yes { result ≡ 0 → IfSome (I.remaining input.old) IsAcceptedBundle }
     // At 1 the line names the first fault of the plan.

@@ -96,7 +96,8 @@ impl<D: JournalDevice> Book<D> {
         Book::new_from(alloc, device, Profile::Plain, Start::empty(alloc))
     }
 
-    /// Begins a call, and gives what names it.
+    /// Begins a call on a lane, and returns the token that names it: the history has the call now. An `Err` is the first refusal that
+    /// applies (`docs/BOOK.md` has their order), and leaves the book as it was.
     pub fn begin(&mut self, lane: u32, message: &[u8]) -> Result<Token, BeginFault>
         ensures begun { IfOk result (λ token. Begins self.old lane message.now self.new × (token.number ≡ length self.new.history.known.calls)) }
         ensures refused { BeginRefused self.old lane message.now result self.new }
@@ -104,7 +105,7 @@ impl<D: JournalDevice> Book<D> {
         self.ledger.begin(lane, message)
     }
 
-    /// Begins a call that was read of its message, and gives what names it.
+    /// The same, of a call that was read of its message: nothing is read again.
     pub fn begin_read(
         &mut self,
         lane: u32,
@@ -180,7 +181,9 @@ impl<D: JournalDevice> Book<D> {
         }
     }
 
-    /// Gives a call the next place in the serial order, with its reply.
+    /// Gives a call the next place in the serial order, with its reply, and appends its record to the journal. An `Err` is the first
+    /// refusal that applies. After `NotLegal`, `DeviceFault` and `NoMemory` the book is down until a crash; after the others it is as
+    /// it was.
     pub fn place(&mut self, token: Token, reply: NfsReply) -> Result<(), PlaceFault>
         ensures placed { OnOk result (Places self.old token.number reply self.new) }
         ensures refused { PlaceRefused self.old token.number reply result self.new }
@@ -236,7 +239,7 @@ impl<D: JournalDevice> Book<D> {
         }
     }
 
-    /// Puts all records on stable storage.
+    /// Puts all records on stable storage. `Err(Down)`: the book was down already, and is as it was. `Err(DeviceFault)`: it is down now.
     pub fn flush(&mut self) -> Result<(), FlushFault>
         ensures flushed { OnOk result (Flushes self.old self.new) }
         ensures refused { FlushRefused self.old result self.new }
@@ -250,7 +253,8 @@ impl<D: JournalDevice> Book<D> {
         }
     }
 
-    /// Answers a call with the reply that it was placed with, as a message.
+    /// Records that a call is answered with the reply that it was placed with, and returns the message to send. `Err(NotDurable)`: the
+    /// reply promises what isn't on stable storage. Each `Err` leaves the book as it was.
     pub fn answer(&mut self, token: Token) -> Result<Vec<u8>, AnswerFault>
         ensures answered { OnOk result (Answers self.old token.number self.new) }
         // The message is the one that was recorded.
@@ -275,7 +279,7 @@ impl<D: JournalDevice> Book<D> {
             .answer_spelled(token.number(), self.device.mark(), spelled)
     }
 
-    /// Closes a lane: no more calls come on it.
+    /// Closes a lane: no more calls come on it. Each `Err` leaves the book as it was.
     pub fn close_lane(&mut self, lane: u32) -> Result<(), CloseFault>
         ensures closed { OnOk result (Closes self.old lane self.new) }
         ensures refused { CloseRefused self.old lane result self.new }
@@ -283,7 +287,8 @@ impl<D: JournalDevice> Book<D> {
         self.ledger.close_lane(lane)
     }
 
-    /// Goes on after a crash that the first `keep` records outlived.
+    /// Goes on after a crash that the first `keep` records outlived: a new era begins, and the book runs. `Err(KeepTooSmall)` and
+    /// `Err(KeepTooLarge)` leave it as it was; after `DeviceFault` and `NoMemory` no crash brings it up again.
     pub fn crash(&mut self, keep: u64) -> Result<(), CrashFault>
         ensures crashed { OnOk result (Crashes self.old keep self.new) }
         ensures refused { CrashRefused self.old keep result self.new }

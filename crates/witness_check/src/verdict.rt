@@ -35,9 +35,9 @@ pub enum FileVerdict {
     Yes,
     /// It isn't, for this fault.
     No(Fault),
-    /// The first text is no history; never for want of memory.
+    /// The first text is no history. It is never said because memory ran out.
     BadHistory(HistoryFault),
-    /// The second text is no certificate; never for want of memory.
+    /// The second text is no certificate. It is never said because memory ran out.
     BadText(TextFault),
 }
 
@@ -75,7 +75,7 @@ fn verdict_of(
     }
 }
 
-/// Whether the certificate is a witness of the history that these calls are of, or else its first fault.
+/// The same, of the calls of a history.
 pub fn check_calls(
     alloc: Global,
     history: &KnownCalls<'_>,
@@ -89,7 +89,7 @@ pub fn check_calls(
     verdict_of(alloc, history, certificate)
 }
 
-/// Whether the certificate is a witness of the history, or else its first fault.
+/// Returns `Yes` if the certificate is a witness of the history, else its first fault. An `Err` means that memory ran out.
 pub fn check(
     alloc: Global,
     history: &History,
@@ -129,7 +129,15 @@ fn verdict_on(
     }
 }
 
-/// The verdict on two texts; the history is read first.
+/// Returns the verdict on a history file and a certificate text.
+///
+/// - `Yes`: both are well formed, and the certificate's plan has the right shape (each answered judged call once, with its reply), keeps
+///   the order in which calls ended and began, runs (each reply is right at its place), loses no stable call in a crash, and explains
+///   the write verifiers.
+/// - `No`: both are well formed, and this is the first of the five that fails, in that order, with the first place where it does.
+/// - `BadHistory`, `BadText`: the first fault of a text that isn't well formed; the history is read first.
+///
+/// An `Err` means that memory ran out. It is no verdict, and nothing changed.
 pub fn check_files(
     alloc: Global,
     history: &[u8],
