@@ -31,3 +31,4 @@ pub mod PlaceTurns
 pub mod BookSteps
 pub mod BookPlace
 pub mod StepParts
+pub mod Changes

@@ -95,20 +95,11 @@ pub(crate) fn check_recordable(alloc: Global, message: &[u8]) -> Result<NfsCall,
 }
 
 /// Whether a call changes the tree where it succeeds.
+#[tactic(auto, using(crate::proofs::Changes::changes_as))]
 fn may_change(call: &NfsCall) -> bool
     ensures { result ≡ not (only_looks call.now) }
 {
-    matches!(
-        call,
-        NfsCall::SetAttr(_)
-            | NfsCall::Write(_)
-            | NfsCall::Create(_)
-            | NfsCall::MkDir(_)
-            | NfsCall::SymLink(_)
-            | NfsCall::Remove(_)
-            | NfsCall::RmDir(_)
-            | NfsCall::Rename(_)
-    )
+    call.procedure().changes_the_tree()
 }
 
 /// Whether a call was answered by a success.

@@ -4,3 +4,4 @@ pub mod KeepsLaws
 pub mod ShownLaws
 pub mod EraLaws
 pub mod StoredLaws
+pub mod Synchronous

@@ -4,7 +4,7 @@ ghost use Rattle.std.specs.Prelude.{◌≡◌};
 ghost use Rattle.cut_check.specs.Effect.{is_synchronous, effect_of_write, effect_of};
 
 use nfs_history::{commit_success, succeeded, write_success};
-use nfs3_types::{NfsCall, Outcome, StableHow, WriteSuccess};
+use nfs3_types::{NfsCall, Outcome, Procedure, StableHow, WriteSuccess};
 
 /// What a place of an era means for stable storage. Objects are named by their numbers.
 #[derive(Clone, Copy, PartialEq, Eq)]
@@ -34,19 +34,12 @@ pub enum Effect {
 }
 
 /// Whether a call changes the tree or an object, and is no WRITE.
+#[tactic(auto, using(crate::proofs::Synchronous::synchronous_as))]
 fn is_synchronous(call: &NfsCall) -> bool
     ensures { result ≡ is_synchronous call.now }
 {
-    matches!(
-        call,
-        NfsCall::SetAttr(_)
-            | NfsCall::Create(_)
-            | NfsCall::MkDir(_)
-            | NfsCall::SymLink(_)
-            | NfsCall::Remove(_)
-            | NfsCall::RmDir(_)
-            | NfsCall::Rename(_)
-    )
+    let procedure = call.procedure();
+    procedure.changes_the_tree() && procedure != Procedure::Write
 }
 
 /// What a successful WRITE means.

@@ -1,45 +1,11 @@
 //! The handles that a call names.
 
 ghost use Rattle.std.specs.Prelude.{◌≡◌};
-ghost use Rattle.std.specs.Option.{option_copied};
-ghost use Rattle.tree_failures.specs.Asked.{first_handle, second_handle};
 ghost use Rattle.decision_steps.specs.Known.{is_known, knows_handles, is_failure};
 
 use nfs3_types::{FileHandle, NfsCall, Outcome};
+use tree_failures::{first_handle, second_handle};
 use tree_handles::Binds;
-
-/// The first handle of a call.
-pub fn first_handle(call: &NfsCall) -> &FileHandle
-    ensures { result.now ≡ first_handle call.now }
-{
-    match call {
-        NfsCall::GetAttr(object) => object,
-        NfsCall::SetAttr(call) => &call.object,
-        NfsCall::Lookup(place) => &place.directory,
-        NfsCall::ReadLink(link) => link,
-        NfsCall::Read(call) => &call.file,
-        NfsCall::Write(call) => &call.file,
-        NfsCall::Create(call) => &call.place.directory,
-        NfsCall::MkDir(call) => &call.place.directory,
-        NfsCall::SymLink(call) => &call.place.directory,
-        NfsCall::Remove(place) => &place.directory,
-        NfsCall::RmDir(place) => &place.directory,
-        NfsCall::Rename(call) => &call.from.directory,
-        NfsCall::ReadDir(call) => &call.directory,
-        NfsCall::ReadDirPlus(call) => &call.directory,
-        NfsCall::Commit(call) => &call.file,
-    }
-}
-
-/// The second handle, of a RENAME.
-pub fn second_handle(call: &NfsCall) -> Option<&FileHandle>
-    ensures { option_copied result ≡ second_handle call.now }
-{
-    match call {
-        NfsCall::Rename(call) => Some(&call.to.directory),
-        _ => None,
-    }
-}
 
 /// Whether a handle is bound.
 fn is_known(binds: &Binds, handle: &FileHandle) -> bool

@@ -12,7 +12,6 @@ mod state;
 #[cfg(test)]
 mod tests;
 
-pub use asked::{first_handle, second_handle};
 pub use binding::BoundHandle;
 pub use fault::PlaceFault;
 pub use law::a_state_stands_for_its_plans;

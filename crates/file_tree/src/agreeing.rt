@@ -14,11 +14,11 @@ ghost use Rattle.file_tree.specs.Strict.{is_size, fits, had_size, told_at, handl
 ghost use Rattle.file_tree.specs.AtPlace.{IsAtPlace};
 ghost use Rattle.file_tree.specs.Success.{changed, change_received};
 
-use crate::asked::{first_handle, first_place, second_handle};
 use crate::object_change::ObjectChange;
 use crate::told::{told, told_after, told_at, told_of};
 use nfs3_types::{DirectoryEntryPlus, DirectoryName, FileHandle, NfsCall, NfsReply};
 use reply_attributes::{Role, entries_of, post_attr, pre_size, type_and_size};
+use tree_failures::{first_handle, first_place, second_handle};
 use tree_handles::{View, directory_of, entry_at};
 use tree_nodes::Nodes;
 

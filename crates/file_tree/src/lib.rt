@@ -3,7 +3,6 @@
 
 mod agreeing;
 mod allowed;
-mod asked;
 mod create;
 mod judged;
 mod naming;

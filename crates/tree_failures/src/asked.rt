@@ -7,7 +7,7 @@ ghost use Rattle.tree_failures.specs.Asked.{first_handle, first_place, second_pl
 use nfs3_types::{DirectoryName, FileHandle, NfsCall};
 
 /// The first handle of a call.
-pub(crate) fn first_handle(call: &NfsCall) -> &FileHandle
+pub fn first_handle(call: &NfsCall) -> &FileHandle
     ensures { result.now ≡ first_handle call.now }
 {
     match call {
@@ -30,7 +30,7 @@ pub(crate) fn first_handle(call: &NfsCall) -> &FileHandle
 }
 
 /// The first place that a call names.
-pub(crate) fn first_place(call: &NfsCall) -> Option<&DirectoryName>
+pub fn first_place(call: &NfsCall) -> Option<&DirectoryName>
     ensures { option_copied result ≡ first_place call.now }
 {
     match call {
@@ -63,7 +63,7 @@ pub(crate) fn second_place(call: &NfsCall) -> Option<&DirectoryName>
 }
 
 /// The second handle, of a RENAME.
-pub(crate) fn second_handle(call: &NfsCall) -> Option<&FileHandle>
+pub fn second_handle(call: &NfsCall) -> Option<&FileHandle>
     ensures { option_copied result ≡ second_handle call.now }
 {
     match second_place(call) {

@@ -7,4 +7,5 @@ mod handle_causes;
 mod name_causes;
 mod rename_causes;
 
+pub use asked::{first_handle, first_place, second_handle};
 pub use failure::{Cause, is_permitted};

@@ -4,29 +4,12 @@
 use crate::run::Found;
 use nfs3_types::{FileHandle, NfsCall};
 use std::alloc::AllocError;
+use tree_failures::first_handle;
 use tree_handles::Binds;
 use tree_nodes::{Content, Nodes};
 
 /// How many steps are looked at ahead of the first of them. What was read of their messages stays near the processor meanwhile.
 pub(crate) const BLOCK: usize = 32;
-
-/// The handle that a call's arguments begin with.
-fn first_handle(call: &NfsCall) -> &FileHandle {
-    match call {
-        NfsCall::GetAttr(object) | NfsCall::ReadLink(object) => object,
-        NfsCall::SetAttr(call) => &call.object,
-        NfsCall::Lookup(place) | NfsCall::Remove(place) | NfsCall::RmDir(place) => &place.directory,
-        NfsCall::Read(call) => &call.file,
-        NfsCall::Write(call) => &call.file,
-        NfsCall::Create(call) => &call.place.directory,
-        NfsCall::MkDir(call) => &call.place.directory,
-        NfsCall::SymLink(call) => &call.place.directory,
-        NfsCall::Rename(call) => &call.from.directory,
-        NfsCall::ReadDir(call) => &call.directory,
-        NfsCall::ReadDirPlus(call) => &call.directory,
-        NfsCall::Commit(call) => &call.file,
-    }
-}
 
 /// Notes the object that a handle names.
 fn note(binds: &Binds, handle: &FileHandle, seen: &mut Vec<u64>) -> Result<(), AllocError> {
