@@ -3,7 +3,7 @@
 ghost use Rattle.std.specs.Prelude.{◌≡◌, ◌↔◌, ◌⊎◌, not, true, None, IsTrue, option_map};
 ghost use Rattle.rpc_reader.specs.Views.{call_value};
 ghost use Rattle.nfs3_types.specs.Procedures.{is_judged};
-ghost use Rattle.nfs_history.specs.Success.{succeeded, write_success, commit_success};
+ghost use Rattle.nfs_history.specs.Success.{write_success, commit_success};
 ghost use Rattle.cut_check.specs.Effect.{effect_of};
 ghost use Rattle.cut_check.specs.declared.effect.Effect.TheVariants.{Lasting};
 ghost use Rattle.cut_check.specs.Verifier.{verifier_of};
@@ -16,8 +16,9 @@ ghost use Rattle.book_ledger.specs.Recordable.{asks_judged, may_make, step_so, A
 
 use crate::fault::BeginFault;
 use journal_records::is_inside;
+use nfs_history::{commit_success, succeeded, write_success};
 use nfs3_msgs::{MessageFault, read_args};
-use nfs3_types::{Answer, NfsCall, NfsReply, Outcome, Procedure, StableHow};
+use nfs3_types::{NfsCall, Outcome, Procedure, StableHow};
 use rpc_reader::{CallHead, read_call};
 use std::alloc::Global;
 use xdr_records::RECORD_LIMIT;
@@ -102,16 +103,6 @@ fn may_change(call: &NfsCall) -> bool
     call.procedure().changes_the_tree()
 }
 
-/// Whether a call was answered by a success.
-fn succeeded(call: &NfsCall, outcome: &Outcome) -> bool
-    ensures { result ≡ succeeded call.now outcome.now }
-{
-    match outcome {
-        Outcome::Received(reply) => call.is_answered_by(reply) && reply.failure().is_none(),
-        Outcome::Taken(_) => false,
-    }
-}
-
 /// Whether a call that came out so has a record in the journal.
 pub(crate) fn is_recorded(call: &NfsCall, outcome: &Outcome) -> bool
     ensures { result ≡ is_recorded (step_so call.now outcome.now) }
@@ -123,32 +114,16 @@ pub(crate) fn is_recorded(call: &NfsCall, outcome: &Outcome) -> bool
 fn write_answer(outcome: &Outcome) -> Option<(StableHow, u32, u64)>
     ensures { result ≡ option_map (λ success. (success.level, success.count, success.verifier.value)) (write_success outcome.now) }
 {
-    let Outcome::Received(reply) = outcome else {
-        return None;
-    };
-    let NfsReply::Write(answer) = reply else {
-        return None;
-    };
-    match answer {
-        Answer::Done(success) => Some((success.level, success.count, success.verifier.value)),
-        Answer::Failed(..) => None,
-    }
+    let success = write_success(outcome)?;
+    Some((success.level, success.count, success.verifier.value))
 }
 
 /// The verifier of a COMMIT that succeeded.
 fn commit_verifier(outcome: &Outcome) -> Option<u64>
     ensures { result ≡ option_map (λ success. success.verifier.value) (commit_success outcome.now) }
 {
-    let Outcome::Received(reply) = outcome else {
-        return None;
-    };
-    let NfsReply::Commit(answer) = reply else {
-        return None;
-    };
-    match answer {
-        Answer::Done(success) => Some(success.verifier.value),
-        Answer::Failed(..) => None,
-    }
+    let success = commit_success(outcome)?;
+    Some(success.verifier.value)
 }
 
 /// Whether a reply promises that the call outlives a crash (RFC 1813, section 4.7), or, of a COMMIT, that what is placed ahead does.
