@@ -22,7 +22,6 @@ pub mod Rising
 pub mod CrashSteps
 pub mod Naming
 pub mod Making
-pub mod Apart
 pub mod Noting
 pub mod Behind
 pub mod PlaceSteps

@@ -57,7 +57,7 @@ use Rattle.book_ledger.proofs.Parts.{Parts, book_with, HavePlaces, Tied}
 use Rattle.book_ledger.proofs.CrashSteps.{now_asked}
 use Rattle.book_ledger.proofs.Naming.{own_free, own_alike}
 use Rattle.book_ledger.proofs.Making.{none_made}
-use Rattle.book_ledger.proofs.Apart.{isnt_zero, past_first, apart_eras, apart_all, others, absent}
+use Rattle.book_machine.proofs.Apart.{isnt_zero, past_first, apart_eras, apart_all, others, absent}
 use Rattle.book_ledger.proofs.Noting.{made_more_in, made_same_in, hadnt_made_in, counted_more, placing, places_more}
 use Rattle.book_ledger.proofs.Behind.{front_same, behind_all}
 use Rattle.book_ledger.proofs.PlaceSteps.{step_made, given}

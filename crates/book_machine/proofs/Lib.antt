@@ -11,6 +11,7 @@ pub mod Moving
 pub mod Bound
 pub mod Pushed
 pub mod Starting
+pub mod Apart
 pub mod Newcomer
 pub mod Legal
 pub mod Kept

@@ -1,79 +1,32 @@
 -- a call that is placed was placed never before
-use Rattle.std.proofs.Common.{◌≡◌, ◌≢◌, inl, inr, ℕ, suc, ◌+◌, ◌<◌, ◌^◌, List, [], ◌∷◌, ◌++◌, length, Some, None, sym, ap, ◌∙◌, subst, arith}
+use Rattle.std.proofs.Common.{◌≡◌, ◌≢◌, ℕ, ◌<◌, ◌^◌, ◌++◌, length, None}
 use Rattle.std.specs.List.{AllByRecursion}
 use Rattle.nfs3_types.specs.declared.replies.NfsReply.{NfsReply}
-use Rattle.nfs_history.specs.declared.history.RecordedCall.{RecordedCall}
-use Rattle.nfs_history.specs.Precedence.{call_at}
 use Rattle.replay_law.specs.Run.{kept_steps}
 use Rattle.tree_nodes.specs.Tree.{entry_of}
-use Rattle.tree_laws.proofs.Numbered.{one_number, past}
-use Rattle.book_machine.specs.Placing.{Placed}
-use Rattle.book_machine.specs.Book.{Book, setting, object_in, tree_at_first}
+use Rattle.book_machine.specs.Book.{Book, object_in}
 use Rattle.book_machine.specs.Steps.{Places}
-use Rattle.book_machine.proofs.Invariant.{Over, IsKnown, AreKnown, AllKnown, IsPlacedIn, IsPlaced, IsMade, IsInvariant}
-use Rattle.book_machine.proofs.Lists.{all_append, all_each}
-use Rattle.book_machine.proofs.Starting.{call_alone}
-use Rattle.book_machine.proofs.Bound.{AreApart, AllApart, kept_apart, run_absent}
+use Rattle.book_machine.proofs.Invariant.{IsPlaced, IsInvariant}
+use Rattle.book_machine.proofs.Bound.{AreApart, AllApart}
+use Rattle.book_machine.proofs.Apart as unplaced
 
 module _ (book : Book) (i : IsInvariant book) (number : ℕ) (reply : NfsReply) (new : Book) (p : Places book number reply new) where
-  abbrev old_calls : List RecordedCall
-  old_calls = book.history.known.calls
-
-  -- no era that is over has the call
-  apart_over : (e : ℕ) (over : List Over) (placed : List Placed) → AllKnown old_calls e over placed → e + length over ≡ book.history.known.eras → AllApart number over
-  apart_over e [] placed known now = tt
-  apart_over e (first ∷ over) placed known now = (steps first.steps known.0, apart_over (e + 1) over placed known.1 (further e (length over) book.history.known.eras now)) where
-    further : (a b c : ℕ) → a + suc b ≡ c → a + 1 + b ≡ c
-    further a b c f = omega (arith, f)
-
-    clash : (a b c d : ℕ) → a + suc b ≡ c → d ≡ c → d ≡ a → ⊥
-    clash a b c d f g h = omega (arith, f, g, h)
-
-    other : (s : Placed) → IsKnown old_calls e s → s.number ≢ number
-    other s k same = clash e (length over) book.history.known.eras p.recorded.era now p.of_now.era (ap (λ (c : RecordedCall). c.era) (one (sym p.of_now.recorded ∙ ap (call_at old_calls) (sym same) ∙ k.recorded)) ∙ k.now) where
-      one : {a b : RecordedCall} → Some a ≡ Some b → a ≡ b
-      one f = cc
-
-    steps : (xs : List Placed) → AreKnown old_calls e xs → AreApart number xs
-    steps [] k = tt
-    steps (x ∷ xs) k = (other x k.0, steps xs k.1)
-
   pub apart_eras : AllApart number book.over
-  apart_eras = apart_over 1 book.over book.placed i.known (omega (arith, i.eras))
+  apart_eras = unplaced.apart_eras book i number p.recorded p.of_now.recorded p.of_now.era p.unplaced
 
   pub not_placed : IsPlaced book.over book.placed number → ⊥
-  not_placed = eras book.over apart_eras where
-    among : (xs : List Placed) → AreApart number xs → IsPlacedIn xs number → ⊥
-    among [] c found = found
-    among (x ∷ xs) c (inl same) = c.0 same
-    among (x ∷ xs) c (inr found) = among xs c.1 found
-
-    eras : (over : List Over) → AllApart number over → IsPlaced over book.placed number → ⊥
-    eras [] c found = among book.placed p.unplaced found
-    eras (first ∷ over) c (inl found) = among first.steps c.0 found
-    eras (first ∷ over) c (inr found) = eras over c.1 found
+  not_placed = unplaced.not_placed book i number p.recorded p.of_now.recorded p.of_now.era p.unplaced
 
   pub isnt_zero : number ≢ 0
-  isnt_zero same = none (ap (call_at old_calls) (sym same) ∙ p.of_now.recorded) where
-    none : None ≡ Some p.recorded → ⊥
-    none f = cc
-
-  abbrev first : ℕ
-  first = length book.history.known.head.start
-
-  abbrev own : ℕ
-  own = object_in book number
+  isnt_zero = unplaced.isnt_zero book i number p.recorded p.of_now.recorded p.of_now.era p.unplaced
 
   -- so that it has made no object
-  pub others : AllByRecursion (λ other. (other ≢ own) × (other < 2 ^ 64)) book.made
-  others = all_each _ _ book.made (λ other has. (differs other has.0, has.1)) i.made where
-    differs : (other : ℕ) → IsMade first book.over book.placed other → other ≢ own
-    differs other (inl stood) same = let lt = past first number isnt_zero in omega (arith, lt, stood.1, same)
-    differs other (inr call) same = not_placed (subst (IsPlaced book.over book.placed) (one_number first call.0 number (call.2 ∙ same)) call.1)
+  pub others : AllByRecursion (λ other. (other ≢ object_in book number) × (other < 2 ^ 64)) book.made
+  others = unplaced.others book i number p.recorded p.of_now.recorded p.of_now.era p.unplaced
 
   pub apart_kept : AreApart number (kept_steps book.over ++ book.placed)
-  apart_kept = all_append _ (kept_steps book.over) book.placed (kept_apart number book.over apart_eras) p.unplaced
+  apart_kept = unplaced.apart_all book i number p.recorded p.of_now.recorded p.of_now.era p.unplaced
 
   -- and its object isn't there
-  pub own_absent : entry_of p.before own ≡ None
-  own_absent = run_absent (setting book) number (kept_steps book.over ++ book.placed) apart_kept (tree_at_first book) p.before (call_alone book.history.known.head.start i.start number isnt_zero) p.stood
+  pub own_absent : entry_of p.before (object_in book number) ≡ None
+  own_absent = unplaced.absent book i number p.recorded p.of_now.recorded p.of_now.era p.unplaced p.before p.stood

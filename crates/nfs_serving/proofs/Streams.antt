@@ -1,14 +1,16 @@
 -- A stream is read piece by piece, and its whole records are answered.
-use Rattle.std.proofs.Common.{◌≡◌, inl, ℕ, ◌+◌, ◌<◌, false, List, [], ◌∷◌, ◌++◌, length, Option, Result, Ok, Err, OnOk, IsErrOf, refl, sym, ap, subst, ◌∙◌, arith, zero-add, append_assoc}
+use Rattle.std.proofs.Common.{◌≡◌, inl, ℕ, ◌+◌, ◌<◌, List, [], ◌++◌, length, Option, Result, Ok, Err, refl, sym, ap, subst, ◌∙◌, arith, zero-add, append_assoc}
 use Rattle.std.proofs.lemmas.List.{length-append, length-map}
 use Rattle.std.specs.Io.KnownBytes.{Appends, Consumes}
 use Rattle.xdr_records.specs.declared.fault.FeedFault.{FeedFault}
 use Rattle.xdr_records.specs.declared.fault.FeedFault.TheVariants as feed_faults
 use Rattle.xdr_records.specs.Record.{AreRecords, IsUnfinished, IsTooLong, IsCut}
-use Rattle.xdr_records.specs.Feed.{Feed, fresh, Grows, Breaks}
+use Rattle.xdr_records.specs.Feed.{Feed, fresh}
 use Rattle.xdr_records.proofs.Cutting.{unfinished_none, cut_join}
-use Rattle.nfs_tap.specs.Pumping.{frames, IsIdle}
-use Rattle.nfs_tap.proofs.Fronts.{none_appended, both_appended, none_consumed, both_consumed}
+use Rattle.nfs_tap.specs.Pumping.{frames}
+use Rattle.bench_streams.proofs.Fronts.{both as both_appended}
+use Rattle.nfs_tap.proofs.Fronts.{none_appended, none_consumed, both_consumed}
+use Rattle.nfs_tap.proofs.Forwarding.{HasFed, grown_all, broken_all, fed_cut, split}
 use Rattle.server_passes.specs.PassValue.{ExchangeValue, PassValue}
 use Rattle.nfs_serving.specs.declared.export.Export.{Export}
 use Rattle.nfs_serving.specs.declared.end.StreamEnd.{StreamEnd}
@@ -19,60 +21,6 @@ use Rattle.nfs_serving.specs.Steps.{Answers, Stops, IsReady, IsEmptied, Takes}
 use Rattle.nfs_serving.proofs.Answering.{messages-append, replies-append, frames_more, told_none, told_join, sent_behind, stop_behind}
 
 -- ---- a piece of the stream
-
--- whatever stands behind
-cut_anyhow : (Rest : List ℕ → Type 0) (bytes : List ℕ) (records : List (List ℕ)) (rest : List ℕ) → IsCut Rest bytes records rest → IsCut (λ _. Unit {0}) bytes records rest
-cut_anyhow Rest bytes records rest cut = record { front = cut.front; parts = cut.parts; whole = cut.whole; left = tt }
-
--- what the feed told of a piece
-pub record HasFed {X : Type 0} (r : Result X FeedFault) (old : Feed) (piece : List ℕ) (new : Feed) : Type 0 where
-  pub idle : IsIdle old
-  pub ok : OnOk r (Grows old piece new)
-  pub too_long : IsErrOf r feed_faults.RecordTooLong → Breaks old piece new
-  pub no_memory : IsErrOf r feed_faults.NoMemory → new ≡ old
-
--- from the clauses of a feed
-pub has_fed : {X : Type 0} (r : Result X FeedFault) (old : Feed) (piece : List ℕ) (new : Feed) → IsIdle old → OnOk r (Grows old piece new)
-    → (IsErrOf r feed_faults.RecordTooLong → old.broken ≡ false → Breaks old piece new) → (IsErrOf r feed_faults.NoMemory → (old.broken ≡ false) × (new ≡ old)) → HasFed r old piece new
-has_fed r old piece new idle ok too_long no_memory = record { idle = idle; ok = ok; too_long = λ e. too_long e idle.1; no_memory = λ e. (no_memory e).1 }
-
-grown_all : (old : Feed) (piece : List ℕ) (new : Feed) → IsIdle old → (g : Grows old piece new) → new.waiting ≡ g.records
-grown_all old piece new idle g = g.waiting ∙ ap (λ (xs : List (List ℕ)). xs ++ g.records) idle.0
-
-broken_all : (old : Feed) (piece : List ℕ) (new : Feed) → IsIdle old → (b : Breaks old piece new) → new.waiting ≡ b.records
-broken_all old piece new idle b = ap (λ (f : Feed). f.waiting) b.now ∙ ap (λ (xs : List (List ℕ)). xs ++ b.records) idle.0
-
--- the records that wait stand in the piece
-fed_cut : {X : Type 0} (r : Result X FeedFault) (old : Feed) (piece : List ℕ) (new : Feed) → HasFed r old piece new → (rest : List ℕ) × IsCut (λ _. Unit {0}) (old.rest ++ piece) new.waiting rest
-fed_cut (Ok x) old piece new fed =
-    let g = fed.ok in
-    (new.rest, subst (λ (xs : List (List ℕ)). IsCut (λ _. Unit {0}) (old.rest ++ piece) xs new.rest) (sym (grown_all old piece new fed.idle g)) (cut_anyhow IsUnfinished (old.rest ++ piece) g.records new.rest g.cut))
-fed_cut (Err feed_faults.RecordTooLong) old piece new fed =
-    let b = fed.too_long refl in
-    (b.stop, subst (λ (xs : List (List ℕ)). IsCut (λ _. Unit {0}) (old.rest ++ piece) xs b.stop) (sym (broken_all old piece new fed.idle b)) (cut_anyhow IsTooLong (old.rest ++ piece) b.records b.stop b.cut))
-fed_cut (Err feed_faults.NoMemory) old piece new fed =
-    let none : new.waiting ≡ [] = ap (λ (f : Feed). f.waiting) (fed.no_memory refl) ∙ fed.idle.0 in
-    (old.rest ++ piece, record { front = []; parts = refl; whole = subst (λ (xs : List (List ℕ)). AreRecords xs []) (sym none) refl; left = tt })
-
--- the first records of more
-record Split (xs ys : List (List ℕ)) (bytes : List ℕ) : Type 0 where
-  front : List ℕ
-  back : List ℕ
-  parts : bytes ≡ front ++ back
-  first : AreRecords xs front
-  others : AreRecords ys back
-
-split : (xs ys : List (List ℕ)) (bytes : List ℕ) → AreRecords (xs ++ ys) bytes → Split xs ys bytes
-split [] ys bytes are = record { front = []; back = bytes; parts = refl; first = refl; others = are }
-split (x ∷ xs) ys bytes are =
-    let later = split xs ys are.back are.others in
-    record {
-      front = are.front ++ later.front;
-      back = later.back;
-      parts = are.parts ∙ ap (λ l. are.front ++ l) later.parts ∙ sym (append_assoc are.front later.front later.back);
-      first = record { front = are.front; back = later.front; parts = refl; first = are.first; others = later.first };
-      others = later.others;
-    }
 
 module _ (export : Export) (old : Feed) (piece : List ℕ) (new : Feed) (before after : PassValue) (held held' : Option (List ℕ)) where
   -- it ended while the records were answered

@@ -5,7 +5,8 @@ use Rattle.std.specs.Io.KnownBytes.{Appends}
 use Rattle.xdr_records.specs.Record.{record_text}
 use Rattle.xdr_records.specs.Feed.{TakesFirst}
 use Rattle.nfs_tap.specs.Pumping.{frames}
-use Rattle.nfs_tap.proofs.Fronts.{none_appended, both_appended}
+use Rattle.bench_streams.proofs.Fronts.{both as both_appended}
+use Rattle.nfs_tap.proofs.Fronts.{none_appended}
 use Rattle.server_passes.specs.PassValue.{ExchangeValue, PassValue}
 use Rattle.nfs_serving.specs.declared.export.Export.{Export}
 use Rattle.nfs_serving.specs.declared.end.StreamEnd.{StreamEnd}

@@ -10,7 +10,8 @@ use Rattle.nfs_tap.specs.declared.pump.PumpEnd.{PumpEnd}
 use Rattle.nfs_tap.specs.declared.pump.PumpEnd.TheVariants as ends
 use Rattle.nfs_tap.specs.Pumping.{frames, Behind, IsAnywhere, IsWritten, IsForwarded, Pumps, AreWithinLimit, IsIdle, Stops}
 use Rattle.bench_streams.specs.Streams.{AppendsFront}
-use Rattle.nfs_tap.proofs.Fronts.{none_appended, both_appended, none_consumed, both_consumed}
+use Rattle.bench_streams.proofs.Fronts.{both as both_appended}
+use Rattle.nfs_tap.proofs.Fronts.{none_appended, none_consumed, both_consumed}
 
 frames-append : (xs ys : List (List ℕ)) → frames (xs ++ ys) ≡ frames xs ++ frames ys
 frames-append [] ys = refl
@@ -107,7 +108,7 @@ stops_later end held mid held' old now new content so_far t s =
 -- ---- a piece of the stream
 
 -- whatever stands behind
-cut_anyhow : (Rest : List ℕ → Type 0) (bytes : List ℕ) (records : List (List ℕ)) (rest : List ℕ) → IsCut Rest bytes records rest → IsCut (λ _. Unit {0}) bytes records rest
+pub cut_anyhow : (Rest : List ℕ → Type 0) (bytes : List ℕ) (records : List (List ℕ)) (rest : List ℕ) → IsCut Rest bytes records rest → IsCut (λ _. Unit {0}) bytes records rest
 cut_anyhow Rest bytes records rest cut = record { front = cut.front; parts = cut.parts; whole = cut.whole; left = tt }
 
 -- what the feed told of a piece
@@ -122,16 +123,20 @@ pub has_fed : {X : Type 0} (r : Result X FeedFault) (old : Feed) (piece : List �
     → (IsErrOf r feed_faults.RecordTooLong → old.broken ≡ false → Breaks old piece new) → (IsErrOf r feed_faults.NoMemory → (old.broken ≡ false) × (new ≡ old)) → HasFed r old piece new
 has_fed r old piece new idle ok too_long no_memory = record { idle = idle; ok = ok; too_long = λ e. too_long e idle.1; no_memory = λ e. (no_memory e).1 }
 
+pub grown_all : (old : Feed) (piece : List ℕ) (new : Feed) → IsIdle old → (g : Grows old piece new) → new.waiting ≡ g.records
+grown_all old piece new idle g = g.waiting ∙ ap (λ (xs : List (List ℕ)). xs ++ g.records) idle.0
+
+pub broken_all : (old : Feed) (piece : List ℕ) (new : Feed) → IsIdle old → (b : Breaks old piece new) → new.waiting ≡ b.records
+broken_all old piece new idle b = ap (λ (f : Feed). f.waiting) b.now ∙ ap (λ (xs : List (List ℕ)). xs ++ b.records) idle.0
+
 -- the records that wait stand in the piece
-fed_cut : {X : Type 0} (r : Result X FeedFault) (old : Feed) (piece : List ℕ) (new : Feed) → HasFed r old piece new → (rest : List ℕ) × IsCut (λ _. Unit {0}) (old.rest ++ piece) new.waiting rest
+pub fed_cut : {X : Type 0} (r : Result X FeedFault) (old : Feed) (piece : List ℕ) (new : Feed) → HasFed r old piece new → (rest : List ℕ) × IsCut (λ _. Unit {0}) (old.rest ++ piece) new.waiting rest
 fed_cut (Ok x) old piece new fed =
     let g = fed.ok in
-    let all : new.waiting ≡ g.records = g.waiting ∙ ap (λ (xs : List (List ℕ)). xs ++ g.records) fed.idle.0 in
-    (new.rest, subst (λ (xs : List (List ℕ)). IsCut (λ _. Unit {0}) (old.rest ++ piece) xs new.rest) (sym all) (cut_anyhow IsUnfinished (old.rest ++ piece) g.records new.rest g.cut))
+    (new.rest, subst (λ (xs : List (List ℕ)). IsCut (λ _. Unit {0}) (old.rest ++ piece) xs new.rest) (sym (grown_all old piece new fed.idle g)) (cut_anyhow IsUnfinished (old.rest ++ piece) g.records new.rest g.cut))
 fed_cut (Err feed_faults.RecordTooLong) old piece new fed =
     let b = fed.too_long refl in
-    let all : new.waiting ≡ b.records = ap (λ (f : Feed). f.waiting) b.now ∙ ap (λ (xs : List (List ℕ)). xs ++ b.records) fed.idle.0 in
-    (b.stop, subst (λ (xs : List (List ℕ)). IsCut (λ _. Unit {0}) (old.rest ++ piece) xs b.stop) (sym all) (cut_anyhow IsTooLong (old.rest ++ piece) b.records b.stop b.cut))
+    (b.stop, subst (λ (xs : List (List ℕ)). IsCut (λ _. Unit {0}) (old.rest ++ piece) xs b.stop) (sym (broken_all old piece new fed.idle b)) (cut_anyhow IsTooLong (old.rest ++ piece) b.records b.stop b.cut))
 fed_cut (Err feed_faults.NoMemory) old piece new fed =
     let none : new.waiting ≡ [] = ap (λ (f : Feed). f.waiting) (fed.no_memory refl) ∙ fed.idle.0 in
     (old.rest ++ piece, record { front = []; parts = refl; whole = subst (λ (xs : List (List ℕ)). AreRecords xs []) (sym none) refl; left = tt })
@@ -144,14 +149,15 @@ pub fed_within : {X : Type 0} (r : Result X FeedFault) (old : Feed) (piece : Lis
 fed_within r old piece new fed = let cut = (fed_cut r old piece new fed).1 in are_within new.waiting cut.front cut.whole
 
 -- the first records of more
-record Split (xs ys : List (List ℕ)) (bytes : List ℕ) : Type 0 where
-  front : List ℕ
-  back : List ℕ
-  parts : bytes ≡ front ++ back
-  first : AreRecords xs front
+pub record Split (xs ys : List (List ℕ)) (bytes : List ℕ) : Type 0 where
+  pub front : List ℕ
+  pub back : List ℕ
+  pub parts : bytes ≡ front ++ back
+  pub first : AreRecords xs front
+  pub others : AreRecords ys back
 
-split : (xs ys : List (List ℕ)) (bytes : List ℕ) → AreRecords (xs ++ ys) bytes → Split xs ys bytes
-split [] ys bytes are = record { front = []; back = bytes; parts = refl; first = refl }
+pub split : (xs ys : List (List ℕ)) (bytes : List ℕ) → AreRecords (xs ++ ys) bytes → Split xs ys bytes
+split [] ys bytes are = record { front = []; back = bytes; parts = refl; first = refl; others = are }
 split (x ∷ xs) ys bytes are =
     let later = split xs ys are.back are.others in
     record {
@@ -159,6 +165,7 @@ split (x ∷ xs) ys bytes are =
       back = later.back;
       parts = are.parts ∙ ap (λ l. are.front ++ l) later.parts ∙ sym (append_assoc are.front later.front later.back);
       first = record { front = are.front; back = later.front; parts = refl; first = are.first; others = later.first };
+      others = later.others;
     }
 
 pub stopped_in : {X : Type 0} (r : Result X FeedFault) (end : PumpEnd) (held held' : Option (List ℕ)) (old : Feed) (piece : List ℕ) (new : Feed) → HasFed r old piece new → Stops end held held' new.waiting

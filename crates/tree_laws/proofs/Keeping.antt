@@ -16,7 +16,7 @@ use Rattle.tree_nodes.proofs.Chains.{same_some, differ, decide, absent, value_of
 use Rattle.tree_nodes.proofs.Found.{tied, ended, parts_of, from_front, some_found, bare_below}
 use Rattle.tree_laws.proofs.Changing.{IsChild, Replaces, Grows, Shrinks, Moves}
 use Rattle.tree_laws.proofs.Staying.{get_put, get_left}
-use Rattle.tree_laws.proofs.Moved.{cancel}
+use Rattle.tree_nodes.proofs.MovedLaw.{cancel}
 
 -- ---- paths and directories
 

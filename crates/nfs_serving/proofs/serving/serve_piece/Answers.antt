@@ -2,7 +2,8 @@ use Rattle.std.proofs.Common.{◌≡◌, Result, Err, subst, ap, ◌∙◌}
 use Rattle.std.proofs.lemmas.Result.{err_from_is_err_and}
 use Rattle.xdr_records.specs.declared.fault.FeedFault.{FeedFault}
 use Rattle.xdr_records.specs.declared.fault.FeedFault.TheVariants as feed_faults
-use Rattle.nfs_serving.proofs.Streams.{HasFed, has_fed, stopped_in, too_long_in, no_memory_in}
+use Rattle.nfs_tap.proofs.Forwarding.{HasFed, has_fed}
+use Rattle.nfs_serving.proofs.Streams.{stopped_in, too_long_in, no_memory_in}
 use Rattle.nfs_serving.proofs.serving.serve_piece.Goals as goal
 
 pub returns-in_err-serve_waiting-clause-err : goal.returns-in_err-serve_waiting-clause-err

@@ -41,7 +41,7 @@ module _ (book : Book) (i : IsInvariant book) (number : ℕ) (recorded : Recorde
   pub apart_eras : AllApart number book.over
   apart_eras = apart_over 1 book.over book.placed i.known (omega (arith, i.eras))
 
-  not_placed : IsPlaced book.over book.placed number → ⊥
+  pub not_placed : IsPlaced book.over book.placed number → ⊥
   not_placed = eras book.over apart_eras where
     among : (xs : List Placed) → AreApart number xs → IsPlacedIn xs number → ⊥
     among [] c found = found
