@@ -1,3 +1,4 @@
+-- For the prover, and for callers.
 -- A book to which the laws apply: a CREATE begins, is placed, is put on stable storage and is answered.
 use Rattle.tree_starts.specs.declared.profile.Profile.TheVariants.{Plain}
 use Rattle.std.specs.Prelude.{ℕ, List, [], ◌∷◌, Some, None, IsSome}

@@ -1,3 +1,4 @@
+-- Believed.
 -- Which messages a book takes: those of judged calls that a history takes whatever is answered, in a record within its limit.
 use Rattle.std.specs.Prelude.{◌≡◌, ◌==◌, ◌&&◌, not, ◌≤◌, ℕ, Bool, true, false, List, [], length, None, ⊤, Result, Ok, Err}
 use Rattle.xdr_records.specs.Record.{record_limit}

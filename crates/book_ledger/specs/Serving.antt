@@ -1,3 +1,4 @@
+-- For the prover, and for callers.
 -- What the test of a served reply says to the prover.
 use Rattle.std.specs.Prelude.{◌≡◌, ◌⊎◌, ℕ, true, length, take, drop, Some}
 use Rattle.nfs3_types.specs.declared.calls.ReadArguments.{ReadArguments}

@@ -1,3 +1,4 @@
+-- For the prover.
 -- the parts of a change's messages, for private functions
 use Rattle.std.specs.Prelude.{◌≡◌, ◌==◌, ◌&&◌, not, if◌then◌else◌, ℕ, Bool, true, List, Option, Some, None}
 use Rattle.rpc_reader.specs.Values.{CallValue, ReplyValue, sealed_flavor}

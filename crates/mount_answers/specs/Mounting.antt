@@ -1,3 +1,4 @@
+-- For the prover, and for callers.
 -- Which calls are answered ahead of a server, and how: the MOUNT service of version 3 (RFC 1813, section 5), and what NFS of version 3 tells
 -- of rights and limits (section 3.3). That every right is given, and whatever a handle names, is this project's own.
 use Rattle.std.specs.Prelude.{◌≡◌, ◌⊎◌, ◌==◌, ◌&&◌, ◌||◌, not, nat_lt, ℕ, Bool, false, List, [], if◌then◌else◌, codes, bytes_eq, Option, Some, None, Vec, IsTrue, MatchBool}

@@ -1,3 +1,4 @@
+-- For the prover, and for callers.
 -- The results of what is answered ahead of a server, as bytes. The numbers are the bundled server's; which it tells is this project's own.
 use Rattle.std.specs.Prelude.{ℕ, true, false, List, [], ◌∷◌, ◌++◌, replicate, codes, flat_map}
 use Rattle.nfs3_types.specs.Limits.{file_limit, transfer_limit}

@@ -1,3 +1,4 @@
+-- Believed.
 -- Limits, this project's own: RFC 1813 leaves a file 2^64 - 1 bytes (section 2.5), and a server to tell how many bytes a READ gives (section
 -- 3.3.19, FSINFO, rtmax).
 use Rattle.std.specs.Prelude.{ℕ}

@@ -1,3 +1,4 @@
+-- Believed.
 -- The procedures by their numbers; which one a call asks for and a reply answers, and whether a reply is a failure: RFC 1813,
 -- sections 2.6 and 3.3
 use Rattle.std.specs.Prelude.{ℕ, ◌==◌, ◌||◌, Bool, Option, Some, None}

@@ -1,3 +1,4 @@
+-- Believed.
 -- The first call at fault, and why (RFC 5531, section 9, and RFC 1813, section 3.3; what lies outside the model, and the
 -- order of faults, are this project's own).
 use Rattle.std.specs.Prelude.{◌≡◌, ◌≢◌, ◌⊎◌, ◌==◌, ◌<◌, ℕ, ◌+◌, true, false, if◌then◌else◌, List, [], ◌∷◌, length, Option, Some, None}

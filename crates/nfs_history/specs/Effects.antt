@@ -1,3 +1,4 @@
+-- Believed.
 -- Which calls may have an effect, by their heads and replies (RFC 5531, section 9, and RFC 1813, section 3.3).
 use Rattle.std.specs.Prelude.{◌≡◌, ◌==◌, ◌&&◌, ◌||◌, not, nat_le, ℕ, Bool, true, false, if◌then◌else◌, List, length, Option, Some, None}
 use Rattle.xdr_records.specs.Items.{word_of}

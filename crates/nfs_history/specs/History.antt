@@ -1,3 +1,4 @@
+-- Believed.
 -- A history: what each of its calls was, when it began and ended, and how it came out (Herlihy and Wing 1990,
 -- section 2; the calls are those of RFC 1813, section 3.3); and which bytes are a history's file.
 use Rattle.std.specs.Prelude.{◌≡◌, ◌≢◌, ℕ, true, false, List, [], ◌∷◌, Option, Some, None, option_map}

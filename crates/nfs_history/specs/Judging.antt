@@ -1,3 +1,4 @@
+-- For the prover, and for callers.
 -- The fault of a call, item by item: what the code's private functions say to the prover.
 use Rattle.std.specs.Prelude.{◌≡◌, ◌==◌, nat_lt, ℕ, if◌then◌else◌, List, [], length, Option, Some, None, option_map, Result, Ok, Err}
 use Rattle.std.specs.List.{AllByRecursion}

@@ -1,3 +1,4 @@
+-- Believed.
 -- What the head of a call and of a reply say, RFC 5531, section 9.
 use Rattle.std.specs.Prelude.{ℕ, List}
 

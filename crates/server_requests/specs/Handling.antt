@@ -1,3 +1,4 @@
+-- Believed.
 -- What a journal server does with a message. It records each call of a procedure that is judged, with arguments that a history takes
 -- whatever is answered, and answers every other call by itself (RFC 5531, section 9; RFC 1813, section 2.6, for the statuses). That it
 -- serves no LINK, no MKNOD, and nothing that tells of rights and limits is this project's own.
@@ -72,6 +73,8 @@ pub record IsRecorded (head : CallValue) (call : NfsCall) : Type 0 where
   pub served : answer_ahead head ≡ None
   pub arguments : IsArguments head.procedure head.args call
   pub inside : outside call None ≡ None
+
+-- ---- for the prover, and for callers
 
 -- what a message is to the server. No message is two of these
 abbrev pub IsRequest : List ℕ → Request → Type 0
