@@ -1,3 +1,4 @@
+-- For the prover.
 -- The digits of lower case hex (RFC 4648, section 8).
 use Rattle.std.specs.Prelude.{ℕ, Bool, ◌&&◌, ◌||◌, nat_le}
 

@@ -1,3 +1,4 @@
+-- Believed.
 -- Streams that don't fail (words of this project's own): an input whose end comes after so many reads, an output with room.
 use Rattle.std.specs.Prelude.{◌≡◌, ◌⊎◌, ℕ, ◌<◌, ◌≤◌, ⊤, take, length, List, Option, Some, None, Result, MatchResult}
 use Rattle.std.specs.Option.{IsSomeAnd}

@@ -1,3 +1,4 @@
+-- Believed.
 -- What is said: an exit status and a line (words of this project's own).
 use Rattle.std.specs.Prelude.{◌≡◌, ℕ, List, [], ◌∷◌, ◌++◌, codes, Option}
 use Rattle.std.specs.Io.KnownBytes.{Appends}

@@ -9,7 +9,7 @@ use std::alloc::{AllocError, Global};
 use std::io::ErrorKind;
 
 /// How many reads an input may take.
-const READ_LIMIT: u32 = 1_000_000;
+pub const READ_LIMIT: u32 = 1_000_000;
 
 /// Why an input wasn't read.
 #[derive(Clone, Copy, PartialEq, Eq)]

@@ -1,3 +1,4 @@
+-- For the prover, and for callers.
 -- A journal's records are all that a server needs of its past, beside what it held at first.
 use Rattle.tree_starts.specs.Start.{IsStart}
 use Rattle.tree_starts.specs.declared.object.StartObject.{StartObject}

@@ -1,3 +1,4 @@
+-- For the prover, and for callers.
 -- A book to which the laws apply: a CREATE begins, is placed, is put on stable storage and is answered.
 use Rattle.tree_starts.specs.declared.profile.Profile.TheVariants.{Plain}
 use Rattle.std.specs.Prelude.{ℕ, List, [], ◌∷◌, Some, None, IsSome}
@@ -8,6 +9,7 @@ use Rattle.nfs3_types.specs.declared.replies.Answer.TheVariants.{Done}
 use Rattle.nfs3_types.specs.declared.replies.NfsReply.{NfsReply}
 use Rattle.nfs3_types.specs.declared.replies.NfsReply.TheVariants as replies
 use Rattle.nfs3_types.specs.declared.replies.Outcome.TheVariants.{Received}
+use Rattle.nfs3_types.specs.Procedures.{nfs_program, nfs_version}
 use Rattle.rpc_reader.specs.Texts.{call_text}
 use Rattle.nfs3_msgs.specs.Messages.{arguments_text}
 use Rattle.nfs_history.specs.Calls.{xid_of}
@@ -23,7 +25,7 @@ created = replies.Create (Done (record { object = Some (handle_of 1); attributes
 
 -- its message, of transaction 1 to procedure 8 of NFS version 3
 abbrev pub asked : List ℕ
-asked = call_text 1 100003 3 8 (arguments_text create)
+asked = call_text 1 nfs_program nfs_version 8 (arguments_text create)
 
 abbrev pub answer : List ℕ
 answer = reply_message (xid_of asked) created

@@ -1,3 +1,4 @@
+-- For the prover, and for callers.
 -- The records of a journal are those of the calls that changed the tree.
 use Rattle.tree_starts.specs.Start.{IsStart}
 use Rattle.tree_starts.specs.declared.object.StartObject.{StartObject}

@@ -1,3 +1,4 @@
+-- For the prover, and for callers.
 -- The certificate of a book is one that can be written (what a certificate keeps to is this project's own format).
 use Rattle.tree_starts.specs.Start.{IsStart}
 use Rattle.tree_starts.specs.declared.object.StartObject.{StartObject}

@@ -5,6 +5,7 @@ use Rattle.std.proofs.lemmas.Bool.{eqb-true, eq-eqb}
 use Rattle.tree_nodes.specs.declared.node.File.{File}
 use Rattle.std.specs.Prelude.{option_map, nat_eq, ◌==◌, ◌&&◌, nat_le, IsTrue}
 use Rattle.std.specs.Option.{option_map_or}
+use Rattle.nfs3_types.specs.Limits.{transfer_limit}
 use Rattle.nfs3_types.specs.declared.calls.NfsCall.TheVariants as calls
 use Rattle.nfs3_types.specs.declared.calls.ReadArguments.{ReadArguments}
 use Rattle.nfs3_types.specs.declared.replies.Answer.TheVariants.{Done}
@@ -21,7 +22,7 @@ use Rattle.file_tree.specs.Change.{Change}
 use Rattle.file_tree.specs.Change.Change.{Keep}
 use Rattle.file_tree.specs.Made.{only_if}
 use Rattle.file_tree.specs.Success.{changed, change_answered}
-use Rattle.book_machine.specs.Served.{transfer_limit, IsFull}
+use Rattle.book_machine.specs.Served.{IsFull}
 use Rattle.book_ledger.specs.Serving.{IsAllowed, HasAll, ReadsAll}
 
 -- a front that is as long as a front of a front is that one

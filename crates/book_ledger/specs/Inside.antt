@@ -1,3 +1,4 @@
+-- For the prover, and for callers.
 -- What of the parts in memory of a book is seen, and how they belong together.
 use Rattle.std.specs.List.{range_with_len}
 use Rattle.tree_starts.specs.Start.{IsStart, object_made}

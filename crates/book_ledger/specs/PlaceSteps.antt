@@ -1,3 +1,4 @@
+-- For the prover, and for callers.
 -- What is said to the prover of a call that is placed: the step that it takes in the tree, and what stands of it afterwards.
 use Rattle.std.specs.Prelude.{◌≡◌, ◌≢◌, ◌&&◌, ℕ, ◌-◌, ◌<◌, ◌≤◌, Bool, true, false, List, [], ◌∷◌, ◌++◌, length, slice_get, slice_set, vec_len, vec_capacity, Option, Some, None, IfSome, is_some, ⊤, if◌then◌else◌, ◌^◌}
 use Rattle.std.specs.declared.vec.Vec.{Vec}

@@ -1,7 +1,8 @@
+-- Believed.
 -- Which messages a book takes: those of judged calls that a history takes whatever is answered, in a record within its limit.
 use Rattle.std.specs.Prelude.{◌≡◌, ◌==◌, ◌&&◌, not, ◌≤◌, ℕ, Bool, true, false, List, [], length, None, ⊤, Result, Ok, Err}
 use Rattle.xdr_records.specs.Record.{record_limit}
-use Rattle.rpc_reader.specs.Values.{CallValue}
+use Rattle.rpc_reader.specs.Values.{CallValue, sealed_flavor}
 use Rattle.nfs3_types.specs.declared.calls.NfsCall.{NfsCall}
 use Rattle.nfs3_types.specs.declared.calls.NfsCall.TheVariants as calls
 use Rattle.nfs3_types.specs.declared.replies.Outcome.{Outcome}
@@ -11,7 +12,7 @@ use Rattle.nfs_history.specs.declared.fault.HistoryFault.TheVariants as history_
 use Rattle.nfs_history.specs.HistoryValue.{HistoryValue}
 use Rattle.nfs_history.specs.Calls.{xid_of}
 use Rattle.nfs_history.specs.Standing.{has_unanswered, EachMayFollow}
-use Rattle.nfs3_types.specs.Procedures.{is_judged}
+use Rattle.nfs3_types.specs.Procedures.{nfs_program, nfs_version, is_judged}
 use Rattle.nfs_history.specs.Outside.{outside}
 use Rattle.nfs3_msgs.specs.Messages.{IsArguments}
 use Rattle.rpc_reader.specs.Messages.{IsCall}
@@ -29,7 +30,7 @@ pub record CanBeRecorded (message : List ℕ) : Type 0 where
 
 -- a call of a judged procedure whose arguments can be read
 abbrev pub asks_judged : CallValue → Bool
-asks_judged head = (head.program == 100003) && (head.version == 3) && not (head.flavor == 6) && is_judged head.procedure
+asks_judged head = (head.program == nfs_program) && (head.version == nfs_version) && not (head.flavor == sealed_flavor) && is_judged head.procedure
 
 pub record AsksJudged (message : List ℕ) (head : CallValue) : Type 0 where
   pub asked : IsCall message head

@@ -1,3 +1,4 @@
+-- Believed.
 -- When a call of a book is refused, and what stands afterwards: of each call the refusals in their order, each where those ahead of it
 -- don't apply. The want of memory says nothing of the call.
 use Rattle.std.specs.Prelude.{◌≡◌, ◌≢◌, ◌⊎◌, ℕ, ◌<◌, ◌≤◌, true, List, ◌∷◌, ◌++◌, length, Some, None, Contains, Result, IfErr}

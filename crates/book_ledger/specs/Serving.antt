@@ -1,3 +1,4 @@
+-- For the prover, and for callers.
 -- What the test of a served reply says to the prover.
 use Rattle.std.specs.Prelude.{◌≡◌, ◌⊎◌, ℕ, true, length, take, drop, Some}
 use Rattle.nfs3_types.specs.declared.calls.ReadArguments.{ReadArguments}
@@ -11,11 +12,12 @@ use Rattle.nfs3_types.specs.declared.replies.NfsReply.{NfsReply}
 use Rattle.nfs3_types.specs.declared.replies.Outcome.TheVariants.{Received}
 use Rattle.nfs3_types.specs.declared.status.Failure.{Failure}
 use Rattle.nfs3_types.specs.declared.status.Failure.TheVariants as status
+use Rattle.nfs3_types.specs.Limits.{transfer_limit}
 use Rattle.tree_nodes.specs.Tree.{Tree}
 use Rattle.tree_handles.specs.Binding.{Bindings}
 use Rattle.tree_failures.specs.Asked.{is_listing_call}
 use Rattle.file_tree.specs.Success.{next_tree}
-use Rattle.book_machine.specs.Served.{HasLongText, transfer_limit}
+use Rattle.book_machine.specs.Served.{HasLongText}
 
 -- the tree allows the reply
 abbrev pub IsAllowed : Bindings → Tree → NfsCall → NfsReply → Type 0

@@ -1,3 +1,4 @@
+-- Believed.
 -- A reply with its message, which is made ahead of the book's lock.
 use Rattle.std.specs.Prelude.{◌≡◌, ℕ, List, Some}
 use Rattle.std.specs.List.{AllByRecursion}

@@ -1,3 +1,4 @@
+-- For the prover, and for callers.
 -- When a call can't be placed or answered, for private functions: the refusals in their order.
 use Rattle.std.specs.Prelude.{◌≡◌, ◌≢◌, ◌⊎◌, ℕ, List, ◌∷◌, ◌++◌, length, Some, None, slice_get}
 use Rattle.rpc_reader.specs.Values.Body.{success}

@@ -1,3 +1,4 @@
+-- For the prover, and for callers.
 -- What is said to the prover of calls that are run again, and of steps that are taken back at a crash.
 use Rattle.file_tree.specs.StartTree.{start_tree}
 use Rattle.std.specs.Prelude.{◌≡◌, ℕ, ◌+◌, ◌-◌, ◌≤◌, List, ◌++◌, length, map, take, drop, Option, Some, IsSome}

@@ -16,19 +16,13 @@ ghost use Rattle.book_ledger.specs.Recordable.{asks_judged, may_make, step_so, A
 
 use crate::fault::BeginFault;
 use journal_records::is_inside;
-use nfs_history::{commit_success, succeeded, write_success};
+use nfs_history::{
+    commit_success, commit_success, succeeded, succeeded, write_success, write_success,
+};
 use nfs3_msgs::{MessageFault, read_args};
-use nfs3_types::{NfsCall, Outcome, Procedure, StableHow};
-use rpc_reader::{CallHead, read_call};
+use nfs3_types::{NFS_PROGRAM, NFS_VERSION, NfsCall, Outcome, Procedure, StableHow};
 use std::alloc::Global;
 use xdr_records::RECORD_LIMIT;
-
-/// The program number of NFS (RFC 1813, section 2.2).
-const NFS_PROGRAM: u32 = 100_003;
-/// The version that is judged.
-const NFS_VERSION: u32 = 3;
-/// The credential flavor of RPCSEC_GSS (RFC 2203).
-const SEALED_FLAVOR: u32 = 6;
 
 /// Whether the procedure of this number is judged.
 fn is_judged(number: u32) -> bool

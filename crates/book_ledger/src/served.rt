@@ -5,12 +5,11 @@ ghost use Rattle.book_machine.specs.Served.{IsFull, IsServed};
 ghost use Rattle.book_ledger.specs.Serving.{IsAllowed, IsFree, HasAll, ReadsAll, WritesAll};
 
 use file_tree::{Binds, FileTree};
-use nfs3_types::{Answer, Failure, NfsCall, NfsReply, ReadArguments, ReadSuccess, WriteArguments};
+use nfs3_types::{
+    Answer, Failure, NfsCall, NfsReply, ReadArguments, ReadSuccess, TRANSFER_LIMIT, WriteArguments,
+};
 use std::alloc::AllocError;
 use tree_handles::{View, file_of};
-
-/// The most bytes that a READ gives, and that a link's text may have.
-const TRANSFER_LIMIT: usize = 1_048_576;
 
 /// Whether a READ gives as many bytes as it is to.
 fn is_whole(binds: &Binds, tree: &FileTree, call: &ReadArguments, success: &ReadSuccess) -> bool

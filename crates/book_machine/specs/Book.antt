@@ -1,3 +1,4 @@
+-- Believed.
 -- What a journal server's book holds: the history that it recorded, and its commit order.
 use Rattle.std.specs.Prelude.{ℕ, List, ◌++◌, length, map, Option}
 use Rattle.nfs3_types.specs.declared.calls.NfsCall.{NfsCall}

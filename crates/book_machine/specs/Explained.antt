@@ -1,3 +1,4 @@
+-- For the prover, and for callers.
 -- Every state of a book proves itself: its own certificate is a witness of its own history.
 use Rattle.std.specs.Prelude.{ℕ, List, IsSome}
 use Rattle.std.specs.List.{AllByRecursion}

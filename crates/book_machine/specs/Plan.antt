@@ -1,3 +1,4 @@
+-- Believed.
 -- The certificate of a book: its own commit order.
 use Rattle.std.specs.Prelude.{ℕ, List, [], ◌∷◌, ◌++◌, length, map, take, if◌then◌else◌, is_some, Option, Some, None, option_and_then}
 use Rattle.std.specs.List.{filter_map}

@@ -1,3 +1,4 @@
+-- Believed.
 -- What a book may do: its steps, one after the other. A journal server takes each under one lock.
 use Rattle.std.specs.Prelude.{◌≡◌, ◌≢◌, ◌⊎◌, ℕ, zero, suc, ◌+◌, ◌-◌, ◌<◌, ◌≤◌, ◌^◌, ◌&&◌, nat_lt, Bool, true, false, if◌then◌else◌, List, [], ◌∷◌, ◌++◌, length, take, slice_get, Some, None, IfSome, is_some}
 use Rattle.std.specs.List.{range_with_len}

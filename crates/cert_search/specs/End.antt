@@ -1,3 +1,4 @@
+-- For the prover, and for callers.
 -- How a search may end (words of this project's own).
 use Rattle.std.specs.Prelude.{⊤}
 use Rattle.certificate.specs.declared.plan.Certificate.{Certificate}

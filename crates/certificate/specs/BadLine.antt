@@ -1,3 +1,4 @@
+-- Believed.
 -- The line at which a text is no longer a certificate's (of this project's own format).
 use Rattle.std.specs.Prelude.{◌≡◌, ℕ, ◌+◌, List, ◌++◌, length}
 use Rattle.std.specs.List.{flat_map, AllByRecursion}
@@ -24,6 +25,8 @@ pub record IsBadLine (text : List ℕ) (k : ℕ) : Type 0 where
   pub begins : Begins (flat_map line ahead)
   pub stops : (words more : List ℕ) → rest ≡ line words ++ more → Lacks 10 words → Begins (flat_map line ahead ++ line words) → ⊥
   pub none : (certificate : Certificate) → CertificateText text certificate → ⊥
+
+-- ---- for the prover
 
 -- a fault with a number names a bad line
 abbrev pub FaultHolds : List ℕ → TextFault → Type 0

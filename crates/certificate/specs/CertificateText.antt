@@ -1,3 +1,4 @@
+-- Believed.
 -- The text of a certificate, version 1. A certificate has one spelling. (This project's own format; the
 -- handles in hexadecimal of two lower case digits a byte.)
 use Rattle.std.specs.Prelude.{◌≡◌, ℕ, ◌<◌, ◌≤◌, ◌^◌, List, [], ◌∷◌, ◌++◌, length, codes, Option, Some, None, decimal, IfSome}

@@ -1,3 +1,4 @@
+-- For the prover.
 -- A text of a certificate that has been read in part: its first line, binds, the eras that a cut ended, and the
 -- places of the era that goes on.
 use Rattle.std.specs.Prelude.{◌≡◌, ◌+◌, ◌≤◌, ℕ, length, List, ◌++◌, codes, IsSome}

@@ -1,3 +1,4 @@
+-- For the prover, and for callers.
 -- One line of a certificate's text (of this project's own format), as what it says.
 use Rattle.std.specs.Prelude.{◌≡◌, ℕ, ◌<◌, ◌≤◌, ◌^◌, List, [], ◌∷◌, ◌++◌, length, map, Option, Some, None, codes, decimal}
 use Rattle.hex.specs.Hex.{IsBytes, encode_lower}

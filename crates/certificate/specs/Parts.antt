@@ -1,3 +1,4 @@
+-- For the prover, and for callers.
 -- The parts that make a certificate: the first bind, and the first era, that may not stand where it stands (by the rules
 -- of this project's own format).
 use Rattle.std.specs.Prelude.{ℕ, suc, ◌<◌, ◌≤◌, ◌^◌, length, Bool, not, cond, map, List, [], ◌∷◌, Option, Some, None, is_some, option_map}

@@ -1,3 +1,4 @@
+-- Believed.
 -- What a certificate claims. There is one serial order for the whole history: the places of the first era,
 -- then those of the second, and so on (Herlihy and Wing 1990, section 2). At a crash the first `cut` places of
 -- the era survive (buffered durable linearizability, Izraelevitz, Mendes and Scott 2016, with a prefix of the

@@ -2,15 +2,10 @@
 
 ghost use Rattle.std.specs.Prelude.{◌<◌, ◌^◌, length};
 
-use nfs3_types::Procedure;
+use nfs3_types::{NFS_PROGRAM, NFS_VERSION, Procedure};
 use rpc_reader::put_call;
 use std::alloc::{AllocError, Global};
 use xdr_records::{put_opaque, put_u32, put_u64};
-
-/// The program number of NFS (RFC 1813, section 2.2).
-const NFS_PROGRAM: u32 = 100_003;
-/// The version that is served.
-const NFS_VERSION: u32 = 3;
 
 /// The head of a call of this procedure.
 pub(crate) fn put_head(out: &mut Vec<u8>, xid: u32, procedure: u32) -> Result<(), AllocError> {

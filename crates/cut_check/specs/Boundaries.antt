@@ -1,3 +1,4 @@
+-- For the prover, and for callers.
 -- A step function on bytes, by its boundaries: what the program keeps of an object's WRITEs (a form of this project's own).
 use Rattle.std.specs.Prelude.{◌≡◌, ℕ, zero, suc, ◌<◌, ◌≤◌, Option, Some, None, unwrap_or}
 

@@ -1,3 +1,4 @@
+-- Believed.
 -- What a crash may take away: the places of an era past its cut, if none of them is stable (RFC 1813, section 4.8: what is on
 -- stable storage survives a crash; cuts are those of Izraelevitz, Mendes and Scott 2016, with a prefix of the order where
 -- they have a consistent cut).

@@ -1,3 +1,4 @@
+-- Believed.
 -- What a placed call means for stable storage, by its reply (RFC 1813, section 4.7: a call that modifies data is on stable
 -- storage when it is answered; sections 3.3.7 and 3.3.21: but for a WRITE that was answered UNSTABLE, which a COMMIT puts there).
 use Rattle.std.specs.Prelude.{◌&&◌, ℕ, Bool, true, false, if◌then◌else◌, Option, Some, None}

@@ -1,3 +1,4 @@
+-- For the prover, and for callers.
 -- What the check of cuts and the check of verifiers answer: a fault, or want of memory (answers of this project's own).
 use Rattle.std.specs.Prelude.{◌≡◌, Result, Ok, Err}
 use Rattle.cut_check.specs.declared.fault.CutFault.{CutFault}

@@ -1,3 +1,4 @@
+-- For the prover, and for callers.
 -- The words that are printed of a fault of cuts or verifiers: its name, and the numbers that it names (words of this project's own).
 use Rattle.std.specs.Prelude.{ℕ, List, ◌∷◌, ◌++◌, codes, decimal}
 use Rattle.cut_check.specs.declared.fault.CutFault.{CutFault}

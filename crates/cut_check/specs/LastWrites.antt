@@ -1,3 +1,4 @@
+-- For the prover, and for callers.
 -- The last WRITE at each byte of an object, as the program keeps it (a form of this project's own).
 use Rattle.std.specs.Prelude.{◌≡◌, ℕ, ◌<◌, ◌≤◌, ◌^◌}
 use Rattle.std.specs.Ordering.{nat_cmp}

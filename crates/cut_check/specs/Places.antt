@@ -1,3 +1,4 @@
+-- Believed.
 -- The calls at an era's places: each answered judged call with its reply, and the object that its handle names (Herlihy and Wing
 -- 1990, section 2: an operation and the response that matches it; handles: RFC 1813, `nfs_fh3`).
 use Rattle.std.specs.Prelude.{ℕ, zero, suc, List, map, Option, Some, None, option_and_then}

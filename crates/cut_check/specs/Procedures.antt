@@ -1,3 +1,4 @@
+-- For the prover, and for callers.
 -- What the procedure of a call says of it before it is read: what the code's private functions say to the prover.
 use Rattle.std.specs.Prelude.{◌==◌, ◌||◌, Bool, List, Option, Some, None, option_map}
 use Rattle.nfs3_types.specs.declared.procedures.Procedure.{Procedure}

@@ -1,3 +1,4 @@
+-- For the prover.
 -- What the program knows of the verifiers that places and later eras show (a form of this project's own).
 use Rattle.std.specs.Prelude.{◌≡◌, ◌⊎◌, ℕ, ◌<◌, true, IsTrue, List, [], ◌∷◌, ◌++◌, Option, Some, None}
 use Rattle.std.specs.Ordering.{nat_cmp}

@@ -1,3 +1,4 @@
+-- For the prover, and for callers.
 -- What the program keeps of the places of an era that it has seen (a form of this project's own).
 use Rattle.std.specs.Prelude.{◌≡◌, ◌≢◌, ℕ, ◌+◌, ◌<◌, ◌≤◌, min, List, [], ◌∷◌, ◌++◌, length}
 use Rattle.std.specs.Option.{option_map_or}

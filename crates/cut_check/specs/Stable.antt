@@ -1,3 +1,4 @@
+-- Believed.
 -- Which places of an era have to be on stable storage (RFC 1813, sections 4.7 and 4.12: what was answered is, but for a WRITE
 -- that was answered UNSTABLE; section 3.3.21: a COMMIT puts such bytes there. That one byte of it makes the whole WRITE stable is
 -- this project's own, and asks more than the RFC).

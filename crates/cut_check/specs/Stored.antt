@@ -1,3 +1,4 @@
+-- For the prover.
 -- What a call means for stable storage, by what a history says of it without its bytes: what the code's private functions say to
 -- the prover.
 use Rattle.std.specs.Prelude.{◌&&◌, ℕ, nat_lt, Bool, false, if◌then◌else◌, Option, Some, None, is_some, option_and_then}

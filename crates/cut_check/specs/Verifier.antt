@@ -1,3 +1,4 @@
+-- Believed.
 -- The write verifiers of a plan's eras (RFC 1813, section 3.3.7: a server gives one verifier in all its WRITE and COMMIT replies
 -- between two starts, and another one once it may have lost bytes that it had not yet put on stable storage).
 use Rattle.std.specs.Prelude.{◌≡◌, ◌≢◌, ℕ, ◌<◌, nat_lt, Bool, false, IsTrue, List, drop, Option, Some, None, option_map, option_and_then, Contains}

@@ -1,3 +1,4 @@
+-- Believed.
 -- The first era whose write verifiers are at fault (an order of this project's own; verifiers: RFC 1813, section 3.3.7).
 use Rattle.std.specs.Prelude.{◌≡◌, ◌⊎◌, ℕ, ◌<◌, IsTrue, List, Some}
 use Rattle.nfs_history.specs.declared.history.RecordedCall.{RecordedCall}

@@ -1,3 +1,4 @@
+-- Believed.
 -- What a walk over the events of a history keeps, so that where it has nothing left there is no witness (Herlihy and Wing 1990,
 -- section 2.2, for what a serial order has to keep to; the walk is this project's own). A point is what the calls that a plan has
 -- placed so far have led to.

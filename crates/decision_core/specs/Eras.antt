@@ -1,3 +1,4 @@
+-- Believed.
 -- Eras with cuts as one order: the crash of an era is a call that is sent and answered at the crash, and the cut is decided at
 -- the first place that is lost, as one more way in which that call may change the state. Then the walk over the one order is the
 -- walk over the eras.

@@ -1,3 +1,4 @@
+-- Believed.
 -- A plan of eras that is a witness, so that the definition isn't empty: call 1 is answered in era 1 and lost in its crash, call 2 comes
 -- in era 2.
 use Rattle.std.specs.Prelude.{◌≡◌, ◌==◌, ℕ, ◌+◌, ◌-◌, ◌*◌, true, false, cond, List, [], ◌∷◌, Some, None}

@@ -1,3 +1,4 @@
+-- Believed.
 -- What a list of events tells of when calls began and ended, and what one event makes of a walk.
 use Rattle.std.specs.Prelude.{◌≡◌, ◌≢◌, ◌⊎◌, ℕ, ◌+◌, ◌<◌, ◌≤◌, nat_le, Bool, false, IsTrue, List, [], ◌∷◌, ◌++◌, length, Some}
 use Rattle.std.specs.Option.{option_map_or}

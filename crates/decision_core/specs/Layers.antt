@@ -1,3 +1,4 @@
+-- For the prover.
 -- What the parts of a step of the walk do to its states.
 use Rattle.std.specs.Prelude.{◌≡◌, ◌⊎◌, ℕ, Bool, true, false, List, [], ◌∷◌, ◌++◌, Contains}
 use Rattle.std.specs.List.{AllByRecursion}

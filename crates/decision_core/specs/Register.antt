@@ -1,3 +1,4 @@
+-- For the prover.
 -- A register as a machine: a call below 100 writes its number, another one reads and answers its number less 100.
 use Rattle.std.proofs.Common.{◌≡◌, ◌==◌, ◌||◌, ℕ, ◌-◌, Bool, true, false, cond, nat_lt, List, [], ◌∷◌, ◌++◌, Option, Some, None, refl, sym, ap, ◌∙◌}
 use Rattle.std.specs.List.{list_any}

@@ -1,3 +1,4 @@
+-- Believed.
 -- Events out of when each call begins and is answered.
 use Rattle.std.specs.Prelude.{◌≡◌, ◌≢◌, ◌⊎◌, ℕ, ◌+◌, ◌<◌, ◌≤◌, IsTrue, List, length, Option, Some, Contains}
 use Rattle.std.specs.List.{AllByRecursion, slice_index_or, slice_set}

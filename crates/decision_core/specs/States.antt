@@ -1,3 +1,4 @@
+-- Believed.
 -- The states of a walk: each stands for points of plans, and may have forgotten of some calls whether they are placed there (a form
 -- of this project's own).
 use Rattle.std.specs.Prelude.{◌≡◌, ◌==◌, ◌||◌, ℕ, Bool, false, List, Contains}

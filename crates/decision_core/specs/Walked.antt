@@ -1,3 +1,4 @@
+-- Believed.
 -- What the answer of a walk says.
 use Rattle.std.specs.Prelude.{◌<◌, length, List}
 use Rattle.std.specs.List.{slice_index_or}

@@ -1,3 +1,4 @@
+-- Believed.
 -- Why a walk over a history's events that comes to nothing shows that no plan is a witness.
 use Rattle.std.specs.Prelude.{◌≡◌, ◌≢◌, ℕ, List, Some}
 use Rattle.nfs3_types.specs.declared.calls.NfsCall.{NfsCall}

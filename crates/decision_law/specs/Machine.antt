@@ -1,3 +1,4 @@
+-- Believed.
 -- What placing a call of a history leads to, where it is known what each handle names (the rules are those of a plan's run).
 use Rattle.std.specs.Prelude.{◌≡◌, ◌⊎◌, ℕ, List, length, Option, Some, None, IsTrue}
 use Rattle.nfs3_types.specs.declared.calls.NfsCall.{NfsCall}

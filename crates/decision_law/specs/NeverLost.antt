@@ -1,3 +1,4 @@
+-- Believed.
 -- Calls that no crash takes away in any plan that is a witness, whatever handles name there (RFC 1813, section 4.7: a call that
 -- modifies data is on stable storage when it is answered; sections 3.3.7 and 3.3.21: but for an UNSTABLE WRITE, which a COMMIT puts there,
 -- and of which a server that may have lost it shows another verifier).

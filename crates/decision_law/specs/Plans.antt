@@ -1,3 +1,4 @@
+-- Believed.
 -- The eras of a plan as lists of calls: those ahead of the cut, and those that the crash takes away.
 use Rattle.std.specs.Prelude.{List, [], ◌∷◌, map, take, drop}
 use Rattle.certificate.specs.declared.plan.EraPlan.{EraPlan}

@@ -1,3 +1,4 @@
+-- Believed.
 -- The begins and ends of a history's calls and crashes, from which a walk has its events.
 use Rattle.std.specs.Prelude.{◌≡◌, ◌⊎◌, ℕ, ◌+◌, ◌≤◌, true, List, length, Some, Contains}
 use Rattle.nfs_history.specs.declared.history.RecordedCall.{RecordedCall}

@@ -1,3 +1,4 @@
+-- Believed.
 -- When the calls and the crashes of a history begin and end, as a walk over its events knows them (Herlihy and Wing 1990, section
 -- 2; that a crash is one more call, sent and answered at once, is this project's own). Call n of a history has number n; the crash that
 -- ends era e, or behind the last era the end of the events, has a number behind those of the calls.

@@ -1,3 +1,4 @@
+-- Believed.
 -- handles that are bound behind others, and let go again
 use Rattle.std.specs.Prelude.{◌≡◌, ℕ, ◌==◌, Bool, if◌then◌else◌, List, [], ◌∷◌, ◌++◌, Option, Some, None, option_and_then}
 use Rattle.std.specs.List.{list_all}

@@ -1,3 +1,4 @@
+-- For the prover, and for callers.
 -- The words that are printed of why a call isn't placed (words of this project's own).
 use Rattle.std.specs.Prelude.{ℕ, List, codes}
 use Rattle.decision_steps.specs.declared.fault.PlaceFault.{PlaceFault}

@@ -1,3 +1,4 @@
+-- Believed.
 -- the handles that a success gives, each with the object that it has to name there: RFC 1813, sections 3.3.3, 3.3.8 to 3.3.10 and
 -- 3.3.17
 use Rattle.std.specs.Prelude.{ℕ, List, [], ◌∷◌, Option, Some, None, option_and_then}

@@ -1,3 +1,4 @@
+-- Believed.
 -- what is known so far of what handles name: RFC 1813, section 2.5 (`nfs_fh3`: a client knows a handle once a reply gave it)
 use Rattle.std.specs.Prelude.{◌≡◌, ◌⊎◌, ℕ, ◌&&◌, Bool, true, false, List, Some, None, IsSome, is_some}
 use Rattle.std.specs.Option.{option_map_or}
@@ -28,6 +29,8 @@ pub record NamesMore (known plan : Bindings) (tree : Tree) (call : NfsCall) : Ty
   pub is_new : object_of known handle ≡ None
   pub names : object_of plan handle ≡ Some object
   pub stands : IsSome (entry_of tree object)
+
+-- ---- for the prover
 
 -- whether an outcome is a reply that is a failure
 abbrev pub is_failure : Outcome → Bool

@@ -1,3 +1,4 @@
+-- Believed.
 -- handles and their objects, as they lie in memory
 use Rattle.std.specs.Prelude.{ℕ, List, map}
 use Rattle.decision_steps.specs.declared.binding.BoundHandle.{BoundHandle}

@@ -1,3 +1,4 @@
+-- Believed.
 -- what placing a call in a state comes to
 use Rattle.std.specs.Prelude.{◌≡◌, ℕ, true, Option, Some, Result, Ok, Err, option_and_then, option_map}
 use Rattle.nfs3_types.specs.declared.calls.NfsCall.{NfsCall}

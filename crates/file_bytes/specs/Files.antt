@@ -1,3 +1,4 @@
+-- Believed.
 -- the bytes of files
 use Rattle.std.specs.Prelude.{ℕ, ◌+◌, ◌-◌, List, ◌++◌, length, take, drop, replicate}
 

@@ -1,3 +1,4 @@
+-- Believed.
 -- the calls that may succeed in a tree: RFC 1813, section 3.3, by procedure
 use Rattle.std.specs.Prelude.{◌≡◌, ℕ, Bool, true, false, None, IsSome, is_some}
 use Rattle.std.specs.Option.{option_map_or}
@@ -20,6 +21,8 @@ pub record AllowsSuccess (binds : Bindings) (tree : Tree) (number : ℕ) (call :
   pub answers : is_answered call reply ≡ true
   pub succeeds : failure_in reply ≡ None
   pub leads : IsSome (next_tree binds tree number call (Received reply))
+
+-- ---- for the prover
 
 -- the same without the reply. A LOOKUP asks that what it finds has a handle at all, and a READLINK for a link. A READ, a WRITE or a
 -- COMMIT asks for a file, and a READDIR or READDIRPLUS for a directory, since a READ may give no bytes, a WRITE may

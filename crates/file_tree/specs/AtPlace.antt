@@ -1,3 +1,4 @@
+-- For the prover.
 -- a change at the place that a call names: what the code says to the prover
 use Rattle.std.specs.Prelude.{◌≡◌, ◌⊎◌, [], ◌∷◌, ◌++◌, Some, true}
 use Rattle.nfs3_types.specs.declared.calls.DirectoryName.{DirectoryName}

@@ -1,3 +1,4 @@
+-- For the prover.
 -- what a tree is that was built of starting objects, so far: the prover's own words, which no contract names
 use Rattle.std.specs.Prelude.{◌≡◌, ◌≤◌, ◌<◌, ◌⊎◌, ◌+◌, ◌^◌, ℕ, List, [], length, slice_get, Some}
 use Rattle.std.specs.List.{Contains}

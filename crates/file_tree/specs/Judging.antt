@@ -1,3 +1,4 @@
+-- For the prover.
 -- the change of a call that the profile lets be: what the code says to the prover
 use Rattle.std.specs.Prelude.{ℕ, Bool, true, Option, option_and_then, option_map}
 use Rattle.nfs3_types.specs.declared.calls.NfsCall.{NfsCall}

@@ -1,3 +1,4 @@
+-- Believed.
 -- what a success of CREATE, MKDIR and SYMLINK makes of the tree: RFC 1813, sections 3.3.8 to 3.3.10
 use Rattle.std.specs.Prelude.{ℕ, ◌==◌, nat_le, nat_lt, Bool, false, ◌&&◌, if◌then◌else◌, List, [], ◌∷◌, ◌++◌, replicate, Option, Some, None, is_none, unwrap_or, option_and_then}
 use Rattle.std.specs.FinMap as map

@@ -1,3 +1,4 @@
+-- For the prover.
 -- a change of a tree, as what is to be done with objects
 use Rattle.std.specs.Prelude.{◌≡◌, ◌≤◌, ◌<◌, ◌^◌, ℕ, ⊤, true, false, List, [], ◌∷◌, ◌++◌, length, Result, Ok, Err, Option, Some, None}
 use Rattle.std.specs.FinMap as map

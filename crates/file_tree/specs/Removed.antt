@@ -1,3 +1,4 @@
+-- Believed.
 -- what a success of REMOVE, RMDIR and RENAME makes of the tree: RFC 1813, sections 3.3.12 to 3.3.14
 use Rattle.std.specs.Prelude.{Bool, true, not, ◌&&◌, if◌then◌else◌, [], ◌∷◌, ◌++◌, Option, Some, None, option_and_then}
 use Rattle.std.specs.FinMap as map

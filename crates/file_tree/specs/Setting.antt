@@ -1,3 +1,4 @@
+-- Believed.
 -- steps under a profile, and the steps of calls that are numbered behind a start (this project's own)
 use Rattle.std.specs.Prelude.{◌≡◌, ℕ, true, None, IsSome, Option, option_and_then}
 use Rattle.nfs3_types.specs.declared.calls.NfsCall.{NfsCall}
@@ -22,6 +23,8 @@ under Strict binds = λ tree number call outcome. option_and_then (judged binds 
 -- the tree after call n, where so many objects stood at first
 abbrev pub next_in : Profile → ℕ → Bindings → Tree → ℕ → NfsCall → Outcome → Option Tree
 next_in profile first binds tree n call outcome = under profile binds tree (object_made first n) call outcome
+
+-- ---- for the prover, and for callers
 
 -- some success of the call's procedure leads to a tree under this profile
 pub record AllowsUnder (profile : Profile) (binds : Bindings) (tree : Tree) (number : ℕ) (call : NfsCall) : Type 0 where

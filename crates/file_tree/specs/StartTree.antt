@@ -1,3 +1,4 @@
+-- Believed.
 -- the tree of what a server held at first, object by object (this project's own; RFC 1813, section 2.6)
 use Rattle.std.specs.Prelude.{◌≡◌, ℕ, ◌+◌, List, [], ◌∷◌, ◌++◌, Some, None}
 use Rattle.std.specs.Option.{option_map_or}
@@ -31,6 +32,8 @@ start_from tree n (o ∷ objects) = start_from (with_object tree (n + 1) o) (n +
 -- the tree of a start: the root, and each object in its directory
 abbrev pub start_tree : List StartObject → Tree
 start_tree objects = start_from opening 0 objects
+
+-- ---- for the prover, and for callers
 
 abbrev pub directory_node : ℕ → Node
 directory_node number = record { object = number; content = contents.Directory }

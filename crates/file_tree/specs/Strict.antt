@@ -1,3 +1,4 @@
+-- Believed.
 -- what the strict profile asks of a reply beyond the plain one: the attributes that it carries, done or failed, are those of the
 -- objects. RFC 1813, section 2.6: `fattr3` (the type and the size), `post_op_attr` (after the call) and `wcc_attr` (before it)
 use Rattle.std.specs.Prelude.{ℕ, ◌==◌, ◌&&◌, Bool, true, if◌then◌else◌, List, length, Option, Some, None, option_and_then, option_map}

@@ -1,3 +1,4 @@
+-- Believed.
 -- the tree after a call that succeeded: RFC 1813, section 3.3, by procedure
 use Rattle.std.specs.Prelude.{ℕ, ◌&&◌, Option, Some, None, option_map}
 use Rattle.std.specs.FinMap as map

@@ -1,3 +1,4 @@
+-- Believed.
 -- what a success of SETATTR and WRITE makes of the tree: RFC 1813, sections 3.3.2 and 3.3.7
 use Rattle.std.specs.Prelude.{ℕ, ◌+◌, ◌==◌, max, nat_le, Bool, true, ◌&&◌, if◌then◌else◌, List, length, take, Option, Some, None, is_some, option_and_then}
 use Rattle.nfs3_types.specs.declared.calls.StableHow.{StableHow}

@@ -1,3 +1,4 @@
+-- Believed.
 -- A history as it was recorded: what it begins with, and what happened, one event after the other (Herlihy and Wing
 -- 1990, section 2; crashes as in Izraelevitz, Mendes and Scott 2016).
 use Rattle.std.specs.Prelude.{ℕ, List}

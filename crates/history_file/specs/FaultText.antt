@@ -1,3 +1,4 @@
+-- For the prover, and for callers.
 -- The words that are printed of a fault of a history file, and of one of writing: its name, and what it names (words of this
 -- project's own).
 use Rattle.std.specs.Prelude.{ℕ, List, ◌++◌, codes, decimal}

@@ -1,3 +1,4 @@
+-- Believed.
 -- The first fault of a history file: of its magic, else of its size, else of the items behind the magic (an order of this
 -- project's own; items as in RFC 4506).
 use Rattle.std.specs.Prelude.{◌≡◌, ◌⊎◌, ℕ, ◌<◌, ◌≤◌, List, ◌++◌, length, Result, Ok, Err}
@@ -28,6 +29,8 @@ IsFileFault bytes fault =
     ((¬ BeginsAsFile bytes) × (fault ≡ faults.BadMagic))
     ⊎ (BeginsAsFile bytes × (history_limit < length bytes) × (fault ≡ faults.TooLarge))
     ⊎ IsItemFault bytes fault
+
+-- ---- for the prover, and for callers
 
 -- an Ok, or want of memory
 abbrev pub IsFineOrNoMemory : {X : Type 0} → Result X FileFault → Type 0

@@ -1,3 +1,4 @@
+-- For the prover, and for callers.
 -- A file of a history as it is read, from the front, item by item: what the code's private functions say to the prover.
 use Rattle.std.specs.Prelude.{◌≡◌, ℕ, nat_eq, nat_le, if◌then◌else◌, length, drop, List, ◌++◌, Option, Some, None, Result, Ok, Err}
 use Rattle.std.specs.List.{starts_with}

@@ -1,3 +1,4 @@
+-- Believed.
 -- The file of a history, versions 1 and 2 (this project's own format, in the items of RFC 4506).
 use Rattle.std.specs.Prelude.{◌≡◌, ℕ, zero, suc, ◌+◌, ◌≤◌, nat_le, if◌then◌else◌, List, [], ◌∷◌, ◌++◌, length, codes, Result, Ok, Err}
 use Rattle.xdr_records.specs.Grammar.{Grammar, ◌>>=◌}

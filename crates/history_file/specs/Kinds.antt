@@ -1,3 +1,4 @@
+-- Believed.
 -- What is wrong where an item of a file can't be read.
 use Rattle.xdr_records.specs.declared.fault.XdrFault.{XdrFault}
 use Rattle.xdr_records.specs.declared.fault.XdrFault.TheVariants as xdr

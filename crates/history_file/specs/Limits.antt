@@ -1,3 +1,4 @@
+-- Believed.
 -- The limits of a history file, this project's own; that of a record is `xdr_records` Record's.
 use Rattle.std.specs.Prelude.{ℕ}
 

@@ -1,3 +1,4 @@
+-- Believed.
 -- Events as a history owns them, events as they stand in a file, and those of the definitions.
 use Rattle.std.specs.Prelude.{List, map}
 use Rattle.history_file.specs.declared.event.Event as owned
@@ -16,6 +17,8 @@ happened owns.Crash = crash
 
 abbrev pub all_happened : List owned.Event → List Event
 all_happened events = map happened events
+
+-- ---- for the prover, and for callers
 
 -- an event, without where its message lies in memory
 abbrev pub seen_event : SeenEvent → Event

@@ -1,3 +1,4 @@
+-- Believed.
 -- The starting objects of a file, in the items of RFC 4506 (this project's own format; kind words as RFC 1813's `ftype3`, section 2.6).
 use Rattle.std.specs.Prelude.{ℕ, zero, suc, ◌+◌, nat_le, Bool, if◌then◌else◌, List, [], ◌∷◌, ◌++◌, Result, Ok, Err}
 use Rattle.xdr_records.specs.Grammar.{Grammar, ◌>>=◌, either}

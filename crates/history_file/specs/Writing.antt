@@ -1,3 +1,4 @@
+-- For the prover, and for callers.
 -- The one spelling of a history that is written, in the items of RFC 4506, and its limits.
 use Rattle.std.specs.Prelude.{◌⊎◌, ℕ, ◌<◌, ◌≤◌, ◌^◌, List, [], ◌∷◌, ◌++◌, length, Result, Ok, Err}
 use Rattle.xdr_records.specs.Texts.{word_text, long_text, opaque_text}

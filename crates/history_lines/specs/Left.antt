@@ -1,3 +1,4 @@
+-- For the prover, and for callers.
 -- What is left of a history file that is read event by event: what the code's private functions say to the prover.
 use Rattle.std.specs.Prelude.{◌≡◌, ◌⊎◌, ℕ, ◌+◌, ◌-◌, List, [], ◌++◌, length, Option, Some, None, Result, Ok, Err}
 use Rattle.xdr_records.specs.Unread.{Unread, whole}

@@ -1,3 +1,4 @@
+-- For the prover, and for callers.
 -- The lines of a history file (this project's own format).
 use Rattle.std.specs.Prelude.{◌≡◌, ◌⊎◌, ℕ, ◌+◌, ◌-◌, ◌<◌, ◌≤◌, if◌then◌else◌, List, Option, Some, None, Result, Ok, Err}
 use Rattle.history_file.specs.declared.fault.FileFault.{FileFault}

@@ -1,3 +1,4 @@
+-- For the prover, and for callers.
 -- What a terminal shows as it stands: lines of printable bytes (RFC 20, section 5: SP to ~ are graphics, LF ends a line; all
 -- other bytes are controls, or no ASCII).
 use Rattle.std.specs.Prelude.{◌≡◌, ℕ, ◌≤◌, List, [], ◌∷◌, ◌++◌, All}

@@ -1,3 +1,4 @@
+-- For the prover, and for callers.
 -- Which events are shown: those between two numbers, both among them (this project's own rule).
 use Rattle.std.specs.Prelude.{◌≡◌, ℕ, ◌<◌, ◌≤◌, Option, Some, None}
 use Rattle.history_lines.specs.declared.lines.Selection.{Selection}

@@ -1,3 +1,4 @@
+-- For the prover, and for callers.
 -- The lines of what a server held at first, ahead of those of events: one of the profile where it isn't plain, and one an object (this
 -- project's own rule).
 use Rattle.std.specs.Prelude.{◌≡◌, ℕ, ◌+◌, ◌-◌, nat_le, Bool, true, false, ◌&&◌, if◌then◌else◌, List, length, Option, Some, None, Result, Ok, Err}

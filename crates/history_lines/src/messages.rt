@@ -6,17 +6,10 @@ use crate::results::{push_result, push_status};
 use crate::text::Text;
 use byteorder::{BigEndian, ByteOrder};
 use nfs3_msgs::{Kind, MessageFault, read_args, read_result};
-use nfs3_types::{HANDLE_LIMIT, Procedure};
-use rpc_reader::{CallHead, ReplyBody};
+use nfs3_types::{HANDLE_LIMIT, NFS_PROGRAM, NFS_VERSION, Procedure};
+use rpc_reader::{CallHead, ReplyBody, SEALED_FLAVOR};
 use std::alloc::{AllocError, Global};
 use xdr_records::Reader;
-
-/// The program number of NFS (RFC 1813, section 2.2).
-const NFS_PROGRAM: u32 = 100_003;
-/// The version whose messages are read.
-const NFS_VERSION: u32 = 3;
-/// The credential flavor of RPCSEC_GSS (RFC 2203).
-const SEALED_FLAVOR: u32 = 6;
 
 /// What a call asked for, which the reply to it doesn't say.
 #[derive(Clone, Copy)]

@@ -1,3 +1,4 @@
+-- For the prover, and for callers.
 -- What is counted of the calls of a history, by what they were and how they came out (statuses: RFC 1813, section 2.6; which
 -- calls and statuses are judged is this project's own).
 use Rattle.std.specs.Prelude.{ℕ, ◌&&◌, not, Bool, false, List, length, count_by, Option, Some, None, is_some}

@@ -1,3 +1,4 @@
+-- For the prover.
 -- The same counts over what has the kind of a call each: what the code's private functions say to the prover. Counted and Lost
 -- say what they are of calls.
 use Rattle.std.specs.Prelude.{ℕ, ◌&&◌, not, Bool, true, false, List, length, drop, count_by, sum_by, is_none}

@@ -1,3 +1,4 @@
+-- For the prover, and for callers.
 -- What the crashes of a plan took away: of each era the places past its cut (which calls change the tree: RFC 1813, section 3.3;
 -- an unanswered call may be taken as done: Herlihy and Wing 1990, section 2.2; cuts: this project's own).
 use Rattle.std.specs.Prelude.{ℕ, ◌&&◌, Bool, true, false, List, drop, count_by, sum_by, Option, is_some, is_none}

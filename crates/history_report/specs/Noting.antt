@@ -1,3 +1,4 @@
+-- For the prover.
 -- A report of calls with one more call: what the code's private functions say to the prover.
 use Rattle.std.specs.Prelude.{◌+◌, ◌<◌, ◌^◌, not, if◌then◌else◌}
 use Rattle.nfs_history.specs.declared.history.CallKind.{CallKind}

@@ -1,3 +1,4 @@
+-- Believed.
 -- a device that keeps a journal: whole records behind one another, of which a barrier makes safe what was appended ahead of it (this
 -- project's own, after the write and the flush of a disk)
 use Rattle.std.specs.Prelude.{◌≡◌, ℕ, ◌+◌, List, [], ◌∷◌, ◌++◌, length, take, Result, Ok, Err}

@@ -1,3 +1,4 @@
+-- For the prover, and for callers.
 -- The words that are printed of a fault (words of this project's own).
 use Rattle.std.specs.Prelude.{ℕ, List, codes}
 use Rattle.journal_device.specs.declared.device.DevFault.{DevFault}

@@ -1,3 +1,4 @@
+-- For the prover.
 -- a device in memory that fails when it is told to
 use Rattle.std.specs.Prelude.{ℕ, ◌-◌}
 use Rattle.journal_device.specs.Device.{Device}

@@ -1,3 +1,4 @@
+-- For the prover, and for callers.
 -- The tree that a journal's records lead to, from what stood at first (a journal of this project's own; what a call makes of a tree is
 -- RFC 1813's).
 use Rattle.std.specs.Prelude.{◌≡◌, ℕ, ◌+◌, ◌<◌, ◌^◌, List, [], ◌∷◌, ◌++◌, length, map, Some}

@@ -1,3 +1,4 @@
+-- For the prover.
 -- records that are taken one after the other, for private functions
 use Rattle.std.specs.Prelude.{◌≡◌, ℕ, ◌+◌, List, [], ◌∷◌, ◌++◌, length, Option, Some, None, option_and_then}
 use Rattle.std.specs.List.{AllByRecursion, range_with_len}

@@ -1,3 +1,4 @@
+-- For the prover, and for callers.
 -- what is read of bytes that have at most one meaning
 use Rattle.std.specs.Prelude.{◌≡◌, ⊤, Option, Some, None, Result, Ok, Err}
 use Rattle.journal_records.specs.declared.fault.RecordFault.{RecordFault}

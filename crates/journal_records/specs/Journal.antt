@@ -1,3 +1,4 @@
+-- Believed.
 -- A record of a server's journal: a call that changed the tree, with its reply (this project's own, in the items of RFC 4506).
 use Rattle.std.specs.Prelude.{◌≡◌, ◌==◌, ◌||◌, ℕ, ◌<◌, ◌≤◌, ◌^◌, Bool, true, List, ◌++◌, length, None}
 use Rattle.xdr_records.specs.Grammar.{Grammar, ◌>>=◌}

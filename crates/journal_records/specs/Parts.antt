@@ -1,17 +1,18 @@
+-- For the prover.
 -- the parts of a change's messages, for private functions
 use Rattle.std.specs.Prelude.{◌≡◌, ◌==◌, ◌&&◌, not, if◌then◌else◌, ℕ, Bool, true, List, Option, Some, None}
-use Rattle.rpc_reader.specs.Values.{CallValue, ReplyValue}
+use Rattle.rpc_reader.specs.Values.{CallValue, ReplyValue, sealed_flavor}
 use Rattle.rpc_reader.specs.Values.Body.{success}
 use Rattle.rpc_reader.specs.Messages.{IsCall, IsReply}
 use Rattle.nfs3_types.specs.declared.calls.NfsCall.{NfsCall}
 use Rattle.nfs3_types.specs.declared.replies.NfsReply.{NfsReply}
-use Rattle.nfs3_types.specs.Procedures.{failure_in, changes_the_tree}
+use Rattle.nfs3_types.specs.Procedures.{nfs_program, nfs_version, failure_in, changes_the_tree}
 use Rattle.nfs3_msgs.specs.Messages.{IsArguments, IsResult}
 use Rattle.nfs_history.specs.Effects.{results_of}
 use Rattle.nfs_history.specs.Outside.{outside}
 
 abbrev pub asks_change : CallValue → Bool
-asks_change head = (head.program == 100003) && (head.version == 3) && not (head.flavor == 6) && changes_the_tree head.procedure
+asks_change head = (head.program == nfs_program) && (head.version == nfs_version) && not (head.flavor == sealed_flavor) && changes_the_tree head.procedure
 
 -- a call that would change the tree
 pub record AsksChange (message : List ℕ) (head : CallValue) : Type 0 where

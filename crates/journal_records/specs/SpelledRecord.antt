@@ -1,3 +1,4 @@
+-- For the prover.
 -- What is written of a record is a spelling of it. For the prover alone.
 use Rattle.std.specs.Prelude.{◌++◌}
 use Rattle.xdr_records.specs.Spelling.{Spells}

@@ -10,16 +10,9 @@ ghost use Rattle.journal_records.specs.Parts.{asks_change, AsksChange, IsAsked, 
 
 use crate::fault::RecordFault;
 use nfs3_msgs::{MessageFault, read_args, read_result};
-use nfs3_types::{CreateMode, FILE_LIMIT, NfsCall, NfsReply, Procedure};
-use rpc_reader::{CallHead, ReplyBody, ReplyHead, read_call, read_reply};
+use nfs3_types::{CreateMode, FILE_LIMIT, NFS_PROGRAM, NFS_VERSION, NfsCall, NfsReply, Procedure};
+use rpc_reader::{CallHead, ReplyBody, ReplyHead, SEALED_FLAVOR, read_call, read_reply};
 use std::alloc::Global;
-
-/// The program number of NFS (RFC 1813, section 2.2).
-const NFS_PROGRAM: u32 = 100_003;
-/// The version of the calls.
-const NFS_VERSION: u32 = 3;
-/// The credential flavor of RPCSEC_GSS (RFC 2203), which hides arguments.
-const SEALED_FLAVOR: u32 = 6;
 
 /// Whether the procedure of this number changes the tree.
 fn changes_the_tree(number: u32) -> bool

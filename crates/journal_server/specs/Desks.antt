@@ -1,3 +1,4 @@
+-- Believed.
 -- What a server does with its book at one hold of the book's lock: the step that was asked for, or what its refusal leaves.
 use Rattle.std.specs.Prelude.{◌≡◌, ◌⊎◌, ◌+◌, ◌<◌, ◌≤◌, ℕ, List, true, length, min, Bool, Option, Some, None}
 use Rattle.std.specs.declared.vec.Vec.{Vec}

@@ -1,3 +1,4 @@
+-- Believed.
 -- The words that are printed of a fault: its name, and what it names (words of this project's own); and as what a server tells the faults
 -- of its book.
 use Rattle.std.specs.Prelude.{ℕ, List, ◌++◌, codes, decimal}

@@ -1,3 +1,4 @@
+-- Believed.
 -- What a client of the server is told: by a call that isn't recorded the answer that the server gives by itself, by one that is its reply,
 -- which is noted in the client's pass.
 use Rattle.std.specs.Prelude.{◌≡◌, ◌⊎◌, ℕ, List, [], ◌∷◌, ◌++◌, MatchResult, Result}

@@ -1,13 +1,15 @@
+-- For the prover, and for callers.
 -- Which calls are answered ahead of a server, and how: the MOUNT service of version 3 (RFC 1813, section 5), and what NFS of version 3 tells
 -- of rights and limits (section 3.3). That every right is given, and whatever a handle names, is this project's own.
 use Rattle.std.specs.Prelude.{◌≡◌, ◌⊎◌, ◌==◌, ◌&&◌, ◌||◌, not, nat_lt, ℕ, Bool, false, List, [], if◌then◌else◌, codes, bytes_eq, Option, Some, None, Vec, IsTrue, MatchBool}
 use Rattle.std.specs.declared.alloc.Global.{Global}
+use Rattle.nfs3_types.specs.Procedures.{nfs_program, nfs_version}
 use Rattle.xdr_records.specs.declared.fault.XdrFault.{XdrFault}
 use Rattle.xdr_records.specs.Grammar.{Grammar, ◌>>=◌, either}
 use Rattle.xdr_records.specs.Grammar.Grammar.{one_word, one_opaque, nothing}
 use Rattle.xdr_records.specs.Spelling.{Spells}
 use Rattle.xdr_records.specs.Texts.{word_text, flag_text}
-use Rattle.rpc_reader.specs.Values.{CallValue, Body}
+use Rattle.rpc_reader.specs.Values.{CallValue, Body, sealed_flavor}
 use Rattle.rpc_reader.specs.Values.Body.{success, prog_mismatch, proc_unavail, garbage_args}
 use Rattle.rpc_reader.specs.Messages.{IsCall}
 use Rattle.rpc_reader.specs.Texts.{reply_text}
@@ -18,7 +20,7 @@ use Rattle.mount_answers.specs.Results.{root_text, exports_text, rights_text, sp
 -- ACCESS, FSSTAT, FSINFO and PATHCONF of NFS, unless the credential is of RPCSEC_GSS
 abbrev pub asks_for_limits : CallValue → Bool
 asks_for_limits head =
-    head.program == 100003 && head.version == 3 && not (head.flavor == 6) && (head.procedure == 4 || head.procedure == 18 || head.procedure == 19 || head.procedure == 20)
+    head.program == nfs_program && head.version == nfs_version && not (head.flavor == sealed_flavor) && (head.procedure == 4 || head.procedure == 18 || head.procedure == 19 || head.procedure == 20)
 
 -- or any call of the MOUNT service
 abbrev pub is_mountable : CallValue → Bool

@@ -1,3 +1,4 @@
+-- For the prover.
 -- What private functions say to the prover.
 use Rattle.std.specs.Prelude.{◌==◌, not, nat_lt, ℕ, false, List, [], if◌then◌else◌, Option, Some, None, Result, Ok, Err}
 use Rattle.xdr_records.specs.declared.fault.XdrFault.{XdrFault}

@@ -1,5 +1,7 @@
+-- For the prover, and for callers.
 -- The results of what is answered ahead of a server, as bytes. The numbers are the bundled server's; which it tells is this project's own.
 use Rattle.std.specs.Prelude.{ℕ, true, false, List, [], ◌∷◌, ◌++◌, replicate, codes, flat_map}
+use Rattle.nfs3_types.specs.Limits.{file_limit, transfer_limit}
 use Rattle.xdr_records.specs.Texts.{word_text, long_text, flag_text, opaque_text}
 
 -- ---- the MOUNT service, RFC 1813, section 5.2
@@ -31,7 +33,7 @@ space_text =
 -- time_delta and the properties, FSF3_SYMLINK and FSF3_HOMOGENEOUS
 unfoldable pub transfers_text : List ℕ
 transfers_text =
-    done_text ++ (flat_map word_text (1048576 ∷ 1048576 ∷ 1 ∷ 1048576 ∷ 1048576 ∷ 1 ∷ 1048576 ∷ []) ++ (long_text 16777216 ++ flat_map word_text (0 ∷ 1 ∷ 10 ∷ [])))
+    done_text ++ (flat_map word_text (transfer_limit ∷ transfer_limit ∷ 1 ∷ transfer_limit ∷ transfer_limit ∷ 1 ∷ transfer_limit ∷ []) ++ (long_text file_limit ++ flat_map word_text (0 ∷ 1 ∷ 10 ∷ [])))
 
 -- section 3.3.20, PATHCONF: linkmax and name_max, then no_trunc, chown_restricted, case_insensitive and case_preserving
 unfoldable pub names_text : List ℕ

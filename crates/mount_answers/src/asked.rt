@@ -8,7 +8,8 @@ ghost use Rattle.mount_answers.specs.Plainly.{results_text, body_of, results_of,
 
 use crate::answer::{Answer, MOUNT_VERSION};
 use crate::results::{ROOT_PATH, Results};
-use rpc_reader::CallHead;
+use nfs3_types::{HANDLE_LIMIT, NFS_PROGRAM, NFS_VERSION};
+use rpc_reader::{CallHead, SEALED_FLAVOR};
 use xdr_records::{Reader, XdrFault};
 
 /// The program number of the MOUNT service (RFC 1813, section 5.1.2).
@@ -17,19 +18,8 @@ const MOUNT_PROGRAM: u32 = 100_005;
 /// The greatest procedure of the MOUNT service, EXPORT.
 const LAST_PROCEDURE: u32 = 5;
 
-/// The program number and the version of NFS (RFC 1813, section 2.2).
-const NFS_PROGRAM: u32 = 100_003;
-
-const NFS_VERSION: u32 = 3;
-
-/// The credential flavor of RPCSEC_GSS (RFC 2203).
-const SEALED_FLAVOR: u32 = 6;
-
 /// In bytes: `MNTPATHLEN` (RFC 1813, section 5.1.4).
 const PATH_LIMIT: u32 = 1024;
-
-/// In bytes: `NFS3_FHSIZE` (RFC 1813, section 2.4).
-const HANDLE_LIMIT: u32 = 64;
 
 /// What MNT of a path results in.
 fn path_results(path: &[u8]) -> Results
@@ -63,7 +53,7 @@ fn read_mount(procedure: u32, reader: &mut Reader<'_>) -> Result<Results, XdrFau
 fn read_handle(reader: &mut Reader<'_>, results: Results) -> Result<Results, XdrFault>
     ensures { Tells results_text reader.new result (kind_reading (λ fault. fault) (of_a_handle (results_text results)) reader.old) }
 {
-    reader.opaque(HANDLE_LIMIT)?;
+    reader.opaque(HANDLE_LIMIT as u32)?;
     Ok(results)
 }
 
@@ -71,7 +61,7 @@ fn read_handle(reader: &mut Reader<'_>, results: Results) -> Result<Results, Xdr
 fn read_access(reader: &mut Reader<'_>) -> Result<Results, XdrFault>
     ensures { Tells results_text reader.new result (kind_reading (λ fault. fault) of_rights reader.old) }
 {
-    reader.opaque(HANDLE_LIMIT)?;
+    reader.opaque(HANDLE_LIMIT as u32)?;
     Ok(Results::Rights(reader.u32()?))
 }
 

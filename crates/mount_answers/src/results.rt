@@ -5,6 +5,7 @@ ghost use Rattle.xdr_records.specs.Texts.{word_text, long_text};
 ghost use Rattle.mount_answers.specs.Results.{done_text, root_text, exports_text, rights_text, space_text, transfers_text, names_text};
 ghost use Rattle.mount_answers.specs.Plainly.{results_text};
 
+use nfs3_types::{FILE_LIMIT, TRANSFER_LIMIT};
 use std::alloc::AllocError;
 use xdr_records::{put_flag, put_opaque, put_u32, put_u64};
 
@@ -20,11 +21,9 @@ const FLAVORS: [u32; 3] = [2, 1, 0];
 /// `MNT3ERR_NOENT` (RFC 1813, section 5.1.5).
 const NO_SUCH_PATH: u32 = 2;
 
-/// The most bytes that the bundled server gives to one READ. A WRITE of so many is within its limit of a record, 2,097,152 bytes.
-const TRANSFER: u32 = 1_048_576;
-
-/// The most bytes of a file of the bundled server.
-const FILE_LIMIT: u64 = 16_777_216;
+/// What FSINFO tells of READ, WRITE and READDIR alike. A WRITE of so many bytes is within the bundled server's limit of a record, 2,097,152
+/// bytes.
+const TRANSFER: u32 = TRANSFER_LIMIT as u32;
 
 /// In bytes: a number of this project's own. The bundled server has its files in memory, with no limit on all of them.
 const ROOM: u64 = 1_099_511_627_776;

@@ -1,3 +1,4 @@
+-- For the prover.
 -- how the bytes of a short name stand in its value
 use Rattle.std.specs.Prelude.{◌≡◌, ◌≤◌, ℕ, zero, suc, List, [], ◌∷◌, length, take, slice_index}
 

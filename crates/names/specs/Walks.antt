@@ -1,3 +1,4 @@
+-- For the prover.
 -- a walk over names
 use Rattle.std.specs.Prelude.{ℕ, List}
 use Rattle.names.specs.declared.iter.Walk.{Walk}

@@ -1,3 +1,4 @@
+-- For the prover.
 -- Which calls and replies can be written.
 use Rattle.std.specs.Prelude.{◌≤◌, length, IfSome}
 use Rattle.nfs3_types.specs.declared.calls.NfsCall.{NfsCall}

@@ -1,3 +1,4 @@
+-- Believed.
 -- Which bytes are the arguments or the result of a procedure.
 use Rattle.std.specs.Prelude.{ℕ, ◌==◌, List, Result}
 use Rattle.xdr_records.specs.Unread.{At}

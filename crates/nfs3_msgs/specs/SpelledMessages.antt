@@ -1,3 +1,4 @@
+-- For the prover.
 -- What is written of a call or a reply is a spelling of it. For the prover alone.
 use Rattle.std.specs.Prelude.{IfSome}
 use Rattle.xdr_records.specs.Texts.{opaque_text, optional_text}

@@ -1,3 +1,4 @@
+-- Believed.
 -- The numbers of statuses and of types: RFC 1813, section 2.6
 use Rattle.std.specs.Prelude.{ℕ, ◌==◌, if◌then◌else◌, Option, Some, None}
 use Rattle.nfs3_types.specs.declared.attributes.FileType.{FileType}

@@ -1,3 +1,4 @@
+-- Believed.
 -- The procedures by their numbers; which one a call asks for and a reply answers, and whether a reply is a failure: RFC 1813,
 -- sections 2.6 and 3.3
 use Rattle.std.specs.Prelude.{ℕ, ◌==◌, ◌||◌, Bool, Option, Some, None}
@@ -10,6 +11,13 @@ use Rattle.nfs3_types.specs.declared.replies.Answer.TheVariants.{Done, Failed}
 use Rattle.nfs3_types.specs.declared.replies.NfsReply.{NfsReply}
 use Rattle.nfs3_types.specs.declared.replies.NfsReply.TheVariants as replies
 use Rattle.nfs3_types.specs.declared.status.Failure.{Failure}
+
+-- the program and the version whose procedures these are, RFC 1813, section 2.2
+abbrev pub nfs_program : ℕ
+nfs_program = 100003
+
+abbrev pub nfs_version : ℕ
+nfs_version = 3
 
 -- a procedure's number, RFC 1813, section 3.3
 abbrev pub number : Procedure → ℕ

@@ -1,3 +1,4 @@
+-- For the prover.
 -- The bytes of a string that stands in its value where it is short
 use Rattle.std.specs.Prelude.{◌≤◌, List, ℕ, take}
 use Rattle.nfs3_types.specs.declared.short.Store.{Store}

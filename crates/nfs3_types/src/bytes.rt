@@ -12,6 +12,10 @@ pub const HANDLE_LIMIT: usize = 64;
 /// The most bytes of a file: a limit of the model.
 pub const FILE_LIMIT: u64 = 16_777_216;
 
+/// The most bytes that a READ of the bundled server gives, and that its lists and a link's text may have: what FSINFO tells as `rtmax`
+/// (RFC 1813, section 3.3.19).
+pub const TRANSFER_LIMIT: usize = 1_048_576;
+
 /// A file handle, `nfs_fh3`: at most 64 bytes that only the server understands.
 #[derive(Drop)]
 pub struct FileHandle {

@@ -16,7 +16,7 @@ pub use attributes::{
     Device, FileAttributes, FileType, SetAttributes, SetTime, Time, Verifier, WccAttributes,
     WccData,
 };
-pub use bytes::{Data, FILE_LIMIT, FileHandle, HANDLE_LIMIT, LinkText, Name};
+pub use bytes::{Data, FILE_LIMIT, FileHandle, HANDLE_LIMIT, LinkText, Name, TRANSFER_LIMIT};
 pub use calls::{
     CommitArguments, CreateArguments, CreateMode, DirectoryName, MkDirArguments, NfsCall,
     ReadArguments, ReadDirArguments, ReadDirPlusArguments, RenameArguments, SetAttrArguments,
@@ -24,7 +24,7 @@ pub use calls::{
 };
 pub use entries::Entries;
 pub use held::{Held, Optional};
-pub use procedures::Procedure;
+pub use procedures::{NFS_PROGRAM, NFS_VERSION, Procedure};
 pub use replies::{
     Answer, CommitSuccess, CreateSuccess, DirectoryEntry, DirectoryEntryPlus, LookupSuccess,
     NfsReply, Outcome, ReadDirPlusSuccess, ReadDirSuccess, ReadLinkSuccess, ReadSuccess, RenameWcc,

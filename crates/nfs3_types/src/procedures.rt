@@ -7,6 +7,12 @@ use crate::calls::NfsCall;
 use crate::replies::{Answer, NfsReply};
 use crate::status::Failure;
 
+/// The program number of NFS (RFC 1813, section 2.2).
+pub const NFS_PROGRAM: u32 = 100_003;
+
+/// The version of NFS whose messages these are (RFC 1813, section 2.2).
+pub const NFS_VERSION: u32 = 3;
+
 /// The procedures of NFS version 3, with their numbers (RFC 1813, section 3.3).
 #[derive(Clone, Copy, PartialEq, Eq)]
 pub enum Procedure {

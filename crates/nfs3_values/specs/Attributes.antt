@@ -1,3 +1,4 @@
+-- Believed.
 -- Attributes in messages (RFC 1813, section 2.6): how they stand, how they are written, and the numbers that
 -- can be written.
 use Rattle.std.specs.Prelude.{ℕ, ◌<◌, ◌^◌, List, ◌++◌, IfSome}

@@ -1,3 +1,4 @@
+-- Believed.
 -- Byte strings and verifiers in messages, and the optional item.
 use Rattle.std.specs.Prelude.{ℕ, List, [], Option}
 use Rattle.xdr_records.specs.Grammar.{Grammar, ◌>>=◌, optional}

@@ -1,3 +1,4 @@
+-- Believed.
 -- The arguments of calls that make, rename or list entries (RFC 1813, section 3.3): how they stand, how they are written, and
 -- what can be written.
 use Rattle.std.specs.Prelude.{ℕ, ◌<◌, ◌≤◌, ◌^◌, List, ◌++◌, length}

@@ -1,3 +1,4 @@
+-- Believed.
 -- The results of READDIR and READDIRPLUS (RFC 1813, sections 3.3.16 and 3.3.17): how they stand, how they are written, and
 -- what can be written.
 use Rattle.std.specs.Prelude.{ℕ, ◌<◌, ◌≤◌, ◌^◌, List, ◌++◌, length, IfSome}

@@ -1,3 +1,4 @@
+-- Believed.
 -- The results of the calls (RFC 1813, section 3.3): how they stand, how they are written, and what can be written.
 use Rattle.std.specs.Prelude.{ℕ, ◌<◌, ◌≤◌, ◌^◌, List, ◌++◌, length, Option, Some, None, IfSome}
 use Rattle.xdr_records.specs.Grammar.{Grammar, ◌>>=◌}

@@ -1,3 +1,4 @@
+-- For the prover.
 -- What is written of the arguments of a call is a spelling of them. For the prover: a law of the trait of values asks for it.
 use Rattle.std.specs.Prelude.{◌≡◌, ℕ, ◌<◌, ◌≤◌, ◌^◌, List, [], ◌++◌, length, Option, Some, None, IfSome, Ok, refl}
 use Rattle.std.proofs.Common.{sym, lit<, lit≤, lt_of_le_ones}

@@ -1,3 +1,4 @@
+-- For the prover, and for callers.
 -- What an error says of the bytes.
 use Rattle.std.specs.Prelude.{Option, Some, None, Result}
 use Rattle.xdr_records.specs.Unread.{Unread, At}

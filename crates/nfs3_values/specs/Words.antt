@@ -1,3 +1,4 @@
+-- Believed.
 -- The lists of words that have a name (RFC 1813), and the word of each name.
 use Rattle.std.specs.Prelude.{ℕ, ◌==◌, if◌then◌else◌, Result, Ok, Err, Option, Some, None}
 use Rattle.nfs3_types.specs.declared.attributes.FileType.{FileType}

@@ -1,3 +1,4 @@
+-- For the prover, and for callers.
 -- What an answer to a file of a history says of faults.
 use Rattle.std.specs.Prelude.{◌≡◌, ◌⊎◌, Result, Ok, Err}
 use Rattle.nfs_history.specs.declared.fault.HistoryFault.{HistoryFault}

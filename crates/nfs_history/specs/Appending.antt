@@ -1,3 +1,4 @@
+-- For the prover, and for callers.
 -- What becomes of a history where an event is put behind the others. When events are a history's, and which fault is the first, is
 -- said in History and FirstFault.
 use Rattle.std.specs.Prelude.{◌≡◌, ℕ, ◌+◌, ◌<◌, ◌≤◌, List, [], ◌∷◌, ◌++◌, length, slice_get, slice_set, true, Option, Some, None, Result, IsOk, OnOk, OnErr}

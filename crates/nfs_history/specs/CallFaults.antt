@@ -1,10 +1,11 @@
+-- Believed.
 -- The first call at fault, and why (RFC 5531, section 9, and RFC 1813, section 3.3; what lies outside the model, and the
 -- order of faults, are this project's own).
 use Rattle.std.specs.Prelude.{◌≡◌, ◌≢◌, ◌⊎◌, ◌==◌, ◌<◌, ℕ, ◌+◌, true, false, if◌then◌else◌, List, [], ◌∷◌, length, Option, Some, None}
 use Rattle.nfs3_types.specs.declared.calls.NfsCall.{NfsCall}
 use Rattle.nfs3_types.specs.declared.replies.NfsReply.{NfsReply}
 use Rattle.nfs3_types.specs.declared.replies.Outcome.{Outcome}
-use Rattle.rpc_reader.specs.Values.{CallValue, Body}
+use Rattle.rpc_reader.specs.Values.{CallValue, Body, sealed_flavor}
 use Rattle.rpc_reader.specs.Messages.{IsCall}
 use Rattle.nfs3_msgs.specs.Messages.{IsArguments, IsResult}
 use Rattle.nfs_history.specs.declared.fault.Which.{Which}
@@ -51,14 +52,14 @@ LiesOutside head results which =
     ⊎ ((is_judged head.procedure ≡ true) × (call : NfsCall) × (outcome : Option Outcome) × IsArguments head.procedure head.args call
     × CameOut head.procedure results outcome × (outside call outcome ≡ Some which))
 
--- what is wrong with a call that may have an effect, and has this number, head and result; RPCSEC_GSS (flavor 6, RFC 2203) hides
+-- what is wrong with a call that may have an effect, and has this number, head and result; RPCSEC_GSS (RFC 2203) hides
 -- its arguments
 abbrev pub IsEffectFault : ℕ → CallValue → Option (List ℕ) → CallFault → Type 0
-IsEffectFault n head results (faults.Sealed at) = (at ≡ n) × (head.flavor ≡ 6)
+IsEffectFault n head results (faults.Sealed at) = (at ≡ n) × (head.flavor ≡ sealed_flavor)
 IsEffectFault n head results (faults.BadArgs at) =
-    (at ≡ n) × (head.flavor ≢ 6) × (is_judged head.procedure ≡ true) × AreNoArguments head.procedure head.args
-IsEffectFault n head results (faults.BadResult at) = (at ≡ n) × (head.flavor ≢ 6) × IsBadResult head results
-IsEffectFault n head results (faults.Outside at which) = (at ≡ n) × (head.flavor ≢ 6) × LiesOutside head results which
+    (at ≡ n) × (head.flavor ≢ sealed_flavor) × (is_judged head.procedure ≡ true) × AreNoArguments head.procedure head.args
+IsEffectFault n head results (faults.BadResult at) = (at ≡ n) × (head.flavor ≢ sealed_flavor) × IsBadResult head results
+IsEffectFault n head results (faults.Outside at which) = (at ≡ n) × (head.flavor ≢ sealed_flavor) × LiesOutside head results which
 
 -- call n is at fault
 abbrev pub IsCallFault : ℕ → CallEvent → CallFault → Type 0

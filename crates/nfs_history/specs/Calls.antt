@@ -1,3 +1,4 @@
+-- Believed.
 -- The calls of a history (Herlihy and Wing 1990, section 2: an operation is an invocation and the response
 -- that matches it). Events, calls and eras are numbered from 1.
 use Rattle.std.specs.Prelude.{◌==◌, ◌&&◌, ℕ, ◌+◌, nat_lt, if◌then◌else◌, List, [], ◌∷◌, length, Option, Some, None}

@@ -1,3 +1,4 @@
+-- For the prover, and for callers.
 -- What the program knows of the events that it has checked: what the code's private functions say to the prover.
 use Rattle.std.specs.Prelude.{◌≡◌, ◌==◌, ◌&&◌, ◌||◌, not, ◌≤◌, ◌<◌, ℕ, ◌+◌, length, nat_eq, Bool, true, false, List, [], ◌∷◌, ◌++◌, Option, Some, None, is_some, if◌then◌else◌}
 use Rattle.std.specs.List.{list_any}

@@ -1,3 +1,4 @@
+-- Believed.
 -- The first event that may not follow those before it, and why (RFC 5531, section 9; the order of faults is this project's
 -- own).
 use Rattle.std.specs.Prelude.{◌≡◌, ◌⊎◌, ℕ, ◌+◌, true, false, List, [], ◌∷◌, ◌++◌, length}

@@ -1,3 +1,4 @@
+-- Believed.
 -- The words that are printed of a fault of a history: its name, and what it names (words of this project's own).
 use Rattle.std.specs.Prelude.{ℕ, List, ◌∷◌, ◌++◌, codes, decimal}
 use Rattle.nfs_history.specs.declared.fault.Which.{Which}

@@ -1,3 +1,4 @@
+-- Believed.
 -- The first fault of a file of a history: those of the file, then those of its events, then those of its calls (an order
 -- of this project's own).
 use Rattle.std.specs.Prelude.{◌≡◌, ◌⊎◌, ℕ, List, []}

@@ -1,3 +1,4 @@
+-- Believed.
 -- A history: what each of its calls was, when it began and ended, and how it came out (Herlihy and Wing 1990,
 -- section 2; the calls are those of RFC 1813, section 3.3); and which bytes are a history's file.
 use Rattle.std.specs.Prelude.{◌≡◌, ◌≢◌, ℕ, true, false, List, [], ◌∷◌, Option, Some, None, option_map}
@@ -5,7 +6,7 @@ use Rattle.nfs3_types.specs.declared.calls.NfsCall.{NfsCall}
 use Rattle.nfs3_types.specs.declared.replies.NfsReply.{NfsReply}
 use Rattle.nfs3_types.specs.declared.replies.Outcome.{Outcome}
 use Rattle.nfs3_types.specs.declared.replies.Outcome.TheVariants as outcomes
-use Rattle.rpc_reader.specs.Values.{CallValue, ReplyValue, Body}
+use Rattle.rpc_reader.specs.Values.{CallValue, ReplyValue, Body, sealed_flavor}
 use Rattle.rpc_reader.specs.Values.Body.{success}
 use Rattle.rpc_reader.specs.Messages.{IsCall, IsReply}
 use Rattle.nfs3_msgs.specs.Messages.{IsArguments, IsResult}
@@ -19,7 +20,7 @@ use Rattle.nfs_history.specs.Calls.{CallEvent, calls_of, eras_from, xid_of}
 use Rattle.nfs_history.specs.Standing.{EachMayFollow}
 use Rattle.history_file.specs.Owning.{all_happened}
 use Rattle.nfs_history.specs.Outside.{outside}
-use Rattle.nfs3_types.specs.Procedures.{is_judged, procedure_answered}
+use Rattle.nfs3_types.specs.Procedures.{nfs_program, nfs_version, is_judged, procedure_answered}
 use Rattle.nfs_history.specs.Effects.{Says, was_refused, results_of, has_no_effect}
 
 -- how a call of a procedure came out: with the result that the reply to it holds
@@ -28,12 +29,12 @@ CameOut procedure None outcome = outcome ≡ None
 CameOut procedure (Some results) outcome = (answer : NfsReply) × IsResult procedure results answer × (outcome ≡ Some (outcomes.Received answer))
 
 -- the call is one of NFS version 3 (RFC 1813, section 3), of a judged procedure, with a credential that doesn't hide its
--- arguments (not RPCSEC_GSS, flavor 6, RFC 2203)
+-- arguments (not RPCSEC_GSS, RFC 2203)
 pub record IsCallOfNfs (head : CallValue) (call : NfsCall) : Type 0 where
-  pub program : head.program ≡ 100003
-  pub version : head.version ≡ 3
+  pub program : head.program ≡ nfs_program
+  pub version : head.version ≡ nfs_version
   pub procedure : is_judged head.procedure ≡ true
-  pub credential : head.flavor ≢ 6
+  pub credential : head.flavor ≢ sealed_flavor
   pub arguments : IsArguments head.procedure head.args call
 
 -- the message is that of this call, which lies inside the model where no reply comes

@@ -1,3 +1,4 @@
+-- Believed.
 -- A history as it is seen: what it is judged by, which is what it begins with, its eras and its calls, and what
 -- happened, in order (Herlihy and Wing 1990, section 2; eras lie between crashes, Izraelevitz, Mendes and Scott 2016); and for how
 -- many events that come next room is set aside.

@@ -1,3 +1,4 @@
+-- For the prover.
 -- What of the parts in memory of a history, and of what it is judged by, is seen.
 use Rattle.std.specs.Prelude.{ℕ, ◌+◌, ◌≤◌, List, map, vec_len, vec_capacity}
 use Rattle.tree_starts.specs.Head.{Head}

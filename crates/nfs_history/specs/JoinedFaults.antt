@@ -1,3 +1,4 @@
+-- Believed.
 -- The faults of files, events and calls as those of histories, each under its name (names of this project's own).
 use Rattle.history_file.specs.declared.fault.FileFault.{FileFault}
 use Rattle.history_file.specs.declared.fault.FileFault.TheVariants as file

@@ -1,3 +1,4 @@
+-- For the prover, and for callers.
 -- The fault of a call, item by item: what the code's private functions say to the prover.
 use Rattle.std.specs.Prelude.{◌≡◌, ◌==◌, nat_lt, ℕ, if◌then◌else◌, List, [], length, Option, Some, None, option_map, Result, Ok, Err}
 use Rattle.std.specs.List.{AllByRecursion}
@@ -5,7 +6,7 @@ use Rattle.nfs3_types.specs.declared.calls.NfsCall.{NfsCall}
 use Rattle.nfs3_types.specs.declared.replies.NfsReply.{NfsReply}
 use Rattle.nfs3_types.specs.declared.replies.Outcome.{Outcome}
 use Rattle.nfs3_types.specs.declared.replies.Outcome.TheVariants as outcomes
-use Rattle.rpc_reader.specs.Values.{CallValue, Body}
+use Rattle.rpc_reader.specs.Values.{CallValue, Body, sealed_flavor}
 use Rattle.rpc_reader.specs.Messages.{IsCall}
 use Rattle.xdr_records.specs.Unread.{At}
 use Rattle.nfs3_values.specs.declared.fault.Kind.{Kind}
@@ -55,10 +56,10 @@ argued_fault n procedure results (Ok call) = result_fault n procedure call resul
 abbrev pub judged_fault : ℕ → ℕ → List ℕ → Option (List ℕ) → Option CallFault
 judged_fault n procedure args results = argued_fault n procedure results (arguments_of procedure args)
 
--- a call that may have an effect: it is sealed (RPCSEC_GSS, flavor 6, RFC 2203), or what its procedure says
+-- a call that may have an effect: it is sealed (RPCSEC_GSS, RFC 2203), or what its procedure says
 abbrev pub effect_fault : ℕ → CallValue → Option (List ℕ) → Option CallFault
 effect_fault n head results =
-    if head.flavor == 6 then Some (faults.Sealed n)
+    if head.flavor == sealed_flavor then Some (faults.Sealed n)
     else (if is_judged head.procedure then judged_fault n head.procedure head.args results
     else Some (left_out n (which_left_out head.procedure) results))
 

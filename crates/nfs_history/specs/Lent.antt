@@ -1,3 +1,4 @@
+-- For the prover.
 -- What of a history's calls is seen, wherever they are kept.
 use Rattle.nfs_history.specs.HistoryValue.{CallsValue}
 use Rattle.nfs_history.specs.declared.lent.Kept.{Kept}

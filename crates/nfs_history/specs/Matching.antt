@@ -1,3 +1,4 @@
+-- For the prover, and for callers.
 -- Calls and replies where they lie in memory, as those of the definitions.
 use Rattle.std.specs.Prelude.{◌&&◌, nat_eq, Bool, ℕ, List, Option, option_map}
 use Rattle.std.specs.Borrow.{Bor}

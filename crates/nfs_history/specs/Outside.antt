@@ -1,3 +1,4 @@
+-- Believed.
 -- What of a call lies outside the model: a count of a WRITE that isn't its data's length, and a file over the limit (this
 -- project's own; the calls are those of RFC 1813, section 3.3).
 use Rattle.std.specs.Prelude.{◌==◌, ◌&&◌, not, nat_lt, ℕ, ◌+◌, Bool, false, if◌then◌else◌, length, Option, Some, None, is_some, unwrap_or}

@@ -1,3 +1,4 @@
+-- Believed.
 -- Which call came before which (Herlihy and Wing 1990, section 2.2: an operation precedes another if its
 -- response comes before the other's invocation).
 use Rattle.std.specs.Prelude.{◌≡◌, ℕ, zero, suc, ◌<◌, List, Option, Some, None, option_and_then, option_map, unwrap_or}

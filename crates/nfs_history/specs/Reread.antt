@@ -1,3 +1,4 @@
+-- For the prover, and for callers.
 -- What is known of a call, read once more from its messages: what the code's private functions say to the prover. Where a message
 -- can't be read, what stands here counts for nothing.
 use Rattle.std.specs.Prelude.{◌≡◌, ℕ, zero, suc, if◌then◌else◌, List, [], map, Option, Some, None, option_map, Result, Ok, Err}

@@ -1,3 +1,4 @@
+-- Believed.
 -- Events that may follow one another: each call begins on a lane that is open and has no unanswered call with
 -- its transaction number, and each reply answers an unanswered call (a well-formed history, Herlihy and Wing
 -- 1990, section 2; crashes as in Izraelevitz, Mendes and Scott 2016; transaction numbers as in RFC 5531, section 9).

@@ -1,3 +1,4 @@
+-- For the prover, and for callers.
 -- What a history says of a WRITE or a COMMIT without its bytes: what the code's functions say to the prover.
 use Rattle.std.specs.Prelude.{ℕ, Bool, false, List, Option, Some, None, option_map, length}
 use Rattle.nfs3_types.specs.declared.calls.NfsCall.TheVariants as calls

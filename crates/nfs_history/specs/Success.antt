@@ -1,3 +1,4 @@
+-- Believed.
 -- What a reply says that is a success (RFC 1813, section 2.6: a result with status NFS3_OK has the fields of success behind it).
 use Rattle.std.specs.Prelude.{◌&&◌, Bool, false, is_none, Option, Some, None}
 use Rattle.nfs3_types.specs.declared.calls.NfsCall.{NfsCall}

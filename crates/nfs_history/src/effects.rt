@@ -1,6 +1,7 @@
 //! Which calls are known to have had no effect, by their heads and replies.
 
 ghost use Rattle.std.specs.Prelude.{◌≡◌, ◌==◌, option_map};
+ghost use Rattle.rpc_reader.specs.Values.{sealed_flavor};
 ghost use Rattle.rpc_reader.specs.Views.{call_value, body_value};
 ghost use Rattle.nfs3_types.specs.Procedures.{is_judged};
 ghost use Rattle.nfs_history.specs.Matching.{bytes_of};
@@ -9,15 +10,8 @@ ghost use Rattle.nfs_history.specs.CallFaults.{which_left_out};
 
 use crate::fault::Which;
 use byteorder::{BigEndian, ByteOrder};
-use nfs3_types::Procedure;
-use rpc_reader::{CallHead, ReplyBody};
-
-/// The program number of NFS (RFC 1813, section 2.2).
-const NFS_PROGRAM: u32 = 100_003;
-/// The version that is judged.
-const NFS_VERSION: u32 = 3;
-/// The credential flavor of RPCSEC_GSS (RFC 2203).
-const SEALED_FLAVOR: u32 = 6;
+use nfs3_types::{NFS_PROGRAM, NFS_VERSION, Procedure};
+use rpc_reader::{CallHead, ReplyBody, SEALED_FLAVOR};
 
 /// The result that a reply holds.
 pub(crate) fn results_of<'a>(body: &Option<ReplyBody<'a>>) -> Option<&'a [u8]>
@@ -52,7 +46,7 @@ fn has_failed_status(results: Option<&[u8]>) -> bool
 
 /// Whether RPCSEC_GSS hides a call's arguments.
 pub(crate) fn is_sealed(head: &CallHead<'_>) -> bool
-    ensures { result ≡ (head.now.flavor == 6) }
+    ensures { result ≡ (head.now.flavor == sealed_flavor) }
 {
     head.flavor == SEALED_FLAVOR
 }

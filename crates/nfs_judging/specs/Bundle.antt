@@ -1,3 +1,4 @@
+-- Believed.
 -- What a bundle is: a history and a certificate in one stream of bytes.
 use Rattle.std.specs.Prelude.{◌≡◌, ℕ, List, ◌∷◌, ◌++◌}
 use Rattle.hex.specs.Hex.{IsBytes, encode_lower}

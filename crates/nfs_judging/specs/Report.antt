@@ -1,3 +1,4 @@
+-- Believed.
 -- What is said of a history and a certificate: an exit status and a line (words of this project's own).
 use Rattle.std.specs.Prelude.{◌≡◌, ◌⊎◌, ℕ, List, [], ◌∷◌, ◌++◌, codes, Option, Some, None, IfSome}
 use Rattle.nfs_history.specs.FaultText.{history_fault_words}

@@ -1,3 +1,4 @@
+-- For the prover, and for callers.
 -- What is reported of a history and a certificate: what the history comes to in numbers, and the verdict (words of this
 -- project's own).
 use Rattle.std.specs.Prelude.{◌≡◌, ◌⊎◌, ℕ, List, [], ◌∷◌, ◌++◌, codes, decimal, Option, Some, None}

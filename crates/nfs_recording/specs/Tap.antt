@@ -1,3 +1,4 @@
+-- For the prover, and for callers.
 -- What is said of a recording: an exit status and a line (words of this project's own).
 use Rattle.std.specs.Prelude.{◌≡◌, ◌⊎◌, ℕ, ◌≤◌, List, [], ◌∷◌, ◌++◌, length, codes, decimal, Option, Some, None}
 use Rattle.hex.specs.Hex.{IsBytes, encode_lower}

@@ -14,15 +14,12 @@ use crate::tap_words::TapRequest;
 use bench_streams::{DigitsFault, Input, Output, READ_SIZE, decode_digits};
 use nfs_relay::{Halt, Host, Order, OrderReader, Relay, calls_in};
 use nfs_tap::TapLog;
-use nfs3_types::FileHandle;
+use nfs3_types::{FileHandle, HANDLE_LIMIT};
 use std::alloc::{AllocError, Global};
 use std::fs::{self, File};
 use std::io::{ErrorKind, Write};
 use std::net::{IpAddr, Ipv4Addr, SocketAddr, TcpListener};
 use std::thread::{self, JoinHandle, Scope};
-
-/// How many bytes a handle has at most.
-const ROOT_LIMIT: usize = 64;
 
 /// The root's handle: the bytes that the text spells in lower case hex, at most 64.
 fn read_root(alloc: Global, text: &str) -> Result<FileHandle, TapEnd>
@@ -30,7 +27,7 @@ fn read_root(alloc: Global, text: &str) -> Result<FileHandle, TapEnd>
     ensures bad { result ≡ Err TapEnd.BadRoot → IsNoRoot text.now }
 {
     match decode_digits(alloc, text.as_bytes()) {
-        Ok(bytes) if bytes.len() > ROOT_LIMIT => Err(TapEnd::BadRoot),
+        Ok(bytes) if bytes.len() > HANDLE_LIMIT => Err(TapEnd::BadRoot),
         Ok(bytes) => match FileHandle::from_slice(alloc, bytes.as_slice()) {
             Ok(root) => Ok(root),
             Err(AllocError) => Err(TapEnd::NoMemory),

@@ -1,3 +1,4 @@
+-- For the prover.
 -- What a lane's end, and a crash, do to a log.
 use Rattle.std.specs.Prelude.{◌≡◌, Result, OnOk, OnErr, IfErr}
 use Rattle.history_file.specs.Event.{Event, Recording}

@@ -1,3 +1,4 @@
+-- For the prover, and for callers.
 -- How many calls stand among events, as a log holds them.
 use Rattle.std.specs.Prelude.{ℕ, Bool, true, false, List, count_by}
 use Rattle.history_file.specs.declared.event.Event.{Event}

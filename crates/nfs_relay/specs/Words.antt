@@ -1,3 +1,4 @@
+-- For the prover, and for callers.
 -- The words that are printed of a lane's end and of how far a recording is (this project's own).
 use Rattle.std.specs.Prelude.{ℕ, List, ◌++◌, codes, decimal, Option, Some, None}
 use Rattle.nfs_tap.specs.declared.pump.PumpEnd.{PumpEnd}

@@ -1,3 +1,4 @@
+-- For the prover, and for callers.
 -- What a server begins with, as the head of a history says it (this project's own).
 use Rattle.std.specs.Prelude.{◌≡◌}
 use Rattle.tree_starts.specs.Head.{Head}

@@ -1,3 +1,4 @@
+-- For the prover, and for callers.
 -- What a run of the bundled server gives: the texts of a history and of a certificate that is a witness of it, and what they come to in
 -- numbers (this project's own).
 use Rattle.std.specs.Prelude.{◌≡◌}

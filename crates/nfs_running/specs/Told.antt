@@ -1,3 +1,4 @@
+-- For the prover, and for callers.
 -- What is said of a run that gave no history: an exit status and a line (words of this project's own).
 use Rattle.std.specs.Prelude.{◌≡◌, ◌⊎◌, ℕ, List, [], ◌∷◌, ◌++◌, codes}
 use Rattle.plan_text.specs.declared.reading.PlanFault.{PlanFault}

@@ -1,3 +1,4 @@
+-- For the prover, and for callers.
 -- What is said where a search found no certificate (words of this project's own).
 use Rattle.std.specs.Prelude.{◌⊎◌, ℕ, List, [], ◌∷◌, ◌++◌, codes, Option}
 use Rattle.std.specs.Io.KnownBytes.{Appends}

@@ -1,3 +1,4 @@
+-- For the prover, and for callers.
 -- What is done with a stream of calls: its whole records from the front are answered, one after the other, and each reply is written as one
 -- fragment (RFC 5531, section 11).
 use Rattle.std.specs.Prelude.{◌≡◌, ◌≢◌, ◌⊎◌, ℕ, ◌+◌, ◌≤◌, List, [], ◌∷◌, ◌++◌, length, map, take, Option}

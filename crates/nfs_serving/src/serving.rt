@@ -10,18 +10,13 @@ use crate::end::StreamEnd;
 use crate::export::Export;
 use crate::intake::Intake;
 use crate::sending::send;
+use bench_streams::{READ_LIMIT, READ_SIZE};
 use journal_server::{CallFault, Gate, JournalDevice, Pass, Server};
 use mount_answers::mount_reply;
 use std::alloc::{AllocError, Global};
 use std::io::{ErrorKind, Read, Write};
 use std::sync::Wait;
 use xdr_records::{FeedFault, RecordFeed};
-
-/// How many bytes a read asks for.
-const READ_SIZE: usize = 65_536;
-
-/// How many times a stream is read.
-const READ_LIMIT: u32 = 1_000_000;
 
 /// The reply to a message.
 fn answer<R: Wait, G: Gate, D: JournalDevice>(

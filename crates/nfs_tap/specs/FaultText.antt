@@ -1,3 +1,4 @@
+-- For the prover, and for callers.
 -- The words that are printed of a log's refusal and of a pump's end: its name, and what it names (words of this project's own).
 use Rattle.std.specs.Prelude.{ℕ, List, ◌++◌, codes}
 use Rattle.nfs_tap.specs.declared.fault.NoteFault.{NoteFault}

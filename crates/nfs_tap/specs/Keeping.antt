@@ -1,3 +1,4 @@
+-- For the prover.
 -- What the parts of a log say of its events: what the code's private functions say to the prover.
 use Rattle.std.specs.Prelude.{◌≡◌, ℕ, ◌-◌, [], length}
 use Rattle.history_file.specs.Event.{Recording}

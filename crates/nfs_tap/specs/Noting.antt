@@ -1,3 +1,4 @@
+-- For the prover, and for callers.
 -- What becomes of a recorder's log where an event is noted. Which events may follow others, and the fault of one that may not, is said of
 -- histories (`nfs_history`, Standing and EventFaults).
 use Rattle.std.specs.Prelude.{◌≡◌, ◌⊎◌, ◌+◌, List, [], ◌∷◌, ◌++◌, length, Result, Ok, Err, OnOk, OnErr, IfErr}

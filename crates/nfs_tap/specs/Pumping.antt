@@ -1,3 +1,4 @@
+-- For the prover, and for callers.
 -- What a pump forwards of a stream: its whole records from the front, each as one fragment (RFC 5531, section 11).
 use Rattle.std.specs.Prelude.{◌≡◌, ◌≢◌, ℕ, ◌≤◌, false, List, [], ◌∷◌, ◌++◌, length, Option}
 use Rattle.std.specs.Io.KnownBytes.{Consumes, Appends}

@@ -1,3 +1,4 @@
+-- For the prover, and for callers.
 -- Whether a log may take one record more, so that its file stays within the limits of a history's (this project's own).
 use Rattle.std.specs.Prelude.{ℕ, ◌+◌, ◌*◌, ◌≤◌, length}
 use Rattle.xdr_records.specs.Items.{padded}

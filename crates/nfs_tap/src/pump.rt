@@ -8,18 +8,12 @@ ghost use Rattle.nfs_tap.specs.Pumping.{frames, event_of, IsAnywhere, IsNamed, A
 
 use crate::fault::NoteFault;
 use crate::log::TapLog;
-use bench_streams::write_pieces;
+use bench_streams::{READ_LIMIT, READ_SIZE, write_pieces};
 use std::alloc::{AllocError, Global};
 use std::fmt;
 use std::io::{ErrorKind, Read, Write};
 use std::sync::{Mutex, Wait};
 use xdr_records::{FeedFault, RecordFeed, frame};
-
-/// How many bytes a read asks for.
-const READ_SIZE: usize = 65_536;
-
-/// How many times a pump reads.
-const READ_LIMIT: u32 = 1_000_000;
 
 /// How a pump ended.
 #[derive(Clone, Copy, Debug, PartialEq, Eq)]

@@ -1,3 +1,4 @@
+-- For the prover, and for callers.
 -- What is said of runs of the bundled server, and of connections that it served: of a run what it comes to in numbers, and of both a yes to the
 -- two texts that came of it, or why none did (words of this project's own).
 use Rattle.std.specs.Prelude.{◌≡◌, ◌⊎◌, ℕ, List, [], ◌++◌, codes, Option, Result, Ok, Err, IfOk}

@@ -1,3 +1,4 @@
+-- For the prover, and for callers.
 -- The words that are printed of a fault of a plan: its name, and the numbers that it names (words of this project's own).
 use Rattle.std.specs.Prelude.{ℕ, List, ◌∷◌, ◌++◌, codes, decimal}
 use Rattle.order_check.specs.declared.fault.ShapeFault.{ShapeFault}

@@ -1,3 +1,4 @@
+-- Believed.
 -- The first fault of a plan's shape: the kinds in the order of their names, and of one kind the first place (an order of
 -- this project's own).
 use Rattle.std.specs.Prelude.{◌≡◌, ◌⊎◌, ◌==◌, ◌&&◌, not, nat_lt, ℕ, ◌+◌, ◌<◌, slice_index_or, take, drop, false, Bool, if◌then◌else◌, List, length, find, Option, Some, None, Result, Ok, Err, unwrap_or, option_map}

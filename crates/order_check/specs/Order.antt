@@ -1,3 +1,4 @@
+-- Believed.
 -- Whether the serial order keeps the order in which calls ended and began (Herlihy and Wing 1990, section 2.2: a
 -- linearization respects the precedence of operations).
 use Rattle.std.specs.Prelude.{◌≡◌, ℕ, ◌<◌, ◌≤◌, List, [], ◌∷◌, ◌++◌, Option, Some, None}

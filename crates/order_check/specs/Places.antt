@@ -1,3 +1,4 @@
+-- Believed.
 -- The places of a certificate as one serial order, and how a call may be placed (Herlihy and Wing 1990, section 2.2: an
 -- operation without a response may be completed; which calls change the tree: RFC 1813, section 3.3).
 use Rattle.std.specs.Prelude.{ℕ, ◌+◌, ◌&&◌, nat_le, Bool, true, false, List, [], ◌∷◌, ◌++◌, length, map, Option, Some, None, is_some, is_none}

@@ -1,3 +1,4 @@
+-- Believed.
 -- The shape of a plan: each answered call has its place and no other, and each place a call of its era (Herlihy and
 -- Wing 1990, section 2.2: of the operations without a response some are completed, and the others left out; eras and
 -- cuts are this project's own).

@@ -1,3 +1,4 @@
+-- For the prover.
 -- What a call's kind says of whether it may be taken as done: what the code's private functions say to the prover.
 use Rattle.std.specs.Prelude.{◌==◌, ◌&&◌, not, Bool, false}
 use Rattle.nfs3_types.specs.declared.procedures.Procedure.{Procedure}

@@ -1,3 +1,4 @@
+-- For the prover, and for callers.
 -- The line at which a text is no longer a plan's (of this project's own format).
 use Rattle.std.specs.Prelude.{◌≡◌, ℕ, ◌+◌, List, ◌++◌, length}
 use Rattle.std.specs.List.{flat_map, AllByRecursion}

@@ -1,3 +1,4 @@
+-- For the prover, and for callers.
 -- The words that are printed of a fault of a plan's text (words of this project's own).
 use Rattle.std.specs.Prelude.{ℕ, List, ◌++◌, codes, decimal}
 use Rattle.plan_text.specs.declared.reading.PlanFault.{PlanFault}

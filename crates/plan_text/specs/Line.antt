@@ -1,3 +1,4 @@
+-- For the prover, and for callers.
 -- One line of a plan's text (of this project's own format), as what it says.
 use Rattle.std.specs.Prelude.{◌≡◌, ℕ, List, [], ◌∷◌, ◌++◌, Bool, true, false, Result, Ok, Err, codes, decimal}
 use Rattle.std.specs.List.{flat_map}

@@ -1,3 +1,4 @@
+-- For the prover, and for callers.
 -- The text of a plan, version 1. A plan has one spelling. (This project's own format.)
 use Rattle.std.specs.Prelude.{◌≡◌, ℕ, ◌<◌, ◌≤◌, ◌+◌, ◌^◌, ◌⊎◌, List, [], ◌∷◌, ◌++◌, length, codes, Option, Some, None, decimal, IfSome}
 use Rattle.std.specs.List.{flat_map, AllByRecursion}

@@ -1,3 +1,4 @@
+-- For the prover.
 -- a register of one number, the usual first example of a sequential specification: Herlihy and Wing 1990, section 2
 use Rattle.std.specs.Prelude.{◌≡◌, ℕ, ◌^◌, ◌<◌, ◌==◌, if◌then◌else◌, List, Option, Some, None}
 use Rattle.std.specs.Int.{w64, to_be_bytes, from_be_bytes}

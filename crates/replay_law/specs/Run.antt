@@ -1,3 +1,4 @@
+-- Believed.
 -- whole runs of a state, and of a state that loses at each crash what came after a cut
 use Rattle.std.specs.Prelude.{◌≡◌, ℕ, List, [], ◌∷◌, ◌++◌, take, Option, Some, None, IsSome, option_and_then}
 use Rattle.std.specs.List.{flat_map}

@@ -1,3 +1,4 @@
+-- For the prover, and for callers.
 -- a state in the midst of an era, whose steps past a cut are lost at a crash: Izraelevitz, Mendes and Scott 2016, section 2
 use Rattle.std.specs.Prelude.{◌≡◌, ℕ, List, length, Option, Some}
 use Rattle.replay_law.specs.declared.stepping.Replay.{Replay}

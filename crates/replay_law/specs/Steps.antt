@@ -1,3 +1,4 @@
+-- For the prover, and for callers.
 -- what a step of a run says
 use Rattle.replay_law.specs.declared.run.Step.{Step}
 use Rattle.replay_law.specs.Run.{TakenStep}

@@ -1,3 +1,4 @@
+-- For the prover, and for callers.
 -- taking back several steps, as a crash does with those that it loses: Izraelevitz, Mendes and Scott 2016, section 2
 use Rattle.std.specs.Prelude.{◌≡◌, List, [], ◌∷◌}
 

@@ -1,3 +1,4 @@
+-- Believed.
 -- the attributes that a reply carries, by whose they are: RFC 1813, section 2.6 (`post_op_attr`, `wcc_data`) and section 3.3, by
 -- procedure
 use Rattle.std.specs.Prelude.{ℕ, List, [], Option, Some, None, option_and_then, option_map, slice_get}

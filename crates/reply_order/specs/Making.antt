@@ -1,3 +1,4 @@
+-- For the prover, and for callers.
 -- How the plan is made: what the code's private functions say to the prover.
 use Rattle.std.specs.Prelude.{◌≡◌, ◌==◌, ◌&&◌, if◌then◌else◌, ℕ, zero, suc, nat_lt, nat_le, is_none, option_and_then, Bool, List, [], ◌∷◌, ◌++◌, length, map, Option, Some, None, unwrap_or}
 use Rattle.std.specs.List.{filter}

@@ -1,3 +1,4 @@
+-- For the prover, and for callers.
 -- The plan that follows the replies of a history: the calls of an era stand in the order in which they were answered, each
 -- crash keeps all of its era, and a handle names what the first reply that gave it made (this project's own plan; which
 -- replies give the handle of a new object: RFC 1813, sections 3.3.8 to 3.3.10).

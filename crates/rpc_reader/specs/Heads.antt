@@ -1,3 +1,4 @@
+-- Believed.
 -- The layout of a call's head, RFC 5531, section 9.
 use Rattle.std.specs.Prelude.{ℕ, zero, suc, Result, Ok, Err, ◌==◌, if◌then◌else◌}
 use Rattle.xdr_records.specs.declared.fault.XdrFault.{XdrFault}

@@ -1,3 +1,4 @@
+-- Believed.
 -- Which bytes are a call or a reply with its value, and what is wrong with bytes that are neither.
 use Rattle.std.specs.Prelude.{◌≡◌, ◌≢◌, ◌⊎◌, ℕ, List, []}
 use Rattle.xdr_records.specs.Unread.{Unread, At, whole}
@@ -27,6 +28,8 @@ IsEnding (final status) rest body = (rest ≡ []) × (body ≡ status)
 -- RFC 5531, section 9: a head, and behind it the results where there are any
 abbrev pub IsReply : List ℕ → ReplyValue → Type 0
 IsReply message reply = (status : Status) × Joined (λ head. Spells reply_head head (record { xid = reply.xid; status = status })) (λ rest. IsEnding status rest reply.body) message
+
+-- ---- for the prover, and for callers
 
 -- an item of the head is the first at fault
 abbrev pub CallFails : List ℕ → RpcFault → Type 0

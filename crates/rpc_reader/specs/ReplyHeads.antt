@@ -1,3 +1,4 @@
+-- Believed.
 -- The layout of a reply's head, RFC 5531, section 9.
 use Rattle.std.specs.Prelude.{ℕ, zero, suc, Result, Ok, Err}
 use Rattle.xdr_records.specs.Grammar.{Grammar, ◌>>=◌}

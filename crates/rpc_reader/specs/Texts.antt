@@ -1,3 +1,4 @@
+-- Believed.
 -- The one spelling that is written of a call and of a reply, RFC 5531, section 9.
 use Rattle.std.specs.Prelude.{ℕ, ◌<◌, ◌^◌, List, [], ◌++◌}
 use Rattle.xdr_records.specs.Texts.{word_text, opaque_text}

@@ -1,5 +1,10 @@
+-- Believed.
 -- What the head of a call and of a reply say, RFC 5531, section 9.
 use Rattle.std.specs.Prelude.{ℕ, List}
+
+-- the flavor of RPCSEC_GSS, which hides a call's arguments: RFC 5531, section 8.2, and RFC 2203
+abbrev pub sealed_flavor : ℕ
+sealed_flavor = 6
 
 -- struct call_body, with its arguments; flavor is that of the credential
 pub record CallValue : Type 0 where

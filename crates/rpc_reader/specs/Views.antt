@@ -1,3 +1,4 @@
+-- For the prover, and for callers.
 -- What is read, without where it lies in memory.
 use Rattle.std.specs.Prelude.{◌≡◌, Result, Ok}
 use Rattle.xdr_records.specs.Unread.{Unread}

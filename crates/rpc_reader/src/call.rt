@@ -13,6 +13,9 @@ use crate::fault::RpcFault;
 use crate::item::{auth, word};
 use xdr_records::Reader;
 
+/// The credential flavor of RPCSEC_GSS, which hides a call's arguments (RFC 5531, section 8.2; RFC 2203).
+pub const SEALED_FLAVOR: u32 = 6;
+
 /// A call of a procedure. Its arguments are the bytes of the message behind the head.
 #[derive(Clone, Copy, PartialEq, Eq)]
 pub struct CallHead<'a> {

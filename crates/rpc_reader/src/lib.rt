@@ -7,7 +7,7 @@ mod item;
 mod reply;
 mod writer;
 
-pub use call::{CallHead, read_call};
+pub use call::{CallHead, SEALED_FLAVOR, read_call};
 pub use fault::RpcFault;
 pub use reply::{ReplyBody, ReplyHead, read_reply};
 pub use writer::{put_call, put_reply};

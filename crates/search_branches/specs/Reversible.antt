@@ -1,3 +1,4 @@
+-- For the prover.
 -- Steps that can be taken back, as Izraelevitz, Mendes and Scott 2016, section 2, ask of what a crash loses: what the code's private
 -- functions say to the prover.
 use Rattle.std.specs.Prelude.{List}

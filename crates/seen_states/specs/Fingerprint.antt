@@ -1,3 +1,4 @@
+-- For the prover, and for callers.
 -- A fingerprint of bytes.
 use Rattle.std.specs.Prelude.{ℕ, List, take, ◌==◌, if◌then◌else◌}
 use Rattle.std.specs.Int.{w64, from_be_bytes}

@@ -1,3 +1,4 @@
+-- For the prover, and for callers.
 -- What contracts see of a table, a claimer and an answer.
 use Rattle.std.specs.Prelude.{◌≡◌, ℕ, [], ◌∷◌, ◌++◌}
 use Rattle.seen_states.specs.declared.view.View.{View}

@@ -1,3 +1,4 @@
+-- For the prover.
 -- What one word says to a claim.
 use Rattle.std.specs.Prelude.{◌≡◌, ℕ, ◌+◌, [], ◌∷◌, ◌++◌, Option, Some, None}
 use Rattle.seen_states.specs.declared.view.View.{View}

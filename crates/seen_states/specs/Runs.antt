@@ -1,3 +1,4 @@
+-- For the prover, and for callers.
 -- What any number of claimers do to a table, step by step, each at any time. A claim takes several steps, others may step between
 -- any two of them, and what it answers was so at one of its own (Herlihy and Wing, Linearizability: A Correctness Condition for
 -- Concurrent Objects, 1990).

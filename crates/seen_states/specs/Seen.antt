@@ -1,3 +1,4 @@
+-- For the prover, and for callers.
 -- A table of seen states: its words, and what its claimers know of them. A word is 0 while it is free. A claim takes a free word for
 -- its fingerprint, and it then stays: open addressing with linear probing (Knuth, The Art of Computer Programming, volume 3, section
 -- 6.4), shared by threads (Laarman, van de Pol and Weber, Boosting Multi-Core Reachability Performance with Shared Hash Tables, 2010).

@@ -1,3 +1,4 @@
+-- For the prover, and for callers.
 -- The atomic steps on a table of seen states, and what each tells the claimer that takes it.
 use Rattle.std.specs.Prelude.{◌≡◌, ◌≢◌, ℕ, ◌+◌, ◌<◌, ◌≤◌, ◌==◌, if◌then◌else◌, [], ◌∷◌, ◌++◌}
 use Rattle.atomic_table.specs.Table.{Me}

@@ -1,3 +1,4 @@
+-- Believed.
 -- A plan whose replies are as full as can be: a server that serves as fully as it can may have given each of them (such a server is this
 -- project's own: `IsServed` of `book_machine`).
 use Rattle.std.specs.Prelude.{◌≡◌, ℕ, List, ◌∷◌, ◌++◌, length, Some}
@@ -28,6 +29,8 @@ EachServed history plan =
     → eras_of history plan ≡ ahead ++ era ∷ behind → era.steps ≡ before ++ step ∷ after → step.outcome ≡ Received reply
     → state_after (next_of history plan) (base_of history) (kept_steps ahead ++ before) ≡ Some tree
     → IsServed (bindings_of history.head.root plan.binds) tree (object_made (length history.head.start) step.number) step.call reply
+
+-- ---- for the prover, and for callers
 
 -- the replies of the book's own certificate
 abbrev pub IsServedBook : Book → Type 0

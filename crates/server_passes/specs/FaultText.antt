@@ -1,3 +1,4 @@
+-- For the prover, and for callers.
 -- The words that are printed of a fault: its name, and the lane that it names (words of this project's own).
 use Rattle.std.specs.Prelude.{ℕ, List, ◌++◌, codes, decimal}
 use Rattle.server_passes.specs.declared.fault.CloseFault.{CloseFault}

@@ -1,3 +1,4 @@
+-- For the prover.
 -- The answered calls of each lane as a table holds them, each by the numbers of its two events.
 use Rattle.std.specs.Prelude.{◌==◌, nat_eq, ℕ, if◌then◌else◌, List, [], ◌∷◌, map, Option, None, option_map}
 use Rattle.std.specs.HashMap.{get}

@@ -1,3 +1,4 @@
+-- For the prover.
 -- The least number of which a fact holds.
 use Rattle.std.specs.Prelude.{ℕ, ◌<◌, nat_le, if◌then◌else◌, Option, Some, None}
 

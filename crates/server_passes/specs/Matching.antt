@@ -1,3 +1,4 @@
+-- Believed.
 -- Whether what clients were told is what was recorded: each lane that calls were answered on is told of once, in full, and
 -- nothing else is (a history's subhistories at its processes, Herlihy and Wing 1990, section 2).
 use Rattle.std.specs.Prelude.{◌≡◌, ◌≢◌, ◌⊎◌, ◌==◌, ℕ, zero, suc, ◌<◌, ◌≤◌, IsTrue, if◌then◌else◌, List, [], length, slice_get, Option, Some, None, is_some, option_map, Result, Ok, Err, Any, count_by, sum_by}

@@ -1,3 +1,4 @@
+-- Believed.
 -- What one client knows, as it is seen: of each answered call its message and its reply, in order (a client's view of a
 -- history, the subhistory of a process, Herlihy and Wing 1990, section 2); and for how many more room is set aside.
 use Rattle.std.specs.Prelude.{ℕ, List}

@@ -1,3 +1,4 @@
+-- For the prover.
 -- What passes tell, beside the answered calls of each lane as a table holds them.
 use Rattle.std.specs.Prelude.{ℕ, List}
 use Rattle.history_file.specs.declared.event.Event.{Event}

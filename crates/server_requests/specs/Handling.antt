@@ -1,10 +1,11 @@
+-- Believed.
 -- What a journal server does with a message. It records each call of a procedure that is judged, with arguments that a history takes
 -- whatever is answered, and answers every other call by itself (RFC 5531, section 9; RFC 1813, section 2.6, for the statuses). That it
 -- serves no LINK, no MKNOD, and nothing that tells of rights and limits is this project's own.
 use Rattle.std.specs.Prelude.{◌≡◌, ◌⊎◌, ◌==◌, ◌||◌, ◌*◌, ◌++◌, ◌≤◌, not, nat_lt, ℕ, List, [], length, replicate, if◌then◌else◌, Option, Some, None, MatchOption, option_and_then}
 use Rattle.xdr_records.specs.Record.{record_limit}
 use Rattle.xdr_records.specs.Texts.{word_text}
-use Rattle.rpc_reader.specs.Values.{CallValue, Body}
+use Rattle.rpc_reader.specs.Values.{CallValue, Body, sealed_flavor}
 use Rattle.rpc_reader.specs.Values.Body.{success, prog_unavail, prog_mismatch, proc_unavail, garbage_args, auth_error}
 use Rattle.rpc_reader.specs.Messages.{IsCall}
 use Rattle.rpc_reader.specs.Texts.{reply_text}
@@ -12,7 +13,7 @@ use Rattle.nfs3_types.specs.declared.calls.NfsCall.{NfsCall}
 use Rattle.nfs3_types.specs.declared.procedures.Procedure.TheVariants.{Null, Access, MkNod, Link, FsStat, FsInfo, PathConf, Commit}
 use Rattle.nfs3_types.specs.declared.status.Failure.TheVariants as statuses
 use Rattle.nfs3_types.specs.Numbers.{status_number}
-use Rattle.nfs3_types.specs.Procedures.{number}
+use Rattle.nfs3_types.specs.Procedures.{nfs_program, nfs_version, number}
 use Rattle.nfs3_msgs.specs.Messages.{IsArguments}
 use Rattle.nfs_history.specs.declared.fault.Which.{Which}
 use Rattle.nfs_history.specs.declared.fault.Which.TheVariants as which
@@ -41,9 +42,9 @@ answer_of_procedure procedure =
 -- another program or version, or a credential of RPCSEC_GSS (AUTH_BADCRED), comes first
 abbrev pub answer_ahead : CallValue → Option Body
 answer_ahead head =
-    if not (head.program == 100003) then Some prog_unavail
-    else if not (head.version == 3) then Some (prog_mismatch 3 3)
-    else if head.flavor == 6 then Some (auth_error 1)
+    if not (head.program == nfs_program) then Some prog_unavail
+    else if not (head.version == nfs_version) then Some (prog_mismatch nfs_version nfs_version)
+    else if head.flavor == sealed_flavor then Some (auth_error 1)
     else answer_of_procedure head.procedure
 
 -- a count that isn't that of the data (NFS3ERR_INVAL), and a file over the limit (NFS3ERR_FBIG)
@@ -72,6 +73,8 @@ pub record IsRecorded (head : CallValue) (call : NfsCall) : Type 0 where
   pub served : answer_ahead head ≡ None
   pub arguments : IsArguments head.procedure head.args call
   pub inside : outside call None ≡ None
+
+-- ---- for the prover, and for callers
 
 -- what a message is to the server. No message is two of these
 abbrev pub IsRequest : List ℕ → Request → Type 0

@@ -1,3 +1,4 @@
+-- For the prover.
 -- What private functions say to the prover.
 use Rattle.std.specs.Prelude.{◌≡◌, ◌==◌, ℕ, Bool, true, List, [], length, Option, Some, None, option_and_then}
 use Rattle.rpc_reader.specs.Values.{CallValue, Body}

@@ -10,17 +10,11 @@ ghost use Rattle.server_requests.specs.Handling.{failure_with, answer_of_procedu
 ghost use Rattle.server_requests.specs.Plainly.{body_of, CountsItsData};
 
 use journal_records::is_inside;
-use nfs3_types::{Failure, NfsCall, Procedure};
-use rpc_reader::{CallHead, ReplyBody, put_reply};
+use nfs3_types::{Failure, NFS_PROGRAM, NFS_VERSION, NfsCall, Procedure};
+use rpc_reader::{CallHead, ReplyBody, SEALED_FLAVOR, put_reply};
 use std::alloc::{AllocError, Global};
 use xdr_records::put_u32;
 
-/// The program number of NFS (RFC 1813, section 2.2).
-const NFS_PROGRAM: u32 = 100_003;
-/// The version that is served.
-const NFS_VERSION: u32 = 3;
-/// The credential flavor of RPCSEC_GSS (RFC 2203).
-const SEALED_FLAVOR: u32 = 6;
 /// `AUTH_BADCRED` (RFC 5531, section 9).
 const BAD_CREDENTIAL: u32 = 1;
 

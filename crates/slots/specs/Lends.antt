@@ -1,3 +1,4 @@
+-- For the prover, and for callers.
 -- what becomes of slots where a `&mut` to one of their values is returned
 use Rattle.std.specs.Prelude.{ℕ, Option}
 use Rattle.std.specs.Ordering.{nat_cmp}

@@ -1,3 +1,4 @@
+-- For the prover.
 -- what a contract sees of slots
 use Rattle.std.specs.Prelude.{ℕ, ◌+◌, List, [], ◌∷◌, Option, Some, None}
 use Rattle.std.specs.Ordering.{nat_cmp}

@@ -8,13 +8,10 @@ use crate::decision::{Decision, Stop};
 use crate::scene::Scene;
 use nfs3_types::{
     Answer, CommitArguments, CommitSuccess, Data, Failure, FileHandle, Held, LinkText, NfsReply,
-    ReadArguments, ReadLinkSuccess, ReadSuccess, SetAttrArguments, Verifier, WriteArguments,
-    WriteSuccess,
+    ReadArguments, ReadLinkSuccess, ReadSuccess, SetAttrArguments, TRANSFER_LIMIT, Verifier,
+    WriteArguments, WriteSuccess,
 };
 use object_store::Content;
-
-/// The most bytes that a READ gives, and that a list and a link's text may have.
-pub(crate) const TRANSFER_LIMIT: usize = 1_048_576;
 
 pub(crate) fn get_attributes<'a>(
     scene: &Scene<'_>,

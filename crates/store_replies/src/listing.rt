@@ -1,12 +1,12 @@
 //! READDIR and READDIRPLUS (RFC 1813, sections 3.3.16 and 3.3.17).
 
 use crate::decision::{Decision, Stop};
-use crate::files::TRANSFER_LIMIT;
 use crate::scene::Scene;
 use names::Names;
 use nfs3_types::{
     Answer, DirectoryEntry, DirectoryEntryPlus, Entries, Failure, Held, Name, NfsReply, Optional,
-    ReadDirArguments, ReadDirPlusArguments, ReadDirPlusSuccess, ReadDirSuccess, Verifier,
+    ReadDirArguments, ReadDirPlusArguments, ReadDirPlusSuccess, ReadDirSuccess, TRANSFER_LIMIT,
+    Verifier,
 };
 use std::alloc::{AllocError, Global};
 

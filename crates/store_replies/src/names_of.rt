@@ -2,11 +2,10 @@
 
 use crate::change::{Change, NewObject};
 use crate::decision::{Decision, Stop};
-use crate::files::TRANSFER_LIMIT;
 use crate::scene::{Scene, is_plain};
 use nfs3_types::{
     Answer, CreateArguments, CreateMode, CreateSuccess, DirectoryName, Failure, Held,
-    LookupSuccess, MkDirArguments, NfsReply, SymLinkArguments,
+    LookupSuccess, MkDirArguments, NfsReply, SymLinkArguments, TRANSFER_LIMIT,
 };
 use object_store::{Content, Node};
 use std::alloc::AllocError;

@@ -9,15 +9,11 @@ use crate::opening::Opening;
 use crate::telling::tell_done;
 use anyhow::{Context, Result};
 use nfs3_msgs::read_result;
+use nfs3_types::{NFS_PROGRAM, NFS_VERSION};
 use recorder::{BeginFault, Book, SimDevice, Token};
 use rpc_reader::put_call;
 use std::alloc::Global;
 use std::io::Write;
-
-/// The program number of NFS (RFC 1813, section 2.2).
-const NFS_PROGRAM: u32 = 100_003;
-/// The version that is judged.
-const NFS_VERSION: u32 = 3;
 
 /// A book, and what names the calls that began in it or in the books ahead of it.
 pub struct Driver {

@@ -5,13 +5,13 @@ ghost use Rattle.std.specs.Prelude.{◌≡◌, ◌<◌, ◌^◌, [], IfOk, lengt
 use crate::letters::read_letters;
 use crate::numbers::{split_u64, split_word};
 use anyhow::{Context, Result, bail};
-use nfs3_types::{Data, LinkText, Name};
+use nfs3_types::{Data, FILE_LIMIT, LinkText, Name};
 use recorder::{Profile, SimDevice, Start};
 use std::alloc::Global;
 use tree_starts::{StartNode, StartObject};
 
 /// The most bytes of a name, a file or a text.
-const MOST_BYTES: usize = 16_777_216;
+const MOST_BYTES: usize = FILE_LIMIT as usize;
 
 /// Which call of each kind a device fails at, counted from 1; none at 0.
 #[derive(Clone, Copy)]

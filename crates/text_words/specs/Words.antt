@@ -1,3 +1,4 @@
+-- Believed.
 -- Bytes that hold no end of a word (of this project's own text formats).
 use Rattle.std.specs.Prelude.{ℕ, ◌≢◌, List}
 use Rattle.std.specs.List.{AllByRecursion}

@@ -1,3 +1,4 @@
+-- Believed.
 -- what a call speaks of: RFC 1813, section 3.3, by procedure
 use Rattle.std.specs.Prelude.{ℕ, Bool, true, false, ◌||◌, if◌then◌else◌, List, Option, Some, None, is_some, option_map}
 use Rattle.nfs3_types.specs.declared.calls.DirectoryName.{DirectoryName}

@@ -1,3 +1,4 @@
+-- Believed.
 -- why a call may fail in a tree: RFC 1813, section 3.3, by procedure, and section 2.6 on the statuses
 use Rattle.std.specs.Prelude.{ℕ, ◌==◌, nat_lt, Bool, true, false, not, ◌&&◌, ◌||◌, List, Option, is_some, is_none, option_map}
 use Rattle.std.specs.Option.{option_map_or}

@@ -1,3 +1,4 @@
+-- Believed.
 -- which failures are permitted: RFC 1813, section 2.6 on statuses, and section 3.3 by procedure
 use Rattle.std.specs.Prelude.{ℕ, ◌==◌, Bool, not, ◌&&◌, ◌||◌, List, [], ◌∷◌}
 use Rattle.std.specs.List.{list_any}

@@ -1,3 +1,4 @@
+-- Believed.
 -- why a RENAME may fail in a tree: RFC 1813, section 3.3.14
 use Rattle.std.specs.Prelude.{Bool, false, not, ◌&&◌, [], ◌∷◌, ◌++◌, Option, None, option_map, option_and_then}
 use Rattle.std.specs.Option.{option_map_or}

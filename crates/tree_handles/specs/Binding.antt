@@ -1,3 +1,4 @@
+-- Believed.
 -- what a file handle names: RFC 1813, `nfs_fh3`
 use Rattle.std.specs.Prelude.{ℕ, Bool, List, filter, nat_eq, not, ◌==◌, ◌||◌, Option, Some, None, true, false, if◌then◌else◌}
 use Rattle.std.specs.Option.{option_map_or}

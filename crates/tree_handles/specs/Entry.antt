@@ -1,3 +1,4 @@
+-- Believed.
 -- names in directories: RFC 1813, section 3.2 and section 3.3.3
 use Rattle.std.specs.Prelude.{if◌then◌else◌, List, ℕ, [], ◌∷◌, ◌++◌, Option, None, option_and_then, option_map}
 use Rattle.std.specs.FinMap as map

@@ -1,3 +1,4 @@
+-- For the prover.
 -- the objects of handles: those whose handles are their numbers in eight bytes, and of the others the short handles in one map and
 -- the long ones in another
 use Rattle.std.specs.Prelude.{◌≡◌, ℕ, List, [], ◌∷◌, Option, Some, None, option_and_then, option_map, nat_le, length, if◌then◌else◌}

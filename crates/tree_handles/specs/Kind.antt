@@ -1,3 +1,4 @@
+-- Believed.
 -- what an object is: RFC 1813, section 2.6, `ftype3`
 use Rattle.std.specs.Prelude.{Bool, true, false}
 use Rattle.tree_nodes.specs.declared.node.Content.{Content}

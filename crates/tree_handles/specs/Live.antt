@@ -1,3 +1,4 @@
+-- Believed.
 -- handles in a tree: RFC 1813, `nfs_fh3` and NFS3ERR_STALE
 use Rattle.std.specs.Prelude.{ℕ, List, Option, Some, None, IsSome, option_and_then}
 use Rattle.tree_nodes.specs.declared.node.Node.{Node}

@@ -1,3 +1,4 @@
+-- For the prover.
 -- the path of an object that stands
 use Rattle.std.specs.Prelude.{ℕ, [], unwrap_or}
 use Rattle.tree_nodes.specs.Tree.{Names, Tree}

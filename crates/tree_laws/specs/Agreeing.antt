@@ -1,3 +1,4 @@
+-- For the prover, and for callers.
 -- What handles a call depends on: RFC 1813, section 2.5 (`nfs_fh3`: a client knows nothing of a handle but what it was given it for)
 use Rattle.std.specs.Prelude.{◌≡◌, ◌⊎◌, ℕ, List, IsSome}
 use Rattle.nfs3_types.specs.declared.calls.NfsCall.{NfsCall}

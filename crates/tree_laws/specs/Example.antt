@@ -1,3 +1,4 @@
+-- For the prover, and for callers.
 -- a run in which each procedure that changes the tree succeeds, one that only looks does too, and one fails; and a run behind a start
 use Rattle.std.specs.Prelude.{ℕ, List, [], ◌∷◌, IsSome, Some, None, true}
 use Rattle.nfs3_types.specs.declared.attributes.FileAttributes.{FileAttributes}

@@ -1,3 +1,4 @@
+-- For the prover, and for callers.
 -- each byte of a file after a WRITE and a SETATTR with a size: RFC 1813, sections 3.3.7 and 3.3.2. A byte behind a file's
 -- end is 0 here.
 use Rattle.std.specs.Prelude.{◌≡◌, ℕ, ◌+◌, ◌<◌, ◌≤◌, max, List, length, slice_index, Some}

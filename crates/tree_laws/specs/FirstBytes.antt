@@ -1,3 +1,4 @@
+-- For the prover, and for callers.
 -- READ of a file that stood at first: RFC 1813, section 3.3.6
 use Rattle.std.specs.Prelude.{◌≡◌, ℕ, ◌+◌, ◌<◌, ◌≤◌, List, ◌∷◌, ◌++◌, length, slice_get, slice_index, Some, IsSome}
 use Rattle.nfs3_types.specs.declared.calls.ReadArguments.{ReadArguments}

@@ -1,3 +1,4 @@
+-- For the prover, and for callers.
 -- handles that name objects which aren't there yet: RFC 1813, section 2.5, `nfs_fh3`
 use Rattle.std.specs.Prelude.{◌≡◌, ◌⊎◌, ℕ, List, [], ◌∷◌, ◌++◌, Some, None, IsSome}
 use Rattle.nfs3_types.specs.declared.calls.NfsCall.{NfsCall}

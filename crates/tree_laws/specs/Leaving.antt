@@ -1,3 +1,4 @@
+-- Believed.
 -- what leaves a tree as it is: RFC 1813, section 3.3
 use Rattle.std.specs.Prelude.{◌≡◌, ℕ, Bool, true, false, Some}
 use Rattle.nfs3_types.specs.declared.calls.NfsCall.{NfsCall}

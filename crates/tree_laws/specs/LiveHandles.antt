@@ -1,3 +1,4 @@
+-- For the prover, and for callers.
 -- how long a file handle is live: RFC 1813, `nfs_fh3` and NFS3ERR_STALE
 use Rattle.std.specs.Prelude.{◌≡◌, ◌≢◌, ℕ, List, Option, Some, None}
 use Rattle.nfs3_types.specs.declared.calls.NfsCall.{NfsCall}

@@ -1,3 +1,4 @@
+-- For the prover, and for callers.
 -- which objects a call brings into the tree: RFC 1813, sections 3.3.8 to 3.3.10
 use Rattle.std.specs.Prelude.{◌≡◌, ◌⊎◌, ℕ, Some, IsSome}
 use Rattle.nfs3_types.specs.declared.calls.NfsCall.{NfsCall}

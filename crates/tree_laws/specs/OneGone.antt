@@ -1,3 +1,4 @@
+-- For the prover, and for callers.
 -- what REMOVE and RMDIR take away: RFC 1813, sections 3.3.12 and 3.3.13
 use Rattle.std.specs.Prelude.{◌≡◌, ◌≢◌, ℕ, ◌+◌, Bool, true, not, List, ◌∷◌, ◌++◌, Some, None}
 use Rattle.std.specs.FinMap as map

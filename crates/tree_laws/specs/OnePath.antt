@@ -1,3 +1,4 @@
+-- For the prover, and for callers.
 -- the one path that a call may change: RFC 1813, section 3.3, by procedure
 use Rattle.std.specs.Prelude.{◌≡◌, ◌≢◌, ℕ, Bool, true, false, List, [], ◌∷◌, ◌++◌, Option, Some, None, option_map}
 use Rattle.std.specs.FinMap as map

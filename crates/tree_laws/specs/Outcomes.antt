@@ -1,3 +1,4 @@
+-- Believed.
 -- calls with their outcomes
 use Rattle.std.specs.Prelude.{◌≡◌, ℕ, Option, Some, None, ⊤}
 use Rattle.nfs3_types.specs.declared.calls.NfsCall.{NfsCall}

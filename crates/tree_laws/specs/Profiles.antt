@@ -1,3 +1,4 @@
+-- For the prover, and for callers.
 -- what the strict profile asks beyond the plain one: RFC 1813, section 2.6 (`fattr3`, `wcc_attr`)
 use Rattle.std.specs.Prelude.{◌≡◌, ◌↔◌, ℕ, List, length, Option, Some}
 use Rattle.nfs3_types.specs.declared.attributes.FileAttributes.{FileAttributes}

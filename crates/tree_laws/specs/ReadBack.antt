@@ -1,3 +1,4 @@
+-- For the prover, and for callers.
 -- READ after WRITE: RFC 1813, sections 3.3.6 and 3.3.7
 use Rattle.std.specs.Prelude.{◌≡◌, ◌≢◌, ℕ, ◌+◌, ◌-◌, ◌<◌, ◌≤◌, Bool, true, false, List, [], ◌∷◌, ◌++◌, length, take, slice_index, Option, Some, IsSome, ⊤}
 use Rattle.std.specs.List.{AllByRecursion}

@@ -1,3 +1,4 @@
+-- For the prover, and for callers.
 -- what RENAME moves: RFC 1813, section 3.3.14
 use Rattle.std.specs.Prelude.{◌≡◌, ◌≢◌, ℕ, ◌++◌, Some, None}
 use Rattle.std.specs.FinMap as map

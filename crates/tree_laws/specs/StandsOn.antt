@@ -1,3 +1,4 @@
+-- For the prover, and for callers.
 -- what no call of a run changes, removes or moves: RFC 1813, section 3.3, by procedure
 use Rattle.std.specs.Prelude.{◌≡◌, ◌≢◌, ℕ, ◌+◌, List, [], ◌∷◌, length, slice_get, Some, ⊤}
 use Rattle.std.specs.FinMap as map

@@ -1,3 +1,4 @@
+-- For the prover, and for callers.
 -- the tree of what a server held at first: RFC 1813, section 2.6
 use Rattle.std.specs.Prelude.{◌≡◌, ◌⊎◌, ℕ, ◌+◌, ◌<◌, List, [], length, slice_get, Some, None}
 use Rattle.std.specs.FinMap as map

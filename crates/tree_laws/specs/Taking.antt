@@ -1,3 +1,4 @@
+-- For the prover, and for callers.
 -- calls that got no reply and yet took effect: Herlihy and Wing 1990, section 2.2 (an operation without a response may be completed)
 use Rattle.std.specs.Prelude.{◌≡◌, ℕ, false, Some, None}
 use Rattle.nfs3_types.specs.declared.calls.NfsCall.{NfsCall}

@@ -1,3 +1,4 @@
+-- For the prover, and for callers.
 -- what of an object lasts: RFC 1813, section 2.6 (`ftype3`, `fileid`)
 use Rattle.std.specs.Prelude.{◌≡◌, ℕ, Some, ⊤}
 use Rattle.std.specs.FinMap as map

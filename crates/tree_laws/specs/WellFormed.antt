@@ -1,3 +1,4 @@
+-- For the prover, and for callers.
 -- what a file tree is: RFC 1813, section 2.6 (`ftype3`) and section 3.3.3
 use Rattle.std.specs.Prelude.{◌≡◌, ℕ, List, [], ◌∷◌, ◌++◌, length, Bool, true, not, ◌&&◌, if◌then◌else◌, Option, Some, None, IsSome, option_and_then}
 use Rattle.std.specs.FinMap as map

@@ -1,3 +1,4 @@
+-- For the prover, and for callers.
 -- which calls write over a byte of a file, which stays under all others: RFC 1813, sections 3.3.2, 3.3.7 and 3.3.8. A byte behind
 -- a file's end is 0 here.
 use Rattle.std.specs.Prelude.{◌≡◌, ℕ, ◌+◌, ◌<◌, ◌≤◌, List, [], ◌∷◌, length, slice_index, Option, Some, None, option_map, ⊤}

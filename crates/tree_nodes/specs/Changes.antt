@@ -1,3 +1,4 @@
+-- For the prover.
 -- what a change makes of the steps and of what is held
 use Rattle.std.specs.Prelude.{◌≡◌, ℕ, List, Some, None}
 use Rattle.tree_nodes.specs.declared.node.Node.{Node}

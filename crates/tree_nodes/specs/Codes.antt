@@ -1,3 +1,4 @@
+-- For the prover.
 -- nodes as data: by its code a proof tells a tree from another
 use Rattle.std.specs.Prelude.{◌≡◌, ◌⊎◌, ℕ, List, Option, refl}
 use Rattle.std.specs.Coded.{Coded, code_by, coded_ℕ, coded_list, coded×, coded⊎, coded_option}

@@ -1,3 +1,4 @@
+-- For the prover.
 -- changes of a file's bytes
 use Rattle.std.specs.Prelude.{ℕ, ◌+◌, ◌≤◌, List, length}
 use Rattle.nfs3_types.specs.Limits.{file_limit}

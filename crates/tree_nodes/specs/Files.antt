@@ -1,3 +1,4 @@
+-- Believed.
 -- a file, and the limit of a tree
 use Rattle.std.specs.Prelude.{ℕ, List, Option}
 use Rattle.nfs3_types.specs.declared.attributes.Verifier.{Verifier}

@@ -1,3 +1,4 @@
+-- Believed.
 -- a tree after a rename: RFC 1813, section 3.3.14
 use Rattle.std.specs.Prelude.{Bool, if◌then◌else◌, List, [], ◌∷◌, ◌++◌, length, drop, nat_eq}
 use Rattle.std.specs.List.{starts_with}

@@ -1,3 +1,4 @@
+-- Believed.
 -- what stands where after a move, by paths
 use Rattle.std.specs.Prelude.{◌≡◌, ◌++◌, Option, None}
 use Rattle.tree_nodes.specs.declared.node.Node.{Node}

@@ -1,3 +1,4 @@
+-- For the prover, and for callers.
 -- objects by their numbers
 use Rattle.std.specs.Prelude.{◌≡◌, [], Some}
 use Rattle.std.specs.FinMap as map

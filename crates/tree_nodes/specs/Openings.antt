@@ -1,3 +1,4 @@
+-- For the prover.
 -- the table of the opening tree
 use Rattle.std.specs.Prelude.{◌≡◌, ℕ, List, [], Some, None}
 use Rattle.std.specs.FinMap as map

@@ -1,3 +1,4 @@
+-- For the prover.
 -- objects with their paths
 use Rattle.std.specs.Prelude.{◌≡◌, ℕ, List, [], ◌∷◌, ◌++◌, Option, Some, None, map}
 use Rattle.tree_nodes.specs.declared.node.Node.{Node}

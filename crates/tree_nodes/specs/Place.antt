@@ -1,3 +1,4 @@
+-- For the prover, and for callers.
 -- where objects stand in a tree, by their numbers
 use Rattle.std.specs.Prelude.{◌≡◌, ℕ, Bool, not, ◌||◌, List, [], ◌∷◌, ◌++◌, length, slice_index_or, Option, option_and_then, option_map}
 use Rattle.std.specs.List.{list_all}

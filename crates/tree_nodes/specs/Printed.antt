@@ -1,3 +1,4 @@
+-- Believed.
 -- a tree as bytes: the number of nodes, then the nodes by path, in the items of RFC 4506
 use Rattle.std.specs.Prelude.{ℕ, ◌-◌, ◌%◌, ◌^◌, ◌<◌, List, ◌++◌, length, replicate, Option, Some, None, ⊤, All}
 use Rattle.std.specs.List.{flat_map}
@@ -42,6 +43,8 @@ entry_text e = path_text e.0 ++ (long_text e.1.object ++ content_text e.1.conten
 
 unfoldable pub tree_text : Tree → List ℕ
 tree_text tree = word_text (map.len tree) ++ flat_map entry_text (map.entries tree)
+
+-- ---- for the prover, and for callers
 
 -- the numbers fit their words
 abbrev pub IsShort : List ℕ → Type 0

@@ -1,3 +1,4 @@
+-- For the prover.
 -- ranks that rise from objects to the directories that they lie in
 use Rattle.std.specs.Prelude.{◌≡◌, ◌<◌, ◌≤◌, ◌-◌, ◌⊎◌, ℕ, nat_lt, Some, slice_index_or, if◌then◌else◌}
 use Rattle.tree_nodes.specs.declared.ranks.Ranks.{Ranks}

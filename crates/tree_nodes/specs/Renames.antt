@@ -1,3 +1,4 @@
+-- For the prover.
 -- a table after a rename
 use Rattle.std.specs.Prelude.{◌≡◌, ◌<◌, ◌≤◌, ℕ, List, Some, None, option_and_then, option_map}
 use Rattle.std.specs.FinMap as map

@@ -1,3 +1,4 @@
+-- For the prover.
 -- what a change of the table gives, with what takes it back
 use Rattle.std.specs.Prelude.{◌≡◌, ℕ, ◌+◌, List, Some}
 use Rattle.std.specs.FinMap as map

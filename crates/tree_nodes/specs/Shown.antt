@@ -1,3 +1,4 @@
+-- For the prover.
 -- the tree that a table shows
 use Rattle.std.specs.Prelude.{◌≡◌, ◌≤◌}
 use Rattle.std.proofs.Common.{sym, ◌∙◌}

@@ -1,3 +1,4 @@
+-- For the prover, and for callers.
 -- what every tree of a run keeps
 use Rattle.std.specs.Prelude.{ℕ, ◌≤◌, List, [], ◌∷◌, ◌++◌, IsSome}
 use Rattle.std.specs.FinMap as map

@@ -1,3 +1,4 @@
+-- For the prover.
 -- the table of the objects
 use Rattle.std.specs.Prelude.{ℕ, List, Option, option_and_then, option_map}
 use Rattle.std.specs.Ordering.{nat_cmp}

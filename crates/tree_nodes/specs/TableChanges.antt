@@ -1,3 +1,4 @@
+-- For the prover.
 -- what a step on the table makes of it
 use Rattle.std.specs.Prelude.{◌≡◌, ℕ, List, Option, Some}
 use Rattle.std.specs.FinMap as map

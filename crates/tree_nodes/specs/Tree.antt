@@ -1,3 +1,4 @@
+-- Believed.
 -- the file tree: RFC 1813, section 2.6 (`ftype3`) and section 3.3.3
 use Rattle.std.specs.Prelude.{ℕ, ◌==◌, ◌-◌, ◌+◌, Bool, not, ◌&&◌, nat_eq, nat_lt, List, [], length, take, Option, find}
 use Rattle.std.specs.List.{list_any, starts_with}

@@ -1,3 +1,4 @@
+-- Believed.
 -- taking a change of a tree back
 use Rattle.std.specs.Prelude.{◌≡◌, ◌<◌, ℕ, true, List, [], ◌∷◌, ◌++◌, Option, Some, None}
 use Rattle.std.specs.FinMap as map
@@ -69,6 +70,8 @@ StepsBack (Moved move) after before = IsMovedBack move after before
 -- the value takes the tree after a change back to the one before
 unfoldable pub TakesBack : Undo → Tree → Tree → Type 0
 TakesBack undo after before = StepsBack undo.step after before
+
+-- ---- for the prover, and for callers
 
 abbrev pub displaced_nodes : Option Entry → ℕ
 displaced_nodes None = 0

@@ -1,3 +1,4 @@
+-- For the prover.
 -- equal texts mean equal trees: each text says where it ends. For the prover: a law of the trait of states asks for it
 use Rattle.std.specs.Prelude.{◌≡◌, ℕ, ◌-◌, ◌%◌, ◌^◌, ◌<◌, List, [], ◌∷◌, ◌++◌, length, replicate, Some, None, All, refl}
 use Rattle.std.proofs.Common.{sym, ap, ◌∙◌, append_assoc, append-nil, arith, lit<}

@@ -1,3 +1,4 @@
+-- For the prover.
 -- a tree as steps from object to object: what lies in each under a name, and where each lies with its node
 use Rattle.std.specs.Prelude.{◌≡◌, ℕ, List, [], ◌∷◌, Option, Some, IsSome, option_and_then, option_map}
 use Rattle.tree_nodes.specs.declared.node.Node.{Node}

@@ -1,3 +1,4 @@
+-- For the prover.
 -- names that stand in a sorted set
 use Rattle.std.specs.Prelude.{◌≡◌, ℕ, List}
 use Rattle.std.specs.Ordering.{nat_cmp}

@@ -1,3 +1,4 @@
+-- Believed.
 -- what READDIR and READDIRPLUS list: RFC 1813, sections 3.3.16 and 3.3.17
 use Rattle.std.specs.Prelude.{ℕ, ◌==◌, Bool, true, false, not, ◌&&◌, ◌||◌, List, [], ◌∷◌, length, slice_index_or, is_some, map}
 use Rattle.std.specs.Option.{option_map_or}

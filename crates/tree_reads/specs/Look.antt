@@ -1,3 +1,4 @@
+-- Believed.
 -- what a success tells of the tree, where the call leaves it: RFC 1813, section 3.3, by procedure
 use Rattle.std.specs.Prelude.{ℕ, ◌+◌, ◌==◌, nat_le, Bool, true, false, not, ◌&&◌, if◌then◌else◌, List, length, take, drop, Option, is_some, option_map}
 use Rattle.std.specs.Option.{option_map_or}

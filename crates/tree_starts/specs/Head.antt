@@ -1,3 +1,4 @@
+-- Believed.
 -- What a history begins with: the root's handle, what the server held, and how strictly its replies are judged (this project's own;
 -- the root handle is RFC 1813's `nfs_fh3`).
 use Rattle.std.specs.Prelude.{ℕ, List, []}

@@ -1,3 +1,4 @@
+-- Believed.
 -- names of entries: RFC 1813, section 3.2 and section 3.3.3
 use Rattle.std.specs.Prelude.{ℕ, ◌==◌, ◌||◌, not, nat_eq, Bool, List, [], ◌∷◌, length}
 use Rattle.std.specs.Cmp.Lexicographic.{pointwise}

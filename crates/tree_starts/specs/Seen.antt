@@ -1,3 +1,4 @@
+-- For the prover, and for callers.
 -- Starting objects where they lie in memory, as those of the definitions: what the code says to the prover.
 use Rattle.std.specs.Prelude.{◌<◌, ◌^◌, List, length, map}
 use Rattle.tree_starts.specs.declared.object.StartObject.{StartObject}

@@ -1,3 +1,4 @@
+-- Believed.
 -- What a server held before the first event, object by object (this project's own; kinds and names as in RFC 1813, sections 2.6 and
 -- 3.2). The root is object 0. The objects are numbered from 1 in their order, and each lies in the root or in one ahead of it.
 use Rattle.std.specs.Prelude.{◌≡◌, ℕ, zero, suc, ◌+◌, ◌==◌, ◌&&◌, not, nat_le, Bool, true, false, if◌then◌else◌, List, [], ◌∷◌, ◌++◌, length, slice_get, map, Option, Some, None, Result, Ok, Err}

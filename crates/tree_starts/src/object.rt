@@ -10,9 +10,6 @@ use std::alloc::{AllocError, Global};
 /// The most objects of a start.
 pub const START_LIMIT: usize = 1_000_000;
 
-/// The most bytes of a file.
-pub const FILE_LIMIT: usize = 16_777_216;
-
 /// The most bytes of a name or of a link's text.
 pub const TEXT_LIMIT: usize = 1_048_576;
 

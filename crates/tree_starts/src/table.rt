@@ -7,8 +7,9 @@ ghost use Rattle.tree_starts.specs.Start.{keys_of, is_parent, may_be_named, fits
 use crate::fault::StartFault;
 use crate::keys::Keys;
 use crate::names::is_plain;
-use crate::object::{FILE_LIMIT, TEXT_LIMIT};
+use crate::object::TEXT_LIMIT;
 use crate::seen::{SeenNode, SeenObject, SeenStart};
+use nfs3_types::FILE_LIMIT;
 use std::alloc::{AllocError, Global};
 use std::marker::Model;
 
@@ -123,7 +124,7 @@ fn fits(node: &SeenNode<'_>) -> bool
     ensures { result ≡ fits (seen_node node.now) }
 {
     match node {
-        SeenNode::File(bytes) => bytes.len() <= FILE_LIMIT,
+        SeenNode::File(bytes) => bytes.len() <= FILE_LIMIT as usize,
         SeenNode::Directory => true,
         SeenNode::Link(text) => text.len() <= TEXT_LIMIT,
     }

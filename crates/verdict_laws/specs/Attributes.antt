@@ -1,3 +1,4 @@
+-- For the prover, and for callers.
 -- The attributes that replies gave, under the strict profile (RFC 1813, section 2.6: `fattr3`; sections 3.3.1 and 3.3.6).
 use Rattle.std.specs.Prelude.{◌≡◌, ℕ, List, ◌∷◌, ◌++◌, Some}
 use Rattle.std.specs.List.{flat_map}

@@ -1,3 +1,4 @@
+-- For the prover, and for callers.
 -- A history over two crashes, one without a crash, and one behind a start that is judged strictly, with plans to which the laws apply.
 -- Their events are left out: a witness asks for none.
 use Rattle.std.specs.Prelude.{◌≡◌, ℕ, ◌+◌, List, [], ◌∷◌, take, length, Some, None, true, IsTrue}

@@ -1,3 +1,4 @@
+-- For the prover, and for callers.
 -- What a READ gives of what a WRITE wrote, over any number of crashes (RFC 1813, sections 3.3.6 and 3.3.7; section 4.8: what is on
 -- stable storage survives a crash).
 use Rattle.std.specs.Prelude.{◌≡◌, ◌≢◌, ℕ, List, ◌∷◌, ◌++◌, take, Some}

@@ -1,3 +1,4 @@
+-- For the prover, and for callers.
 -- What an accepted plan makes of the objects that a server held at first, over any number of crashes (RFC 1813, section 3.3.6; section
 -- 4.8: what is on stable storage survives a crash).
 use Rattle.std.specs.Prelude.{◌≡◌, ℕ, ◌+◌, List, ◌∷◌, ◌++◌, length, slice_get, slice_index, Some}

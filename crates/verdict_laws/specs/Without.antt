@@ -1,3 +1,4 @@
+-- For the prover, and for callers.
 -- What is asked of a serial order where the server never went down: linearizability (Herlihy and Wing 1990, section 2.2), with
 -- no word on eras, cuts and verifiers.
 use Rattle.std.specs.Prelude.{◌≡◌, ℕ, IsTrue, IsSome, List, [], ◌∷◌, Some, None}

@@ -1,3 +1,4 @@
+-- Believed.
 -- The faults of the checks, as faults of the whole plan (names of this project's own).
 use Rattle.order_check.specs.declared.fault.ShapeFault.{ShapeFault}
 use Rattle.order_check.specs.declared.fault.ShapeFault.TheVariants as shapes
@@ -26,6 +27,8 @@ of_shape shapes.NoMemory = NoMemory
 
 abbrev pub of_order : OrderFault → CheckFault
 of_order (Early i j) = No (faults.Early i j)
+
+-- ---- for the prover
 
 abbrev pub of_run : RunFault → CheckFault
 of_run (runs.Illegal n) = No (faults.Illegal n)

@@ -1,3 +1,4 @@
+-- Believed.
 -- The run of a plan (a legal sequential history, Herlihy and Wing 1990, section 2.1; what a crash leaves,
 -- Izraelevitz, Mendes and Scott 2016): from the tree that stood at first, each era from what the eras ahead of it kept.
 use Rattle.std.specs.Prelude.{ℕ, List, length, take, map, Option, Some, None, option_and_then}

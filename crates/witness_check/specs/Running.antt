@@ -1,3 +1,4 @@
+-- For the prover.
 -- What the functions that run a plan say to the prover.
 use Rattle.std.specs.Prelude.{◌≡◌, ℕ, List, [], ◌∷◌, ◌++◌, length, Option, Some, None, option_map}
 use Rattle.std.specs.List.{filter_map}

@@ -1,3 +1,4 @@
+-- For the prover.
 -- What the function that goes over a plan's checks says to the prover.
 use Rattle.nfs_history.specs.declared.knowing.KnownCalls.{KnownCalls}
 use Rattle.certificate.specs.declared.plan.Certificate.{Certificate}

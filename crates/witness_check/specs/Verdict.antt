@@ -1,3 +1,4 @@
+-- Believed.
 -- The verdict on a history and a plan, and on two texts: that the plan is a witness, or the first fault, in this order: the
 -- history's, the certificate's text's, the plan's shape, its order, its run, its cuts, its write verifiers (an order of this
 -- project's own).

@@ -1,3 +1,4 @@
+-- Believed.
 -- When a plan is a witness of a history, and what two files show with a yes: buffered durable linearizability (Izraelevitz,
 -- Mendes and Scott 2016, section 4) with one serial order for the whole history, of which a crash loses the end of an era
 -- (Herlihy and Wing 1990, section 2.2, for what a serial order has to keep to).

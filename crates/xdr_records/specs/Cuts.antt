@@ -1,3 +1,4 @@
+-- For the prover, and for callers.
 -- Bytes behind a whole record, cut on.
 use Rattle.std.specs.Prelude.{◌≡◌, ◌≤◌, ℕ, List, ◌∷◌, length, take, Option, MatchOption}
 use Rattle.xdr_records.specs.Record.{Begun, IsPart, IsTooLong, AreRecords}

@@ -1,3 +1,4 @@
+-- Believed.
 -- Which item of RFC 4506 is at fault: it stands behind items that are right, and is wrong itself.
 use Rattle.std.specs.Prelude.{◌≡◌, ◌≢◌, ◌<◌, ◌≤◌, ℕ, ◌+◌, ◌⊎◌, true, List, [], ◌∷◌, ◌++◌, length, Err}
 use Rattle.xdr_records.specs.declared.fault.XdrFault.{XdrFault}

@@ -1,3 +1,4 @@
+-- For the prover, and for callers.
 -- What becomes at each call of a feed of bytes with record marking (RFC 5531, section 11).
 use Rattle.std.specs.Prelude.{◌≡◌, ℕ, Bool, true, false, List, [], ◌∷◌, ◌++◌}
 use Rattle.xdr_records.specs.Record.{IsCut, IsUnfinished, IsTooLong}

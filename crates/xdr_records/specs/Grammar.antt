@@ -1,3 +1,4 @@
+-- Believed.
 -- The layout of a message as data: items of RFC 4506, one behind the other.
 use Rattle.std.specs.Prelude.{ℕ, Bool, true, false, List, Option, Some, None, Result}
 

@@ -1,3 +1,4 @@
+-- Believed.
 -- The items of RFC 4506 from the front of what is left, or what is wrong with them.
 use Rattle.std.specs.Prelude.{ℕ, zero, suc, ◌+◌, ◌*◌, ◌/◌, Bool, true, false, nat_lt, nat_le, if◌then◌else◌, List, [], ◌∷◌, length, take, Result, Ok, Err}
 use Rattle.byteorder.specs.Endian.{big_number}
@@ -16,6 +17,8 @@ long_of bytes = big_number 8 bytes
 -- the least multiple of 4 from n on
 abbrev pub padded : ℕ → ℕ
 padded n = (n + 3) / 4 * 4
+
+-- ---- for the prover, and for callers
 
 -- a word
 unfoldable pub word_at : Unread → Result (ℕ × Unread) XdrFault

@@ -1,3 +1,4 @@
+-- For the prover, and for callers.
 -- Reading without where a fault stands, for messages whose faults have no offset.
 use Rattle.std.specs.Prelude.{◌≡◌, length, Result, Ok, Err}
 use Rattle.xdr_records.specs.declared.fault.XdrFault.{XdrFault}

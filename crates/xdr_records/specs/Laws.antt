@@ -1,3 +1,4 @@
+-- For the prover, and for callers.
 -- What it means that an item is read exactly where its grammar has it.
 use Rattle.std.specs.Prelude.{◌≡◌, List, ℕ, Result, Ok, Err}
 use Rattle.xdr_records.specs.declared.fault.XdrFault.{XdrFault}

@@ -1,3 +1,4 @@
+-- For the prover, and for callers.
 -- Reading items of RFC 4506 from the front, with the first fault that is met and where it stands.
 use Rattle.std.specs.Prelude.{◌≡◌, ℕ, zero, suc, Bool, true, false, List, [], ◌∷◌, length, Option, Some, None, Result, Ok, Err}
 use Rattle.xdr_records.specs.declared.fault.XdrFault.{XdrFault}

@@ -1,3 +1,4 @@
+-- Believed.
 -- Record marking, RFC 5531, section 11: which bytes of a stream are which records.
 use Rattle.std.specs.Prelude.{◌≡◌, ◌<◌, ◌≤◌, ◌⊎◌, ℕ, ◌+◌, Bool, true, false, List, [], ◌∷◌, ◌++◌, length}
 use Rattle.std.specs.List.{concat}
@@ -7,6 +8,8 @@ use Rattle.xdr_records.specs.Texts.{word_text}
 -- a record has at most so many bytes
 abbrev pub record_limit : ℕ
 record_limit = 2097152
+
+-- ---- for the prover, and for callers
 
 -- the top bit of a header is set where its fragment is the record's last
 abbrev pub mark : Bool → ℕ

@@ -1,3 +1,4 @@
+-- For the prover, and for callers.
 -- How a record goes on in the bytes that stand.
 use Rattle.std.specs.Prelude.{◌≡◌, ◌≤◌, ℕ, List, length, take}
 use Rattle.xdr_records.specs.declared.scan.Scan.{Scan}

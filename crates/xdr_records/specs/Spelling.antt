@@ -1,3 +1,4 @@
+-- Believed.
 -- Which bytes spell a value, by RFC 4506: a relation between whole lists of bytes and values.
 use Rattle.std.specs.Prelude.{◌≡◌, ◌≤◌, ℕ, Bool, true, false, List, [], ◌∷◌, ◌++◌, length, Ok}
 use Rattle.xdr_records.specs.Grammar.{Grammar}

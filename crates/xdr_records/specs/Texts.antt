@@ -1,3 +1,4 @@
+-- Believed.
 -- The one spelling that is written of each item of RFC 4506.
 use Rattle.std.specs.Prelude.{ℕ, ◌-◌, Bool, true, false, List, [], ◌∷◌, ◌++◌, length, replicate, Option, Some, None}
 use Rattle.byteorder.specs.Endian.{big_bytes}

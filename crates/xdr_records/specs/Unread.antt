@@ -1,3 +1,4 @@
+-- Believed.
 -- What a reader of a message has left.
 use Rattle.std.specs.Prelude.{ℕ, ◌+◌, List, drop}
 

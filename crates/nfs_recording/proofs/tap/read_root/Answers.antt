@@ -15,4 +15,4 @@ pub returns-in-Ok-clause-bad : goal.returns-in-Ok-clause-bad
 returns-in-Ok-clause-bad c =
     λ _ bytes range short other.
     let text = sym c.as_bytes.ensures.value ∙ c.in-Ok.ensures.spelled in
-    too_long c.args.text.now bytes c.in-Ok.bytes.items text (omega (arith, c.in-Ok.bytes.ok.0, c.len.ensures, c.if-len-gt-ROOT_LIMIT.true)) short other
+    too_long c.args.text.now bytes c.in-Ok.bytes.items text (omega (arith, c.in-Ok.bytes.ok.0, c.len.ensures, c.if-len-gt-HANDLE_LIMIT.true)) short other
