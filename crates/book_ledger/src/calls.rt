@@ -21,6 +21,7 @@ use nfs_history::{
 };
 use nfs3_msgs::{MessageFault, read_args};
 use nfs3_types::{NFS_PROGRAM, NFS_VERSION, NfsCall, Outcome, Procedure, StableHow};
+use rpc_reader::{CallHead, SEALED_FLAVOR, read_call};
 use std::alloc::Global;
 use xdr_records::RECORD_LIMIT;
 

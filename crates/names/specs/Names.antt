@@ -1,4 +1,4 @@
--- For the prover.
+-- For the prover, and for callers.
 -- what a contract sees of names
 use Rattle.std.specs.Prelude.{ℕ, List, [], ◌∷◌}
 use Rattle.std.specs.declared.cmp.Ordering.{Ordering}

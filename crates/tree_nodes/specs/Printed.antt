@@ -1,4 +1,4 @@
--- Believed.
+-- For the prover, and for callers.
 -- a tree as bytes: the number of nodes, then the nodes by path, in the items of RFC 4506
 use Rattle.std.specs.Prelude.{ℕ, ◌-◌, ◌%◌, ◌^◌, ◌<◌, List, ◌++◌, length, replicate, Option, Some, None, ⊤, All}
 use Rattle.std.specs.List.{flat_map}
