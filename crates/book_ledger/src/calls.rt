@@ -16,9 +16,7 @@ ghost use Rattle.book_ledger.specs.Recordable.{asks_judged, may_make, step_so, A
 
 use crate::fault::BeginFault;
 use journal_records::is_inside;
-use nfs_history::{
-    commit_success, commit_success, succeeded, succeeded, write_success, write_success,
-};
+use nfs_history::{commit_success, succeeded, write_success};
 use nfs3_msgs::{MessageFault, read_args};
 use nfs3_types::{NFS_PROGRAM, NFS_VERSION, NfsCall, Outcome, Procedure, StableHow};
 use rpc_reader::{CallHead, SEALED_FLAVOR, read_call};
