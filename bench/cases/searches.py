@@ -11,7 +11,7 @@ crashes-120-4, lanes-200-3  made with a certificate each, by clients of a model 
 """
 import os
 
-from cases.calls import create, get_attributes
+from cases.calls import create, get_attributes, list_entries, look_up, make_directory
 from cases.history import CRASH_EVENT, call_event, call_message, history_file, reply_event, reply_message
 from cases.xdr import REG
 
@@ -48,8 +48,20 @@ def made_here(cases):
         cases.add("search-%s-1" % case, "search-%s-1 search 1 1000 %s\n" % (case, history.hex()), "found")
 
 
+def handles_beside_dots(cases):
+    """Handles that only a list gives, beside `.` and `..`: nothing judges these, and the calls behind it show which directories they name."""
+    own, here, above = b"\xaa", b"\xbb", b"\xcc"
+    calls = [make_directory(0, "d").gives(own), list_entries(own).gives([(".", here), ("..", above)], True),
+             look_up(above, "d").gives(own), create(here, "a").gives(), look_up(own, "a").gives(b"\xdd")]
+    history = history_file([event for place, call in enumerate(calls, 1) for event in exchange(1, place, call)])
+    for workers in (1, 4):
+        whole = "search-handles-beside-dots-%d" % workers
+        cases.add(whole, "%s search %d 1000 %s\n" % (whole, workers, history.hex()), "found")
+
+
 def add_all(cases):
     made_here(cases)
+    handles_beside_dots(cases)
     digits = histories()
     for case, history, workers, turns, answer in SEARCHES:
         cases.add("search-" + case, "search-%s search %d %d %s\n" % (case, workers, turns, digits[history]), answer)

@@ -7,7 +7,7 @@ use nfs3_types::{
 };
 use search_problem::Found;
 use std::alloc::AllocError;
-use tree_handles::{View, directory_of, entry_at, named};
+use tree_handles::{View, directory_of, named};
 use tree_nodes::Nodes;
 use tree_reads::object_named;
 
@@ -49,7 +49,8 @@ impl Desk {
         self.bind(handle, object)
     }
 
-    /// Binds the handles of a list of entries.
+    /// Binds the handles of a list of entries. Those beside `.` and `..` aren't judged, so they are taken for the directory's own and for
+    /// that of the one that it lies in.
     fn bind_listed(
         &mut self,
         nodes: &Nodes,
@@ -65,8 +66,8 @@ impl Desk {
         };
         for entry in success.entries.as_slice() {
             if let Some(handle) = &entry.object {
-                if let Some(node) = entry_at(nodes, parent, entry.name.as_slice()) {
-                    self.bind(handle, node.object)?;
+                if let Some(object) = object_named(nodes, parent, entry.name.as_slice()) {
+                    self.bind(handle, object)?;
                 }
             }
         }
