@@ -1,5 +1,5 @@
 #!/usr/bin/env python3
-"""Writes what crates/stored_journals is run on, and what it has to answer: make_journals.py FOLDER [BOOKS [SERVERS [SEED]]].
+"""Writes what crates/journal_cases is run on, and what it has to answer: make_journals.py FOLDER [BOOKS [SERVERS [SEED]]].
 
 First come the commands of books, then those of servers: make_books.py and make_servers.py say of what kinds. BOOKS and SERVERS are
 about how many are drawn of each, 3,800 and 6,300 if they are left out. The status is 1 where an answer was never reached.

@@ -18,8 +18,8 @@ KNOWN = {
     "search_workers/src/running.rt": 1, "search_workers/src/ways.rt": 2, "search_workers/src/worker.rt": 1,
     "crash_harness/src/run.rt": 1, "cut_check/src/stability.rt": 1,
     "journal_server/src/crashing.rt": 1, "journal_server/src/desk.rt": 1, "journal_server/src/placing.rt": 1,
-    "names/src/long.rt": 1, "names/src/short.rt": 1, "nfs_history/src/checking.rt": 1, "nfs_history/src/history.rt": 1,
-    "nfs_relay/src/connection.rt": 1, "nfs_relay/src/relay.rt": 1, "nfs_searching/src/search.rt": 1,
+    "tree_stores/src/names/long.rt": 1, "tree_stores/src/names/short.rt": 1, "nfs_history/src/checking.rt": 1, "nfs_history/src/history.rt": 1,
+    "nfs_relay/src/connection.rt": 1, "nfs_relay/src/relay.rt": 1, "judging_commands/src/search.rt": 1,
     "book_ledger/src/answering.rt": 2, "book_ledger/src/beginning.rt": 1, "recorder/src/book.rt": 1, "book_ledger/src/ledger.rt": 2,
     "search_branches/src/state.rt": 1, "tree_nodes/src/nodes.rt": 1, "tree_nodes/src/table.rt": 1,
 }
@@ -49,7 +49,7 @@ def main():
     wrong = 0
     for path in sorted(glob.glob(crates + "/*/src/**/*.rt", recursive=True)):
         name = os.path.relpath(path, crates)
-        if name.split("/")[0].endswith("_tests") or name.startswith("stored_"):
+        if name.split("/")[0].endswith(("_tests", "_cases")) or name.startswith("server_soak/"):
             continue
         with open(path) as file:
             found = list(made_by_hand(file.read().split("\n")))

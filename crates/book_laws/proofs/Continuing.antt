@@ -11,9 +11,9 @@ use Rattle.nfs_history.specs.declared.history.Meaning.TheVariants as meanings
 use Rattle.nfs_history.specs.declared.history.RecordedCall.{RecordedCall}
 use Rattle.nfs_history.specs.Precedence.{call_at}
 use Rattle.tree_nodes.proofs.Chains.{decide, differ}
-use Rattle.book_machine.specs.Book.{Book}
-use Rattle.book_machine.specs.Steps.{begun, with_call, answered_now, change_at, with_reply, HasMessage, IsRecordable}
-use Rattle.book_machine.proofs.Moving.{call_stays, call_was, changed_call, other_call}
+use Rattle.book_laws.specs.Book.{Book}
+use Rattle.book_laws.specs.Steps.{begun, with_call, answered_now, change_at, with_reply, HasMessage, IsRecordable}
+use Rattle.book_laws.proofs.Moving.{call_stays, call_was, changed_call, other_call}
 
 -- ---- lists that grow
 

@@ -8,16 +8,16 @@ use Rattle.replay_law.specs.Run.{state_after, kept_steps}
 use Rattle.tree_starts.specs.Start.{object_made}
 use Rattle.tree_nodes.specs.Tree.{entry_of}
 use Rattle.file_tree.proofs.Starts.{few}
-use Rattle.book_machine.specs.Placing.{Placed, is_recorded}
-use Rattle.book_machine.specs.Book.{Book, setting_made, object_in, next_by, tree_at_first}
-use Rattle.book_machine.specs.Steps.{Steps, with_object}
-use Rattle.book_machine.specs.Steps.Steps.{begins, places, flushes, answers, closes, crashes, refuses}
-use Rattle.book_machine.proofs.Starting.{all_numbers}
-use Rattle.book_machine.proofs.Invariant.{Over, AreKnown, AllKnown, IsInvariant}
-use Rattle.book_machine.proofs.Lists.{all_append, all_each}
-use Rattle.journal_rebuild.specs.Rebuilding.{step_in}
-use Rattle.journal_rebuild.proofs.Numbers.{Among, among_more}
-use Rattle.journal_rebuild.proofs.Growing.{known_start}
+use Rattle.book_laws.specs.Placing.{Placed, is_recorded}
+use Rattle.book_laws.specs.Book.{Book, setting_made, object_in, next_by, tree_at_first}
+use Rattle.book_laws.specs.Steps.{Steps, with_object}
+use Rattle.book_laws.specs.Steps.Steps.{begins, places, flushes, answers, closes, crashes, refuses}
+use Rattle.book_laws.proofs.Starting.{all_numbers}
+use Rattle.book_laws.proofs.Invariant.{Over, AreKnown, AllKnown, IsInvariant}
+use Rattle.book_laws.proofs.Lists.{all_append, all_each}
+use Rattle.journal.specs.Rebuilding.{step_in}
+use Rattle.journal.proofs.Numbers.{Among, among_more}
+use Rattle.journal.proofs.Growing.{known_start}
 use Rattle.book_laws.specs.Recorded.{changes_of}
 use Rattle.book_laws.specs.Alone.{GivesTheTree, AJournalAloneGivesTheTree}
 use Rattle.book_laws.proofs.Walks.{from_opening}

@@ -16,11 +16,11 @@ use Rattle.nfs_history.specs.declared.history.Meaning.TheVariants as meanings
 use Rattle.nfs_history.specs.declared.history.RecordedCall.{RecordedCall}
 use Rattle.nfs_history.specs.Precedence.{call_at}
 use Rattle.replay_law.specs.Run.{kept_steps}
-use Rattle.book_machine.specs.Placing.{Placed, is_recorded, records_in, front_with}
-use Rattle.book_machine.specs.Book.{Book, object_in}
-use Rattle.book_machine.specs.Steps.{HasMessage, IsRecordable, IsAnswerTo, journal_record, reply_message, step_of, with_record, Places, Steps, opening_book}
-use Rattle.book_machine.specs.Steps.Steps.{begins, places, flushes, answers, closes, crashes, refuses}
-use Rattle.book_machine.proofs.Invariant.{Over, IsInvariant}
+use Rattle.book_laws.specs.Placing.{Placed, is_recorded, records_in, front_with}
+use Rattle.book_laws.specs.Book.{Book, object_in}
+use Rattle.book_laws.specs.Steps.{HasMessage, IsRecordable, IsAnswerTo, journal_record, reply_message, step_of, with_record, Places, Steps, opening_book}
+use Rattle.book_laws.specs.Steps.Steps.{begins, places, flushes, answers, closes, crashes, refuses}
+use Rattle.book_laws.proofs.Invariant.{Over, IsInvariant}
 use Rattle.book_laws.specs.Recorded.{changes_of, AreRecordsOf, HasItsChanges, ItsRecordsAreItsChanges}
 use Rattle.book_laws.proofs.Walks.{from_opening}
 use Rattle.book_laws.proofs.Continuing.{Continues, message_stays, AreSent, continues_event, sent_event, continues_same, sent_same, continues_begin, sent_begin, continues_answer, sent_answer}

@@ -8,8 +8,8 @@ use Rattle.xdr_records.proofs.Written.{long_spelled}
 use Rattle.tree_nodes.proofs.Chains.{decide, differ}
 use Rattle.tree_handles.specs.Binding.{same_bytes, is_bound}
 use Rattle.tree_handles.proofs.Lookups.{same_is}
-use Rattle.journal_rebuild.specs.Rebuilding.{handle_of, bindings_made}
-use Rattle.journal_rebuild.proofs.Numbers.{Among, is_paired, seen, paired_own, found}
+use Rattle.journal.specs.Rebuilding.{handle_of, bindings_made}
+use Rattle.journal.proofs.Numbers.{Among, is_paired, seen, paired_own, found}
 
 abbrev pub AreSmall : List ℕ → Type 0
 AreSmall numbers = AllByRecursion (λ n. n < 2 ^ 64) numbers

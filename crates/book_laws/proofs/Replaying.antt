@@ -41,11 +41,11 @@ use Rattle.tree_laws.specs.Agreeing.{AgreeOn}
 use Rattle.tree_laws.proofs.Agreeing.{others_dont_matter}
 use Rattle.tree_laws.proofs.Keeping.{put_there}
 use Rattle.tree_laws.proofs.Newcomers.{only_its_own_is_new}
-use Rattle.book_machine.specs.Placing.{Placed, is_recorded}
-use Rattle.book_machine.specs.Book.{Setting, bindings_made, setting_made, next_by}
-use Rattle.book_machine.proofs.Running.{unrecorded_leaves_by}
+use Rattle.book_laws.specs.Placing.{Placed, is_recorded}
+use Rattle.book_laws.specs.Book.{Setting, bindings_made, setting_made, next_by}
+use Rattle.book_laws.proofs.Running.{unrecorded_leaves_by}
 use Rattle.nfs_history.specs.Success.{succeeded}
-use Rattle.journal_rebuild.proofs.Numbers.{Among}
+use Rattle.journal.proofs.Numbers.{Among}
 use Rattle.book_laws.proofs.Standing.{AllStand}
 use Rattle.book_laws.proofs.Renaming.{AreSmall, AreAlike, alike_bound}
 

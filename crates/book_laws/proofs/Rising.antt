@@ -17,19 +17,19 @@ use Rattle.xdr_records.specs.Texts.{long_text}
 use Rattle.certificate.specs.CertificateText.{AreRising, HasHandle, AreEras}
 use Rattle.nfs_history.specs.declared.history.RecordedCall.{RecordedCall}
 use Rattle.tree_nodes.specs.Tree.{entry_of}
-use Rattle.book_machine.specs.Placing.{Placed}
-use Rattle.book_machine.specs.Book.{Book, handle_of, object_in}
-use Rattle.book_machine.specs.Plan.{bind_of}
-use Rattle.book_machine.specs.Steps.{with_object, Steps}
-use Rattle.book_machine.specs.Steps.Steps.{begins, places, flushes, answers, closes, crashes, refuses}
-use Rattle.book_machine.proofs.Invariant.{Over, IsInvariant}
-use Rattle.book_machine.proofs.Lists.{all_each}
-use Rattle.book_machine.proofs.Moving.{all_with_object}
-use Rattle.book_machine.proofs.Shaped.{plans}
+use Rattle.book_laws.specs.Placing.{Placed}
+use Rattle.book_laws.specs.Book.{Book, handle_of, object_in}
+use Rattle.book_laws.specs.Plan.{bind_of}
+use Rattle.book_laws.specs.Steps.{with_object, Steps}
+use Rattle.book_laws.specs.Steps.Steps.{begins, places, flushes, answers, closes, crashes, refuses}
+use Rattle.book_laws.proofs.Invariant.{Over, IsInvariant}
+use Rattle.book_laws.proofs.Lists.{all_each}
+use Rattle.book_laws.proofs.Moving.{all_with_object}
+use Rattle.book_laws.proofs.Shaped.{plans}
 use Rattle.book_laws.specs.Writing.{CanBeWritten, EveryCertificateCanBeWritten}
 use Rattle.book_laws.proofs.Walks.{from_opening}
-use Rattle.book_machine.proofs.Newcomer.{others}
-use Rattle.book_machine.proofs.Starting.{all_numbers}
+use Rattle.book_laws.proofs.Newcomer.{others}
+use Rattle.book_laws.proofs.Starting.{all_numbers}
 
 -- ---- numbers that rise
 

@@ -39,9 +39,9 @@ use Rattle.tree_nodes.proofs.Found.{some_found}
 use Rattle.file_tree.specs.Success.{next_tree}
 use Rattle.tree_laws.proofs.Keeping.{put_there}
 use Rattle.tree_laws.proofs.Replayed.{entries_opening}
-use Rattle.book_machine.specs.Book.{bindings_made}
-use Rattle.book_machine.specs.Steps.{begun, with_made, step_of, reply_message, IsRecordable, IsAnswerTo, Begins, Places, Flushes, Answers, opening_book}
-use Rattle.book_machine.specs.Steps.Steps.{begins, places, flushes, answers}
+use Rattle.book_laws.specs.Book.{bindings_made}
+use Rattle.book_laws.specs.Steps.{begun, with_made, step_of, reply_message, IsRecordable, IsAnswerTo, Begins, Places, Flushes, Answers, opening_book}
+use Rattle.book_laws.specs.Steps.Steps.{begins, places, flushes, answers}
 use Rattle.book_laws.specs.Example.{create, created, asked, answer, after_begin, after_place, after_flush, after_answer, PremisesAreMet}
 
 -- ---- transaction numbers

@@ -11,17 +11,17 @@ use Rattle.nfs3_types.specs.declared.calls.NfsCall.{NfsCall}
 use Rattle.nfs3_types.specs.declared.calls.NfsCall.TheVariants as calls
 use Rattle.nfs3_types.specs.Procedures.{procedure_called, is_answered, failure_in, changes_the_tree}
 use Rattle.nfs_history.specs.History.{IsCallOfNfs}
-use Rattle.journal_records.specs.declared.change.Change.{Change}
-use Rattle.journal_records.specs.Journal.{journal_record, IsChange, IsJournalRecord}
-use Rattle.journal_records.proofs.Meanings.{spelled_so}
+use Rattle.journal.specs.declared.change.Change.{Change}
+use Rattle.journal.specs.Journal.{journal_record, IsChange, IsJournalRecord}
+use Rattle.journal.proofs.Meanings.{spelled_so}
 use Rattle.tree_laws.specs.Leaving.{only_looks}
 use Rattle.tree_nodes.proofs.Chains.{both_pass, negated, none_is}
 use Rattle.nfs_history.specs.Success.{succeeded}
 use Rattle.nfs_history.proofs.AskedProcedure.{procedure_is}
-use Rattle.book_machine.specs.Placing.{Placed, is_recorded}
-use Rattle.book_machine.specs.Book.{Book}
-use Rattle.book_machine.specs.Steps.{reply_message}
-use Rattle.journal_rebuild.specs.Rebuilding.{AreJournalRecords, step_in, object_in, IsNumbered}
+use Rattle.book_laws.specs.Placing.{Placed, is_recorded}
+use Rattle.book_laws.specs.Book.{Book}
+use Rattle.book_laws.specs.Steps.{reply_message}
+use Rattle.journal.specs.Rebuilding.{AreJournalRecords, step_in, object_in, IsNumbered}
 use Rattle.book_laws.proofs.Recording.{IsKept, AreKept}
 
 changing_called : (call : NfsCall) → only_looks call ≡ false → changes_the_tree (procedure_called call) ≡ true

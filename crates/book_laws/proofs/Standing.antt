@@ -9,18 +9,18 @@ use Rattle.tree_starts.specs.Head.{Head}
 use Rattle.tree_starts.specs.Start.{object_made}
 use Rattle.tree_nodes.specs.Tree.{Tree, entry_of}
 use Rattle.tree_laws.proofs.Judged.{others_dont_matter_under}
-use Rattle.journal_rebuild.proofs.Numbers.{Among}
+use Rattle.journal.proofs.Numbers.{Among}
 use Rattle.tree_nodes.proofs.Chains.{differ, same_some}
-use Rattle.book_machine.specs.Placing.{Placed}
-use Rattle.book_machine.specs.Book.{Book, Setting, bindings_made, setting, setting_made, object_by, object_in, next_by, tree_at_first}
-use Rattle.book_machine.specs.Steps.{with_object, step_of, Places, Steps}
-use Rattle.book_machine.specs.Steps.Steps.{begins, places, flushes, answers, closes, crashes, refuses}
-use Rattle.book_machine.proofs.Invariant.{IsInvariant}
-use Rattle.book_machine.proofs.Lists.{all_append}
-use Rattle.book_machine.proofs.Starting.{other_object, call_alone}
-use Rattle.book_machine.proofs.Handles.{agree_but}
-use Rattle.book_machine.proofs.Bound.{AreApart, stays_absent_by, run_same, kept_apart}
-use Rattle.book_machine.proofs.Newcomer.{apart_eras, others, isnt_zero}
+use Rattle.book_laws.specs.Placing.{Placed}
+use Rattle.book_laws.specs.Book.{Book, Setting, bindings_made, setting, setting_made, object_by, object_in, next_by, tree_at_first}
+use Rattle.book_laws.specs.Steps.{with_object, step_of, Places, Steps}
+use Rattle.book_laws.specs.Steps.Steps.{begins, places, flushes, answers, closes, crashes, refuses}
+use Rattle.book_laws.proofs.Invariant.{IsInvariant}
+use Rattle.book_laws.proofs.Lists.{all_append}
+use Rattle.book_laws.proofs.Starting.{other_object, call_alone}
+use Rattle.book_laws.proofs.Handles.{agree_but}
+use Rattle.book_laws.proofs.Bound.{AreApart, stays_absent_by, run_same, kept_apart}
+use Rattle.book_laws.proofs.Newcomer.{apart_eras, others, isnt_zero}
 use Rattle.book_laws.proofs.Recording.{kept_ended}
 
 -- the steps run, and what each made is among the made

@@ -4,11 +4,11 @@ use Rattle.tree_starts.specs.declared.object.StartObject.{StartObject}
 use Rattle.tree_starts.specs.declared.profile.Profile.{Profile}
 use Rattle.std.proofs.Common.{ℕ, List, [], ◌∷◌}
 use Rattle.std.specs.List.{AllByRecursion}
-use Rattle.book_machine.specs.Book.{Book}
-use Rattle.book_machine.specs.Steps.{Steps, opening_book, IsRun}
-use Rattle.book_machine.proofs.Invariant.{IsInvariant}
-use Rattle.book_machine.proofs.EveryBook.{opening_holds}
-use Rattle.book_machine.proofs.Kept.{kept}
+use Rattle.book_laws.specs.Book.{Book}
+use Rattle.book_laws.specs.Steps.{Steps, opening_book, IsRun}
+use Rattle.book_laws.proofs.Invariant.{IsInvariant}
+use Rattle.book_laws.proofs.EveryBook.{opening_holds}
+use Rattle.book_laws.proofs.Kept.{kept}
 
 module _ (P Q : Book → Type 0) (on : (book new : Book) → IsInvariant book → P book → Steps book new → P new) (so : (book : Book) → IsInvariant book → P book → Q book) where
   pub along : (book : Book) (books : List Book) → IsInvariant book → P book → IsRun book books → AllByRecursion Q books

@@ -6,9 +6,9 @@ use Rattle.tree_starts.specs.declared.profile.Profile.{Profile}
 use Rattle.std.specs.Prelude.{◌≡◌, ℕ, List, Some}
 use Rattle.std.specs.List.{AllByRecursion}
 use Rattle.tree_nodes.specs.Tree.{Tree}
-use Rattle.book_machine.specs.Book.{Book, tree_of}
-use Rattle.book_machine.specs.Steps.{opening_book, IsRun}
-use Rattle.journal_rebuild.specs.Rebuilding.{Rebuilds}
+use Rattle.book_laws.specs.Book.{Book, tree_of}
+use Rattle.book_laws.specs.Steps.{opening_book, IsRun}
+use Rattle.journal.specs.Rebuilding.{Rebuilds}
 
 -- the device's records lead to the book's tree, from what stood at first
 abbrev pub GivesTheTree : Book → Type 0

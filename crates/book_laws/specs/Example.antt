@@ -13,8 +13,8 @@ use Rattle.nfs3_types.specs.Procedures.{nfs_program, nfs_version}
 use Rattle.rpc_reader.specs.Texts.{call_text}
 use Rattle.nfs3_msgs.specs.Messages.{arguments_text}
 use Rattle.nfs_history.specs.Calls.{xid_of}
-use Rattle.book_machine.specs.Book.{Book, handle_of, tree_of}
-use Rattle.book_machine.specs.Steps.{with_call, with_reply, step_of, reply_message, journal_record, opening_book, IsRun}
+use Rattle.book_laws.specs.Book.{Book, handle_of, tree_of}
+use Rattle.book_laws.specs.Steps.{with_call, with_reply, step_of, reply_message, journal_record, opening_book, IsRun}
 
 -- CREATE of the name `f` in the root, with a verifier, and its reply with the handle of object 1
 abbrev pub create : NfsCall

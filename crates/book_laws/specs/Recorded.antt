@@ -10,9 +10,9 @@ use Rattle.nfs3_types.specs.declared.replies.Outcome.TheVariants.{Received}
 use Rattle.nfs_history.specs.declared.history.RecordedCall.{RecordedCall}
 use Rattle.nfs_history.specs.Precedence.{call_at}
 use Rattle.replay_law.specs.Run.{kept_steps}
-use Rattle.book_machine.specs.Placing.{Placed, is_recorded}
-use Rattle.book_machine.specs.Book.{Book}
-use Rattle.book_machine.specs.Steps.{HasMessage, journal_record, reply_message, opening_book, IsRun}
+use Rattle.book_laws.specs.Placing.{Placed, is_recorded}
+use Rattle.book_laws.specs.Book.{Book}
+use Rattle.book_laws.specs.Steps.{HasMessage, journal_record, reply_message, opening_book, IsRun}
 
 -- the calls that changed the tree, in the serial order: those that the crashes so far kept, and those that were placed since
 abbrev pub changes_of : Book → List Placed

@@ -6,9 +6,9 @@ use Rattle.tree_starts.specs.declared.profile.Profile.{Profile}
 use Rattle.std.specs.Prelude.{ℕ, List}
 use Rattle.std.specs.List.{AllByRecursion}
 use Rattle.certificate.specs.CertificateText.{IsCertificate}
-use Rattle.book_machine.specs.Book.{Book}
-use Rattle.book_machine.specs.Plan.{plan_of}
-use Rattle.book_machine.specs.Steps.{opening_book, IsRun}
+use Rattle.book_laws.specs.Book.{Book}
+use Rattle.book_laws.specs.Plan.{plan_of}
+use Rattle.book_laws.specs.Steps.{opening_book, IsRun}
 
 -- the book's certificate keeps to what a certificate keeps to
 abbrev pub CanBeWritten : Book → Type 0

@@ -2,7 +2,7 @@
 
 ghost use Rattle.book_laws.specs.Alone.{AJournalAloneGivesTheTree};
 
-/// After each step of a book the records of its device alone lead to its tree: what `rebuild` of `journal_rebuild` gives of them is
+/// After each step of a book the records of its device alone lead to its tree: what `rebuild` of `journal` gives of them is
 /// that tree, memory aside.
 pub fn a_journal_alone_gives_the_tree()
     ensures { AJournalAloneGivesTheTree }

@@ -18,11 +18,11 @@ use Rattle.nfs_history.specs.HistoryValue.{HistoryValue}
 use Rattle.nfs_history.specs.Appending.{Follows}
 use Rattle.nfs_history.specs.History.{Returns}
 use Rattle.nfs_history.specs.Precedence.{call_at, end_of}
-use Rattle.journal_device.specs.Device.{Device}
+use Rattle.journal.specs.Device.{Device}
 use Rattle.std.proofs.Common.{get_or, not, Result, Ok, Err}
 use Rattle.std.specs.Prelude.{IfOk, OnOk, OnErr, IfErr}
 use Rattle.std.proofs.lemmas.Option.{get_or_from_slice_get, slice_get_within}
-use Rattle.book_machine.specs.Book.Condition.{running}
+use Rattle.book_laws.specs.Book.Condition.{running}
 use Rattle.book_ledger.specs.declared.fault.TokenFault.{TokenFault}
 use Rattle.book_ledger.specs.declared.fault.TokenFault.TheVariants as token
 use Rattle.book_ledger.specs.declared.fault.AnswerFault.{AnswerFault}
@@ -32,20 +32,20 @@ use Rattle.book_ledger.specs.Refusals.{AnswerStops}
 use Rattle.book_ledger.specs.Turns.{PlacedStops}
 use Rattle.book_ledger.specs.Inside.{IsAsked}
 use Rattle.book_ledger.proofs.Conditions.{running_book}
-use Rattle.book_machine.specs.Placing.{Placed, is_recorded, records_in}
+use Rattle.book_laws.specs.Placing.{Placed, is_recorded, records_in}
 use Rattle.cut_check.specs.Effect.{effect_of}
 use Rattle.cut_check.specs.declared.effect.Effect.TheVariants.{Lasting}
-use Rattle.book_machine.specs.Steps.{commits}
-use Rattle.book_machine.proofs.Running.{head_is, tail_is}
-use Rattle.book_machine.proofs.Stable.{records_append}
+use Rattle.book_laws.specs.Steps.{commits}
+use Rattle.book_laws.proofs.Running.{head_is, tail_is}
+use Rattle.book_laws.proofs.Stable.{records_append}
 use Rattle.book_ledger.specs.Recordable.{step_so}
 use Rattle.book_ledger.specs.Inside.{AreCounted}
-use Rattle.book_machine.specs.Book.{Book, records_kept}
-use Rattle.book_machine.specs.Steps.{answered_now, change_at, with_reply, reply_message, IsAnswerTo, IsDurable, Answers}
-use Rattle.book_machine.specs.Steps.Steps.{answers}
-use Rattle.book_machine.proofs.Invariant.{Over, IsKnown, AreKnown, AllKnown}
-use Rattle.book_machine.proofs.Lists.{all_append, all_behind}
-use Rattle.book_machine.proofs.Kept.{kept}
+use Rattle.book_laws.specs.Book.{Book, records_kept}
+use Rattle.book_laws.specs.Steps.{answered_now, change_at, with_reply, reply_message, IsAnswerTo, IsDurable, Answers}
+use Rattle.book_laws.specs.Steps.Steps.{answers}
+use Rattle.book_laws.proofs.Invariant.{Over, IsKnown, AreKnown, AllKnown}
+use Rattle.book_laws.proofs.Lists.{all_append, all_behind}
+use Rattle.book_laws.proofs.Kept.{kept}
 use Rattle.book_ledger.specs.declared.placed.PlacedCall.{PlacedCall}
 use Rattle.book_ledger.specs.declared.placed.EraOver.{EraOver}
 use Rattle.book_ledger.specs.declared.placed.Condition.TheVariants as codes

@@ -13,7 +13,7 @@ use Rattle.nfs_history.specs.declared.history.Meaning.TheVariants as meanings
 use Rattle.nfs_history.specs.declared.history.RecordedCall.{RecordedCall}
 use Rattle.nfs_history.specs.HistoryValue.{HistoryValue}
 use Rattle.nfs_history.specs.History.{IsJudged, IsKnownAs}
-use Rattle.book_machine.specs.Steps.{IsAnswerTo}
+use Rattle.book_laws.specs.Steps.{IsAnswerTo}
 use Rattle.book_ledger.proofs.Standing.{HasSent}
 use Rattle.nfs_history.proofs.AskedProcedure.{procedure_is}
 use Rattle.book_ledger.proofs.Replies.{xid_asked, xid_replied}

@@ -11,10 +11,10 @@ use Rattle.rpc_reader.specs.Views.{call_value}
 use Rattle.nfs3_types.specs.declared.calls.NfsCall.{NfsCall}
 use Rattle.nfs3_msgs.specs.Messages.{IsArguments}
 use Rattle.nfs_history.specs.Outside.{outside}
-use Rattle.journal_records.specs.Exactly.{IsOnly, MeansNothing}
+use Rattle.journal.specs.Exactly.{IsOnly, MeansNothing}
 use Rattle.book_ledger.specs.declared.fault.BeginFault.{BeginFault}
 use Rattle.book_ledger.specs.declared.fault.BeginFault.TheVariants as faults
-use Rattle.book_machine.specs.Steps.{IsRecordable}
+use Rattle.book_laws.specs.Steps.{IsRecordable}
 use Rattle.book_ledger.specs.Recordable.{CanBeRecorded, asks_judged, AsksJudged, IsKeptInside, AreKeptArguments, IsKeptAsked}
 
 both_pass : (a b : Bool) → (a && b) ≡ true → (a ≡ true) × (b ≡ true)

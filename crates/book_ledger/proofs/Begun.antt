@@ -4,7 +4,7 @@ use Rattle.std.specs.Prelude.{IfErr, IfOk, if◌then◌else◌}
 use Rattle.std.proofs.lemmas.List.{append_assoc}
 use Rattle.nfs3_types.specs.declared.calls.NfsCall.{NfsCall}
 use Rattle.nfs_history.specs.History.{Asks}
-use Rattle.book_machine.specs.Steps.{IsRecordable}
+use Rattle.book_laws.specs.Steps.{IsRecordable}
 use Rattle.history_file.specs.declared.event.Event.TheVariants as owns
 use Rattle.history_file.specs.Event.{Event}
 use Rattle.history_file.specs.Event.Event.{call}
@@ -22,7 +22,7 @@ use Rattle.nfs_history.specs.FirstFault.{FirstFaultOf}
 use Rattle.nfs_history.specs.JoinedFaults.{of_event, of_call}
 use Rattle.nfs_history.specs.Standing.{IsClosed, has_unanswered, EachMayFollow}
 use Rattle.nfs_history.proofs.EventFaultLaws.{first_fault_or_fine}
-use Rattle.journal_device.specs.Device.{Device}
+use Rattle.journal.specs.Device.{Device}
 use Rattle.book_ledger.specs.declared.fault.BeginFault.{BeginFault}
 use Rattle.book_ledger.specs.declared.fault.BeginFault.TheVariants as faults
 use Rattle.book_ledger.specs.declared.placed.Condition.TheVariants as codes

@@ -10,13 +10,13 @@ use Rattle.replay_law.proofs.Runs.{state_after-append}
 use Rattle.tree_nodes.specs.Tree.{Tree}
 use Rattle.tree_nodes.proofs.Chains.{chained}
 use Rattle.tree_laws.specs.Leaving.{only_looks}
-use Rattle.book_machine.specs.Placing.{Placed, is_recorded, records_in, front_with}
-use Rattle.book_machine.specs.Book.{Book, tree_of, records_kept, Setting, next_by, setting, tree_at_first}
-use Rattle.book_machine.proofs.Invariant.{Over, IsKnown, AreKnown, AllKnown, IsInvariant}
-use Rattle.book_machine.proofs.Lists.{all_behind}
-use Rattle.book_machine.proofs.Stable.{records_append}
-use Rattle.book_machine.proofs.Moving.{records_front}
-use Rattle.book_machine.proofs.Running.{unrecorded_leaves_by}
+use Rattle.book_laws.specs.Placing.{Placed, is_recorded, records_in, front_with}
+use Rattle.book_laws.specs.Book.{Book, tree_of, records_kept, Setting, next_by, setting, tree_at_first}
+use Rattle.book_laws.proofs.Invariant.{Over, IsKnown, AreKnown, AllKnown, IsInvariant}
+use Rattle.book_laws.proofs.Lists.{all_behind}
+use Rattle.book_laws.proofs.Stable.{records_append}
+use Rattle.book_laws.proofs.Moving.{records_front}
+use Rattle.book_laws.proofs.Running.{unrecorded_leaves_by}
 use Rattle.book_ledger.specs.Inside.{tree_behind}
 
 -- a front with so many records is one of a longer list too

@@ -6,10 +6,10 @@ use Rattle.std.specs.declared.alloc.Global.{Global}
 use Rattle.nfs3_types.specs.declared.replies.NfsReply.{NfsReply}
 use Rattle.nfs3_types.specs.declared.replies.Outcome.{Outcome}
 use Rattle.nfs3_types.specs.declared.replies.Outcome.TheVariants as outcomes
-use Rattle.journal_device.specs.Device.{Device, Leaves}
-use Rattle.journal_device.specs.declared.device.DevFault.{DevFault}
-use Rattle.journal_device.specs.declared.device.DevFault.TheVariants as devices
-use Rattle.book_machine.specs.Steps.{Places}
+use Rattle.journal.specs.Device.{Device, Leaves}
+use Rattle.journal.specs.declared.device.DevFault.{DevFault}
+use Rattle.journal.specs.declared.device.DevFault.TheVariants as devices
+use Rattle.book_laws.specs.Steps.{Places}
 use Rattle.book_ledger.specs.Refusals.{PlaceStops}
 use Rattle.book_ledger.specs.JoinedFaults.{of_device}
 use Rattle.book_ledger.specs.declared.placing.TreeStep.{TreeStep}

@@ -10,14 +10,14 @@ use Rattle.nfs_history.specs.HistoryValue.{HistoryValue}
 use Rattle.tree_nodes.specs.Tree.{Tree}
 use Rattle.tree_nodes.proofs.Chains.{value_of}
 use Rattle.tree_handles.specs.Binding.{object_of}
-use Rattle.journal_device.specs.Device.{Device, Leaves, recovered, with_fault}
-use Rattle.journal_device.specs.declared.device.DevFault.{DevFault}
-use Rattle.journal_device.specs.declared.device.DevFault.TheVariants as devices
+use Rattle.journal.specs.Device.{Device, Leaves, recovered, with_fault}
+use Rattle.journal.specs.declared.device.DevFault.{DevFault}
+use Rattle.journal.specs.declared.device.DevFault.TheVariants as devices
 use Rattle.replay_law.specs.declared.replay.StepFault.{StepFault}
 use Rattle.replay_law.specs.declared.replay.StepFault.TheVariants as steps
-use Rattle.book_machine.specs.Book.{Book, Condition, handle_of}
-use Rattle.book_machine.specs.Book.Condition.{running as is_running, down as is_down, dead as is_dead}
-use Rattle.book_machine.specs.Steps.{IsUnplaced, Places, Crashes, with_record, reply_message, journal_record}
+use Rattle.book_laws.specs.Book.{Book, Condition, handle_of}
+use Rattle.book_laws.specs.Book.Condition.{running as is_running, down as is_down, dead as is_dead}
+use Rattle.book_laws.specs.Steps.{IsUnplaced, Places, Crashes, with_record, reply_message, journal_record}
 use Rattle.book_ledger.specs.Recordable.{may_make}
 use Rattle.book_ledger.specs.Refusals.{IsNow, PlaceStops, after_place, after_crash}
 use Rattle.book_ledger.specs.declared.placed.Condition.TheVariants as codes

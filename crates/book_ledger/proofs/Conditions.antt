@@ -10,13 +10,13 @@ use Rattle.tree_nodes.specs.Tree.{Tree}
 use Rattle.tree_nodes.specs.Undo.{TakesBack}
 use Rattle.tree_nodes.proofs.Chains.{chained, decide}
 use Rattle.replay_law.specs.Undone.{UndoesAll}
-use Rattle.journal_device.specs.Device.{Device, settled, with_fault}
-use Rattle.book_machine.specs.Placing.{Placed, is_recorded, records_in, front_with}
-use Rattle.book_machine.specs.Book.{Book, Condition, tree_of, records_kept, Setting, next_by, setting, tree_at_first}
-use Rattle.book_machine.specs.Book.Condition.{running, down, dead}
-use Rattle.book_machine.specs.Steps.{MayBecome}
-use Rattle.book_machine.specs.Steps.Steps.{flushes, refuses}
-use Rattle.book_machine.proofs.Running.{unrecorded_leaves_by}
+use Rattle.journal.specs.Device.{Device, settled, with_fault}
+use Rattle.book_laws.specs.Placing.{Placed, is_recorded, records_in, front_with}
+use Rattle.book_laws.specs.Book.{Book, Condition, tree_of, records_kept, Setting, next_by, setting, tree_at_first}
+use Rattle.book_laws.specs.Book.Condition.{running, down, dead}
+use Rattle.book_laws.specs.Steps.{MayBecome}
+use Rattle.book_laws.specs.Steps.Steps.{flushes, refuses}
+use Rattle.book_laws.proofs.Running.{unrecorded_leaves_by}
 use Rattle.book_ledger.specs.declared.placed.Condition as code
 use Rattle.book_ledger.specs.declared.placed.Condition.TheVariants as codes
 use Rattle.book_ledger.specs.declared.ledger.Ledger.{Ledger}

@@ -27,18 +27,18 @@ use Rattle.tree_nodes.specs.declared.undo.Undo.{Undo}
 use Rattle.tree_nodes.specs.Tree.{Tree}
 use Rattle.tree_nodes.specs.Undo.{TakesBack}
 use Rattle.tree_nodes.proofs.Chains.{value_of}
-use Rattle.journal_device.specs.Device.{Device, recovered}
-use Rattle.book_machine.specs.Placing.{Placed, is_recorded, front_with}
-use Rattle.book_machine.specs.Book.{Book, tree_of, records_kept, Setting, next_by, setting, tree_at_first}
-use Rattle.book_machine.specs.Book.Condition.{dead as is_dead}
-use Rattle.book_machine.specs.Steps.{Crashes}
-use Rattle.book_machine.specs.Steps.Steps.{crashes}
-use Rattle.book_machine.proofs.Invariant.{Over, AreKnown, AllKnown, AllRun, IsCutSafely, IsInvariant}
-use Rattle.book_machine.proofs.Growing.{IsGenuine, genuine_crash}
-use Rattle.book_machine.proofs.Bound.{tree_stands, front_runs}
-use Rattle.book_machine.proofs.Lists.{all_append}
+use Rattle.journal.specs.Device.{Device, recovered}
+use Rattle.book_laws.specs.Placing.{Placed, is_recorded, front_with}
+use Rattle.book_laws.specs.Book.{Book, tree_of, records_kept, Setting, next_by, setting, tree_at_first}
+use Rattle.book_laws.specs.Book.Condition.{dead as is_dead}
+use Rattle.book_laws.specs.Steps.{Crashes}
+use Rattle.book_laws.specs.Steps.Steps.{crashes}
+use Rattle.book_laws.proofs.Invariant.{Over, AreKnown, AllKnown, AllRun, IsCutSafely, IsInvariant}
+use Rattle.book_laws.proofs.Growing.{IsGenuine, genuine_crash}
+use Rattle.book_laws.proofs.Bound.{tree_stands, front_runs}
+use Rattle.book_laws.proofs.Lists.{all_append}
 use Rattle.replay_law.proofs.Crashes.{kept_one_more}
-use Rattle.book_machine.proofs.Pushed.{SameNames, same_under}
+use Rattle.book_laws.proofs.Pushed.{SameNames, same_under}
 use Rattle.book_ledger.specs.declared.placed.PlacedCall.{PlacedCall}
 use Rattle.book_ledger.specs.declared.placed.EraOver.{EraOver}
 use Rattle.book_ledger.specs.declared.placed.Condition as code

@@ -19,15 +19,15 @@ use Rattle.nfs_history.specs.Calls.{xid_of}
 use Rattle.nfs_history.specs.Precedence.{call_at}
 use Rattle.nfs_history.specs.Standing.{IsClosed, has_unanswered, MayFollow, EachMayFollow}
 use Rattle.nfs_history.proofs.OneHistory.{known_once}
-use Rattle.journal_device.specs.Device.{Device}
-use Rattle.book_machine.specs.Placing.{Placed}
-use Rattle.book_machine.specs.Book.{Book}
-use Rattle.book_machine.specs.Steps.{begun, with_call, with_close, Begins, Closes}
-use Rattle.book_machine.specs.Steps.Steps.{begins, closes}
-use Rattle.book_machine.proofs.Growing.{genuine_call, genuine_close}
-use Rattle.book_machine.proofs.Invariant.{Over, AreKnown, AllKnown, IsInvariant}
-use Rattle.book_machine.proofs.Lists.{all_append}
-use Rattle.book_machine.proofs.Moving.{call_stays}
+use Rattle.journal.specs.Device.{Device}
+use Rattle.book_laws.specs.Placing.{Placed}
+use Rattle.book_laws.specs.Book.{Book}
+use Rattle.book_laws.specs.Steps.{begun, with_call, with_close, Begins, Closes}
+use Rattle.book_laws.specs.Steps.Steps.{begins, closes}
+use Rattle.book_laws.proofs.Growing.{genuine_call, genuine_close}
+use Rattle.book_laws.proofs.Invariant.{Over, AreKnown, AllKnown, IsInvariant}
+use Rattle.book_laws.proofs.Lists.{all_append}
+use Rattle.book_laws.proofs.Moving.{call_stays}
 use Rattle.book_ledger.specs.declared.placed.PlacedCall.{PlacedCall}
 use Rattle.book_ledger.specs.declared.placed.EraOver.{EraOver}
 use Rattle.book_ledger.specs.declared.placed.CallState.{CallState}

@@ -3,18 +3,18 @@ use Rattle.std.proofs.Common.{◌≡◌, List, [], ◌∷◌, Result, Ok, Err, s
 use Rattle.std.specs.Prelude.{IfOk}
 use Rattle.std.specs.List.{AllByRecursion}
 use Rattle.certificate.specs.declared.plan.Certificate.{Certificate}
-use Rattle.journal_device.specs.Device.{Device}
+use Rattle.journal.specs.Device.{Device}
 use Rattle.witness_check.specs.Witness.{IsWitness}
-use Rattle.book_machine.specs.Book.{Book}
-use Rattle.book_machine.specs.Plan.{plan_of}
-use Rattle.book_machine.specs.Explained.{IsExplained}
-use Rattle.book_machine.specs.Steps.{opening_book}
-use Rattle.served_laws.specs.ServedPlan.{EachServed, IsServedBook}
-use Rattle.served_laws.proofs.EveryReply.{every_reply}
+use Rattle.book_laws.specs.Book.{Book}
+use Rattle.book_laws.specs.Plan.{plan_of}
+use Rattle.book_laws.specs.Explained.{IsExplained}
+use Rattle.book_laws.specs.Steps.{opening_book}
+use Rattle.book_laws.specs.ServedPlan.{EachServed, IsServedBook}
+use Rattle.book_laws.proofs.EveryReply.{every_reply}
 use Rattle.certificate.specs.CertificateText.{IsCertificate}
 use Rattle.book_laws.specs.Writing.{CanBeWritten}
 use Rattle.book_laws.proofs.Rising.{can_be_written}
-use Rattle.book_machine.proofs.EveryBook.{explained}
+use Rattle.book_laws.proofs.EveryBook.{explained}
 use Rattle.book_ledger.specs.declared.ledger.Ledger.{Ledger}
 use Rattle.book_ledger.specs.Inside.{book_of, AreTied, LeadsTo, IsReached}
 use Rattle.book_ledger.proofs.Reaching.{reached_holds}

@@ -3,12 +3,12 @@ use Rattle.tree_starts.specs.declared.object.StartObject.{StartObject}
 use Rattle.tree_starts.specs.declared.profile.Profile.{Profile}
 use Rattle.std.proofs.Common.{List, ◌≡◌, ◌≢◌, ℕ, [], Result, Ok, Err, refl, sym, ap, ◌∙◌, subst}
 use Rattle.std.specs.Prelude.{IfOk}
-use Rattle.journal_device.specs.declared.device.DevFault.{DevFault}
-use Rattle.journal_device.specs.declared.device.DevFault.TheVariants.{Failed, NoMemory}
-use Rattle.journal_device.specs.Device.{Device, settled, with_fault, Leaves}
-use Rattle.book_machine.specs.Book.{Book}
-use Rattle.book_machine.specs.Book.Condition.{running, down}
-use Rattle.book_machine.specs.Steps.{opening_book, Flushes}
+use Rattle.journal.specs.declared.device.DevFault.{DevFault}
+use Rattle.journal.specs.declared.device.DevFault.TheVariants.{Failed, NoMemory}
+use Rattle.journal.specs.Device.{Device, settled, with_fault, Leaves}
+use Rattle.book_laws.specs.Book.{Book}
+use Rattle.book_laws.specs.Book.Condition.{running, down}
+use Rattle.book_laws.specs.Steps.{opening_book, Flushes}
 use Rattle.book_ledger.specs.declared.placed.Condition as code
 use Rattle.book_ledger.specs.declared.placed.Condition.TheVariants as codes
 use Rattle.book_ledger.specs.declared.ledger.Ledger.{Ledger}

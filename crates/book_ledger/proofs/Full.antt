@@ -17,12 +17,12 @@ use Rattle.tree_nodes.proofs.Chains.{mapped, both_pass}
 use Rattle.tree_handles.specs.Binding.{Bindings, same_bytes}
 use Rattle.tree_handles.specs.Live.{FileEntry, file_of}
 use Rattle.tree_handles.proofs.Lookups.{same_is}
-use Rattle.tree_reads.specs.Look.{read_is_legal, read_is_right, same_flag}
+use Rattle.tree_answers.specs.Look.{read_is_legal, read_is_right, same_flag}
 use Rattle.file_tree.specs.Change.{Change}
 use Rattle.file_tree.specs.Change.Change.{Keep}
 use Rattle.file_tree.specs.Made.{only_if}
 use Rattle.file_tree.specs.Success.{changed, change_answered}
-use Rattle.book_machine.specs.Served.{IsFull}
+use Rattle.book_laws.specs.Served.{IsFull}
 use Rattle.book_ledger.specs.Serving.{IsAllowed, HasAll, ReadsAll}
 
 -- a front that is as long as a front of a front is that one

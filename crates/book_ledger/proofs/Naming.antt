@@ -16,10 +16,10 @@ use Rattle.tree_handles.proofs.Lookups.{same_is}
 use Rattle.tree_starts.specs.declared.profile.Profile.{Profile}
 use Rattle.file_tree.specs.Setting.{under}
 use Rattle.file_tree.specs.Success.{next_tree}
-use Rattle.book_machine.specs.Book.{handle_of, bindings_made}
-use Rattle.book_machine.specs.Steps.{with_object}
-use Rattle.book_machine.proofs.Handles.{pair, without_own as never_paired}
-use Rattle.book_machine.proofs.Pushed.{SameNames, same_next, same_under, pushed}
+use Rattle.book_laws.specs.Book.{handle_of, bindings_made}
+use Rattle.book_laws.specs.Steps.{with_object}
+use Rattle.book_laws.proofs.Handles.{pair, without_own as never_paired}
+use Rattle.book_laws.proofs.Pushed.{SameNames, same_next, same_under, pushed}
 use Rattle.book_ledger.specs.PlaceSteps.{with_own, without_own, NameAlike}
 
 -- the bytes of a number are its handle

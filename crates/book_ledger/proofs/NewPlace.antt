@@ -29,18 +29,18 @@ use Rattle.tree_handles.specs.Binding.{Bindings, object_of}
 use Rattle.file_tree.specs.Setting.{under}
 use Rattle.file_tree.specs.StartTree.{start_tree}
 use Rattle.file_tree.proofs.Profiles.{comes_out_plain}
-use Rattle.journal_device.specs.Device.{Device}
-use Rattle.book_machine.specs.Placing.{Placed, is_recorded, records_in, front_with}
-use Rattle.book_machine.specs.Book.{Book, handle_of, bindings, bindings_made, setting, setting_made, next_by, tree_of, records_kept}
-use Rattle.book_machine.specs.Served.{IsServed}
-use Rattle.book_machine.specs.Steps.{IsOfNow, IsUnplaced, HasMessage, ShowsEra, IsAnswerTo, Places, step_of, with_object, with_made, with_record, reply_message, journal_record}
-use Rattle.book_machine.specs.Steps.Steps.{places}
-use Rattle.book_machine.proofs.Invariant.{IsInvariant}
-use Rattle.book_machine.proofs.Lists.{all_append, all_each}
-use Rattle.book_machine.proofs.Starting.{call_alone}
-use Rattle.book_machine.proofs.Bound.{AreApart, apart_front, kept_apart, run_same}
-use Rattle.book_machine.proofs.Running.{unrecorded_leaves_by}
-use Rattle.book_machine.proofs.Stable.{records_append}
+use Rattle.journal.specs.Device.{Device}
+use Rattle.book_laws.specs.Placing.{Placed, is_recorded, records_in, front_with}
+use Rattle.book_laws.specs.Book.{Book, handle_of, bindings, bindings_made, setting, setting_made, next_by, tree_of, records_kept}
+use Rattle.book_laws.specs.Served.{IsServed}
+use Rattle.book_laws.specs.Steps.{IsOfNow, IsUnplaced, HasMessage, ShowsEra, IsAnswerTo, Places, step_of, with_object, with_made, with_record, reply_message, journal_record}
+use Rattle.book_laws.specs.Steps.Steps.{places}
+use Rattle.book_laws.proofs.Invariant.{IsInvariant}
+use Rattle.book_laws.proofs.Lists.{all_append, all_each}
+use Rattle.book_laws.proofs.Starting.{call_alone}
+use Rattle.book_laws.proofs.Bound.{AreApart, apart_front, kept_apart, run_same}
+use Rattle.book_laws.proofs.Running.{unrecorded_leaves_by}
+use Rattle.book_laws.proofs.Stable.{records_append}
 use Rattle.book_ledger.specs.Recordable.{may_make}
 use Rattle.book_ledger.specs.Serving.{IsAllowed}
 use Rattle.book_ledger.specs.declared.placed.PlacedCall.{PlacedCall}
@@ -57,7 +57,7 @@ use Rattle.book_ledger.proofs.Parts.{Parts, book_with, HavePlaces, Tied}
 use Rattle.book_ledger.proofs.CrashSteps.{now_asked}
 use Rattle.book_ledger.proofs.Naming.{own_free, own_alike}
 use Rattle.book_ledger.proofs.Making.{none_made}
-use Rattle.book_machine.proofs.Apart.{isnt_zero, past_first, apart_eras, apart_all, others, absent}
+use Rattle.book_laws.proofs.Apart.{isnt_zero, past_first, apart_eras, apart_all, others, absent}
 use Rattle.book_ledger.proofs.Noting.{made_more_in, made_same_in, hadnt_made_in, counted_more, placing, places_more}
 use Rattle.book_ledger.proofs.Behind.{front_same, behind_all}
 use Rattle.book_ledger.proofs.PlaceSteps.{step_made, given}

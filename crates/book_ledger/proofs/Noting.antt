@@ -10,13 +10,13 @@ use Rattle.nfs_history.specs.declared.history.RecordedCall.{RecordedCall}
 use Rattle.nfs_history.specs.Precedence.{call_at}
 use Rattle.tree_nodes.proofs.Chains.{decide, differ}
 use Rattle.std.proofs.Common.{eq-eqb}
-use Rattle.book_machine.specs.Placing.{records_in}
-use Rattle.book_machine.specs.Steps.{with_object, IsUnplaced}
-use Rattle.book_machine.proofs.Stable.{records_append}
+use Rattle.book_laws.specs.Placing.{records_in}
+use Rattle.book_laws.specs.Steps.{with_object, IsUnplaced}
+use Rattle.book_laws.proofs.Stable.{records_append}
 use Rattle.book_ledger.specs.declared.placed.PlacedCall.{PlacedCall}
 use Rattle.book_ledger.specs.declared.placed.CallState.{CallState}
 use Rattle.book_ledger.specs.Inside.{made_in, AreAsked, IsAsked, placed_in, made_from, AreCounted}
-use Rattle.book_machine.proofs.Starting.{all_numbers}
+use Rattle.book_laws.proofs.Starting.{all_numbers}
 use Rattle.book_ledger.proofs.Parts.{Parts, HavePlaces}
 
 -- ---- an item of a list

@@ -21,10 +21,10 @@ use Rattle.tree_nodes.specs.Tree.{Tree}
 use Rattle.file_tree.specs.StartTree.{start_tree}
 use Rattle.tree_nodes.specs.Undo.{TakesBack}
 use Rattle.tree_handles.specs.Binding.{Bindings, object_of}
-use Rattle.journal_device.specs.Device.{Device}
-use Rattle.book_machine.specs.Book.{Book, handle_of, bindings, bindings_made, tree_of, records_kept}
-use Rattle.book_machine.specs.Steps.{opening_book}
-use Rattle.book_machine.proofs.EveryBook.{opening_holds}
+use Rattle.journal.specs.Device.{Device}
+use Rattle.book_laws.specs.Book.{Book, handle_of, bindings, bindings_made, tree_of, records_kept}
+use Rattle.book_laws.specs.Steps.{opening_book}
+use Rattle.book_laws.proofs.EveryBook.{opening_holds}
 use Rattle.book_ledger.specs.declared.placed.PlacedCall.{PlacedCall}
 use Rattle.book_ledger.specs.declared.placed.Condition.TheVariants as codes
 use Rattle.book_ledger.specs.declared.ledger.Ledger.{Ledger}

@@ -11,11 +11,11 @@ use Rattle.tree_nodes.specs.declared.undo.Undo.{Undo}
 use Rattle.tree_nodes.specs.Tree.{Tree}
 use Rattle.tree_nodes.specs.Undo.{TakesBack}
 use Rattle.tree_handles.specs.Binding.{Bindings, object_of}
-use Rattle.journal_device.specs.Device.{Device, with_fault}
-use Rattle.book_machine.specs.Book.{Book, Condition, bindings, tree_of, records_kept}
-use Rattle.book_machine.specs.Book.Condition.{running as is_running, down as is_down, dead as is_dead}
-use Rattle.book_machine.specs.Steps.{MayBecome}
-use Rattle.book_machine.specs.Steps.Steps.{refuses}
+use Rattle.journal.specs.Device.{Device, with_fault}
+use Rattle.book_laws.specs.Book.{Book, Condition, bindings, tree_of, records_kept}
+use Rattle.book_laws.specs.Book.Condition.{running as is_running, down as is_down, dead as is_dead}
+use Rattle.book_laws.specs.Steps.{MayBecome}
+use Rattle.book_laws.specs.Steps.Steps.{refuses}
 use Rattle.book_ledger.specs.declared.placed.PlacedCall.{PlacedCall}
 use Rattle.book_ledger.specs.declared.placed.EraOver.{EraOver}
 use Rattle.book_ledger.specs.declared.placed.CallState.{CallState}

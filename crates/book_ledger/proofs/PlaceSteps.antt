@@ -23,9 +23,9 @@ use Rattle.file_tree.specs.Setting.{under}
 use Rattle.file_tree.specs.Success.{next_tree}
 use Rattle.file_tree.proofs.Profiles.{comes_out_plain}
 use Rattle.tree_laws.proofs.Kept.{failure_leaves}
-use Rattle.book_machine.specs.Book.{bindings_made}
-use Rattle.book_machine.specs.Served.{IsFull, serves, IsServed}
-use Rattle.book_machine.specs.Steps.{with_object, with_made}
+use Rattle.book_laws.specs.Book.{bindings_made}
+use Rattle.book_laws.specs.Served.{IsFull, serves, IsServed}
+use Rattle.book_laws.specs.Steps.{with_object, with_made}
 use Rattle.book_ledger.specs.Recordable.{may_make}
 use Rattle.book_ledger.specs.Serving.{IsAllowed}
 use Rattle.book_ledger.specs.PlaceSteps.{with_own, bound_if, NameAlike}

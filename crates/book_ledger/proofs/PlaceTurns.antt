@@ -23,13 +23,13 @@ use Rattle.nfs_history.proofs.AppendSteps.{began_at}
 use Rattle.tree_nodes.specs.Tree.{Tree, entry_of}
 use Rattle.cut_check.specs.Verifier.{verifier_of}
 use Rattle.tree_handles.specs.Binding.{Bindings, object_of}
-use Rattle.journal_device.specs.Device.{Device}
-use Rattle.book_machine.specs.Placing.{is_recorded}
-use Rattle.book_machine.specs.Book.{Book, bindings, bindings_made}
-use Rattle.book_machine.specs.Book.Condition.{running as is_running, down as is_down}
-use Rattle.book_machine.specs.Served.{IsServed}
-use Rattle.book_machine.specs.Steps.{IsUnplaced, Places, step_of, with_made, with_record, reply_message, journal_record}
-use Rattle.book_machine.proofs.Growing.{IsGenuine, event_of}
+use Rattle.journal.specs.Device.{Device}
+use Rattle.book_laws.specs.Placing.{is_recorded}
+use Rattle.book_laws.specs.Book.{Book, bindings, bindings_made}
+use Rattle.book_laws.specs.Book.Condition.{running as is_running, down as is_down}
+use Rattle.book_laws.specs.Served.{IsServed}
+use Rattle.book_laws.specs.Steps.{IsUnplaced, Places, step_of, with_made, with_record, reply_message, journal_record}
+use Rattle.book_laws.proofs.Growing.{IsGenuine, event_of}
 use Rattle.book_ledger.specs.Refusals.{IsNow}
 use Rattle.book_ledger.specs.Recordable.{may_make}
 use Rattle.book_ledger.specs.declared.placed.Condition as code

@@ -7,11 +7,11 @@ use Rattle.nfs_history.specs.declared.history.RecordedCall.{RecordedCall}
 use Rattle.certificate.specs.declared.plan.Place.{Place}
 use Rattle.certificate.specs.declared.plan.Bind.{Bind}
 use Rattle.certificate.specs.declared.plan.EraPlan.{EraPlan}
-use Rattle.journal_device.specs.Device.{Device}
-use Rattle.book_machine.specs.Placing.{Placed, front_with, is_recorded}
-use Rattle.book_machine.specs.Book.{handle_of}
-use Rattle.book_machine.specs.Plan.{bind_of, place_of, places_of, plan_over}
-use Rattle.book_machine.proofs.Invariant.{AreKnown, AllKnown, IsCutSafely}
+use Rattle.journal.specs.Device.{Device}
+use Rattle.book_laws.specs.Placing.{Placed, front_with, is_recorded}
+use Rattle.book_laws.specs.Book.{handle_of}
+use Rattle.book_laws.specs.Plan.{bind_of, place_of, places_of, plan_over}
+use Rattle.book_laws.proofs.Invariant.{AreKnown, AllKnown, IsCutSafely}
 use Rattle.book_ledger.specs.declared.placed.PlacedCall.{PlacedCall}
 use Rattle.book_ledger.specs.declared.placed.EraOver.{EraOver}
 use Rattle.book_ledger.specs.declared.placed.CallState.{CallState}

@@ -5,14 +5,14 @@ use Rattle.nfs3_types.specs.declared.calls.NfsCall.{NfsCall}
 use Rattle.nfs_history.specs.declared.history.Meaning.TheVariants as meanings
 use Rattle.nfs_history.specs.declared.history.RecordedCall.{RecordedCall}
 use Rattle.nfs_history.specs.Precedence.{call_at}
-use Rattle.book_machine.specs.Book.{Book}
-use Rattle.book_machine.specs.Steps.{Steps, IsRun, opening_book, begun, answered_now}
-use Rattle.book_machine.specs.Steps.Steps.{begins, places, flushes, answers, closes, crashes, refuses}
-use Rattle.book_machine.proofs.Lists.{all_append}
-use Rattle.book_machine.proofs.Moving.{all_changed, call_has}
-use Rattle.book_machine.proofs.Invariant.{IsInvariant}
-use Rattle.book_machine.proofs.EveryBook.{opening_holds}
-use Rattle.book_machine.proofs.Kept.{kept}
+use Rattle.book_laws.specs.Book.{Book}
+use Rattle.book_laws.specs.Steps.{Steps, IsRun, opening_book, begun, answered_now}
+use Rattle.book_laws.specs.Steps.Steps.{begins, places, flushes, answers, closes, crashes, refuses}
+use Rattle.book_laws.proofs.Lists.{all_append}
+use Rattle.book_laws.proofs.Moving.{all_changed, call_has}
+use Rattle.book_laws.proofs.Invariant.{IsInvariant}
+use Rattle.book_laws.proofs.EveryBook.{opening_holds}
+use Rattle.book_laws.proofs.Kept.{kept}
 use Rattle.book_ledger.specs.Inside.{LeadsTo, IsReached, IsAsked}
 
 pub reached_holds : (book : Book) → IsReached book → IsInvariant book

@@ -5,7 +5,7 @@ use Rattle.std.specs.List.{prefix_len}
 use Rattle.std.specs.List.Sorted.{IsNonDecreasingBy, IsPartitionPoint}
 use Rattle.std.proofs.lemmas.Bool.{leb-true, leb-false, ltb-true, ltb-false, lt-ltb}
 use Rattle.nfs_history.specs.declared.history.RecordedCall.{RecordedCall}
-use Rattle.book_machine.specs.Placing.{records_in}
+use Rattle.book_laws.specs.Placing.{records_in}
 use Rattle.book_ledger.specs.declared.placed.PlacedCall.{PlacedCall}
 use Rattle.book_ledger.specs.Inside.{AreCounted, placed_in}
 

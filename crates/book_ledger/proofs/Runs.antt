@@ -18,15 +18,15 @@ use Rattle.nfs_history.specs.declared.history.RecordedCall.{RecordedCall}
 use Rattle.nfs_history.specs.Checking.{is_crash, is_on, was_cut_off}
 use Rattle.nfs_history.specs.Standing.{IsCutOff}
 use Rattle.nfs_history.proofs.Lanes.{cut_off_push, cut_off_is, is_cut_off}
-use Rattle.book_machine.specs.Placing.{Placed}
-use Rattle.book_machine.specs.Book.{Book, setting_made, object_in}
-use Rattle.book_machine.specs.Steps.{opening_book, begun, answered_now, with_made, step_of, Steps, IsRun}
-use Rattle.book_machine.specs.Steps.Steps.{begins, places, flushes, answers, closes, crashes, refuses}
-use Rattle.book_machine.proofs.Invariant.{IsInvariant}
-use Rattle.book_machine.proofs.Lists.{all_append, all_each}
-use Rattle.book_machine.proofs.Moving.{all_changed}
-use Rattle.book_machine.proofs.Kept.{kept}
-use Rattle.book_machine.proofs.EveryBook.{opening_holds}
+use Rattle.book_laws.specs.Placing.{Placed}
+use Rattle.book_laws.specs.Book.{Book, setting_made, object_in}
+use Rattle.book_laws.specs.Steps.{opening_book, begun, answered_now, with_made, step_of, Steps, IsRun}
+use Rattle.book_laws.specs.Steps.Steps.{begins, places, flushes, answers, closes, crashes, refuses}
+use Rattle.book_laws.proofs.Invariant.{IsInvariant}
+use Rattle.book_laws.proofs.Lists.{all_append, all_each}
+use Rattle.book_laws.proofs.Moving.{all_changed}
+use Rattle.book_laws.proofs.Kept.{kept}
+use Rattle.book_laws.proofs.EveryBook.{opening_holds}
 use Rattle.book_ledger.specs.Inside.{LeadsTo, IsReached}
 use Rattle.book_ledger.proofs.Replied.{right_reply_by}
 

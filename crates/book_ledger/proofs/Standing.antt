@@ -18,14 +18,14 @@ use Rattle.nfs_history.specs.History.{IsHistory, recording_of}
 use Rattle.nfs_history.specs.Precedence.{call_at, end_of}
 use Rattle.nfs_history.specs.Standing.{IsCutOff, IsLaneState}
 use Rattle.nfs_history.proofs.AppendSteps.{IsAsked as IsAskedAt, BeganAt, began_at}
-use Rattle.journal_device.specs.Device.{Device}
-use Rattle.book_machine.specs.Placing.{Placed}
-use Rattle.book_machine.specs.Book.{Book}
-use Rattle.book_machine.specs.Book.Condition.{running}
-use Rattle.book_machine.specs.Steps.{IsUnplaced}
-use Rattle.book_machine.proofs.Growing.{event_of}
-use Rattle.book_machine.proofs.Lists.{all_behind}
-use Rattle.book_machine.proofs.Moving.{call_has}
+use Rattle.journal.specs.Device.{Device}
+use Rattle.book_laws.specs.Placing.{Placed}
+use Rattle.book_laws.specs.Book.{Book}
+use Rattle.book_laws.specs.Book.Condition.{running}
+use Rattle.book_laws.specs.Steps.{IsUnplaced}
+use Rattle.book_laws.proofs.Growing.{event_of}
+use Rattle.book_laws.proofs.Lists.{all_behind}
+use Rattle.book_laws.proofs.Moving.{call_has}
 use Rattle.book_ledger.specs.declared.placed.PlacedCall.{PlacedCall}
 use Rattle.book_ledger.specs.declared.placed.CallState.{CallState}
 use Rattle.book_ledger.specs.declared.placed.Condition as code

@@ -13,8 +13,8 @@ use Rattle.tree_nodes.specs.Undo.{TakesBack}
 use Rattle.tree_handles.specs.Binding.{Bindings, object_of}
 use Rattle.tree_starts.specs.declared.profile.Profile.{Profile}
 use Rattle.file_tree.specs.Setting.{under}
-use Rattle.book_machine.specs.Book.{handle_of}
-use Rattle.book_machine.specs.Served.{IsServed}
+use Rattle.book_laws.specs.Book.{handle_of}
+use Rattle.book_laws.specs.Served.{IsServed}
 use Rattle.book_ledger.specs.Serving.{IsAllowed}
 use Rattle.book_ledger.specs.Recordable.{may_make}
 use Rattle.book_ledger.specs.declared.placing.TreeStep.{TreeStep}

@@ -12,12 +12,12 @@ use Rattle.tree_nodes.specs.Tree.{Tree}
 use Rattle.tree_nodes.specs.Undo.{TakesBack}
 use Rattle.tree_handles.specs.Binding.{Bindings, object_of}
 use Rattle.file_tree.specs.StartTree.{start_tree}
-use Rattle.journal_device.specs.Device.{Device}
-use Rattle.book_machine.specs.Placing.{Placed, records_in, front_with}
-use Rattle.book_machine.specs.Book.{Book, bindings_made, setting_made, next_by}
-use Rattle.book_machine.specs.Steps.{Steps}
-use Rattle.book_machine.proofs.Invariant.{Over}
-use Rattle.book_machine.proofs.Running.{head_is, tail_is}
+use Rattle.journal.specs.Device.{Device}
+use Rattle.book_laws.specs.Placing.{Placed, records_in, front_with}
+use Rattle.book_laws.specs.Book.{Book, bindings_made, setting_made, next_by}
+use Rattle.book_laws.specs.Steps.{Steps}
+use Rattle.book_laws.proofs.Invariant.{Over}
+use Rattle.book_laws.proofs.Running.{head_is, tail_is}
 use Rattle.book_ledger.specs.declared.placed.PlacedCall.{PlacedCall}
 use Rattle.book_ledger.specs.declared.placed.Condition as code
 use Rattle.book_ledger.specs.declared.placed.Condition.TheVariants as codes

@@ -1,6 +1,6 @@
 -- calls that are run again, and steps that are taken back
 use Rattle.file_tree.specs.StartTree.{start_tree}
-use Rattle.book_machine.specs.Book.{Setting, next_by}
+use Rattle.book_laws.specs.Book.{Setting, next_by}
 use Rattle.std.proofs.Common.{◌≡◌, ℕ, zero, suc, ◌+◌, ◌<◌, ◌≤◌, List, [], ◌∷◌, ◌++◌, length, map, take, drop, get_or, Option, Some, None, refl, sym, ap, ◌∙◌, subst, arith}
 use Rattle.std.specs.Prelude.{IsSome, option_and_then}
 use Rattle.std.specs.List.{AllByRecursion}
@@ -17,7 +17,7 @@ use Rattle.replay_law.proofs.Undos.{last_undone}
 use Rattle.tree_nodes.specs.declared.undo.Undo.{Undo}
 use Rattle.tree_nodes.specs.Tree.{Tree}
 use Rattle.tree_nodes.specs.Undo.{TakesBack}
-use Rattle.book_machine.specs.Placing.{Placed}
+use Rattle.book_laws.specs.Placing.{Placed}
 use Rattle.book_ledger.specs.declared.placed.PlacedCall.{PlacedCall}
 use Rattle.book_ledger.specs.declared.placed.EraOver.{EraOver}
 use Rattle.book_ledger.specs.declared.ledger.Ledger.{Ledger}

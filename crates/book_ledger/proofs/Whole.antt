@@ -1,8 +1,8 @@
 -- from the parts of a book to the book
 use Rattle.std.proofs.Common.{◌≡◌, ℕ, List, Result, Ok, Err, subst}
 use Rattle.std.specs.Prelude.{IfOk, IfErr, OnOk}
-use Rattle.journal_device.specs.Device.{Device}
-use Rattle.book_machine.specs.Book.{Book}
+use Rattle.journal.specs.Device.{Device}
+use Rattle.book_laws.specs.Book.{Book}
 use Rattle.book_ledger.specs.declared.ledger.Ledger.{Ledger}
 use Rattle.book_ledger.specs.Inside.{book_of, AreTied, Goes, GoesAt}
 use Rattle.book_ledger.specs.Sending.{IsSent}

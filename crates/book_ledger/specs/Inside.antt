@@ -4,7 +4,7 @@ use Rattle.std.specs.List.{range_with_len}
 use Rattle.tree_starts.specs.Start.{IsStart, object_made}
 use Rattle.tree_starts.specs.declared.object.StartObject.{StartObject}
 use Rattle.tree_starts.specs.declared.profile.Profile.{Profile}
-use Rattle.book_machine.specs.Book.{Setting}
+use Rattle.book_laws.specs.Book.{Setting}
 use Rattle.std.specs.Prelude.{◌≡◌, ℕ, ◌+◌, ◌-◌, ◌≤◌, if◌then◌else◌, List, [], ◌∷◌, ◌++◌, length, map, take, slice_get, Option, Some, IfSome, IsSome}
 use Rattle.std.specs.List.{AllByRecursion}
 use Rattle.std.specs.Option.{option_map_or}
@@ -24,11 +24,11 @@ use Rattle.tree_nodes.specs.declared.undo.Undo.{Undo}
 use Rattle.tree_nodes.specs.Tree.{Tree}
 use Rattle.tree_nodes.specs.Undo.{TakesBack}
 use Rattle.tree_handles.specs.Binding.{object_of}
-use Rattle.journal_device.specs.Device.{Device, settled}
-use Rattle.book_machine.specs.Placing.{Placed, records_in, front_with}
-use Rattle.book_machine.specs.Book.{Book, Condition, bindings, tree_of, records_kept}
-use Rattle.book_machine.specs.Book.Condition.{running, down, dead}
-use Rattle.book_machine.specs.Steps.{opening_book, IsRun}
+use Rattle.journal.specs.Device.{Device, settled}
+use Rattle.book_laws.specs.Placing.{Placed, records_in, front_with}
+use Rattle.book_laws.specs.Book.{Book, Condition, bindings, tree_of, records_kept}
+use Rattle.book_laws.specs.Book.Condition.{running, down, dead}
+use Rattle.book_laws.specs.Steps.{opening_book, IsRun}
 use Rattle.book_ledger.specs.declared.placed.PlacedCall.{PlacedCall}
 use Rattle.book_ledger.specs.declared.placed.EraOver.{EraOver}
 use Rattle.book_ledger.specs.declared.placed.CallState.{CallState}

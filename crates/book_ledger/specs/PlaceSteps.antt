@@ -21,12 +21,12 @@ use Rattle.tree_handles.specs.Binding.{Bindings, object_of, pairs_without}
 use Rattle.tree_starts.specs.declared.profile.Profile.{Profile}
 use Rattle.file_tree.specs.Setting.{under}
 use Rattle.cut_check.specs.Verifier.{verifier_of}
-use Rattle.journal_device.specs.Device.{Device, appended}
-use Rattle.book_machine.specs.Book.{Book, handle_of}
-use Rattle.book_machine.specs.Book.Condition.{down, dead}
-use Rattle.book_machine.specs.Placing.{is_recorded}
-use Rattle.book_machine.specs.Served.{IsServed}
-use Rattle.book_machine.specs.Steps.{reply_message, journal_record}
+use Rattle.journal.specs.Device.{Device, appended}
+use Rattle.book_laws.specs.Book.{Book, handle_of}
+use Rattle.book_laws.specs.Book.Condition.{down, dead}
+use Rattle.book_laws.specs.Placing.{is_recorded}
+use Rattle.book_laws.specs.Served.{IsServed}
+use Rattle.book_laws.specs.Steps.{reply_message, journal_record}
 use Rattle.book_ledger.specs.declared.placed.Condition.TheVariants as codes
 use Rattle.book_ledger.specs.declared.placing.TreeStep.{TreeStep}
 use Rattle.book_ledger.specs.declared.ledger.Ledger.{Ledger}

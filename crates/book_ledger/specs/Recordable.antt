@@ -16,8 +16,8 @@ use Rattle.nfs3_types.specs.Procedures.{nfs_program, nfs_version, is_judged}
 use Rattle.nfs_history.specs.Outside.{outside}
 use Rattle.nfs3_msgs.specs.Messages.{IsArguments}
 use Rattle.rpc_reader.specs.Messages.{IsCall}
-use Rattle.book_machine.specs.Placing.{Placed}
-use Rattle.book_machine.specs.Steps.{IsRecordable}
+use Rattle.book_laws.specs.Placing.{Placed}
+use Rattle.book_laws.specs.Steps.{IsRecordable}
 use Rattle.book_ledger.specs.declared.fault.BeginFault.{BeginFault}
 use Rattle.book_ledger.specs.declared.fault.BeginFault.TheVariants as faults
 

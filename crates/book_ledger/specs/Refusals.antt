@@ -9,11 +9,11 @@ use Rattle.nfs_history.specs.declared.history.RecordedCall.{RecordedCall}
 use Rattle.nfs_history.specs.Calls.{xid_of}
 use Rattle.nfs_history.specs.Precedence.{call_at, end_of}
 use Rattle.nfs_history.specs.Standing.{IsCutOff, has_unanswered}
-use Rattle.journal_device.specs.Device.{with_fault}
-use Rattle.book_machine.specs.Placing.{Placed}
-use Rattle.book_machine.specs.Book.{Book, records_kept}
-use Rattle.book_machine.specs.Book.Condition.{running, down, dead}
-use Rattle.book_machine.specs.Steps.{IsOpen, IsOfNow, IsUnplaced, IsDurable, Places}
+use Rattle.journal.specs.Device.{with_fault}
+use Rattle.book_laws.specs.Placing.{Placed}
+use Rattle.book_laws.specs.Book.{Book, records_kept}
+use Rattle.book_laws.specs.Book.Condition.{running, down, dead}
+use Rattle.book_laws.specs.Steps.{IsOpen, IsOfNow, IsUnplaced, IsDurable, Places}
 use Rattle.book_ledger.specs.Recordable.{CanBeRecorded}
 use Rattle.book_ledger.specs.declared.fault.BeginFault.{BeginFault}
 use Rattle.book_ledger.specs.declared.fault.BeginFault.TheVariants as begin

@@ -15,9 +15,9 @@ use Rattle.nfs3_types.specs.declared.status.Failure.TheVariants as status
 use Rattle.nfs3_types.specs.Limits.{transfer_limit}
 use Rattle.tree_nodes.specs.Tree.{Tree}
 use Rattle.tree_handles.specs.Binding.{Bindings}
-use Rattle.tree_failures.specs.Asked.{is_listing_call}
+use Rattle.tree_answers.specs.Asked.{is_listing_call}
 use Rattle.file_tree.specs.Success.{next_tree}
-use Rattle.book_machine.specs.Served.{HasLongText}
+use Rattle.book_laws.specs.Served.{HasLongText}
 
 -- the tree allows the reply
 abbrev pub IsAllowed : Bindings → Tree → NfsCall → NfsReply → Type 0

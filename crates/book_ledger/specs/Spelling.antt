@@ -11,8 +11,8 @@ use Rattle.nfs3_types.specs.Procedures.{procedure_answered}
 use Rattle.nfs3_msgs.specs.Messages.{IsResult, result_text}
 use Rattle.nfs_history.specs.declared.history.RecordedCall.{RecordedCall}
 use Rattle.nfs_history.specs.Precedence.{call_at}
-use Rattle.book_machine.specs.Placing.{Placed}
-use Rattle.book_machine.specs.Steps.{reply_message}
+use Rattle.book_laws.specs.Placing.{Placed}
+use Rattle.book_laws.specs.Steps.{reply_message}
 
 -- the transaction number of the call that is answered, and the reply
 pub record Spelled : Type 0 where

@@ -9,10 +9,10 @@ use Rattle.nfs3_types.specs.Procedures.{procedure_answered}
 use Rattle.nfs3_msgs.specs.Messages.{IsResult, result_text}
 use Rattle.nfs_history.specs.declared.history.RecordedCall.{RecordedCall}
 use Rattle.nfs_history.specs.Precedence.{call_at}
-use Rattle.book_machine.specs.Placing.{Placed}
-use Rattle.book_machine.specs.Book.{Book}
-use Rattle.book_machine.specs.Book.Condition.{running}
-use Rattle.book_machine.specs.Steps.{IsUnplaced, IsDurable, reply_message}
+use Rattle.book_laws.specs.Placing.{Placed}
+use Rattle.book_laws.specs.Book.{Book}
+use Rattle.book_laws.specs.Book.Condition.{running}
+use Rattle.book_laws.specs.Steps.{IsUnplaced, IsDurable, reply_message}
 use Rattle.book_ledger.specs.Refusals.{IsOver, IsCutShort, IsNow, IsAnswerable}
 use Rattle.book_ledger.specs.Spelling.{Spelled, IsSpelled}
 use Rattle.book_ledger.specs.declared.placed.PlacedCall.{PlacedCall}

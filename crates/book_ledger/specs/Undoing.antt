@@ -9,11 +9,11 @@ use Rattle.nfs_history.specs.declared.history.RecordedCall.{RecordedCall}
 use Rattle.tree_nodes.specs.declared.undo.Undo.{Undo}
 use Rattle.tree_nodes.specs.Tree.{Tree}
 use Rattle.tree_nodes.specs.Undo.{TakesBack}
-use Rattle.journal_device.specs.Device.{Device, recovered}
-use Rattle.book_machine.specs.Placing.{Placed}
-use Rattle.book_machine.specs.Book.{Book, Setting, next_by}
-use Rattle.book_machine.specs.Book.Condition.{down}
-use Rattle.book_machine.specs.Steps.{Crashes}
+use Rattle.journal.specs.Device.{Device, recovered}
+use Rattle.book_laws.specs.Placing.{Placed}
+use Rattle.book_laws.specs.Book.{Book, Setting, next_by}
+use Rattle.book_laws.specs.Book.Condition.{down}
+use Rattle.book_laws.specs.Steps.{Crashes}
 use Rattle.book_ledger.specs.declared.placed.PlacedCall.{PlacedCall}
 use Rattle.book_ledger.specs.declared.placed.EraOver.{EraOver}
 use Rattle.book_ledger.specs.declared.ledger.Ledger.{Ledger}

@@ -3,7 +3,7 @@
 ghost use Rattle.std.specs.Prelude.{◌≡◌, ℕ, List, [], ◌∷◌, ◌++◌, false, None, IfOk, OnOk, OnErr, IfErr, length};
 ghost use Rattle.history_file.specs.declared.event.Event.TheVariants as events;
 ghost use Rattle.nfs_history.specs.Appending.{Follows};
-ghost use Rattle.book_machine.specs.Steps.{IsRecordable, Begins};
+ghost use Rattle.book_laws.specs.Steps.{IsRecordable, Begins};
 ghost use Rattle.book_ledger.specs.Inside.{Goes, Holds, OnlyHistory};
 ghost use Rattle.book_ledger.specs.Refusals.{BeginStops};
 ghost use Rattle.history_file.specs.Owning.{all_happened};

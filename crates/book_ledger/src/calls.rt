@@ -9,13 +9,13 @@ ghost use Rattle.cut_check.specs.declared.effect.Effect.TheVariants.{Lasting};
 ghost use Rattle.cut_check.specs.Verifier.{verifier_of};
 ghost use Rattle.tree_laws.specs.Leaving.{only_looks};
 ghost use Rattle.tree_laws.specs.Outcomes.{count_written};
-ghost use Rattle.book_machine.specs.Placing.{is_recorded};
-ghost use Rattle.book_machine.specs.Steps.{commits};
-ghost use Rattle.journal_records.specs.Exactly.{ExactlySeen};
+ghost use Rattle.book_laws.specs.Placing.{is_recorded};
+ghost use Rattle.book_laws.specs.Steps.{commits};
+ghost use Rattle.journal.specs.Exactly.{ExactlySeen};
 ghost use Rattle.book_ledger.specs.Recordable.{asks_judged, may_make, step_so, AsksJudged, IsKeptInside, AreKeptArguments, IsKeptAsked};
 
 use crate::fault::BeginFault;
-use journal_records::is_inside;
+use journal::is_inside;
 use nfs_history::{commit_success, succeeded, write_success};
 use nfs3_msgs::{MessageFault, read_args};
 use nfs3_types::{NFS_PROGRAM, NFS_VERSION, NfsCall, Outcome, Procedure, StableHow};

@@ -3,7 +3,7 @@
 ghost use Rattle.std.specs.Prelude.{◌≡◌, ◌≤◌, [], ◌∷◌, ◌++◌, length, map, if◌then◌else◌, IfOk, OnOk};
 ghost use Rattle.std.specs.List.{cons_option, range_with_len};
 ghost use Rattle.tree_starts.specs.Start.{object_made};
-ghost use Rattle.book_machine.specs.Plan.{bind_of, place_of, places_of, plan_over, plan_now, plan_of};
+ghost use Rattle.book_laws.specs.Plan.{bind_of, place_of, places_of, plan_over, plan_now, plan_of};
 ghost use Rattle.book_ledger.specs.Inside.{IsAsked, AreAsked, ArePlannable, IsTied, Holds, placed_in, era_in, made_in};
 
 use crate::calls::{count_written, is_recorded};

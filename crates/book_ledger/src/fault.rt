@@ -1,6 +1,6 @@
 //! Why a call of a book was refused.
 
-use journal_device::DevFault;
+use journal::DevFault;
 use replay_law::StepFault;
 use std::alloc::{AllocError, AllocFailed};
 use std::fmt;

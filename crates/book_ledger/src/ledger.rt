@@ -2,15 +2,15 @@
 
 ghost use Rattle.std.specs.Prelude.{◌≡◌, ◌≢◌, ℕ, [], IfOk, OnOk, IfErr};
 ghost use Rattle.tree_starts.specs.Start.{IsStart};
-ghost use Rattle.book_machine.specs.Book.Condition.{down, dead};
-ghost use Rattle.book_machine.specs.Steps.{opening_book, Closes};
+ghost use Rattle.book_laws.specs.Book.Condition.{down, dead};
+ghost use Rattle.book_laws.specs.Steps.{opening_book, Closes};
 ghost use Rattle.book_ledger.specs.Inside.{book_of, AreTied, Goes, Settles};
 ghost use Rattle.book_ledger.specs.Refusals.{CloseStops};
 
 use crate::fault::CloseFault;
 use crate::placed::{CallState, Condition, EraOver, PlacedCall};
 use file_tree::{Binds, FileTree, Profile, Start, Undo};
-use journal_rebuild::{binds_at_first, tree_at_first};
+use journal::{binds_at_first, tree_at_first};
 use nfs_history::{Event, History, LaneState};
 use nfs3_types::FileHandle;
 use std::alloc::{AllocError, Global};

@@ -4,8 +4,8 @@ ghost use Rattle.std.specs.Prelude.{◌≡◌, ◌-◌, ◌<◌, ◌≤◌, ◌^
 ghost use Rattle.history_file.specs.declared.event.Event.TheVariants as events;
 ghost use Rattle.tree_starts.specs.Start.{object_made};
 ghost use Rattle.nfs_history.specs.Precedence.{end_of};
-ghost use Rattle.book_machine.specs.Book.Condition.{running};
-ghost use Rattle.book_machine.specs.Steps.{IsUnplaced};
+ghost use Rattle.book_laws.specs.Book.Condition.{running};
+ghost use Rattle.book_laws.specs.Steps.{IsUnplaced};
 ghost use Rattle.book_ledger.specs.Inside.{IsTied, IsAsked, IsOneOf, StandsAt, Holds, asked_by};
 ghost use Rattle.book_ledger.specs.Refusals.{IsNow};
 ghost use Rattle.book_ledger.specs.Turns.{TokenStops, UnplacedStops, PlacedStops};
@@ -32,7 +32,7 @@ pub(crate) fn call_asked(history: &History, number: u64) -> &NfsCall
 pub(crate) fn object_made(history: &History, number: u64) -> Option<u64>
     ensures { MatchOption result (2 ^ 64 ≤ object_made (length history.now.known.head.start) number) (λ object. object ≡ object_made (length history.now.known.head.start) number) }
 {
-    journal_rebuild::object_made(history.start().objects().len() as u64, number)
+    journal::object_made(history.start().objects().len() as u64, number)
 }
 
 /// The same, where the sum has 64 bits.

@@ -1,7 +1,7 @@
 //! Which replies the server may give.
 
 ghost use Rattle.std.specs.Prelude.{◌↔◌, IfOk, IsTrue};
-ghost use Rattle.book_machine.specs.Served.{IsFull, IsServed};
+ghost use Rattle.book_laws.specs.Served.{IsFull, IsServed};
 ghost use Rattle.book_ledger.specs.Serving.{IsAllowed, IsFree, HasAll, ReadsAll, WritesAll};
 
 use file_tree::{Binds, FileTree};

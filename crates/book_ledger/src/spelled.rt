@@ -1,7 +1,7 @@
 //! Replies whose messages are made ahead of the book.
 
 ghost use Rattle.std.specs.Prelude.{◌≡◌, IfOk};
-ghost use Rattle.book_machine.specs.Steps.{reply_message};
+ghost use Rattle.book_laws.specs.Steps.{reply_message};
 ghost use Rattle.book_ledger.specs.Spelling.{IsSpelled};
 
 use crate::placing::reply_message;

@@ -3,7 +3,7 @@
 ghost use Rattle.std.specs.Prelude.{IfOk};
 ghost use Rattle.certificate.specs.CertificateText.{IsCertificate};
 ghost use Rattle.witness_check.specs.Witness.{IsWitness};
-ghost use Rattle.served_laws.specs.ServedPlan.{EachServed};
+ghost use Rattle.book_laws.specs.ServedPlan.{EachServed};
 
 use crate::client::{Client, SimServer};
 use crate::end::RunEnd;

@@ -12,7 +12,7 @@ use Rattle.tree_nodes.specs.Tree.{Tree, entry_of}
 use Rattle.tree_handles.specs.Binding.{Bindings, same_bytes, object_of, is_bound}
 use Rattle.tree_handles.specs.Finding.{first_of}
 use Rattle.tree_handles.specs.Live.{live_entry}
-use Rattle.tree_failures.specs.Asked.{first_handle, second_handle}
+use Rattle.tree_answers.specs.Asked.{first_handle, second_handle}
 use Rattle.file_tree.specs.Setting.{under}
 use Rattle.decision_steps.specs.Known.{AgreesWith, is_known, knows_handles}
 use Rattle.decision_steps.specs.Given.{given}

@@ -19,8 +19,8 @@ use Rattle.tree_handles.specs.Binding.{Bindings, is_bound, gives_object}
 use Rattle.tree_handles.specs.Live.{directory_of}
 use Rattle.tree_handles.specs.Entry.{entry_at}
 use Rattle.tree_starts.specs.Names.{is_plain}
-use Rattle.tree_reads.specs.Look.{object_named, is_object_named}
-use Rattle.tree_reads.specs.Listing.{has_its_handle}
+use Rattle.tree_answers.specs.Look.{object_named, is_object_named}
+use Rattle.tree_answers.specs.Listing.{has_its_handle}
 use Rattle.file_tree.specs.Change.{Change}
 use Rattle.file_tree.specs.Change.Change.{Put}
 use Rattle.file_tree.specs.Made.{only_if, first_size, first_verifier, create_absent, create_present, create_at, create_change, make_entry}

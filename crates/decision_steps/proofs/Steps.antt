@@ -25,9 +25,9 @@ use Rattle.tree_nodes.specs.Tree.{Names, Tree}
 use Rattle.tree_nodes.proofs.Chains.{chained, mapped}
 use Rattle.tree_handles.specs.Binding.{Bindings, is_bound, gives_object}
 use Rattle.tree_handles.specs.Live.{live_entry, directory_of}
-use Rattle.tree_failures.specs.Asked.{first_handle, second_handle, first_place}
-use Rattle.tree_reads.specs.Listing.{is_listing, listed_names_plus, has_its_handle}
-use Rattle.tree_reads.specs.Look.{object_named}
+use Rattle.tree_answers.specs.Asked.{first_handle, second_handle, first_place}
+use Rattle.tree_answers.specs.Listing.{is_listing, listed_names_plus, has_its_handle}
+use Rattle.tree_answers.specs.Look.{object_named}
 use Rattle.file_tree.specs.Change.{Change}
 use Rattle.file_tree.specs.Change.Change.{Keep}
 use Rattle.file_tree.specs.Made.{only_if, create_change, make_entry}

@@ -31,10 +31,10 @@ use Rattle.tree_handles.specs.Binding.{Bindings, object_of, gives_object}
 use Rattle.tree_handles.specs.Live.{FileEntry, live_entry, as_directory, directory_of, as_file, file_of}
 use Rattle.tree_handles.specs.Entry.{entry_at, named}
 use Rattle.tree_handles.specs.Kind.{is_directory}
-use Rattle.tree_failures.specs.Asked.{first_handle, second_handle}
-use Rattle.tree_failures.specs.Failure.{is_permitted}
-use Rattle.tree_reads.specs.Look.{shows, has_text, read_is_right, is_object_named}
-use Rattle.tree_reads.specs.Listing.{is_listing, listed_names, listed_names_plus, has_its_handle}
+use Rattle.tree_answers.specs.Asked.{first_handle, second_handle}
+use Rattle.tree_answers.specs.Failure.{is_permitted}
+use Rattle.tree_answers.specs.Look.{shows, has_text, read_is_right, is_object_named}
+use Rattle.tree_answers.specs.Listing.{is_listing, listed_names, listed_names_plus, has_its_handle}
 use Rattle.file_tree.specs.Change.{Change}
 use Rattle.file_tree.specs.Change.Change.{Keep, Remove}
 use Rattle.file_tree.specs.Made.{only_if, set_size, create_change, make_entry}

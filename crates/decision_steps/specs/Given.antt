@@ -17,7 +17,7 @@ use Rattle.tree_nodes.specs.Tree.{Names, Tree}
 use Rattle.tree_handles.specs.Binding.{Bindings}
 use Rattle.tree_handles.specs.Entry.{entry_at, named}
 use Rattle.tree_handles.specs.Live.{directory_of}
-use Rattle.tree_reads.specs.Look.{object_named}
+use Rattle.tree_answers.specs.Look.{object_named}
 
 -- a handle of this object, if the reply gives one
 abbrev pub given_as : Option (List ℕ) → ℕ → List (List ℕ × ℕ)

@@ -8,7 +8,7 @@ use Rattle.nfs3_types.specs.declared.replies.Outcome.TheVariants.{Received, Take
 use Rattle.nfs3_types.specs.Procedures.{failure_in}
 use Rattle.tree_nodes.specs.Tree.{Tree, entry_of}
 use Rattle.tree_handles.specs.Binding.{Bindings, object_of}
-use Rattle.tree_failures.specs.Asked.{first_handle, second_handle}
+use Rattle.tree_answers.specs.Asked.{first_handle, second_handle}
 
 -- each handle that is bound here names the same object there: the second bindings may be those of a plan of the whole history
 abbrev pub AgreesWith : Bindings → Bindings → Type 0

@@ -4,7 +4,7 @@ ghost use Rattle.std.specs.Prelude.{◌≡◌};
 ghost use Rattle.decision_steps.specs.Known.{is_known, knows_handles, is_failure};
 
 use nfs3_types::{FileHandle, NfsCall, Outcome};
-use tree_failures::{first_handle, second_handle};
+use tree_answers::{first_handle, second_handle};
 use tree_handles::Binds;
 
 /// Whether a handle is bound.

@@ -12,9 +12,9 @@ use nfs3_types::{
     ReadDirPlusArguments,
 };
 use std::alloc::{AllocError, Global};
+use tree_answers::object_named;
 use tree_handles::{View, directory_of, entry_at, named};
 use tree_nodes::Nodes;
-use tree_reads::object_named;
 
 /// A handle that a reply gives, and the object that it has to name.
 #[derive(Clone, Copy)]

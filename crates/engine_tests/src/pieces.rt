@@ -1,8 +1,8 @@
 //! Readers that give a bundle in pieces, break off or never end, and writers with little room.
 
 use crate::samples::{CERTIFICATE, EMPTY, HISTORY};
-use bench_streams::{Sink, Stream};
 use nfsbench_engine::run_bundle;
+use program_streams::{Sink, Stream};
 use std::alloc::{AllocError, Global};
 use std::io::{self, ErrorKind, Read, Write};
 use std::test::Fail;

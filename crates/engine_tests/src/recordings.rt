@@ -2,10 +2,10 @@
 
 use crate::frames::{CALL, ONE_LANE, REPLY, TWO_ERAS};
 use crate::peers::{comes, connect, ends, free_port, listen, port_of, sends};
-use bench_streams::{Input, Stream};
-use nfs_recording::Recorder;
 use nfs_relay::Host;
 use nfsbench_engine::run_words;
+use program_streams::{Input, Stream};
+use recording_command::Recorder;
 use std::alloc::{AllocError, Global};
 use std::net::{TcpListener, TcpStream};
 use std::test::Fail;

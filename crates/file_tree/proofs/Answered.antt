@@ -24,8 +24,8 @@ use Rattle.tree_nodes.proofs.Chains.{chained, passed, same_some}
 use Rattle.tree_handles.specs.Binding.{Bindings, gives_object}
 use Rattle.tree_starts.specs.Names.{is_plain}
 use Rattle.tree_handles.specs.Live.{directory_of}
-use Rattle.tree_failures.specs.Asked.{first_place}
-use Rattle.tree_reads.specs.Listing.{readdirplus_is_legal}
+use Rattle.tree_answers.specs.Asked.{first_place}
+use Rattle.tree_answers.specs.Listing.{readdirplus_is_legal}
 use Rattle.file_tree.specs.AtPlace.{IsAtPlace}
 use Rattle.file_tree.specs.Change.{Change}
 use Rattle.file_tree.specs.Change.Change.{Keep, Put}

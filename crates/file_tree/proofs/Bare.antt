@@ -16,7 +16,7 @@ use Rattle.tree_nodes.specs.declared.node.Node.{Node}
 use Rattle.tree_nodes.specs.Tree.{Names, Tree}
 use Rattle.tree_handles.specs.Binding.{Bindings}
 use Rattle.tree_handles.specs.Live.{live_entry, directory_of}
-use Rattle.tree_failures.specs.Asked.{first_handle, second_handle, first_place}
+use Rattle.tree_answers.specs.Asked.{first_handle, second_handle, first_place}
 use Rattle.file_tree.specs.Strict.{told, fits, had_size, handle_agrees, answer_agrees, entry_agrees, entries_agree, agrees, told_by, told_at}
 
 no_size : (stood : Option (ℕ × Option ℕ)) → had_size stood None ≡ true

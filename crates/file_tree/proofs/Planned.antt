@@ -11,7 +11,7 @@ use Rattle.tree_nodes.specs.declared.node.Content.{Content}
 use Rattle.nfs3_types.specs.Limits.{file_limit}
 use Rattle.nfs3_types.specs.declared.calls.CreateMode.{CreateMode}
 use Rattle.tree_nodes.specs.Files.{node_limit, file_node}
-use Rattle.file_bytes.specs.Files.{resized, written}
+use Rattle.tree_stores.specs.Files.{resized, written}
 use Rattle.tree_nodes.specs.Tree.{Names, Tree, entry_of, same_path, is_bare}
 use Rattle.tree_nodes.specs.Moved.{is_from}
 use Rattle.tree_nodes.proofs.Found.{found_stands, same_lists}

@@ -15,7 +15,7 @@ use Rattle.tree_handles.specs.Binding.{Bindings, object_of}
 use Rattle.tree_starts.specs.Names.{is_dot, is_two_dots, is_plain}
 use Rattle.tree_handles.specs.Entry.{entry_at}
 use Rattle.tree_handles.specs.Live.{live_entry, as_directory, directory_of}
-use Rattle.tree_reads.specs.Look.{object_at, object_named}
+use Rattle.tree_answers.specs.Look.{object_at, object_named}
 use Rattle.file_tree.specs.AtPlace.{IsAtPlace}
 use Rattle.file_tree.specs.Change.{Change}
 use Rattle.file_tree.specs.Change.Change.{Put}

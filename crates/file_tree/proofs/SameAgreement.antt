@@ -14,8 +14,8 @@ use Rattle.reply_attributes.specs.Attributes.{post_attr, pre_size, entries_of}
 use Rattle.tree_nodes.specs.Tree.{Tree}
 use Rattle.tree_handles.specs.Binding.{Bindings}
 use Rattle.tree_handles.specs.Live.{live_entry, as_directory, directory_of}
-use Rattle.tree_failures.specs.Asked.{first_handle, second_handle, first_place}
-use Rattle.tree_reads.specs.Look.{object_named}
+use Rattle.tree_answers.specs.Asked.{first_handle, second_handle, first_place}
+use Rattle.tree_answers.specs.Look.{object_named}
 use Rattle.file_tree.specs.Strict.{told, told_of, fits, had_size, handle_agrees, answer_agrees, entry_agrees, entries_agree, agrees, judged}
 
 passes : (b : Bool) (t after : Tree) → cond b (Some t) None ≡ Some after → t ≡ after

@@ -47,8 +47,8 @@ use Rattle.tree_starts.specs.Names.{is_plain}
 use Rattle.tree_handles.specs.Kind.{is_link}
 use Rattle.tree_handles.specs.Live.{FileEntry, live_entry, directory_of, file_of}
 use Rattle.tree_handles.proofs.HandleOf.{handle_of, is_among_names}
-use Rattle.tree_reads.specs.Look.{shows, getattr_is_legal, object_named, is_object_named, lookup_is_legal, has_text, readlink_is_legal, same_flag, read_is_right, read_is_legal, commit_is_legal}
-use Rattle.tree_reads.specs.Listing.{is_listing, readdir_is_legal, readdirplus_is_legal, are_all_listed}
+use Rattle.tree_answers.specs.Look.{shows, getattr_is_legal, object_named, is_object_named, lookup_is_legal, has_text, readlink_is_legal, same_flag, read_is_right, read_is_legal, commit_is_legal}
+use Rattle.tree_answers.specs.Listing.{is_listing, readdir_is_legal, readdirplus_is_legal, are_all_listed}
 use Rattle.file_tree.specs.Change.{Change}
 use Rattle.file_tree.specs.Change.Change.{Keep, Put}
 use Rattle.file_tree.specs.Made.{only_if, create_present, create_over, create_at, create_change, make_entry, make_directory, make_link}

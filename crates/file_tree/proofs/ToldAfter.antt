@@ -6,7 +6,7 @@ use Rattle.std.specs.FinMap as map
 use Rattle.tree_nodes.specs.declared.node.Node.{Node}
 use Rattle.tree_nodes.specs.declared.node.Content.TheVariants as contents
 use Rattle.nfs3_types.specs.Limits.{file_limit}
-use Rattle.file_bytes.specs.Files.{written}
+use Rattle.tree_stores.specs.Files.{written}
 use Rattle.tree_nodes.specs.Files.{file_node}
 use Rattle.tree_nodes.specs.Moved.{is_from, moved}
 use Rattle.tree_nodes.specs.Moves.{IsOutside}

@@ -12,7 +12,7 @@ use Rattle.tree_nodes.specs.Tree.{Tree}
 use Rattle.tree_handles.specs.Binding.{Bindings, is_named}
 use Rattle.tree_handles.specs.Kind.{is_link}
 use Rattle.tree_handles.specs.Live.{live_entry, directory_of, file_of}
-use Rattle.tree_reads.specs.Look.{object_named}
+use Rattle.tree_answers.specs.Look.{object_named}
 use Rattle.file_tree.specs.Success.{next_tree, change_taken}
 
 -- some success of the call's procedure leads to a tree

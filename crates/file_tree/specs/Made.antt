@@ -17,7 +17,7 @@ use Rattle.tree_nodes.specs.declared.node.Content.TheVariants as contents
 use Rattle.tree_nodes.specs.declared.node.File.{File}
 use Rattle.nfs3_types.specs.Limits.{file_limit}
 use Rattle.tree_nodes.specs.Files.{node_limit, file_node}
-use Rattle.file_bytes.specs.Files.{resized}
+use Rattle.tree_stores.specs.Files.{resized}
 use Rattle.tree_nodes.specs.Tree.{Names, Tree, entry_of}
 use Rattle.tree_handles.specs.Binding.{Bindings, gives_object}
 use Rattle.tree_handles.specs.Live.{directory_of}

@@ -10,7 +10,7 @@ use Rattle.tree_nodes.specs.declared.node.File.{File}
 use Rattle.tree_nodes.specs.declared.node.Content.TheVariants as contents
 use Rattle.tree_nodes.specs.Tree.{Names, Tree, entry_of, same_path, is_bare}
 use Rattle.tree_nodes.specs.Files.{node_limit, file_node}
-use Rattle.file_bytes.specs.Files.{resized, written}
+use Rattle.tree_stores.specs.Files.{resized, written}
 use Rattle.tree_nodes.specs.Moved.{is_from}
 use Rattle.tree_nodes.specs.Place.{node_in}
 use Rattle.file_tree.specs.Change.{Change}

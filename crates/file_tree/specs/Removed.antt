@@ -15,7 +15,7 @@ use Rattle.tree_handles.specs.Live.{directory_of}
 use Rattle.tree_starts.specs.Names.{is_plain}
 use Rattle.tree_handles.specs.Entry.{named}
 use Rattle.tree_handles.specs.Kind.{is_directory}
-use Rattle.tree_reads.specs.Look.{same_flag}
+use Rattle.tree_answers.specs.Look.{same_flag}
 use Rattle.file_tree.specs.Made.{only_if}
 
 -- REMOVE, RFC 1813, section 3.3.12: an entry that is no directory goes (below one nothing lies)

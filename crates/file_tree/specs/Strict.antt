@@ -21,8 +21,8 @@ use Rattle.tree_nodes.specs.Tree.{Names, Tree, entry_of}
 use Rattle.tree_handles.specs.Binding.{Bindings}
 use Rattle.tree_handles.specs.Live.{live_entry, directory_of}
 use Rattle.tree_handles.specs.Entry.{entry_at}
-use Rattle.tree_failures.specs.Asked.{first_handle, second_handle, first_place}
-use Rattle.tree_reads.specs.Look.{object_named}
+use Rattle.tree_answers.specs.Asked.{first_handle, second_handle, first_place}
+use Rattle.tree_answers.specs.Look.{object_named}
 
 -- what attributes can tell of an object: its type's number, and of a file its length; sizes of directories and links aren't judged
 abbrev pub told : Content → ℕ × Option ℕ

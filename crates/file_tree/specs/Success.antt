@@ -21,11 +21,11 @@ use Rattle.file_tree.specs.Change.Change.{Keep, Put, Remove, Move}
 use Rattle.tree_nodes.specs.Tree.{Tree}
 use Rattle.tree_nodes.specs.Moved.{moved}
 use Rattle.tree_handles.specs.Binding.{Bindings}
-use Rattle.tree_reads.specs.Look.{getattr_is_legal, lookup_is_legal, readlink_is_legal, read_is_legal, commit_is_legal}
+use Rattle.tree_answers.specs.Look.{getattr_is_legal, lookup_is_legal, readlink_is_legal, read_is_legal, commit_is_legal}
 use Rattle.nfs3_types.specs.Procedures.{is_answered, failure_in}
-use Rattle.tree_failures.specs.Failure.{is_permitted}
+use Rattle.tree_answers.specs.Failure.{is_permitted}
 use Rattle.nfs3_types.specs.declared.status.Failure.{Failure}
-use Rattle.tree_reads.specs.Listing.{readdir_is_legal, readdirplus_is_legal}
+use Rattle.tree_answers.specs.Listing.{readdir_is_legal, readdirplus_is_legal}
 use Rattle.file_tree.specs.Made.{only_if, create_change, make_directory, make_link}
 use Rattle.file_tree.specs.Written.{set_attributes, write_change}
 use Rattle.file_tree.specs.Removed.{remove_entry, remove_directory, rename}

@@ -4,7 +4,7 @@ ghost use Rattle.std.specs.Prelude.{◌≡◌, ℕ, IsSome, Some, true};
 ghost use Rattle.std.specs.Option.{option_map_or};
 ghost use Rattle.std.specs.List.{list_all};
 ghost use Rattle.reply_attributes.specs.declared.role.Role.TheVariants.{Second};
-ghost use Rattle.tree_failures.specs.Asked.{first_place, second_handle};
+ghost use Rattle.tree_answers.specs.Asked.{first_place, second_handle};
 ghost use Rattle.tree_nodes.specs.Numbered.{IsNumbered};
 ghost use Rattle.tree_nodes.specs.Place.{path_of};
 ghost use Rattle.tree_handles.specs.Standing.{place_of};
@@ -18,7 +18,7 @@ use crate::object_change::ObjectChange;
 use crate::told::{told, told_after, told_at, told_of};
 use nfs3_types::{DirectoryEntryPlus, DirectoryName, FileHandle, NfsCall, NfsReply};
 use reply_attributes::{Role, entries_of, post_attr, pre_size, type_and_size};
-use tree_failures::{first_handle, first_place, second_handle};
+use tree_answers::{first_handle, first_place, second_handle};
 use tree_handles::{View, directory_of, entry_at};
 use tree_nodes::Nodes;
 

@@ -16,8 +16,8 @@ use crate::success::change_taken;
 use nfs3_types::{DirectoryName, FileHandle, NfsCall};
 use replay_law::StepFault;
 use std::alloc::{AllocError, Global};
+use tree_answers::object_named;
 use tree_handles::{View, directory_of, file_of, is_link, live_entry};
-use tree_reads::object_named;
 
 /// A LOOKUP finds an object that has a handle.
 fn may_be_found(view: &View<'_>, place: &DirectoryName) -> bool

@@ -10,12 +10,12 @@ ghost use Rattle.file_tree.specs.Planning.{Plans};
 ghost use Rattle.file_tree.specs.Made.{first_size, first_verifier, made_by, create_absent, set_size, create_over, create_present, create_change};
 
 use crate::object_change::ObjectChange;
-use file_bytes::FileBytes;
 use nfs3_types::{CreateArguments, CreateMode, FILE_LIMIT, FileHandle, Verifier};
 use replay_law::StepFault;
 use std::alloc::{AllocError, Global};
 use tree_handles::{View, directory_of, gives_object, is_plain};
 use tree_nodes::{Content, File, Node, Nodes};
+use tree_stores::FileBytes;
 
 /// The most nodes of a tree.
 pub const NODE_LIMIT: u64 = 4_294_967_295;

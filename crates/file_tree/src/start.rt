@@ -10,10 +10,10 @@ ghost use Rattle.tree_nodes.specs.Place.{node_in};
 ghost use Rattle.file_tree.specs.Built.{Fits};
 ghost use Rattle.file_tree.specs.StartTree.{content_of, with_object, start_tree};
 
-use file_bytes::FileBytes;
 use std::alloc::{AllocError, Global};
 use tree_nodes::{Bytes, Content, File, Node, Nodes};
 use tree_starts::{SeenNode, SeenObject, SeenStart};
+use tree_stores::FileBytes;
 
 /// What an object is, with bytes of its own.
 fn content_of(alloc: Global, node: &SeenNode<'_>) -> Result<Content, AllocError>

@@ -16,9 +16,9 @@ ghost use Rattle.file_tree.specs.Success.{changed};
 
 use crate::object_change::ObjectChange;
 use nfs3_types::{DirectoryName, FileType};
+use tree_answers::object_named;
 use tree_handles::{View, directory_of};
 use tree_nodes::{Content, Nodes};
-use tree_reads::object_named;
 
 /// The number of an object's type, and of a file its length.
 pub(crate) fn told(content: &Content) -> (u32, Option<u64>)

@@ -1,4 +1,4 @@
-//! A put that is refused memory. What items are in bytes is a case of `stored_cases`.
+//! A put that is refused memory. What items are in bytes is a case of `verdict_cases`.
 
 use std::alloc::{AllocError, Global};
 use std::test::Fail;

@@ -1,6 +1,6 @@
 //! Calls that are answered ahead of a server, as RFC 1813 spells them, sections 3.3 and 5.2, and messages that are left to it.
 
-use mount_answers::mount_reply;
+use server_requests::mount_reply;
 use std::alloc::{AllocError, Global};
 use std::test::Fail;
 use xdr_records::{put_opaque, put_u32};

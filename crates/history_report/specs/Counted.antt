@@ -9,7 +9,7 @@ use Rattle.nfs3_types.specs.declared.replies.Outcome.TheVariants as outcomes
 use Rattle.nfs3_types.specs.Procedures.{failure_in}
 use Rattle.nfs_history.specs.declared.history.RecordedCall.{RecordedCall}
 use Rattle.order_check.specs.Places as places
-use Rattle.tree_failures.specs.Failure as failures
+use Rattle.tree_answers.specs.Failure as failures
 use Rattle.history_report.specs.declared.counting.Report.{Report}
 
 -- a status that isn't judged: it may answer any call

@@ -4,8 +4,8 @@ use Rattle.std.specs.Prelude.{◌≡◌, ◌⊎◌, ◌+◌, ◌<◌, ◌≤◌,
 use Rattle.std.specs.declared.vec.Vec.{Vec}
 use Rattle.std.specs.declared.alloc.Global.{Global}
 use Rattle.nfs3_types.specs.declared.replies.NfsReply.{NfsReply}
-use Rattle.book_machine.specs.Book.{Book}
-use Rattle.book_machine.specs.Steps.{Places, Flushes, Answers}
+use Rattle.book_laws.specs.Book.{Book}
+use Rattle.book_laws.specs.Steps.{Places, Flushes, Answers}
 use Rattle.book_ledger.specs.Sending.{IsSent}
 use Rattle.book_ledger.specs.Refusals.{BeginStops, PlaceStops, FlushStops, AnswerStops, CloseStops, CrashStops, after_place, after_flush, after_crash}
 use Rattle.journal_server.specs.declared.fault.CallFault.{CallFault}

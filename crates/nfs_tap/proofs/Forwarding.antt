@@ -9,8 +9,8 @@ use Rattle.xdr_records.proofs.Cutting.{unfinished_none, cut_join}
 use Rattle.nfs_tap.specs.declared.pump.PumpEnd.{PumpEnd}
 use Rattle.nfs_tap.specs.declared.pump.PumpEnd.TheVariants as ends
 use Rattle.nfs_tap.specs.Pumping.{frames, Behind, IsAnywhere, IsWritten, IsForwarded, Pumps, AreWithinLimit, IsIdle, Stops}
-use Rattle.bench_streams.specs.Streams.{AppendsFront}
-use Rattle.bench_streams.proofs.Fronts.{both as both_appended}
+use Rattle.program_streams.specs.Streams.{AppendsFront}
+use Rattle.program_streams.proofs.Fronts.{both as both_appended}
 use Rattle.nfs_tap.proofs.Fronts.{none_appended, none_consumed, both_consumed}
 
 frames-append : (xs ys : List (List ℕ)) → frames (xs ++ ys) ≡ frames xs ++ frames ys

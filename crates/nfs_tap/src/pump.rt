@@ -8,7 +8,7 @@ ghost use Rattle.nfs_tap.specs.Pumping.{frames, event_of, IsAnywhere, IsNamed, A
 
 use crate::fault::NoteFault;
 use crate::log::TapLog;
-use bench_streams::{READ_LIMIT, READ_SIZE, write_pieces};
+use program_streams::{READ_LIMIT, READ_SIZE, write_pieces};
 use std::alloc::{AllocError, Global};
 use std::fmt;
 use std::io::{ErrorKind, Read, Write};

@@ -7,8 +7,8 @@ use Rattle.std.proofs.lemmas.List.Elements.{All-nil, All-push}
 use Rattle.xdr_records.proofs.Marks.{length-concat-push}
 use Rattle.history_lines.specs.Printable.{IsLine}
 use Rattle.nfsbench_engine.specs.Shown.{AreLines}
-use Rattle.bench_streams.specs.Streams.{AppendsFront}
-use Rattle.bench_streams.proofs.Fronts.{both}
+use Rattle.program_streams.specs.Streams.{AppendsFront}
+use Rattle.program_streams.proofs.Fronts.{both}
 
 -- lines were written
 abbrev pub IsShown : Option (List ℕ) → Option (List ℕ) → Type 0

@@ -2,11 +2,11 @@
 use Rattle.std.proofs.Common.{◌≡◌, ℕ, List, [], ◌++◌, Result, Ok, Err, refl, sym, subst, ap, ◌∙◌}
 use Rattle.std.specs.Prelude.{IfOk}
 use Rattle.witness_check.specs.declared.verdict.FileVerdict.TheVariants.{Yes}
-use Rattle.bench_streams.specs.Told.{Answer}
-use Rattle.nfs_running.specs.declared.fault.RunFault.{RunFault}
-use Rattle.nfs_running.specs.declared.recorded.Recorded.{Recorded}
-use Rattle.nfs_running.specs.Recording.{IsRecording}
-use Rattle.nfs_judging.specs.Report.{IsSaidOfFiles, line_of}
+use Rattle.program_streams.specs.Told.{Answer}
+use Rattle.serving_commands.specs.declared.fault.RunFault.{RunFault}
+use Rattle.serving_commands.specs.declared.recorded.Recorded.{Recorded}
+use Rattle.serving_commands.specs.Recording.{IsRecording}
+use Rattle.judging_commands.specs.Report.{IsSaidOfFiles, line_of}
 use Rattle.nfsbench_engine.specs.Ran.{IsSaidOfRan, IsSaidOfServed, IsYesBehind, run_lines}
 
 pub yes_said : (recorded : Recorded) → IsRecording recorded → IsSaidOfFiles recorded.history.items recorded.certificate.items 0 (line_of Yes)

@@ -5,14 +5,14 @@ use Rattle.std.specs.Prelude.{◌≡◌, ◌⊎◌, ℕ, List, [], ◌++◌, cod
 use Rattle.witness_check.specs.declared.verdict.FileVerdict.{FileVerdict}
 use Rattle.witness_check.specs.declared.verdict.FileVerdict.TheVariants.{Yes}
 use Rattle.witness_check.specs.Verdict.{IsFileVerdict}
-use Rattle.bench_streams.specs.Told.{Tells, memory_line}
-use Rattle.nfs_running.specs.declared.fault.RunFault.{RunFault}
-use Rattle.nfs_running.specs.declared.recorded.Counts.{Counts}
-use Rattle.nfs_running.specs.declared.recorded.Recorded.{Recorded}
-use Rattle.nfs_running.specs.Recording.{IsRecording}
-use Rattle.nfs_running.specs.Told.{fault_status, fault_line}
-use Rattle.nfs_judging.specs.Report.{line_of, status_of}
-use Rattle.nfs_judging.specs.Reported.{number_line}
+use Rattle.program_streams.specs.Told.{Tells, memory_line}
+use Rattle.serving_commands.specs.declared.fault.RunFault.{RunFault}
+use Rattle.serving_commands.specs.declared.recorded.Counts.{Counts}
+use Rattle.serving_commands.specs.declared.recorded.Recorded.{Recorded}
+use Rattle.serving_commands.specs.Recording.{IsRecording}
+use Rattle.serving_commands.specs.Told.{fault_status, fault_line}
+use Rattle.judging_commands.specs.Report.{line_of, status_of}
+use Rattle.judging_commands.specs.Reported.{number_line}
 
 abbrev pub run_lines : Counts → List ℕ
 run_lines counts =

@@ -1,12 +1,12 @@
 //! Files, as they can be read.
 
 ghost use Rattle.std.specs.Prelude.{◌≡◌, ℕ, List, IfOk, Option};
-ghost use Rattle.nfs_judging.specs.Report.{IsSaidOfRead};
-ghost use Rattle.nfs_judging.specs.Reported.{IsReportedOfRead};
+ghost use Rattle.judging_commands.specs.Report.{IsSaidOfRead};
+ghost use Rattle.judging_commands.specs.Reported.{IsReportedOfRead};
 
-use bench_streams::{InputFault, Report, Stream, read_all};
 use history_file::HISTORY_LIMIT;
-use nfs_judging::{judge_read, report_read};
+use judging_commands::{judge_read, report_read};
+use program_streams::{InputFault, Report, Stream, read_all};
 use std::alloc::AllocError;
 use std::fs::{File, OpenFile};
 use std::io::Read;

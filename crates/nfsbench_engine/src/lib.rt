@@ -9,8 +9,8 @@ mod showing;
 mod words;
 
 pub use history_report::{lost_of, report_of};
-pub use nfs_judging::{judge, judge_files, judge_read, report_read, run_bundle};
-pub use nfs_serving::{StreamEnd, serve_stream};
+pub use judging_commands::{judge, judge_files, judge_read, report_read, run_bundle};
 pub use process::run_process;
 pub use runs::judge_run;
+pub use server_connection::{StreamEnd, serve_stream};
 pub use words::run_words;

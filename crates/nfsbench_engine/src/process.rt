@@ -1,8 +1,8 @@
 //! The process: its words, its standard input and its standard output.
 
 use crate::words::run_words;
-use bench_streams::{Sink, Stream, tell, tell_want_of_memory};
-use nfs_recording::Recorder;
+use program_streams::{Sink, Stream, tell, tell_want_of_memory};
+use recording_command::Recorder;
 use std::env;
 use std::io::{self, ErrorKind};
 use std::process::ExitCode;

@@ -2,15 +2,15 @@
 
 ghost use Rattle.std.specs.Prelude.{◌≡◌, ◌⊎◌, ◌<◌, IfOk, OnErr, string_bytes};
 ghost use Rattle.std.specs.Io.KnownBytes.{Appends};
-ghost use Rattle.bench_streams.specs.Told.{Tells, memory_line};
-ghost use Rattle.nfs_running.specs.Recording.{IsRecording};
+ghost use Rattle.program_streams.specs.Told.{Tells, memory_line};
+ghost use Rattle.serving_commands.specs.Recording.{IsRecording};
 ghost use Rattle.nfsbench_engine.specs.Ran.{IsSaidOfRan, IsSaidOfRun, IsSaidOfServed, IsYesBehind, MayTellOf, run_lines};
 
 use crate::files::{read_history_file, read_plan_file};
-use bench_streams::{Output, Report, tell, tell_answer, tell_want_of_memory};
-use nfs_judging::{judge_files, put_number};
-use nfs_recording::Recorder;
-use nfs_running::{
+use judging_commands::{judge_files, put_number};
+use program_streams::{Output, Report, tell, tell_answer, tell_want_of_memory};
+use recording_command::Recorder;
+use serving_commands::{
     Beginning, Counts, Recorded, RunFault, RunRequest, ServeRequest, fault_report, run, serve,
 };
 use std::alloc::{AllocError, Global};

@@ -2,7 +2,7 @@
 
 use clap::{Arg, ArgMatches, Command};
 use history_lines::Selection;
-use nfs_recording::number_option;
+use recording_command::number_option;
 use std::alloc::{AllocError, Global};
 
 /// Which file's events are shown, and which of them.

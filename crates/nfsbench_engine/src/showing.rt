@@ -8,13 +8,13 @@ ghost use Rattle.history_lines.specs.Lines.{AreLinesOf};
 ghost use Rattle.nfs_history.specs.declared.knowing.KnownCalls.{KnownCalls};
 ghost use Rattle.nfs_history.specs.History.{IsCallsFile};
 ghost use Rattle.nfsbench_engine.specs.Shown.{AreLines};
-ghost use Rattle.bench_streams.specs.Streams.{AppendsFront};
+ghost use Rattle.program_streams.specs.Streams.{AppendsFront};
 
-use bench_streams::{Output, tell, tell_report};
 use history_file::FileFault;
 use history_lines::{EventLines, Selection};
+use judging_commands::verdict_report;
 use nfs_history::{HistoryFault, read_calls};
-use nfs_judging::verdict_report;
+use program_streams::{Output, tell, tell_report};
 use std::alloc::{AllocError, Global};
 use witness_check::FileVerdict;
 

@@ -2,25 +2,24 @@
 
 ghost use Rattle.std.specs.Prelude.{◌≡◌, ◌⊎◌, ◌<◌, ◌≤◌, ℕ, List, length, IfSome, IfOk, IsOk, OnErr, Ok};
 ghost use Rattle.std.specs.Io.KnownBytes.{Appends};
-ghost use Rattle.nfs_judging.specs.Bundle.{IsAcceptedBundle, IsRefutedBundle};
-ghost use Rattle.nfs_judging.specs.Report.{IsSaid, MayTell, no_line};
-ghost use Rattle.bench_streams.specs.Streams.{AppendsFront, GivesAll, HasRoom};
-ghost use Rattle.bench_streams.specs.Told.{Tells, memory_line};
+ghost use Rattle.judging_commands.specs.Bundle.{IsAcceptedBundle, IsRefutedBundle};
+ghost use Rattle.judging_commands.specs.Report.{IsSaid, MayTell, no_line};
+ghost use Rattle.program_streams.specs.Streams.{AppendsFront, GivesAll, HasRoom};
+ghost use Rattle.program_streams.specs.Told.{Tells, memory_line};
 ghost use Rattle.witness_check.specs.declared.fault.Fault.{Fault};
 
 use crate::files::{check_paths, read_history_file, report_paths};
 use crate::runs::{run_path, serve_words};
 use crate::show_words::{ShowRequest, show_command, show_request};
 use crate::showing::show_bytes;
-use bench_streams::{Input, Output, tell, tell_answer, tell_want_of_memory};
 use clap::error::ErrorKind;
 use clap::{Arg, Command};
-use nfs_judging::run_bundle;
-use nfs_recording::{Recorder, TapRequest, run_tap, tap_command, tap_request};
-use nfs_running::{
+use judging_commands::{SearchRequest, run_bundle, search_command, search_history, search_request};
+use program_streams::{Input, Output, tell, tell_answer, tell_want_of_memory};
+use recording_command::{Recorder, TapRequest, run_tap, tap_command, tap_request};
+use serving_commands::{
     RunRequest, ServeRequest, run_command, run_request, serve_command, serve_request,
 };
-use nfs_searching::{SearchRequest, search_command, search_history, search_request};
 use std::alloc::{AllocError, Global};
 use std::convert::AsStr;
 use std::rt::Files;

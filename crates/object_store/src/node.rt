@@ -1,6 +1,6 @@
 //! What an object holds.
 
-use names::Names;
+use tree_stores::Names;
 
 /// A file: its bytes, and the verifier of the EXCLUSIVE CREATE that made it (RFC 1813, section 3.3.8).
 #[derive(Drop)]

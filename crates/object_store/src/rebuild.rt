@@ -2,9 +2,9 @@
 
 use crate::node::{Content, File};
 use crate::table::ObjectTable;
-use names::Names;
 use std::alloc::{AllocError, Global};
 use tree_nodes::Nodes;
+use tree_stores::Names;
 
 /// The number of the root directory's object.
 const ROOT: u64 = 0;

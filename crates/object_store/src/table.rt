@@ -6,11 +6,11 @@ use crate::held::Held;
 use crate::node::{Content, Node};
 use crate::parents::Parents;
 use crate::wanted::Targets;
-use names::Names;
 use std::alloc::{AllocError, Global};
 use std::collections::BTreeMap;
 use std::mem;
 use std::sync::{Condvar, Mutex, Wait};
+use tree_stores::Names;
 
 /// In so many parts the objects stand, so that calls which take and give back different ones seldom meet.
 const SHARDS: usize = 64;

@@ -1,20 +1,20 @@
 //! The book of a journal server.
 
 ghost use Rattle.std.specs.Prelude.{◌≡◌, ◌++◌, [], Some, IsSome, IfSome, IfOk, OnOk, OnErr, length, IfErr};
-ghost use Rattle.journal_device.specs.Device.{Device, Leaves};
+ghost use Rattle.journal.specs.Device.{Device, Leaves};
 ghost use Rattle.nfs3_types.specs.declared.replies.NfsReply.{NfsReply};
 ghost use Rattle.nfs3_types.specs.declared.replies.Outcome.TheVariants.{Received};
 ghost use Rattle.tree_starts.specs.declared.profile.Profile.TheVariants.{Plain};
 ghost use Rattle.tree_nodes.specs.Printed.{tree_text};
 ghost use Rattle.tree_nodes.specs.Tree.{Tree};
-ghost use Rattle.book_machine.specs.Book.{Book, tree_of};
-ghost use Rattle.book_machine.specs.Plan.{plan_of};
-ghost use Rattle.book_machine.specs.Book.Condition.{running};
-ghost use Rattle.book_machine.specs.Steps.{opening_book, IsUnplaced, IsRecordable, Begins, Places, Flushes, Answers, Closes, Crashes};
+ghost use Rattle.book_laws.specs.Book.{Book, tree_of};
+ghost use Rattle.book_laws.specs.Plan.{plan_of};
+ghost use Rattle.book_laws.specs.Book.Condition.{running};
+ghost use Rattle.book_laws.specs.Steps.{opening_book, IsUnplaced, IsRecordable, Begins, Places, Flushes, Answers, Closes, Crashes};
 ghost use Rattle.book_ledger.specs.PlaceSteps.{entry_put, IsReceived, IsLeft};
 ghost use Rattle.certificate.specs.CertificateText.{IsCertificate};
 ghost use Rattle.witness_check.specs.Witness.{IsWitness};
-ghost use Rattle.served_laws.specs.ServedPlan.{EachServed};
+ghost use Rattle.book_laws.specs.ServedPlan.{EachServed};
 ghost use Rattle.book_ledger.specs.Sending.{IsSent};
 ghost use Rattle.book_ledger.specs.Spelling.{IsSpelledTo, IsPlacedWith};
 ghost use Rattle.book_ledger.specs.Refusals.{IsNow, PlaceStops, BeginRefused, PlaceRefused, FlushRefused, AnswerRefused, CloseRefused, CrashRefused};
@@ -25,7 +25,7 @@ use book_ledger::{
 };
 use certificate::Certificate;
 use file_tree::{FileTree, Profile, Start, Undo};
-use journal_device::{DevFault, JournalDevice};
+use journal::{DevFault, JournalDevice};
 use nfs_history::{History, Message};
 use nfs3_types::{NfsCall, NfsReply, Outcome};
 use std::alloc::{AllocError, Global};
@@ -38,7 +38,7 @@ pub struct Book<D: JournalDevice> {
 }
 
 impl<D: JournalDevice> Model for Book<D> {
-    ghost use Rattle.book_machine.specs.Book as machine;
+    ghost use Rattle.book_laws.specs.Book as machine;
     ghost use Rattle.book_ledger.specs.Inside.{book_of, AreTied};
 
     ghost Value = { machine.Book };

@@ -10,5 +10,6 @@ pub use book_ledger::{
     AnswerFault, BeginFault, CloseFault, CrashFault, FlushFault, PlaceFault, SpelledReply, Token,
 };
 pub use file_tree::{Profile, Start, Undo};
-pub use journal_device::{DevFault, JournalDevice, Record, SimDevice};
-pub use journal_rebuild::{RebuildFault, rebuild, rebuild_from};
+pub use journal::{
+    DevFault, JournalDevice, RebuildFault, Record, SimDevice, rebuild, rebuild_from,
+};

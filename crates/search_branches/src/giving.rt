@@ -7,9 +7,9 @@ use nfs3_types::{
 };
 use search_problem::Found;
 use std::alloc::AllocError;
+use tree_answers::object_named;
 use tree_handles::{View, directory_of, named};
 use tree_nodes::Nodes;
-use tree_reads::object_named;
 
 impl Desk {
     /// The object of an entry of a directory.

@@ -7,7 +7,7 @@ use Rattle.rpc_reader.specs.declared.call.CallHead.{CallHead}
 use Rattle.rpc_reader.specs.Values.{CallValue}
 use Rattle.rpc_reader.specs.Messages.{IsCall}
 use Rattle.rpc_reader.specs.Views.{call_value}
-use Rattle.journal_records.specs.Exactly.{IsOnly, MeansNothing}
+use Rattle.journal.specs.Exactly.{IsOnly, MeansNothing}
 use Rattle.server_requests.specs.Handling.{IsCallMessage}
 
 module _ (message : List ℕ) (r : Result CallHead RpcFault) (found : IfOk r (λ call. IsCall message (call_value call)))

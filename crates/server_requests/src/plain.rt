@@ -9,7 +9,7 @@ ghost use Rattle.nfs_history.specs.Outside.{outside};
 ghost use Rattle.server_requests.specs.Handling.{failure_with, answer_of_procedure, answer_ahead, answer_outside};
 ghost use Rattle.server_requests.specs.Plainly.{body_of, CountsItsData};
 
-use journal_records::is_inside;
+use journal::is_inside;
 use nfs3_types::{Failure, NFS_PROGRAM, NFS_VERSION, NfsCall, Procedure};
 use rpc_reader::{CallHead, ReplyBody, SEALED_FLAVOR, put_reply};
 use std::alloc::{AllocError, Global};

@@ -1,7 +1,7 @@
 //! What a message is to a journal server.
 
 ghost use Rattle.std.specs.Prelude.{IfOk};
-ghost use Rattle.journal_records.specs.Exactly.{ExactlySeen};
+ghost use Rattle.journal.specs.Exactly.{ExactlySeen};
 ghost use Rattle.rpc_reader.specs.Views.{call_value};
 ghost use Rattle.server_requests.specs.Handling.{IsCallMessage, IsRequest};
 ghost use Rattle.server_requests.specs.Plainly.{AreHandled, IsHandled, IsHandledAs, IsRequestOf};

@@ -1,8 +1,8 @@
 //! What a call changes.
 
-use names::Names;
 use object_store::{Content, File};
 use std::alloc::{AllocError, Global};
+use tree_stores::Names;
 
 /// An object that a call makes.
 #[derive(Clone, Copy)]

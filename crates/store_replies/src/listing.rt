@@ -2,13 +2,13 @@
 
 use crate::decision::{Decision, Stop};
 use crate::scene::Scene;
-use names::Names;
 use nfs3_types::{
     Answer, DirectoryEntry, DirectoryEntryPlus, Entries, Failure, Held, Name, NfsReply, Optional,
     ReadDirArguments, ReadDirPlusArguments, ReadDirPlusSuccess, ReadDirSuccess, TRANSFER_LIMIT,
     Verifier,
 };
 use std::alloc::{AllocError, Global};
+use tree_stores::Names;
 
 /// The bytes of a list without entries: the status, the flag of the attributes, the verifier, and the two flags at its end.
 const EMPTY_LIST: usize = 24;

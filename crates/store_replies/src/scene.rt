@@ -1,10 +1,10 @@
 //! What a call sees.
 
-use names::Names;
 use nfs3_types::{Failure, FileHandle};
 use object_store::{Content, File, Held, Node, number_of};
 use std::alloc::{AllocError, Global};
 use tree_starts::Profile;
+use tree_stores::Names;
 
 /// What a call sees: the objects that it has taken out, and the numbers that its reply is made of.
 #[derive(Clone, Copy)]

@@ -38,14 +38,14 @@ use Rattle.tree_handles.specs.Live.{FileEntry, live_entry, as_directory, directo
 use Rattle.tree_starts.specs.Names.{is_dot, is_two_dots, is_plain}
 use Rattle.tree_handles.specs.Entry.{entry_at, named}
 use Rattle.tree_handles.specs.Kind.{is_directory, is_link}
-use Rattle.tree_reads.specs.Look as look
-use Rattle.tree_reads.specs.Listing as listing
-use Rattle.tree_failures.specs.Asked as asked
-use Rattle.tree_failures.specs.Causes as when
-use Rattle.tree_failures.specs.RenameCauses as when_renamed
-use Rattle.tree_failures.specs.Failure.{row, causes, is_caused_by, is_judged_status, is_permitted, same_status}
-use Rattle.tree_failures.specs.declared.failure.Cause.{Cause}
-use Rattle.tree_failures.specs.declared.failure.Cause.TheVariants as cause
+use Rattle.tree_answers.specs.Look as look
+use Rattle.tree_answers.specs.Listing as listing
+use Rattle.tree_answers.specs.Asked as asked
+use Rattle.tree_answers.specs.Causes as when
+use Rattle.tree_answers.specs.RenameCauses as when_renamed
+use Rattle.tree_answers.specs.Failure.{row, causes, is_caused_by, is_judged_status, is_permitted, same_status}
+use Rattle.tree_answers.specs.declared.failure.Cause.{Cause}
+use Rattle.tree_answers.specs.declared.failure.Cause.TheVariants as cause
 use Rattle.file_tree.specs.Change.{Change}
 use Rattle.file_tree.specs.Change.Change.{Keep, Put, Remove}
 use Rattle.file_tree.specs.Made as made

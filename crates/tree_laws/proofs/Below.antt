@@ -8,7 +8,7 @@ use Rattle.tree_nodes.specs.Tree.{Names, Tree, same_path, is_bare}
 use Rattle.tree_nodes.specs.Moved.{is_from}
 use Rattle.tree_handles.specs.Entry.{named}
 use Rattle.tree_handles.specs.Kind.{is_directory}
-use Rattle.tree_reads.specs.Look.{same_flag}
+use Rattle.tree_answers.specs.Look.{same_flag}
 use Rattle.file_tree.specs.Made.{only_if}
 use Rattle.file_tree.specs.Removed.{may_replace}
 use Rattle.tree_laws.specs.OneGone.{is_no_directory}

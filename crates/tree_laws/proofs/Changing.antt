@@ -27,7 +27,7 @@ use Rattle.tree_nodes.specs.declared.node.File.{File}
 use Rattle.tree_nodes.specs.declared.node.Content.{Content}
 use Rattle.tree_nodes.specs.declared.node.Content.TheVariants as contents
 use Rattle.tree_nodes.specs.Files.{file_node}
-use Rattle.file_bytes.specs.Files.{resized, written}
+use Rattle.tree_stores.specs.Files.{resized, written}
 use Rattle.tree_nodes.specs.Tree.{Names, Tree, same_path, entry_of, is_bare}
 use Rattle.tree_nodes.specs.Moved.{is_from}
 use Rattle.tree_handles.specs.Binding.{Bindings, gives_object, object_of}
@@ -35,10 +35,10 @@ use Rattle.tree_handles.specs.Live.{live_entry, directory_of, file_of}
 use Rattle.tree_starts.specs.Names.{is_plain}
 use Rattle.tree_handles.specs.Entry.{entry_at, named}
 use Rattle.tree_handles.specs.Kind.{is_directory}
-use Rattle.tree_reads.specs.Look.{getattr_is_legal, lookup_is_legal, readlink_is_legal, read_is_legal, commit_is_legal}
-use Rattle.tree_reads.specs.Listing.{readdir_is_legal, readdirplus_is_legal}
+use Rattle.tree_answers.specs.Look.{getattr_is_legal, lookup_is_legal, readlink_is_legal, read_is_legal, commit_is_legal}
+use Rattle.tree_answers.specs.Listing.{readdir_is_legal, readdirplus_is_legal}
 use Rattle.nfs3_types.specs.Procedures.{is_answered, failure_in}
-use Rattle.tree_failures.specs.Failure.{is_permitted}
+use Rattle.tree_answers.specs.Failure.{is_permitted}
 use Rattle.file_tree.specs.Success.{change_written, change_done, change_answered, change_taken, change_of}
 use Rattle.file_tree.specs.Made.{made_by, set_size, create_over, create_present, create_at, create_change, make_entry}
 use Rattle.file_tree.specs.Removed.{may_replace, rename}

@@ -24,7 +24,7 @@ use Rattle.tree_nodes.specs.declared.node.Content.TheVariants as contents
 use Rattle.tree_nodes.specs.Tree.{Names, Tree}
 use Rattle.tree_nodes.proofs.Chains.{both_pass}
 use Rattle.tree_handles.specs.Binding.{Bindings}
-use Rattle.tree_failures.specs.Asked.{first_handle}
+use Rattle.tree_answers.specs.Asked.{first_handle}
 use Rattle.file_tree.specs.Setting.{under}
 use Rattle.file_tree.specs.Strict as strict
 use Rattle.file_tree.specs.Success.{next_tree}

@@ -10,9 +10,9 @@ use Rattle.file_tree.specs.Change.Change.{Keep}
 use Rattle.tree_nodes.specs.Tree.{Tree}
 use Rattle.tree_handles.specs.Binding.{Bindings}
 use Rattle.nfs3_types.specs.Procedures.{is_answered, failure_in}
-use Rattle.tree_failures.specs.Failure.{is_permitted}
-use Rattle.tree_reads.specs.Look.{getattr_is_legal, lookup_is_legal, readlink_is_legal, read_is_legal, commit_is_legal}
-use Rattle.tree_reads.specs.Listing.{readdir_is_legal, readdirplus_is_legal}
+use Rattle.tree_answers.specs.Failure.{is_permitted}
+use Rattle.tree_answers.specs.Look.{getattr_is_legal, lookup_is_legal, readlink_is_legal, read_is_legal, commit_is_legal}
+use Rattle.tree_answers.specs.Listing.{readdir_is_legal, readdirplus_is_legal}
 use Rattle.file_tree.specs.Success.{changed, change_done, change_answered, change_taken}
 use Rattle.tree_laws.specs.Leaving.{FailureLeaves, LookingLeaves, only_looks}
 

@@ -28,7 +28,7 @@ use Rattle.tree_nodes.specs.declared.node.Content.TheVariants as contents
 use Rattle.tree_nodes.specs.Tree.{Names, Tree, entry_of}
 use Rattle.tree_handles.specs.Binding.{Bindings, object_of}
 use Rattle.tree_handles.specs.Live.{FileEntry, file_of}
-use Rattle.tree_reads.specs.Look.{same_flag, read_is_right, read_is_legal}
+use Rattle.tree_answers.specs.Look.{same_flag, read_is_right, read_is_legal}
 use Rattle.file_tree.specs.Setting.{next_in}
 use Rattle.file_tree.specs.StartTree.{content_of, start_node, start_tree, Sits}
 use Rattle.file_tree.specs.Success.{changed, next_tree}

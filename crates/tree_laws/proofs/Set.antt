@@ -16,7 +16,7 @@ use Rattle.file_tree.specs.Change.Change.{Keep, Put}
 use Rattle.tree_nodes.specs.declared.node.File.{File}
 use Rattle.nfs3_types.specs.Limits.{file_limit}
 use Rattle.tree_nodes.specs.Files.{file_node}
-use Rattle.file_bytes.specs.Files.{resized, written}
+use Rattle.tree_stores.specs.Files.{resized, written}
 use Rattle.tree_nodes.specs.Tree.{Tree}
 use Rattle.tree_handles.specs.Binding.{Bindings}
 use Rattle.tree_handles.specs.Live.{FileEntry, live_entry, file_of}

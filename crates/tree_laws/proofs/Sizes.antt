@@ -3,7 +3,7 @@ use Rattle.std.proofs.Common.{◌≡◌, ℕ, ◌+◌, ◌-◌, ◌<◌, ◌≤�
 use Rattle.std.specs.Prelude.{slice_index, max}
 use Rattle.std.proofs.lemmas.Bool.{cases_lt}
 use Rattle.std.proofs.lemmas.List.{length-take, length-replicate, take_all, get_or_append_left, get_or-append_right, get_or-take, get_or-drop, get_or-replicate, get_or_past}
-use Rattle.file_bytes.specs.Files.{resized, written}
+use Rattle.tree_stores.specs.Files.{resized, written}
 
 pub resized_length : (bytes : List ℕ) (size : ℕ) → length (resized bytes size) ≡ size
 resized_length bytes size =

@@ -41,14 +41,14 @@ use Rattle.tree_starts.specs.Names.{is_dot, is_two_dots, is_plain}
 use Rattle.tree_handles.specs.Entry.{entry_at, named}
 use Rattle.tree_handles.specs.Kind.{is_directory, is_link}
 use Rattle.tree_handles.specs.Live.{live_entry, as_directory, directory_of, as_file, file_of}
-use Rattle.tree_failures.specs.declared.failure.Cause.{Cause}
-use Rattle.tree_failures.specs.declared.failure.Cause.TheVariants as cause
-use Rattle.tree_failures.specs.Asked.{first_handle, second_handle, second_place, wants_directory, file_wanted, entry_wanted}
-use Rattle.tree_failures.specs.Causes.{content_of, readlink_of_no_link, stops, name_is_present, is_unchecked, create_over_directory, remove_of_directory, rmdir_of_no_directory, is_filled_directory, rmdir_of_filled_directory}
-use Rattle.tree_failures.specs.RenameCauses.{source_of, target_of}
-use Rattle.tree_failures.specs.Failure.{row, causes, same_status, is_judged_status, is_caused_by, is_permitted}
-use Rattle.tree_reads.specs.Look.{shows, getattr_is_legal, object_at, object_named, is_object_named, lookup_is_legal, has_text, readlink_is_legal, read_is_right, read_is_legal, commit_is_legal}
-use Rattle.tree_reads.specs.Listing.{is_listing, listed_names, readdir_is_legal, listed_names_plus, has_its_handle, readdirplus_is_legal}
+use Rattle.tree_answers.specs.declared.failure.Cause.{Cause}
+use Rattle.tree_answers.specs.declared.failure.Cause.TheVariants as cause
+use Rattle.tree_answers.specs.Asked.{first_handle, second_handle, second_place, wants_directory, file_wanted, entry_wanted}
+use Rattle.tree_answers.specs.Causes.{content_of, readlink_of_no_link, stops, name_is_present, is_unchecked, create_over_directory, remove_of_directory, rmdir_of_no_directory, is_filled_directory, rmdir_of_filled_directory}
+use Rattle.tree_answers.specs.RenameCauses.{source_of, target_of}
+use Rattle.tree_answers.specs.Failure.{row, causes, same_status, is_judged_status, is_caused_by, is_permitted}
+use Rattle.tree_answers.specs.Look.{shows, getattr_is_legal, object_at, object_named, is_object_named, lookup_is_legal, has_text, readlink_is_legal, read_is_right, read_is_legal, commit_is_legal}
+use Rattle.tree_answers.specs.Listing.{is_listing, listed_names, readdir_is_legal, listed_names_plus, has_its_handle, readdirplus_is_legal}
 use Rattle.file_tree.specs.Change.{Change}
 use Rattle.file_tree.specs.Change.Change.{Keep, Put, Remove}
 use Rattle.file_tree.specs.Made.{only_if, set_size, first_size, first_verifier, create_over, create_present, create_at, create_change, make_entry}

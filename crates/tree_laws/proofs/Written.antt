@@ -19,11 +19,11 @@ use Rattle.file_tree.specs.Change.Change.{Keep, Put}
 use Rattle.tree_nodes.specs.declared.node.File.{File}
 use Rattle.tree_nodes.specs.declared.node.Content.TheVariants as contents
 use Rattle.tree_nodes.specs.Files.{file_node}
-use Rattle.file_bytes.specs.Files.{resized, written}
+use Rattle.tree_stores.specs.Files.{resized, written}
 use Rattle.tree_nodes.specs.Tree.{Names, Tree, entry_of}
 use Rattle.tree_handles.specs.Binding.{Bindings, object_of, same_bytes}
 use Rattle.tree_handles.specs.Live.{FileEntry, as_file, file_of}
-use Rattle.tree_reads.specs.Look.{same_flag, read_is_right, read_is_legal}
+use Rattle.tree_answers.specs.Look.{same_flag, read_is_right, read_is_legal}
 use Rattle.file_tree.specs.Success.{changed, next_tree}
 use Rattle.file_tree.specs.Written.{write_at, write_change}
 use Rattle.tree_laws.specs.Outcomes.{count_written}

@@ -18,7 +18,7 @@ use Rattle.tree_starts.specs.declared.object.StartObject.{StartObject}
 use Rattle.tree_starts.specs.declared.profile.Profile.{Profile}
 use Rattle.tree_nodes.specs.Tree.{Tree}
 use Rattle.tree_handles.specs.Binding.{Bindings, object_of}
-use Rattle.tree_reads.specs.Look.{read_is_legal}
+use Rattle.tree_answers.specs.Look.{read_is_legal}
 use Rattle.file_tree.specs.Setting.{next_in}
 use Rattle.file_tree.specs.StartTree.{start_tree}
 use Rattle.file_tree.specs.Success.{next_tree}

@@ -5,13 +5,13 @@ use Rattle.std.specs.FinMap as map
 use Rattle.tree_nodes.specs.declared.node.Node.{Node}
 use Rattle.tree_nodes.specs.declared.node.File.{File}
 use Rattle.tree_nodes.specs.declared.node.Content.TheVariants as contents
-use Rattle.file_bytes.specs.declared.changes.FileUndo.{FileUndo}
+use Rattle.tree_stores.specs.declared.file_bytes.changes.FileUndo.{FileUndo}
 use Rattle.tree_nodes.specs.declared.table.Entry.{Entry}
 use Rattle.tree_nodes.specs.declared.table.Place.{Place}
 use Rattle.tree_nodes.specs.declared.undo.Move.{Move}
 use Rattle.tree_nodes.specs.Tree.{Names, Tree}
 use Rattle.tree_nodes.specs.Files.{file_node}
-use Rattle.file_bytes.specs.Undo.{Restores}
+use Rattle.tree_stores.specs.Undo.{Restores}
 use Rattle.tree_nodes.specs.Walk.{Held, walk}
 use Rattle.tree_nodes.specs.Changes.{Adds, Cuts, Sets, Shifts}
 use Rattle.tree_nodes.specs.Table.{Table, child, held, placed}

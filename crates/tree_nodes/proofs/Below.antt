@@ -3,7 +3,7 @@ use Rattle.std.proofs.Common.{◌≡◌, ℕ, ◌⊎◌, inl, inr, true, false, 
 use Rattle.std.specs.Ordering.{is_eq}
 use Rattle.std.specs.FinMap as map
 use Rattle.std.specs.FinMap.Entries as es
-use Rattle.names.specs.Names.{Objects, name_cmp}
+use Rattle.tree_stores.specs.Names.{Objects, name_cmp}
 use Rattle.tree_nodes.specs.Walk.{Steps, walk, IsBeyond}
 use Rattle.tree_nodes.proofs.Chains.{decide, chained}
 

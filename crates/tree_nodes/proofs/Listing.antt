@@ -6,8 +6,8 @@ use Rattle.std.specs.FinMap as map
 use Rattle.std.specs.FinMap.Entries as es
 use Rattle.std.specs.BTreeSet.{BTreeSet, contains}
 use Rattle.std.proofs.lemmas.Cmp.{tied_itself, nat_list_cmp_total}
-use Rattle.names.specs.Names.{Objects, name_cmp}
-use Rattle.names.proofs.Orders.{first, second, less}
+use Rattle.tree_stores.specs.Names.{Objects, name_cmp}
+use Rattle.tree_stores.proofs.Orders.{first, second, less}
 use Rattle.tree_nodes.proofs.Chains.{decide}
 use Rattle.tree_nodes.proofs.Tables.{tie}
 

@@ -6,14 +6,14 @@ use Rattle.std.specs.FinMap as map
 use Rattle.tree_nodes.specs.declared.node.Node.{Node}
 use Rattle.tree_nodes.specs.declared.node.File.{File}
 use Rattle.tree_nodes.specs.declared.node.Content.TheVariants as contents
-use Rattle.file_bytes.specs.declared.changes.FileUndo.{FileUndo}
+use Rattle.tree_stores.specs.declared.file_bytes.changes.FileUndo.{FileUndo}
 use Rattle.tree_nodes.specs.declared.table.Entry.{Entry}
 use Rattle.tree_nodes.specs.Tree.{Names, Tree, path_cmp, entry_of, is_bare}
 use Rattle.tree_nodes.specs.Files.{node_limit, file_node}
 use Rattle.tree_nodes.specs.Walk.{Steps, Held, Holds, walk, seen, IsTree}
 use Rattle.tree_nodes.specs.Moves.{IsOutside, Moves}
 use Rattle.tree_nodes.specs.Changes.{Adds, Cuts, Sets, Shifts}
-use Rattle.file_bytes.specs.Undo.{Restores}
+use Rattle.tree_stores.specs.Undo.{Restores}
 use Rattle.tree_nodes.specs.Table.{placed}
 use Rattle.tree_nodes.specs.Undo.{IsUnmade, IsPutBack, IsEditedBack}
 use Rattle.tree_nodes.proofs.Entries.{path_total}

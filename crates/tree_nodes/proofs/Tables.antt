@@ -10,7 +10,7 @@ use Rattle.std.specs.Cmp.{nat_cmp_total}
 use Rattle.std.specs.FinMap as map
 use Rattle.std.specs.Box.{with_value}
 use Rattle.std.specs.FinMap.Entries as es
-use Rattle.names.specs.Names.{Objects, name_cmp}
+use Rattle.tree_stores.specs.Names.{Objects, name_cmp}
 use Rattle.std.specs.Map.{lookup}
 use Rattle.std.specs.BTreeMap.{is_at}
 use Rattle.tree_nodes.specs.declared.node.Node.{Node}
@@ -23,7 +23,7 @@ use Rattle.tree_nodes.specs.Table.{Table, entry_at, name_in, named, child, place
 use Rattle.tree_nodes.specs.Walk.{Held}
 use Rattle.tree_nodes.specs.Changes.{Adds, Cuts, Sets, Shifts}
 use Rattle.tree_nodes.specs.TableChanges.{IsSame, HasName, HasPlace}
-use Rattle.slots.proofs.SlotLemmas.{len_stays, len_one_more, len_one_less}
+use Rattle.tree_stores.proofs.SlotLemmas.{len_stays, len_one_more, len_one_less}
 use Rattle.tree_nodes.proofs.Entries.{find_lookup}
 use Rattle.tree_nodes.proofs.Chains.{isnt, same_some}
 use Rattle.tree_nodes.proofs.Beside.{same_number}

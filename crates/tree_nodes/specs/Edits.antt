@@ -4,7 +4,7 @@ use Rattle.std.specs.Prelude.{ℕ, ◌+◌, ◌≤◌, List, length}
 use Rattle.nfs3_types.specs.Limits.{file_limit}
 use Rattle.tree_nodes.specs.declared.table.Edit.{Edit}
 use Rattle.tree_nodes.specs.declared.table.Edit.TheVariants.{Write, Resize}
-use Rattle.file_bytes.specs.Files.{written, resized}
+use Rattle.tree_stores.specs.Files.{written, resized}
 
 abbrev pub edited : Edit → List ℕ → List ℕ
 edited (Write offset added) bytes = written bytes offset added.now

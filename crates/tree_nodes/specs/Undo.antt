@@ -5,7 +5,7 @@ use Rattle.std.specs.FinMap as map
 use Rattle.tree_nodes.specs.declared.node.Node.{Node}
 use Rattle.tree_nodes.specs.declared.node.File.{File}
 use Rattle.tree_nodes.specs.declared.node.Content.TheVariants as contents
-use Rattle.file_bytes.specs.declared.changes.FileUndo.{FileUndo}
+use Rattle.tree_stores.specs.declared.file_bytes.changes.FileUndo.{FileUndo}
 use Rattle.tree_nodes.specs.declared.table.Entry.{Entry}
 use Rattle.tree_nodes.specs.declared.undo.Undo.{Undo}
 use Rattle.tree_nodes.specs.declared.undo.Move.{Move}
@@ -13,7 +13,7 @@ use Rattle.tree_nodes.specs.declared.undo.Step.{Step}
 use Rattle.tree_nodes.specs.declared.undo.Step.TheVariants.{Nothing, Made, Removed, Edited, Moved}
 use Rattle.tree_nodes.specs.Tree.{Names, Tree, entry_of, is_bare}
 use Rattle.tree_nodes.specs.Files.{node_limit, file_node}
-use Rattle.file_bytes.specs.Undo.{Restores}
+use Rattle.tree_stores.specs.Undo.{Restores}
 use Rattle.tree_nodes.specs.Moves.{IsOutside, Moves}
 
 -- the tree without an object that was put

@@ -5,7 +5,7 @@ ghost use Rattle.tree_nodes.specs.Ranks.{rank_of, IsRanked, IsRankedBut};
 
 use crate::ranks::{Ranks, TOP};
 use crate::table::{Entry, parent_of};
-use slots::Slots;
+use tree_stores::Slots;
 
 /// How many ranks are raised for one change by one more than what lies below. Further up an object loses its rank.
 const FAR: usize = 1024;

@@ -1,8 +1,8 @@
 //! The nodes of a tree.
 
 use crate::bytes::Bytes;
-use file_bytes::FileBytes;
 use nfs3_types::Verifier;
+use tree_stores::FileBytes;
 
 /// An object with its number.
 #[derive(Drop)]

@@ -9,7 +9,7 @@ ghost use Rattle.tree_nodes.specs.declared.node.File.{File};
 ghost use Rattle.tree_nodes.specs.declared.node.Content.TheVariants as contents;
 ghost use Rattle.tree_nodes.specs.Tree.{Names, Tree, path_cmp, entry_of, is_bare, opening, parent};
 ghost use Rattle.tree_nodes.specs.Files.{node_limit, file_node};
-ghost use Rattle.file_bytes.specs.Files.{resized, written};
+ghost use Rattle.tree_stores.specs.Files.{resized, written};
 ghost use Rattle.tree_nodes.specs.Moved.{is_from, moved};
 ghost use Rattle.tree_nodes.specs.Sound.{IsSound};
 ghost use Rattle.tree_nodes.specs.Shown.{Shown, Shown-prop};
@@ -31,11 +31,11 @@ use crate::table::{
     parent_of, place_of, root_alone,
 };
 use crate::undo::{Step, Undo, edit, make, rename, take_back};
-use names::Iter;
-use slots::Slots;
 use std::alloc::{AllocError, Global};
 use std::collections::{BTreeMap, BTreeSet};
 use std::marker::Model;
+use tree_stores::Slots;
+use tree_stores::names::Iter;
 
 /// How many objects below one that moves are looked at: ahead of the walk from its new directory to the root where it has no rank of its
 /// own, and once more behind as many steps of that walk.

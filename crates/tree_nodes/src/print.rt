@@ -7,9 +7,9 @@ ghost use Rattle.tree_nodes.specs.Printed.{word_text, long_text, opaque_text, ve
 
 use crate::bytes::Path;
 use crate::node::{Content, File, Node};
-use file_bytes::FileBytes;
 use nfs3_types::{FileType, Verifier};
 use std::alloc::AllocError;
+use tree_stores::FileBytes;
 
 /// Four bytes.
 #[tactic(auto, unfolding(crate::specs::Printed::word_text))]

@@ -7,7 +7,7 @@ ghost use Rattle.tree_nodes.specs.declared.node.File.{File};
 ghost use Rattle.tree_nodes.specs.declared.node.Content.TheVariants as contents;
 ghost use Rattle.tree_nodes.specs.Files.{file_node};
 ghost use Rattle.tree_nodes.specs.Edits.{edited, IsWithin};
-ghost use Rattle.file_bytes.specs.Undo.{Restores};
+ghost use Rattle.tree_stores.specs.Undo.{Restores};
 ghost use Rattle.tree_nodes.specs.Changes.{Adds, Cuts, Sets, Shifts};
 ghost use Rattle.std.specs.Option.{option_copied, option_map};
 ghost use Rattle.std.specs.Cmp.Lexicographic.{slice_cmp};
@@ -19,12 +19,11 @@ ghost use Rattle.tree_nodes.specs.TableChanges.{IsSame, HasName, HasPlace};
 
 use crate::bytes::Bytes;
 use crate::node::{Content, File, Node};
-use file_bytes::FileUndo;
-use names::{Iter, Names};
-use slots::Slots;
 use std::alloc::{AllocError, Global};
 use std::collections::BTreeSet;
 use std::mem::replace;
+use tree_stores::names::Iter;
+use tree_stores::{FileUndo, Names, Slots};
 
 /// An object with its place. A walk to the root reads nothing else of it than its directory's number, so this stands outside
 /// the box.

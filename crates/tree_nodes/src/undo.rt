@@ -15,9 +15,8 @@ ghost use Rattle.tree_nodes.specs.Undo.{IsPutBack, IsMovedBack, StepsBack, Takes
 use crate::bytes::Bytes;
 use crate::node::Node;
 use crate::table::{Edit, Entry, Place, add, child, cut, edit_bytes, restore_bytes, shift};
-use file_bytes::FileUndo;
-use slots::Slots;
 use std::alloc::{AllocError, Global};
+use tree_stores::{FileUndo, Slots};
 
 /// What one change took away or put, in the place of a copy of the tree.
 #[derive(Drop)]

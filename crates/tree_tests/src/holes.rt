@@ -1,8 +1,8 @@
 //! Bytes far out, over the boundaries of pages, and behind a cut.
 
-use file_bytes::FileBytes;
 use std::alloc::{AllocError, Global};
 use std::test::Fail;
+use tree_stores::FileBytes;
 
 /// Some bytes at an offset, and whether a file has them there.
 type Look = (u64, &'static [u8], bool);

@@ -1,11 +1,11 @@
 //! Runs of writes and changes of size, each taken back, beside a plain list of bytes.
 
 ghost use Rattle.std.specs.Prelude.{◌≡◌, ◌≤◌, IfOk, OnOk, length};
-ghost use Rattle.file_bytes.specs.Undo.{Restores};
+ghost use Rattle.tree_stores.specs.Undo.{Restores};
 
-use file_bytes::{FileBytes, FileUndo};
 use std::alloc::{AllocError, Global};
 use std::test::Fail;
+use tree_stores::{FileBytes, FileUndo};
 
 /// One more than the largest size that a change of size gives, and the largest offset of a write.
 const SIZES: u64 = 4000;

@@ -4,7 +4,7 @@
 use crate::run::Found;
 use nfs3_types::{FileHandle, NfsCall};
 use std::alloc::AllocError;
-use tree_failures::first_handle;
+use tree_answers::first_handle;
 use tree_handles::Binds;
 use tree_nodes::{Content, Nodes};
 

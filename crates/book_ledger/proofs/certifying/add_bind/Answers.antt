@@ -1,5 +1,5 @@
 use Rattle.std.proofs.Common.{◌≡◌, [], ◌∷◌, ◌++◌, ◌∙◌}
-use Rattle.book_machine.specs.Book.{handle_of}
+use Rattle.book_laws.specs.Book.{handle_of}
 use Rattle.book_ledger.proofs.Opening.{handle_is}
 use Rattle.book_ledger.proofs.certifying.add_bind.Goals as goal
 

@@ -1,7 +1,7 @@
 use Rattle.std.proofs.Common.{◌+◌, List, [], ◌∷◌, ◌++◌, sym, ap, ◌∙◌, arith}
 use Rattle.std.proofs.lemmas.List.FromFn.{map-range_with_len_more}
 use Rattle.certificate.specs.declared.plan.Bind.{Bind}
-use Rattle.book_machine.specs.Plan.{bind_of}
+use Rattle.book_laws.specs.Plan.{bind_of}
 use Rattle.book_ledger.proofs.certifying.binds_at_first.Goals as goal
 
 pub loop-index-preserved : goal.loop-index-preserved

@@ -1,6 +1,6 @@
 use Rattle.std.proofs.Common.{◌+◌, length, map, arith}
 use Rattle.tree_starts.specs.Start.{object_made}
-use Rattle.book_machine.specs.Plan.{bind_of}
+use Rattle.book_laws.specs.Plan.{bind_of}
 use Rattle.book_ledger.specs.Inside.{made_in}
 use Rattle.book_ledger.proofs.Noting.{made_is}
 use Rattle.book_ledger.proofs.Plans.{binds_grown}

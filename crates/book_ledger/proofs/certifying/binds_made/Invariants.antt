@@ -1,5 +1,5 @@
 use Rattle.std.proofs.Common.{◌≡◌, ◌+◌, ◌++◌, length, drop, map}
-use Rattle.book_machine.specs.Plan.{bind_of}
+use Rattle.book_laws.specs.Plan.{bind_of}
 use Rattle.book_ledger.specs.Inside.{made_from, made_in}
 use Rattle.book_ledger.proofs.certifying.binds_made.Given as goal
 

@@ -1,5 +1,5 @@
 use Rattle.std.proofs.Common.{◌≡◌, ◌++◌, drop, map}
-use Rattle.book_machine.specs.Plan.{plan_over}
+use Rattle.book_laws.specs.Plan.{plan_over}
 use Rattle.book_ledger.specs.Inside.{era_in}
 use Rattle.book_ledger.proofs.certifying.plans_over.Given as goal
 

@@ -1,6 +1,6 @@
 use Rattle.std.proofs.Common.{sym, subst}
 use Rattle.nfs3_types.specs.declared.calls.NfsCall.{NfsCall}
-use Rattle.book_machine.specs.Served.{IsFull}
+use Rattle.book_laws.specs.Served.{IsFull}
 use Rattle.book_ledger.specs.Serving.{IsAllowed}
 use Rattle.book_ledger.proofs.Full.{read_full}
 use Rattle.book_ledger.proofs.served.is_full.Goals as goal

@@ -1,7 +1,7 @@
 use Rattle.std.proofs.Common.{◌≡◌, true, sym, ap, ◌∙◌}
 use Rattle.std.specs.Option.{option_map_or}
 use Rattle.reply_attributes.specs.declared.role.Role.TheVariants.{First, Second}
-use Rattle.tree_failures.specs.Asked.{first_handle, second_handle, first_place}
+use Rattle.tree_answers.specs.Asked.{first_handle, second_handle, first_place}
 use Rattle.file_tree.specs.Strict.{handle_agrees, answer_agrees, entries_agree}
 use Rattle.file_tree.specs.Success.{changed}
 use Rattle.file_tree.proofs.Agreed.{all_four, same_listing}

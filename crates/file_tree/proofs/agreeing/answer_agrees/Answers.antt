@@ -2,7 +2,7 @@ use Rattle.std.proofs.Common.{◌≡◌, true, Some, sym, ap, ◌∙◌, rules}
 use Rattle.std.specs.Option.{option_map_or}
 use Rattle.reply_attributes.specs.declared.role.Role.TheVariants.{Answer}
 use Rattle.reply_attributes.specs.Attributes.{of_answer, post_attr}
-use Rattle.tree_failures.specs.Asked.{first_place}
+use Rattle.tree_answers.specs.Asked.{first_place}
 use Rattle.file_tree.specs.Strict.{fits, answer_agrees}
 use Rattle.file_tree.specs.Success.{changed}
 use Rattle.file_tree.proofs.Agreed.{is_there}

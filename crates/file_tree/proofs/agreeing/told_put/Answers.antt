@@ -1,5 +1,5 @@
 use Rattle.std.proofs.Common.{sym, ◌∙◌, subst}
-use Rattle.file_bytes.specs.Files.{written, resized}
+use Rattle.tree_stores.specs.Files.{written, resized}
 use Rattle.file_tree.specs.Planning.{Does}
 use Rattle.file_tree.proofs.PutTold.{told_made, told_filled}
 use Rattle.file_tree.proofs.agreeing.told_put.Goals as goal

@@ -1,7 +1,7 @@
 use Rattle.std.proofs.Common.{◌≤◌, refl, sym, ap, ◌∙◌, subst, le-leb}
 use Rattle.nfs3_types.specs.Limits.{file_limit}
 use Rattle.tree_nodes.specs.Files.{file_node}
-use Rattle.file_bytes.specs.Files.{resized}
+use Rattle.tree_stores.specs.Files.{resized}
 use Rattle.file_tree.specs.Change.Change.{Put}
 use Rattle.file_tree.specs.Made.{only_if, set_size}
 use Rattle.file_tree.proofs.Planned.{resized_long}

@@ -1,5 +1,5 @@
 use Rattle.std.proofs.Common.{Some, length, sym, ap, ◌∙◌, subst}
-use Rattle.file_bytes.specs.Files.{written, resized}
+use Rattle.tree_stores.specs.Files.{written, resized}
 use Rattle.nfs3_types.specs.Numbers.{type_number}
 use Rattle.nfs3_types.specs.declared.attributes.FileType.TheVariants as types
 use Rattle.file_tree.specs.Planning.{Does}

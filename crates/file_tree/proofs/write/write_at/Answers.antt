@@ -3,7 +3,7 @@ use Rattle.std.specs.Prelude.{◌+◌, ◌==◌, max, nat_le, length}
 use Rattle.std.proofs.lemmas.Bool.{leb-true}
 use Rattle.nfs3_types.specs.Limits.{file_limit}
 use Rattle.tree_nodes.specs.Files.{file_node}
-use Rattle.file_bytes.specs.Files.{written}
+use Rattle.tree_stores.specs.Files.{written}
 use Rattle.file_tree.specs.Change.Change.{Keep, Put}
 use Rattle.file_tree.specs.Made.{only_if}
 use Rattle.file_tree.proofs.Planned.{written_long}

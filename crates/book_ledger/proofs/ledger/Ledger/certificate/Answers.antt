@@ -1,5 +1,5 @@
 use Rattle.std.proofs.Common.{length, map, ap, ◌∙◌}
-use Rattle.book_machine.specs.Plan.{bind_of}
+use Rattle.book_laws.specs.Plan.{bind_of}
 use Rattle.book_ledger.specs.Inside.{made_in}
 use Rattle.book_ledger.proofs.ledger.Ledger.certificate.Goals as goal
 

@@ -1,6 +1,6 @@
 use Rattle.std.proofs.Common.{ℕ, subst, sym, arith}
 use Rattle.tree_nodes.proofs.Chains.{differ}
-use Rattle.book_machine.specs.Served.{IsServed}
+use Rattle.book_laws.specs.Served.{IsServed}
 use Rattle.book_ledger.specs.Serving.{IsAllowed}
 use Rattle.book_ledger.proofs.StepParts.{fits_so, not_fit}
 use Rattle.book_ledger.proofs.ledger.Ledger.check_reply.Goals as goal

@@ -2,7 +2,7 @@ use Rattle.std.proofs.Common.{List, length, Some, refl, ap, ◌∙◌}
 use Rattle.std.specs.List.{range_with_len}
 use Rattle.tree_starts.specs.declared.object.StartObject.{StartObject}
 use Rattle.tree_nodes.specs.Tree.{Tree}
-use Rattle.book_machine.specs.Book.{bindings_made}
+use Rattle.book_laws.specs.Book.{bindings_made}
 use Rattle.book_ledger.proofs.Opening.{opening_whole}
 use Rattle.book_ledger.proofs.ledger.Ledger.new_from.Goals as goal
 

@@ -3,7 +3,7 @@ use Rattle.std.proofs.lemmas.Result.{IfOk-weaker}
 use Rattle.replay_law.specs.Run.{state_after}
 use Rattle.tree_nodes.specs.Tree.{Tree}
 use Rattle.file_tree.specs.StartTree.{start_tree}
-use Rattle.book_machine.specs.Book.{next_by}
+use Rattle.book_laws.specs.Book.{next_by}
 use Rattle.book_ledger.specs.declared.placed.Condition.TheVariants as codes
 use Rattle.book_ledger.specs.declared.ledger.Ledger.{Ledger}
 use Rattle.book_ledger.specs.Inside.{Goes, setting_in}

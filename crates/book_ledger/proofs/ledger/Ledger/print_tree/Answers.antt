@@ -4,7 +4,7 @@ use Rattle.replay_law.specs.Run.{state_after}
 use Rattle.tree_nodes.specs.Printed.{tree_text}
 use Rattle.tree_nodes.specs.Tree.{Tree}
 use Rattle.file_tree.specs.StartTree.{start_tree}
-use Rattle.book_machine.specs.Book.{next_by}
+use Rattle.book_laws.specs.Book.{next_by}
 use Rattle.book_ledger.specs.Inside.{setting_in}
 use Rattle.book_ledger.specs.Undoing.{steps_kept}
 use Rattle.book_ledger.proofs.CrashSteps.{can_run_again, all_behind_is}

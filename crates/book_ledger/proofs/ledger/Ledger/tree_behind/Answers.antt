@@ -2,7 +2,7 @@ use Rattle.tree_nodes.specs.Tree.{Tree}
 use Rattle.std.proofs.Common.{◌≡◌, ◌+◌, ◌<◌, ◌≤◌, List, length, map, take, get_or, Some, sym, ap, ◌∙◌, subst}
 use Rattle.replay_law.specs.Run.{state_after, kept_steps}
 use Rattle.file_tree.specs.StartTree.{start_tree}
-use Rattle.book_machine.specs.Book.{next_by}
+use Rattle.book_laws.specs.Book.{next_by}
 use Rattle.book_ledger.specs.declared.placed.PlacedCall.{PlacedCall}
 use Rattle.book_ledger.specs.declared.placed.EraOver.{EraOver}
 use Rattle.book_ledger.specs.Inside.{era_in, setting_in}

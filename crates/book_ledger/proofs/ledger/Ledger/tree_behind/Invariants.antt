@@ -1,7 +1,7 @@
 use Rattle.std.proofs.Common.{◌≡◌, map, take, Some}
 use Rattle.replay_law.specs.Run.{state_after, kept_steps}
 use Rattle.file_tree.specs.StartTree.{start_tree}
-use Rattle.book_machine.specs.Book.{next_by}
+use Rattle.book_laws.specs.Book.{next_by}
 use Rattle.book_ledger.specs.Inside.{era_in, setting_in}
 use Rattle.book_ledger.proofs.ledger.Ledger.tree_behind.Given as goal
 

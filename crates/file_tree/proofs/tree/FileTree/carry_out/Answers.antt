@@ -4,7 +4,7 @@ use Rattle.std.specs.FinMap as map
 use Rattle.tree_nodes.specs.declared.node.Content.TheVariants as contents
 use Rattle.tree_nodes.specs.Tree.{entry_of}
 use Rattle.tree_nodes.specs.Files.{file_node}
-use Rattle.file_bytes.specs.Files.{written, resized}
+use Rattle.tree_stores.specs.Files.{written, resized}
 use Rattle.file_tree.specs.Success.{changed}
 use Rattle.file_tree.specs.Planning.{Does}
 use Rattle.file_tree.proofs.tree.FileTree.carry_out.Goals as goal

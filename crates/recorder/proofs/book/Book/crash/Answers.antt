@@ -1,4 +1,4 @@
-use Rattle.journal_device.specs.Device.{recovered}
+use Rattle.journal.specs.Device.{recovered}
 use Rattle.book_ledger.proofs.BookSteps.{crash_stopped}
 use Rattle.recorder.proofs.book.Book.crash.Goals as goal
 

@@ -4,7 +4,7 @@ use Rattle.tree_nodes.specs.Shown.{Shown}
 use Rattle.tree_nodes.specs.TableChanges.{IsSame}
 use Rattle.tree_nodes.specs.declared.table.Edit.TheVariants.{Write}
 use Rattle.tree_nodes.specs.Files.{file_node}
-use Rattle.file_bytes.specs.Files.{written}
+use Rattle.tree_stores.specs.Files.{written}
 use Rattle.tree_nodes.specs.Results.{IsEdited}
 use Rattle.tree_nodes.proofs.Methods.{good_at, file_where, by_outcome, on_ok, one_tree, undo_clause, unchanged, edited_good, edited_back}
 use Rattle.tree_nodes.specs.Table.{child, held}

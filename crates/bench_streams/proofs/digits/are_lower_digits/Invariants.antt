@@ -1,7 +1,0 @@
-use Rattle.std.proofs.Common.{◌≡◌, true, take}
-use Rattle.std.specs.List.{fold}
-use Rattle.bench_streams.proofs.LowerHex.{still_lower}
-use Rattle.bench_streams.proofs.digits.are_lower_digits.Given as goal
-
-abbrev pub invariant-loop-byte : goal.invariant-loop-byte
-invariant-loop-byte l = l.all ≡ fold still_lower true (take l.byte-index l.text)

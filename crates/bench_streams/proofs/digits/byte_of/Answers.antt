@@ -1,7 +1,0 @@
-use Rattle.bench_streams.proofs.LowerHex.{pair-spelled}
-use Rattle.bench_streams.proofs.digits.byte_of.Goals as goal
-
-pub returns : goal.returns
-returns c = record {
-  spelled = λ high low. rw (c.digit_value.ensures.value, c.digit_value-2.ensures.value) (pair-spelled c.args.high c.args.low high low);
-}

@@ -1,5 +1,0 @@
-pub mod Places
-pub mod Paging
-pub mod Windows
-pub mod Reading
-pub mod Undoing

@@ -1,7 +1,0 @@
-use Rattle.std.proofs.Common.{◌≡◌}
-use Rattle.file_bytes.specs.Paged.{byte_of}
-use Rattle.file_bytes.proofs.changes.tidy.Given as goal
-
--- the bytes are the same
-abbrev pub invariant-loop-change : goal.invariant-loop-change
-invariant-loop-change l = byte_of l.pages ≡ byte_of l.fn.pages

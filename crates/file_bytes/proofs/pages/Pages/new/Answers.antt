@@ -1,5 +1,0 @@
-use Rattle.file_bytes.proofs.Paging.{no_pages}
-use Rattle.file_bytes.proofs.pages.Pages.new.Goals as goal
-
-pub returns : goal.returns
-returns c = no_pages (record { first = c.new.result; rest = c.new-2.result }) c.new.ensures c.new-2.ensures.empty

@@ -1,0 +1,11 @@
+pub mod Device
+pub mod Simulated
+pub mod DeviceFaultText
+pub mod Journal
+pub mod Exactly
+pub mod Parts
+pub mod SpelledRecord
+pub mod RecordFaultText
+pub mod Rebuilding
+pub mod Taking
+pub mod RebuildFaultText

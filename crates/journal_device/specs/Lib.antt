@@ -1,3 +1,0 @@
-pub mod Device
-pub mod Simulated
-pub mod FaultText

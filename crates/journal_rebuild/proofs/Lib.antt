@@ -1,4 +1,0 @@
-pub mod Numbers
-pub mod Growing
-pub mod Records
-pub mod Rebuilt

@@ -1,5 +1,0 @@
-use Rattle.journal_rebuild.proofs.Records.{first_more}
-use Rattle.journal_rebuild.proofs.naming.name_first.Goals as goal
-
-pub loop-index-preserved : goal.loop-index-preserved
-loop-index-preserved c = first_more c.loop-index.index c.loop-index.binds c.name_object.new.binds c.loop-index.invariant c.in_ok-name_object.ensures

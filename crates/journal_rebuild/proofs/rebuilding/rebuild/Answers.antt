@@ -1,5 +1,0 @@
-use Rattle.journal_rebuild.proofs.Rebuilt.{only_from_nothing}
-use Rattle.journal_rebuild.proofs.rebuilding.rebuild.Goals as goal
-
-pub returns-clause-only : goal.returns-clause-only
-returns-clause-only c = only_from_nothing c.empty-start.result c.args.records.now c.rebuild_from.result c.empty-start.ensures c.rebuild_from.ensures.only

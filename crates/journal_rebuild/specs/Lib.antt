@@ -1,3 +1,0 @@
-pub mod Rebuilding
-pub mod Taking
-pub mod FaultText

@@ -1,0 +1,4 @@
+pub mod Bundle
+pub mod Report
+pub mod Reported
+pub mod Missed

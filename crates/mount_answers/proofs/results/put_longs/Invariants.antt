@@ -1,7 +1,0 @@
-use Rattle.std.proofs.Common.{◌≡◌, ◌++◌, flat_map, take}
-use Rattle.xdr_records.specs.Texts.{long_text}
-use Rattle.mount_answers.proofs.results.put_longs.Given as goal
-
--- the numbers so far are put
-abbrev pub invariant-loop-long : goal.invariant-loop-long
-invariant-loop-long l = l.out.items ≡ l.fn.out.items ++ flat_map long_text (take l.long-index l.longs)

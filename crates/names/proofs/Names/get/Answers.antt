@@ -1,8 +1,0 @@
-use Rattle.std.proofs.Common.{sym, ap, ◌∙◌}
-use Rattle.std.specs.FinMap as map
-use Rattle.names.specs.Names.{pairs_of}
-use Rattle.names.proofs.Maps.{got}
-use Rattle.names.proofs.Names.get.Goals as goal
-
-pub returns : goal.returns
-returns c = c.object_of.ensures ∙ sym (got (pairs_of c.self.inside.store) c.self.invariant.0 c.args.name.now) ∙ ap (λ m. map.get m c.args.name.now) c.self.view_is

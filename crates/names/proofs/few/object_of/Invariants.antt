@@ -1,8 +1,0 @@
-use Rattle.std.proofs.Common.{◌≡◌, drop}
-use Rattle.std.specs.FinMap.Entries as es
-use Rattle.names.specs.Names.{name_cmp, listed}
-use Rattle.names.proofs.few.object_of.Given as goal
-
--- no name that was looked at is this one
-abbrev pub invariant-loop-named : goal.invariant-loop-named
-invariant-loop-named l = es.find name_cmp l.name (listed l.few) ≡ es.find name_cmp l.name (listed (drop l.named-index l.few))

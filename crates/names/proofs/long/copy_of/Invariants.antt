@@ -1,7 +1,0 @@
-use Rattle.std.proofs.Common.{◌≡◌, ◌++◌}
-use Rattle.names.specs.Names.{entered}
-use Rattle.names.proofs.long.copy_of.Given as goal
-
--- what has been copied, and what is left, are all names
-abbrev pub invariant-loop-name : goal.invariant-loop-name
-invariant-loop-name l = entered (λ key. key.items) l.many.entries ++ l.name-iterator ≡ l.fn.names

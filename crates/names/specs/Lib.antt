@@ -1,4 +1,0 @@
-pub mod Names
-pub mod Padding
-pub mod Places
-pub mod Walks

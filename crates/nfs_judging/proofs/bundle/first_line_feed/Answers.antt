@@ -1,5 +1,0 @@
-use Rattle.nfs_judging.proofs.FirstLine.{position-first}
-use Rattle.nfs_judging.proofs.bundle.first_line_feed.Goals as goal
-
-pub returns-clause-first : goal.returns-clause-first
-returns-clause-first c = position-first c.args.bytes.now c.memchr.result c.memchr.ensures

@@ -1,3 +1,0 @@
-pub mod Bundle
-pub mod Report
-pub mod Reported

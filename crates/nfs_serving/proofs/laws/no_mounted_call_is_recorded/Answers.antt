@@ -1,5 +1,0 @@
-use Rattle.nfs_serving.proofs.Mounted.{not_recorded}
-use Rattle.nfs_serving.proofs.laws.no_mounted_call_is_recorded.Goals as goal
-
-pub returns : goal.returns
-returns c = λ head call mounted recorded. not_recorded head mounted recorded.served

@@ -1,0 +1,136 @@
+//! A recording's history file, written some events at a time: so no second copy of it stands in memory.
+
+ghost use Rattle.std.specs.Prelude.{◌≡◌, ◌+◌, ◌<◌, ◌≤◌, ◌^◌, ◌++◌, ℕ, List, IfOk, OnOk, length, drop};
+ghost use Rattle.std.specs.Io.KnownBytes.{Appends};
+ghost use Rattle.xdr_records.specs.Texts.{opaque_text, word_text};
+ghost use Rattle.history_file.specs.HistoryFile.{magic};
+ghost use Rattle.history_file.specs.declared.version.Version.TheVariants.{First};
+ghost use Rattle.history_file.specs.Limits.{history_limit};
+ghost use Rattle.history_file.specs.Owning.{all_happened};
+ghost use Rattle.history_file.specs.Writing.{events_text, file_text};
+
+use history_file::{EVENT_LIMIT, Event, HISTORY_LIMIT, WriteFault, write_history};
+use nfs_tap::TapLog;
+use program_streams::write_pieces;
+use std::alloc::{AllocError, AllocFailed, Global};
+use std::io::{self, Write};
+use xdr_records::{put_opaque, put_u32};
+
+/// How many events are written at a time.
+const PIECE: usize = 16;
+
+/// The bytes ahead of the events of a file whose root handle has none.
+const HEAD_SIZE: usize = 16;
+
+/// Why a recording isn't saved.
+#[derive(Clone, Copy)]
+pub(crate) enum SaveFault {
+    /// A write failed, or a limit of a history's file is passed.
+    CannotWrite,
+    NoMemory,
+}
+
+impl From<AllocError> for SaveFault {
+    fn from(_error: AllocError) -> SaveFault {
+        SaveFault::NoMemory
+    }
+}
+
+impl<T: Drop> From<AllocFailed<T>> for SaveFault {
+    fn from(_error: AllocFailed<T>) -> SaveFault {
+        SaveFault::NoMemory
+    }
+}
+
+impl From<io::Error> for SaveFault {
+    fn from(_error: io::Error) -> SaveFault {
+        SaveFault::CannotWrite
+    }
+}
+
+impl From<WriteFault> for SaveFault {
+    fn from(fault: WriteFault) -> SaveFault {
+        match fault {
+            WriteFault::TooLarge => SaveFault::CannotWrite,
+            WriteFault::NoMemory => SaveFault::NoMemory,
+        }
+    }
+}
+
+/// The bytes of a file ahead of its events.
+fn file_head(alloc: Global, root: &[u8], events: u32) -> Result<Vec<u8>, SaveFault>
+    requires { length root.now < 2 ^ 32 }
+    ensures { IfOk result (λ head. head.items ≡ magic First ++ (opaque_text root.now ++ word_text events)) }
+{
+    let mut head = Vec::from_slice(alloc, b"NFSHIST1".as_slice())?;
+    put_opaque(&mut head, root)?;
+    put_u32(&mut head, events)?;
+    Ok(head)
+}
+
+/// The events of a file whose root handle has no bytes.
+fn behind_head(text: &[u8]) -> &[u8]
+    requires { 16 ≤ length text.now }
+    ensures { result.now ≡ drop 16 text.now }
+{
+    &text[HEAD_SIZE..]
+}
+
+/// Writes events as they stand in a file, and says how many bytes these are.
+fn write_piece<W: Write>(
+    alloc: Global,
+    events: &[Event],
+    writer: &mut W,
+) -> Result<usize, SaveFault>
+    ensures written { OnOk result (Appends (W.contents writer.old) (W.contents writer.new) (events_text (all_happened events.now))) }
+    ensures count { IfOk result (λ count. count ≡ length (events_text (all_happened events.now))) }
+{
+    let text = write_history(alloc, b"".as_slice(), events)?;
+    let bytes = behind_head(text.as_slice());
+    write_pieces(writer, bytes)?;
+    Ok(bytes.len())
+}
+
+/// Writes events behind so many bytes of their file, as far as the file's limit allows.
+fn write_events<W: Write>(
+    alloc: Global,
+    events: &[Event],
+    ahead: usize,
+    writer: &mut W,
+) -> Result<(), SaveFault>
+    requires { ahead ≤ history_limit }
+    ensures written { OnOk result (Appends (W.contents writer.old) (W.contents writer.new) (events_text (all_happened events.now))) }
+    ensures within { OnOk result (ahead + length (events_text (all_happened events.now)) ≤ history_limit) }
+{
+    let mut size = ahead;
+    let mut rest = events;
+    while !rest.is_empty() {
+        let (piece, behind) = rest.split_at(rest.len().min(PIECE));
+        let count = write_piece(alloc, piece, writer)?;
+        if count > HISTORY_LIMIT - size {
+            return Err(SaveFault::CannotWrite);
+        }
+        size += count;
+        rest = behind;
+    }
+    Ok(())
+}
+
+/// Writes the history file of what was noted.
+pub(crate) fn write_log<W: Write>(
+    alloc: Global,
+    log: &TapLog,
+    writer: &mut W,
+) -> Result<(), SaveFault>
+    ensures written { OnOk result (Appends (W.contents writer.old) (W.contents writer.new) (file_text log.now.head.root log.now.events)) }
+    ensures within { OnOk result (length (file_text log.now.head.root log.now.events) ≤ history_limit) }
+{
+    let events = log.events();
+    if events.len() > EVENT_LIMIT as usize {
+        return Err(SaveFault::CannotWrite);
+    }
+    let head = file_head(alloc, log.root().as_slice(), events.len() as u32)?;
+    write_pieces(writer, head.as_slice())?;
+    write_events(alloc, events, head.len(), writer)?;
+    Ok(())
+}

@@ -1,0 +1,141 @@
+//! Connections that are served side by side.
+
+use crate::fault::RunFault;
+use crate::outputs::Outputs;
+use crate::words::ServeRequest;
+use journal_server::{OpenGate, Pass, Server, SimDevice};
+use nfs_relay::Host;
+use recording_command::Recorder;
+use server_connection::{Export, StreamEnd, serve_export};
+use std::net::{Shutdown, TcpListener, TcpStream};
+use std::sync::Mutex;
+use std::thread::{self, JoinHandle, Scope};
+use std::time::Duration;
+
+/// The bundled server, over a device in memory that doesn't fail.
+pub(crate) type SimServer = Server<OpenGate, SimDevice>;
+
+/// What was served: the files for it, and what the clients know.
+pub(crate) struct Served {
+    pub(crate) outputs: Outputs,
+    pub(crate) passes: Vec<Pass>,
+}
+
+/// What the threads of connections share.
+#[derive(Clone, Copy)]
+pub(crate) struct Serving<'a> {
+    pub(crate) server: &'a SimServer,
+    pub(crate) listener: &'a TcpListener,
+    /// Whether connections may be taken. It is locked until that is known.
+    pub(crate) is_open: &'a Mutex<bool>,
+    /// How many records of a connection are answered at most.
+    pub(crate) records: u64,
+    pub(crate) export: Export,
+}
+
+/// The thread of a connection.
+type Lane = JoinHandle<Result<Pass, RunFault>>;
+
+impl Serving<'_> {
+    /// The next connection that comes.
+    fn take<R: Host>(self, rt: &R) -> TcpStream {
+        for _ in rt.forever() {
+            match self.listener.accept() {
+                Ok((stream, _)) => return stream,
+                // A connection that ended before it was taken, or want of descriptors.
+                Err(_) => thread::sleep(rt, Duration::from_millis(1)),
+            }
+        }
+        unreachable!()
+    }
+
+    /// Serves a connection to its end, and closes it.
+    fn serve<R: Host>(self, rt: &R, stream: TcpStream) -> Result<Pass, RunFault> {
+        let mut pass = self.server.join_lane(rt)?;
+        let _ = stream.set_nodelay(true);
+        let (mut reader, mut writer) = (&stream, &stream);
+        let end = serve_export(
+            rt,
+            rt.alloc(),
+            self.export,
+            &mut reader,
+            &mut writer,
+            self.server,
+            &mut pass,
+            self.records,
+        );
+        let _ = stream.shutdown(Shutdown::Both);
+        drop(self.server.leave(rt, &mut pass));
+        tell_end(rt, pass.lane(), end);
+        Ok(pass)
+    }
+
+    /// Serves the next connection that comes, once connections may be taken.
+    fn serve_next<R: Host>(self, rt: &R) -> Result<Pass, RunFault> {
+        let is_open = *self.is_open.lock(rt);
+        if !is_open {
+            return Err(RunFault::NoThread);
+        }
+        let stream = self.take(rt);
+        self.serve(rt, stream)
+    }
+}
+
+/// Says how a connection ended, unless all that came was read.
+fn tell_end<R: Host>(rt: &R, lane: u32, end: StreamEnd) {
+    if end != StreamEnd::End {
+        let _ = eprintln!(rt; "lane {lane} ended: {end}");
+    }
+}
+
+/// Begins the thread of a connection.
+fn begin_lane<'s, E, R: Host>(
+    scope: &Scope<'s, E>,
+    rt: &'s R,
+    serving: Serving<'s>,
+) -> Option<Lane> {
+    scope.spawn(move || serving.serve_next(rt)).ok()
+}
+
+/// Begins the threads of so many connections.
+fn begin_lanes<'s, E, R: Host>(
+    scope: &Scope<'s, E>,
+    rt: &'s R,
+    serving: Serving<'s>,
+    count: u32,
+) -> Result<Vec<Lane>, RunFault> {
+    let mut lanes = Vec::new(rt.alloc());
+    for _ in 0..count {
+        match begin_lane(scope, rt, serving) {
+            Some(lane) => lanes.push(lane)?,
+            None => return Err(RunFault::NoThread),
+        }
+    }
+    Ok(lanes)
+}
+
+/// What the clients of connections know, once all have ended.
+fn join_lanes<R: Host>(rt: &R, lanes: Vec<Lane>) -> Result<Vec<Pass>, RunFault> {
+    let mut passes = Vec::new(rt.alloc());
+    for lane in lanes {
+        passes.push(lane.join(rt)?)?;
+    }
+    Ok(passes)
+}
+
+/// Serves as many connections as are asked for, each on a thread of its own, once there is a thread for each and the files are made.
+pub(crate) fn serve_lanes<R: Recorder>(
+    rt: &R,
+    serving: Serving<'_>,
+    request: &ServeRequest<'_>,
+) -> Result<Served, RunFault> {
+    thread::scope(thread::scope_env(), rt, |scope| {
+        let mut is_open = serving.is_open.lock(rt);
+        let lanes = begin_lanes(scope, rt, serving, request.lanes)?;
+        let outputs = Outputs::create(rt, request.history, request.certificate)?;
+        *is_open = true;
+        drop(is_open);
+        let passes = join_lanes(rt, lanes)?;
+        Ok(Served { outputs, passes })
+    })
+}

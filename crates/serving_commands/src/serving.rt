@@ -1,0 +1,77 @@
+//! Connections that are served, from the words to the files.
+
+ghost use Rattle.std.specs.Prelude.{IfOk};
+ghost use Rattle.serving_commands.specs.Recording.{IsRecording};
+
+use crate::beginning::Beginning;
+use crate::fault::RunFault;
+use crate::lanes::{Served, Serving, SimServer, serve_lanes};
+use crate::recorded::{Recorded, record_closed};
+use crate::words::ServeRequest;
+use journal_server::{OpenGate, Profile, Server, SimDevice};
+use recording_command::Recorder;
+use std::alloc::{AllocError, Global};
+use std::net::{IpAddr, Ipv4Addr, SocketAddr, TcpListener};
+use std::sync::Mutex;
+
+/// A server that begins so, over a device that doesn't fail. It is strict where the words or the beginning ask for it.
+fn server_from(
+    alloc: Global,
+    request: &ServeRequest<'_>,
+    beginning: Beginning,
+) -> Result<SimServer, AllocError> {
+    let (profile, start) = beginning.into_parts();
+    let profile = if request.is_strict {
+        Profile::Strict
+    } else {
+        profile
+    };
+    let device = SimDevice::new(alloc, None, None, None);
+    Server::new_from(alloc, OpenGate, device, profile, start)
+}
+
+/// Ends a server, and writes what it recorded.
+fn save(alloc: Global, server: SimServer, served: Served) -> Result<Recorded, RunFault>
+    ensures { IfOk result IsRecording }
+{
+    let Served {
+        mut outputs,
+        passes,
+    } = served;
+    let closed = server.close(passes)?;
+    let recorded = record_closed(alloc, closed)?;
+    outputs.write(&recorded)?;
+    Ok(recorded)
+}
+
+/// Serves the connections that the words ask for by a server that begins so, and writes what it recorded: first each connection is taken on a
+/// thread of its own, and when all have ended the server closes. It waits as long as clients let it.
+pub fn serve<R: Recorder>(
+    rt: &R,
+    request: &ServeRequest<'_>,
+    beginning: Beginning,
+) -> Result<Recorded, RunFault>
+    // The certificate is a witness of the history.
+    ensures explained { IfOk result IsRecording }
+{
+    let localhost = IpAddr::V4(Ipv4Addr::new(127, 0, 0, 1));
+    let address = SocketAddr::new(localhost, request.port);
+    let Ok(listener) = TcpListener::bind(rt, address) else {
+        return Err(RunFault::CannotListen);
+    };
+    let server = server_from(rt.alloc(), request, beginning)?;
+    let serving = Serving {
+        server: &server,
+        listener: &listener,
+        is_open: &Mutex::new(false),
+        records: request.calls,
+        export: request.export,
+    };
+    match serve_lanes(rt, serving, request) {
+        Ok(served) => save(rt.alloc(), server, served),
+        Err(fault) => {
+            drop(server.close(Vec::new(rt.alloc())));
+            Err(fault)
+        }
+    }
+}

@@ -1,0 +1,3 @@
+pub mod Naming
+pub mod Distinct
+pub mod Standing

@@ -1,0 +1,7 @@
+pub mod Asked
+pub mod RenameCauses
+pub mod Causes
+pub mod Failure
+pub mod Look
+pub mod Listing
+pub mod Held

@@ -1,4 +1,0 @@
-pub mod Asked
-pub mod RenameCauses
-pub mod Causes
-pub mod Failure

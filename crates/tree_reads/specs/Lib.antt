@@ -1,3 +1,0 @@
-pub mod Look
-pub mod Listing
-pub mod Held

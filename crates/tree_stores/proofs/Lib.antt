@@ -1,0 +1,12 @@
+pub mod SlotLemmas
+pub mod Orders
+pub mod FewLemmas
+pub mod ManyLemmas
+pub mod Maps
+pub mod Words
+pub mod PaddingLemmas
+pub mod Places
+pub mod Paging
+pub mod Windows
+pub mod Reading
+pub mod Undoing

@@ -1,0 +1,7 @@
+use Rattle.std.proofs.Common.{◌≡◌, ◌++◌}
+use Rattle.tree_stores.specs.Names.{entered}
+use Rattle.tree_stores.proofs.names.long.copy_of.Given as goal
+
+-- what has been copied, and what is left, are all names
+abbrev pub invariant-loop-name : goal.invariant-loop-name
+invariant-loop-name l = entered (λ key. key.items) l.many.entries ++ l.name-iterator ≡ l.fn.names

@@ -1,0 +1,9 @@
+pub mod Slots
+pub mod Lends
+pub mod Names
+pub mod Padding
+pub mod Places
+pub mod Walks
+pub mod Files
+pub mod Paged
+pub mod Undo
