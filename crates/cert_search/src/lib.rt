@@ -5,5 +5,5 @@ mod end;
 mod searching;
 
 pub use end::SearchEnd;
-pub use search_workers::{Host, OpenSearch, Progress, SearchGate};
+pub use search_workers::{OpenSearch, Progress, SearchGate, SearchRuntime};
 pub use searching::{search, search_by_branches, search_calls};

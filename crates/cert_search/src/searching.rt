@@ -10,7 +10,7 @@ use crate::end::SearchEnd;
 use certificate::Certificate;
 use nfs_history::{History, KnownCalls};
 use reply_order::reply_order;
-use search_workers::{Host, Lack, SearchGate, pass_over_calls, run_workers};
+use search_workers::{Lack, SearchGate, SearchRuntime, pass_over_calls, run_workers};
 use std::alloc::{AllocError, Global};
 use witness_check::{Verdict, check_calls};
 
@@ -33,7 +33,7 @@ fn if_witness(
 }
 
 /// The plan that at most so many passes over the history come to, if it is a witness.
-fn pass_over<R: Host, G: SearchGate>(
+fn pass_over<R: SearchRuntime, G: SearchGate>(
     rt: &R,
     known: &KnownCalls<'_>,
     turns: u64,
@@ -68,7 +68,7 @@ fn settle(
 /// Searches a certificate of the history that these calls are of, with so many workers, each of which takes so many branches at most.
 /// A worker works in a thread of its own, or on the caller's where none can be made. Where the workers end without a witness, the
 /// plan that follows the replies is judged.
-pub fn search_by_branches<R: Host, G: SearchGate + Sync>(
+pub fn search_by_branches<R: SearchRuntime, G: SearchGate + Sync>(
     rt: &R,
     known: &KnownCalls<'_>,
     workers: u32,
@@ -97,7 +97,7 @@ pub fn search_by_branches<R: Host, G: SearchGate + Sync>(
 }
 
 /// Searches a certificate by passes over the history, no more than `turns`, and where these come to none by branches.
-fn search_on<R: Host, G: SearchGate + Sync>(
+fn search_on<R: SearchRuntime, G: SearchGate + Sync>(
     rt: &R,
     known: &KnownCalls<'_>,
     workers: u32,
@@ -124,7 +124,7 @@ fn first_turns(turns: u64, calls: u64, workers: u32) -> u64 {
 
 /// Searches a certificate of the history that these calls are of: by branches, as many as five for each four calls; then by passes
 /// over the history; then by branches with the turns that are left, as [`search_by_branches`].
-pub fn search_calls<R: Host, G: SearchGate + Sync>(
+pub fn search_calls<R: SearchRuntime, G: SearchGate + Sync>(
     rt: &R,
     known: &KnownCalls<'_>,
     workers: u32,
@@ -145,7 +145,7 @@ pub fn search_calls<R: Host, G: SearchGate + Sync>(
 }
 
 /// Searches a certificate of a history, as [`search_calls`].
-pub fn search<R: Host, G: SearchGate + Sync>(
+pub fn search<R: SearchRuntime, G: SearchGate + Sync>(
     rt: &R,
     history: &History,
     workers: u32,

@@ -4,13 +4,13 @@
 
 use anyhow::Result;
 use nfsbench_engine::run_words;
-use recording_command::Recorder;
+use recording_command::RecordingRuntime;
 use std::io::{self, BufWriter, Write};
 use std::net::{TcpListener, TcpStream};
 use std::process::ExitCode;
 
 // Does what the words of a line ask for, with nothing on standard input, and gives the exit status.
-fn tell_words<R: Recorder, W: Write>(rt: &R, output: &mut W, line: &str) -> Result<u8> {
+fn tell_words<R: RecordingRuntime, W: Write>(rt: &R, output: &mut W, line: &str) -> Result<u8> {
     let words: Vec<&str> = line.split(' ').collect(rt.alloc())?;
     let mut told = Vec::new(rt.alloc());
     let status = run_words(rt, words.as_slice(), &mut b"".as_slice(), &mut told);

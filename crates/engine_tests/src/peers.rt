@@ -1,6 +1,6 @@
 //! Listeners and connections of 127.0.0.1.
 
-use nfs_relay::Host;
+use nfs_relay::RelayRuntime;
 use std::io::{self, ErrorKind, Read, Write};
 use std::net::{IpAddr, Ipv4Addr, Net, SocketAddr, TcpListener, TcpStream};
 use std::thread;
@@ -12,7 +12,7 @@ fn local(port: u16) -> SocketAddr {
 }
 
 /// A listener on a port that was free.
-pub(crate) fn listen<R: Host>(rt: &R) -> io::Result<TcpListener> {
+pub(crate) fn listen<R: RelayRuntime>(rt: &R) -> io::Result<TcpListener> {
     TcpListener::bind(rt, local(0))
 }
 
@@ -22,12 +22,12 @@ pub(crate) fn port_of(listener: &TcpListener) -> io::Result<u16> {
 }
 
 /// A port that is free.
-pub(crate) fn free_port<R: Host>(rt: &R) -> io::Result<u16> {
+pub(crate) fn free_port<R: RelayRuntime>(rt: &R) -> io::Result<u16> {
     port_of(&listen(rt)?)
 }
 
 /// A connection to a port, to which someone may listen soon.
-pub(crate) fn connect<R: Host>(rt: &R, port: u16) -> io::Result<TcpStream> {
+pub(crate) fn connect<R: RelayRuntime>(rt: &R, port: u16) -> io::Result<TcpStream> {
     for _try in 0..10_000 {
         if let Ok(stream) = TcpStream::connect(rt, local(port)) {
             return Ok(stream);

@@ -2,10 +2,10 @@
 
 use crate::frames::{CALL, ONE_LANE, REPLY, TWO_ERAS};
 use crate::peers::{comes, connect, ends, free_port, listen, port_of, sends};
-use nfs_relay::Host;
+use nfs_relay::RelayRuntime;
 use nfsbench_engine::run_words;
 use program_streams::{Input, Stream};
-use recording_command::Recorder;
+use recording_command::RecordingRuntime;
 use std::alloc::{AllocError, Global};
 use std::net::{TcpListener, TcpStream};
 use std::test::Fail;
@@ -13,7 +13,7 @@ use std::thread::{self, JoinHandle, Scope};
 use std::{fs, io};
 
 /// Whether the words of a line are told this, with this status.
-fn is_told<R: Recorder, I: Input>(
+fn is_told<R: RecordingRuntime, I: Input>(
     rt: &R,
     line: &str,
     input: &mut I,
@@ -28,7 +28,7 @@ fn is_told<R: Recorder, I: Input>(
 }
 
 /// Whether the words of a line that was made are told this, with this status.
-pub(crate) fn says<R: Recorder, I: Input>(
+pub(crate) fn says<R: RecordingRuntime, I: Input>(
     rt: &R,
     line: Result<String, AllocError>,
     input: &mut I,
@@ -68,7 +68,7 @@ fn exchange(client: &mut TcpStream, server: &mut TcpStream) -> bool {
 }
 
 /// Whether a client is answered so often by the server behind the recording, which then sees it hang up.
-fn calls<R: Host>(rt: &R, port: u16, listener: &TcpListener, often: u32) -> bool {
+fn calls<R: RelayRuntime>(rt: &R, port: u16, listener: &TcpListener, often: u32) -> bool {
     let Ok(mut client) = connect(rt, port) else {
         return false;
     };
@@ -85,7 +85,7 @@ fn calls<R: Host>(rt: &R, port: u16, listener: &TcpListener, often: u32) -> bool
 }
 
 /// Whether a client is answered, and a crash that is told then ends both connections.
-fn calls_ahead_of_a_crash<R: Host>(
+fn calls_ahead_of_a_crash<R: RelayRuntime>(
     rt: &R,
     port: u16,
     listener: &TcpListener,
@@ -104,7 +104,7 @@ fn calls_ahead_of_a_crash<R: Host>(
 }
 
 /// Whether one client calls twice, or two call once each with a crash between them.
-fn come<R: Host>(rt: &R, ports: Ports, listener: &TcpListener, crashes: bool) -> bool {
+fn come<R: RelayRuntime>(rt: &R, ports: Ports, listener: &TcpListener, crashes: bool) -> bool {
     let Ok(mut control) = connect(rt, ports.control) else {
         return false;
     };
@@ -117,7 +117,7 @@ fn come<R: Host>(rt: &R, ports: Ports, listener: &TcpListener, crashes: bool) ->
 }
 
 /// Begins the clients and the server in a thread of their own.
-fn begin<'s, E, R: Host>(
+fn begin<'s, E, R: RelayRuntime>(
     scope: &Scope<'s, E>,
     rt: &'s R,
     ports: Ports,
@@ -128,7 +128,7 @@ fn begin<'s, E, R: Host>(
 }
 
 /// Whether two calls are recorded, of which a recording is told on a stream; with crashes until that ends, else one connection.
-fn taps<R: Recorder>(rt: &R, ports: Ports, control: &TcpListener, crashes: bool) -> bool {
+fn taps<R: RecordingRuntime>(rt: &R, ports: Ports, control: &TcpListener, crashes: bool) -> bool {
     let lanes = if crashes { "" } else { " --lanes 1" };
     let Ok((orders, _)) = control.accept() else {
         return false;
@@ -138,7 +138,7 @@ fn taps<R: Recorder>(rt: &R, ports: Ports, control: &TcpListener, crashes: bool)
 }
 
 /// Whether what is said is recorded. The program runs on this thread, which has the files.
-fn records<R: Recorder>(
+fn records<R: RecordingRuntime>(
     rt: &R,
     ports: Ports,
     listener: &TcpListener,
@@ -156,7 +156,7 @@ fn records<R: Recorder>(
 }
 
 /// Whether a recording holds these bytes. It is taken away.
-fn holds<R: Recorder>(rt: &R, port: u16, history: &[u8]) -> io::Result<bool> {
+fn holds<R: RecordingRuntime>(rt: &R, port: u16, history: &[u8]) -> io::Result<bool> {
     let path = format!(in rt.alloc(); "/tmp/nfsbench_{port}.tapped")?;
     let is_held = fs::read(rt, path.as_str())?.as_slice() == history;
     fs::remove_file(rt, path.as_str())?;
@@ -164,7 +164,7 @@ fn holds<R: Recorder>(rt: &R, port: u16, history: &[u8]) -> io::Result<bool> {
 }
 
 /// Whether just this history is recorded, with a crash or without.
-fn is_recorded<R: Recorder>(rt: &R, crashes: bool, history: &[u8]) -> io::Result<bool> {
+fn is_recorded<R: RecordingRuntime>(rt: &R, crashes: bool, history: &[u8]) -> io::Result<bool> {
     let listener = listen(rt)?;
     let control = listen(rt)?;
     let ports = Ports {

@@ -4,8 +4,8 @@ use crate::peers::{comes, connect, ends, free_port, listen, port_of, sends};
 use crate::recordings::{says, tap_line};
 use journal_server::{CloseFault, CrashFault};
 use nfs_history::{HistoryFault, read_history};
-use nfs_relay::Host;
-use recording_command::Recorder;
+use nfs_relay::RelayRuntime;
+use recording_command::RecordingRuntime;
 use serving_commands::{RunFault, fault_report};
 use std::alloc::Global;
 use std::net::{TcpListener, TcpStream};
@@ -57,7 +57,7 @@ fn is_answered(stream: &mut TcpStream, exchange: (&[u8], &[u8])) -> bool {
 }
 
 /// Whether a client that comes to this port gets these replies.
-fn exchanges<R: Host>(rt: &R, port: u16) -> bool {
+fn exchanges<R: RelayRuntime>(rt: &R, port: u16) -> bool {
     let Ok(mut stream) = connect(rt, port) else {
         return false;
     };
@@ -70,7 +70,7 @@ fn exchanges<R: Host>(rt: &R, port: u16) -> bool {
 }
 
 /// Whether a client that comes to this port can say a part of a record. It hangs up then.
-fn hangs_up<R: Host>(rt: &R, port: u16) -> bool {
+fn hangs_up<R: RelayRuntime>(rt: &R, port: u16) -> bool {
     match connect(rt, port) {
         Ok(mut stream) => sends(&mut stream, b"\x80\0\0\x58\0\0\0\x01"),
         Err(_) => false,
@@ -79,7 +79,7 @@ fn hangs_up<R: Host>(rt: &R, port: u16) -> bool {
 
 /// Whether three clients find what they should: while one is connected to the server, which mounts it, another hangs up at the server, and one is
 /// answered at the recorder. Behind its third call the server ends the first one's connection.
-fn come<R: Host>(rt: &R, server: u16, recorder: u16) -> bool {
+fn come<R: RelayRuntime>(rt: &R, server: u16, recorder: u16) -> bool {
     let Ok(mut first) = connect(rt, server) else {
         return false;
     };
@@ -92,7 +92,7 @@ fn come<R: Host>(rt: &R, server: u16, recorder: u16) -> bool {
 }
 
 /// Begins these clients in a thread of their own.
-fn begin_clients<'s, E, R: Host>(
+fn begin_clients<'s, E, R: RelayRuntime>(
     scope: &Scope<'s, E>,
     rt: &'s R,
     server: u16,
@@ -102,7 +102,7 @@ fn begin_clients<'s, E, R: Host>(
 }
 
 /// Whether the bundled server at a port serves three connections, and says that it explains what it did.
-fn serves<R: Recorder>(rt: &R, port: u16) -> bool {
+fn serves<R: RecordingRuntime>(rt: &R, port: u16) -> bool {
     let line = format!(in rt.alloc();
         "nfsbench serve --port {port} --lanes 3 --calls 3 --mountable /tmp/nfsbench_{port}.served /tmp/nfsbench_{port}.certificate"
     );
@@ -110,7 +110,7 @@ fn serves<R: Recorder>(rt: &R, port: u16) -> bool {
 }
 
 /// Whether the recorder at a port has three calls to a server.
-fn taps<R: Recorder>(rt: &R, port: u16, server: u16) -> bool {
+fn taps<R: RecordingRuntime>(rt: &R, port: u16, server: u16) -> bool {
     let line = tap_line(rt.alloc(), "0000000000000000", port, server, " --lanes 1");
     says(rt, line, &mut b"".as_slice(), b"calls 3\n", 0)
 }
@@ -121,7 +121,7 @@ fn count_calls(alloc: Global, bytes: &[u8]) -> Option<u64> {
 }
 
 /// What a file of this kind at a port has. It is taken away.
-pub(crate) fn take_file<R: Recorder>(rt: &R, port: u16, kind: &str) -> io::Result<Vec<u8>> {
+pub(crate) fn take_file<R: RecordingRuntime>(rt: &R, port: u16, kind: &str) -> io::Result<Vec<u8>> {
     let path = format!(in rt.alloc(); "/tmp/nfsbench_{port}.{kind}")?;
     let bytes = fs::read(rt, path.as_str())?;
     fs::remove_file(rt, path.as_str())?;
@@ -129,7 +129,7 @@ pub(crate) fn take_file<R: Recorder>(rt: &R, port: u16, kind: &str) -> io::Resul
 }
 
 /// Whether the history of this kind that was written at a port has three calls.
-fn has_three_calls<R: Recorder>(rt: &R, port: u16, kind: &str) -> io::Result<bool> {
+fn has_three_calls<R: RecordingRuntime>(rt: &R, port: u16, kind: &str) -> io::Result<bool> {
     let bytes = take_file(rt, port, kind)?;
     Ok(count_calls(rt.alloc(), bytes.as_slice()) == Some(3))
 }
@@ -138,7 +138,7 @@ fn has_three_calls<R: Recorder>(rt: &R, port: u16, kind: &str) -> io::Result<boo
 const CERTIFICATE: &[u8] = b"witness 1\nbind 0000000000000001 1\nplace 1\nplace 2\nplace 3\nend\n";
 
 /// Whether server and recorder wrote what the clients said, and the server a certificate of it.
-fn are_written<R: Recorder>(rt: &R, server: u16, recorder: u16) -> io::Result<bool> {
+fn are_written<R: RecordingRuntime>(rt: &R, server: u16, recorder: u16) -> io::Result<bool> {
     Ok(
         has_three_calls(rt, server, "served")?
             && has_three_calls(rt, recorder, "tapped")?
@@ -174,7 +174,7 @@ fn clients_are_served_side_by_side_and_recorded(rt: HostRuntime) -> Result<(), F
 }
 
 /// Whether the bundled server refuses to serve, with this line.
-fn refuses<R: Recorder>(rt: &R, port: u16, lanes: u32, files: &str, text: &[u8]) -> bool {
+fn refuses<R: RecordingRuntime>(rt: &R, port: u16, lanes: u32, files: &str, text: &[u8]) -> bool {
     let line = format!(in rt.alloc();
         "nfsbench serve --port {port} --lanes {lanes} --calls 1 {files}"
     );
@@ -182,7 +182,7 @@ fn refuses<R: Recorder>(rt: &R, port: u16, lanes: u32, files: &str, text: &[u8])
 }
 
 /// Whether a port at which someone listens is refused, and at one that is free, files which can't be made.
-fn refuses_ports_and_files<R: Recorder>(rt: &R) -> io::Result<bool> {
+fn refuses_ports_and_files<R: RecordingRuntime>(rt: &R) -> io::Result<bool> {
     let taken = listen(rt)?;
     let port = port_of(&taken)?;
     let is_refused = refuses(rt, port, 1, "h c", b"refused: cannot listen\n");

@@ -4,8 +4,8 @@ use crate::peers::{comes, connect, free_port, sends};
 use crate::recordings::says;
 use crate::served::take_file;
 use nfs_history::{Profile, read_history};
-use nfs_relay::Host;
-use recording_command::Recorder;
+use nfs_relay::RelayRuntime;
+use recording_command::RecordingRuntime;
 use std::alloc::Global;
 use std::net::{TcpListener, TcpStream};
 use std::test::Fail;
@@ -32,7 +32,7 @@ const READING: (&[u8], &[u8]) = (
 const CERTIFICATE: &[u8] = b"witness 1\nbind 0000000000000001 1\nplace 1\nend\n";
 
 /// Whether a client that comes to this port reads the file.
-fn reads<R: Host>(rt: &R, port: u16) -> bool {
+fn reads<R: RelayRuntime>(rt: &R, port: u16) -> bool {
     match connect(rt, port) {
         Ok(mut stream) => sends(&mut stream, READING.0) && comes(&mut stream, READING.1),
         Err(_) => false,
@@ -40,7 +40,7 @@ fn reads<R: Host>(rt: &R, port: u16) -> bool {
 }
 
 /// Whether the bundled server at a port serves one connection from the start, strictly, and says that it explains what it did.
-fn serves<R: Recorder>(rt: &R, port: u16) -> bool {
+fn serves<R: RecordingRuntime>(rt: &R, port: u16) -> bool {
     let line = format!(in rt.alloc();
         "nfsbench serve --port {port} --lanes 1 --calls 1 --strict --start /tmp/nfsbench_{port}.start /tmp/nfsbench_{port}.served /tmp/nfsbench_{port}.certificate"
     );
@@ -57,13 +57,13 @@ fn is_of_the_start(alloc: Global, bytes: &[u8]) -> bool {
 }
 
 /// Writes the start of the server at a port.
-fn put_start<R: Recorder>(rt: &R, port: u16) -> io::Result<()> {
+fn put_start<R: RecordingRuntime>(rt: &R, port: u16) -> io::Result<()> {
     let path = format!(in rt.alloc(); "/tmp/nfsbench_{port}.start")?;
     fs::write(rt, path.as_str(), START)
 }
 
 /// Whether the start stands as it did, and what the server wrote is of it.
-fn are_written<R: Recorder>(rt: &R, port: u16) -> io::Result<bool> {
+fn are_written<R: RecordingRuntime>(rt: &R, port: u16) -> io::Result<bool> {
     let start = take_file(rt, port, "start")?;
     let served = take_file(rt, port, "served")?;
     let certificate = take_file(rt, port, "certificate")?;

@@ -21,7 +21,7 @@ use Rattle.certificate.specs.declared.plan.Place.TheVariants.{Answered, Taken}
 use Rattle.certificate.specs.declared.plan.EraPlan.{EraPlan}
 use Rattle.certificate.specs.Plan.{call_of, cut_of}
 use Rattle.order_check.specs.Places.{is_judged}
-use Rattle.history_report.specs.declared.counting.Report.{Report}
+use Rattle.history_report.specs.declared.counting.HistoryNumbers.{HistoryNumbers}
 use Rattle.history_report.specs.Counted.{failure_of, is_excused_status, report_of}
 use Rattle.history_report.specs.Lost.{is_modifying, has_succeeded, changes, changes_at, lost}
 use Rattle.history_report.specs.Kinds.{is_judged_kind, is_answered_kind, is_excused_kind, report_by, is_modifying_kind, has_succeeded_kind, changes_kind, changes_kind_at, lost_by}
@@ -135,10 +135,10 @@ lost_mapped : (calls : List RecordedCall) (eras : List EraPlan) → lost_by (λ 
 lost_mapped calls eras = λ i. sum_by (λ era. count_by (λ place. changes_mapped calls place i) (drop (cut_of era) era.places)) eras
 
 -- what is counted of the calls, or of their kinds, is what is counted of the history
-pub owned_report : (counted : Report) (n eras : ℕ) (items calls : List RecordedCall) → counted ≡ report_by call_kind n items → n ≡ eras → items ≡ calls → counted ≡ report_of eras calls
+pub owned_report : (counted : HistoryNumbers) (n eras : ℕ) (items calls : List RecordedCall) → counted ≡ report_by call_kind n items → n ≡ eras → items ≡ calls → counted ≡ report_of eras calls
 owned_report counted n eras items calls is same are = is ∙ (λ i. report_by call_kind (same i) (are i)) ∙ report_of_kinds eras calls
 
-pub known_report : (counted : Report) (n eras : ℕ) (kinds : List CallKind) (calls : List RecordedCall) → counted ≡ report_by (λ (kind : CallKind). kind) n kinds → n ≡ eras
+pub known_report : (counted : HistoryNumbers) (n eras : ℕ) (kinds : List CallKind) (calls : List RecordedCall) → counted ≡ report_by (λ (kind : CallKind). kind) n kinds → n ≡ eras
     → kinds ≡ map call_kind calls → counted ≡ report_of eras calls
 known_report counted n eras kinds calls is same are =
     is ∙ (λ i. report_by (λ (kind : CallKind). kind) (same i) (are i)) ∙ report_mapped eras calls ∙ report_of_kinds eras calls

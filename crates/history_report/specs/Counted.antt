@@ -10,7 +10,7 @@ use Rattle.nfs3_types.specs.Procedures.{failure_in}
 use Rattle.nfs_history.specs.declared.history.RecordedCall.{RecordedCall}
 use Rattle.order_check.specs.Places as places
 use Rattle.tree_answers.specs.Failure as failures
-use Rattle.history_report.specs.declared.counting.Report.{Report}
+use Rattle.history_report.specs.declared.counting.HistoryNumbers.{HistoryNumbers}
 
 -- a status that isn't judged: it may answer any call
 abbrev pub is_excused_status : Failure → Bool
@@ -35,7 +35,7 @@ abbrev pub is_excused : RecordedCall → Bool
 is_excused call = is_judged_call call && option_map_or is_excused_status (failure_of call.outcome) false
 
 -- what is counted of the calls of so many eras
-abbrev pub report_of : ℕ → List RecordedCall → Report
+abbrev pub report_of : ℕ → List RecordedCall → HistoryNumbers
 report_of eras calls = record {
   calls = length calls;
   judged = count_by is_judged_call calls;

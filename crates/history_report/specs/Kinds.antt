@@ -11,7 +11,7 @@ use Rattle.certificate.specs.declared.plan.Place.{Place}
 use Rattle.certificate.specs.declared.plan.Place.TheVariants.{Answered, Taken}
 use Rattle.certificate.specs.declared.plan.EraPlan.{EraPlan}
 use Rattle.certificate.specs.Plan.{call_of, cut_of}
-use Rattle.history_report.specs.declared.counting.Report.{Report}
+use Rattle.history_report.specs.declared.counting.HistoryNumbers.{HistoryNumbers}
 use Rattle.history_report.specs.Counted.{is_excused_status}
 
 abbrev pub is_judged_kind : CallKind → Bool
@@ -30,7 +30,7 @@ is_excused_kind (kinds.Unanswered procedure) = false
 is_excused_kind (kinds.Answered procedure failure) = option_map_or is_excused_status failure false
 
 -- what is counted of calls with these kinds, of so many eras
-abbrev pub report_by : {A : Type 0} → (A → CallKind) → ℕ → List A → Report
+abbrev pub report_by : {A : Type 0} → (A → CallKind) → ℕ → List A → HistoryNumbers
 report_by kind eras calls = record {
   calls = length calls;
   judged = count_by (λ call. is_judged_kind (kind call)) calls;

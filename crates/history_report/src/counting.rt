@@ -11,7 +11,7 @@ use nfs3_types::Failure;
 
 /// What is counted of a history.
 #[derive(Clone, Copy)]
-pub struct Report {
+pub struct HistoryNumbers {
     /// All its calls.
     pub calls: u64,
     /// Those of a judged procedure that didn't fail in RPC.
@@ -67,7 +67,7 @@ fn is_excused(kind: CallKind) -> bool
 }
 
 /// Counts one more call.
-fn note_kind(report: &mut Report, kind: CallKind)
+fn note_kind(report: &mut HistoryNumbers, kind: CallKind)
     requires { CanGrow report.old }
     ensures { report.new ≡ report_with report.old kind }
 {
@@ -79,10 +79,10 @@ fn note_kind(report: &mut Report, kind: CallKind)
 }
 
 /// What is counted of the calls of so many eras.
-fn count_kinds<K: HasKind>(eras: u64, calls: &[K]) -> Report
+fn count_kinds<K: HasKind>(eras: u64, calls: &[K]) -> HistoryNumbers
     ensures { result ≡ report_by K.kind eras calls.now }
 {
-    let mut report = Report {
+    let mut report = HistoryNumbers {
         calls: 0,
         judged: 0,
         answered: 0,
@@ -97,14 +97,14 @@ fn count_kinds<K: HasKind>(eras: u64, calls: &[K]) -> Report
 }
 
 /// What is counted of a history.
-pub fn report_of(history: &History) -> Report
+pub fn report_of(history: &History) -> HistoryNumbers
     ensures { result ≡ report_of history.now.known.eras history.now.known.calls }
 {
     count_kinds(history.eras(), history.recorded_calls())
 }
 
 /// What is counted of the history that these calls are of. None of them is read.
-pub fn report_of_calls(history: &KnownCalls<'_>) -> Report
+pub fn report_of_calls(history: &KnownCalls<'_>) -> HistoryNumbers
     ensures { result ≡ report_of history.now.eras history.now.calls }
 {
     count_kinds(history.eras(), history.kinds())

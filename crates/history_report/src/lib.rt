@@ -5,5 +5,5 @@ mod counting;
 mod kind;
 mod losing;
 
-pub use counting::{Report, report_of, report_of_calls};
+pub use counting::{HistoryNumbers, report_of, report_of_calls};
 pub use losing::{lost_of, lost_of_calls};

@@ -5,7 +5,7 @@ use Rattle.nfs_history.specs.declared.fault.HistoryFault.{HistoryFault}
 use Rattle.nfs_history.specs.HistoryValue.{CallsValue}
 use Rattle.nfs_history.specs.History.{IsCallsFile}
 use Rattle.nfs_history.specs.FirstFault.{FirstFault}
-use Rattle.history_report.specs.declared.counting.Report.{Report}
+use Rattle.history_report.specs.declared.counting.HistoryNumbers.{HistoryNumbers}
 use Rattle.history_report.specs.Counted.{report_of}
 use Rattle.witness_check.specs.declared.verdict.FileVerdict.{FileVerdict}
 use Rattle.witness_check.specs.declared.verdict.FileVerdict.TheVariants.{BadHistory}
@@ -35,14 +35,14 @@ pub of_no_history : (file certificate line : List ℕ) (fault : HistoryFault) (s
 of_no_history file certificate line fault status first s l = (BadHistory fault, [], first, inl (fault, refl, refl), s, l)
 
 -- what is given of a history is reported of it
-pub history_reported : (file certificate : List ℕ) (known : CallsValue) (counts : Report) (verdict : FileVerdict) (told : Option ℕ)
+pub history_reported : (file certificate : List ℕ) (known : CallsValue) (counts : HistoryNumbers) (verdict : FileVerdict) (told : Option ℕ)
     → IsCallsFile file known → IsFileVerdict file certificate verdict → IsLost known certificate verdict told
     → counts ≡ report_of known.eras known.calls
     → {E : Type 0} (given : Result Answer E) → IfOk given (λ report. report.status ≡ status_of verdict)
     → IfOk given (λ report. report.line ≡ (count_lines counts ++ lost_lines told) ++ line_of verdict)
     → IfOk given (λ report. IsReported file certificate report.status report.line)
 history_reported file certificate known counts verdict told is found lost counted (Ok report) s l =
-    of_history file certificate report.line known verdict told report.status is found lost s (l ∙ ap (λ (c : Report). (count_lines c ++ lost_lines told) ++ line_of verdict) counted)
+    of_history file certificate report.line known verdict told report.status is found lost s (l ∙ ap (λ (c : HistoryNumbers). (count_lines c ++ lost_lines told) ++ line_of verdict) counted)
 history_reported file certificate known counts verdict told is found lost counted (Err e) s l = tt
 
 -- what is given of no history is reported of it

@@ -7,7 +7,7 @@ use Rattle.nfs_history.specs.declared.knowing.KnownCalls.{KnownCalls}
 use Rattle.nfs_history.specs.History.{IsCallsFile}
 use Rattle.certificate.specs.declared.plan.Certificate.{Certificate}
 use Rattle.certificate.specs.CertificateText.{CertificateText}
-use Rattle.history_report.specs.declared.counting.Report.{Report}
+use Rattle.history_report.specs.declared.counting.HistoryNumbers.{HistoryNumbers}
 use Rattle.history_report.specs.Counted.{report_of}
 use Rattle.history_report.specs.Lost.{lost}
 use Rattle.witness_check.specs.declared.verdict.FileVerdict.{FileVerdict}
@@ -21,7 +21,7 @@ abbrev pub number_line : List ℕ → ℕ → List ℕ
 number_line word number = word ++ 32 ∷ (decimal number ++ 10 ∷ [])
 
 -- the lines of what is counted of a history
-abbrev pub count_lines : Report → List ℕ
+abbrev pub count_lines : HistoryNumbers → List ℕ
 count_lines counts =
     number_line (codes "calls") counts.calls ++ number_line (codes "judged") counts.judged ++ number_line (codes "answered") counts.answered
     ++ number_line (codes "unjudged") counts.unjudged ++ number_line (codes "excused") counts.excused ++ number_line (codes "eras") counts.eras

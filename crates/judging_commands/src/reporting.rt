@@ -9,7 +9,7 @@ ghost use Rattle.judging_commands.specs.Reported.{IsLost, IsReported, IsReported
 
 use crate::report::verdict_report;
 use certificate::{TextFault, read_certificate};
-use history_report::{Report as Counts, lost_of_calls, report_of_calls};
+use history_report::{HistoryNumbers, lost_of_calls, report_of_calls};
 use nfs_history::{HistoryFault, KnownCalls, read_calls};
 use program_streams::Report;
 use std::alloc::{AllocError, Global};
@@ -66,7 +66,7 @@ pub fn put_number(
 }
 
 /// The lines of what is counted of a history.
-fn count_lines(alloc: Global, counts: &Counts) -> Result<String, AllocError>
+fn count_lines(alloc: Global, counts: &HistoryNumbers) -> Result<String, AllocError>
     ensures { IfOk result (λ lines. string_bytes lines ≡ count_lines counts.now) }
 {
     let mut lines = String::new(alloc);
@@ -90,7 +90,11 @@ fn put_lost(alloc: Global, text: &mut String, lost: Option<u64>) -> Result<(), A
 }
 
 /// What is said of a history's numbers and what was found of it.
-fn report_found(alloc: Global, counts: &Counts, finding: Finding) -> Result<Report, AllocError>
+fn report_found(
+    alloc: Global,
+    counts: &HistoryNumbers,
+    finding: Finding,
+) -> Result<Report, AllocError>
     ensures status { IfOk result (λ report. report.status ≡ status_of finding.verdict) }
     ensures line { IfOk result (λ report.
         report.line ≡ (count_lines counts.now ++ lost_lines finding.lost) ++ line_of finding.verdict) }

@@ -10,7 +10,7 @@ ghost use Rattle.judging_commands.specs.Missed.{IsMissed, IsRefusal};
 
 use crate::teller::Teller;
 use crate::words::{MOST_WORKERS, SearchRequest};
-use cert_search::{Host, OpenSearch, SearchEnd, SearchGate, search_calls};
+use cert_search::{OpenSearch, SearchEnd, SearchGate, SearchRuntime, search_calls};
 use certificate::{Certificate, write_certificate};
 use nfs_history::{HistoryFault, read_calls};
 use program_streams::{Output, Report, line_of, tell, tell_answer, tell_want_of_memory};
@@ -44,7 +44,7 @@ fn accepted_text(alloc: Global, history: &[u8], certificate: &Certificate) -> Re
 }
 
 /// The text of a certificate of a history file.
-fn certificate_of<R: Host, G: SearchGate + Sync>(
+fn certificate_of<R: SearchRuntime, G: SearchGate + Sync>(
     rt: &R,
     history: &[u8],
     workers: u32,
@@ -77,7 +77,7 @@ fn refusal_of(alloc: Global, fault: HistoryFault) -> Result<Report, AllocError>
 }
 
 /// Searches a certificate of a history file, as [`search_history`], and tells a gate of it.
-fn search_bytes<R: Host, G: SearchGate + Sync, O: Output>(
+fn search_bytes<R: SearchRuntime, G: SearchGate + Sync, O: Output>(
     rt: &R,
     history: &[u8],
     workers: u32,
@@ -109,7 +109,7 @@ fn search_bytes<R: Host, G: SearchGate + Sync, O: Output>(
 ///
 /// That none was found doesn't say that there is none. What is written was judged by `check_files` once more. The threads are those
 /// of `search_calls`; unless it is to be quiet, standard error is told once a second how far the search is.
-pub fn search_history<R: Host + Eprint, O: Output>(
+pub fn search_history<R: SearchRuntime + Eprint, O: Output>(
     rt: &R,
     request: &SearchRequest<'_>,
     history: &[u8],

@@ -6,7 +6,7 @@ ghost use Rattle.nfs_relay.specs.Closing.{NotesOnce};
 
 use crate::control::{Halt, Lane};
 use crate::ending::LaneEnd;
-use crate::relay::{Host, Relay};
+use crate::relay::{Relay, RelayRuntime};
 use nfs_tap::{PumpEnd, TapLog, pump_calls, pump_replies};
 use std::net::{Shutdown, TcpStream};
 use std::sync::Wait;
@@ -46,7 +46,7 @@ impl Pair<'_> {
 
 impl Relay {
     /// Relays a client's connection that was taken, to its end.
-    pub(crate) fn serve<R: Host>(&self, rt: &R, client: TcpStream) {
+    pub(crate) fn serve<R: RelayRuntime>(&self, rt: &R, client: TcpStream) {
         if let Some(server) = self.connect(rt) {
             let pair = Pair {
                 client: &client,
@@ -58,7 +58,7 @@ impl Relay {
     }
 
     /// A connection to the server, which may take a while to come up.
-    fn connect<R: Host>(&self, rt: &R) -> Option<TcpStream> {
+    fn connect<R: RelayRuntime>(&self, rt: &R) -> Option<TcpStream> {
         let start = Instant::now(rt).ok();
         for _try in 0..CONNECT_TRIES {
             if self.reason(rt).is_some() {
@@ -89,7 +89,7 @@ impl Relay {
     }
 
     /// Relays a connection on a lane of its own, and notes its close.
-    fn relay<R: Host>(&self, rt: &R, pair: Pair<'_>) {
+    fn relay<R: RelayRuntime>(&self, rt: &R, pair: Pair<'_>) {
         let Some(lane) = self.take_lane(rt) else {
             return;
         };
@@ -108,7 +108,7 @@ impl Relay {
     }
 
     /// Runs the pumps of a lane, unless there is no thread for them.
-    fn pump_both<R: Host>(&self, rt: &R, lane: Lane, pair: Pair<'_>) -> Option<LaneEnd> {
+    fn pump_both<R: RelayRuntime>(&self, rt: &R, lane: Lane, pair: Pair<'_>) -> Option<LaneEnd> {
         let ended = AtomicU64::new(0);
         let count = &ended;
         thread::scope(thread::scope_env(), rt, move |scope| {
@@ -130,7 +130,13 @@ impl Relay {
     }
 
     /// Pumps what the client sends. Where its side ends, what the server has to say still comes.
-    fn run_calls<R: Host>(&self, rt: &R, lane: Lane, pair: Pair<'_>, ended: &AtomicU64) -> PumpEnd {
+    fn run_calls<R: RelayRuntime>(
+        &self,
+        rt: &R,
+        lane: Lane,
+        pair: Pair<'_>,
+        ended: &AtomicU64,
+    ) -> PumpEnd {
         let (mut reader, mut writer) = (pair.client, pair.server);
         let end = pump_calls(
             rt,
@@ -150,7 +156,7 @@ impl Relay {
     }
 
     /// Pumps what the server sends. With its side the client's connection ends.
-    fn run_replies<R: Host>(
+    fn run_replies<R: RelayRuntime>(
         &self,
         rt: &R,
         lane: Lane,
@@ -180,7 +186,7 @@ impl Relay {
 
     /// Waits until both pumps have ended, or the lane is to end, also since the server keeps a connection whose client has
     /// ended its side.
-    fn watch<R: Host>(&self, rt: &R, lane: Lane, ended: &AtomicU64) {
+    fn watch<R: RelayRuntime>(&self, rt: &R, lane: Lane, ended: &AtomicU64) {
         let control = self
             .changed
             .wait_while(rt, self.control.lock(rt), |control| {
@@ -200,7 +206,7 @@ impl Relay {
     }
 
     /// Says how a lane ended where something failed, and ends the recording where the log can't go on.
-    fn tell_end<R: Host>(&self, rt: &R, end: LaneEnd) {
+    fn tell_end<R: RelayRuntime>(&self, rt: &R, end: LaneEnd) {
         if let Some(reason) = end.halt() {
             self.halt(rt, reason);
         }
@@ -211,7 +217,7 @@ impl Relay {
 }
 
 /// Whether the server had time enough.
-fn is_late<R: Host>(rt: &R, start: Option<Instant>) -> bool {
+fn is_late<R: RelayRuntime>(rt: &R, start: Option<Instant>) -> bool {
     match (start, Instant::now(rt)) {
         (Some(start), Ok(now)) => now.duration_since(start) >= Duration::from_secs(CONNECT_SECS),
         _ => false,

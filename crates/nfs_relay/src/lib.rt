@@ -10,5 +10,5 @@ mod tally;
 
 pub use control::Halt;
 pub use order::{Order, OrderReader};
-pub use relay::{Host, Relay};
+pub use relay::{Relay, RelayRuntime};
 pub use tally::calls_in;

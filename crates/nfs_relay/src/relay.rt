@@ -14,7 +14,7 @@ use std::thread::{self, Threads};
 use std::time::{Clock, Duration, Instant};
 
 /// What a relay needs of the runtime.
-pub trait Host: Net<Listener = TcpListener, Stream = TcpStream>
+pub trait RelayRuntime: Net<Listener = TcpListener, Stream = TcpStream>
     + Threads
     + Wait
     + Clock
@@ -22,7 +22,7 @@ pub trait Host: Net<Listener = TcpListener, Stream = TcpStream>
     + AllocGlobal
     + Sync {}
 
-impl<R> Host for R
+impl<R> RelayRuntime for R
 where
     R: Net<Listener = TcpListener, Stream = TcpStream>
         + Threads
@@ -103,7 +103,7 @@ impl Relay {
     }
 
     /// Whether a connection that came is taken.
-    fn admits<R: Host>(&self, rt: &R) -> bool {
+    fn admits<R: RelayRuntime>(&self, rt: &R) -> bool {
         if !self.log.lock(rt).has_room(0) {
             self.halt(rt, Halt::LogFull);
             return false;
@@ -134,7 +134,7 @@ impl Relay {
     }
 
     /// Relays the connections that come to a listener, until no more do and all have ended.
-    pub fn run<R: Host>(&self, rt: &R, listener: TcpListener) {
+    pub fn run<R: RelayRuntime>(&self, rt: &R, listener: TcpListener) {
         let _ = listener.set_nonblocking(true);
         thread::scope(thread::scope_env(), rt, move |scope| {
             let mut ticker = Ticker::new(rt);
@@ -159,7 +159,7 @@ impl Relay {
     }
 
     /// Waits until the connections that were taken have ended.
-    fn wait_for_ends<R: Host>(&self, rt: &R, ticker: &mut Ticker) {
+    fn wait_for_ends<R: RelayRuntime>(&self, rt: &R, ticker: &mut Ticker) {
         for _ in rt.forever() {
             let control = self.control.lock(rt);
             if control.present() == 0 {
@@ -175,7 +175,7 @@ impl Relay {
     }
 
     /// Once a second, tells how far the recording is.
-    fn tell_progress<R: Host>(&self, rt: &R, ticker: &mut Ticker) {
+    fn tell_progress<R: RelayRuntime>(&self, rt: &R, ticker: &mut Ticker) {
         if self.is_quiet || !ticker.is_due(rt) {
             return;
         }

@@ -2,7 +2,7 @@
 
 use crate::words::run_words;
 use program_streams::{Sink, Stream, tell, tell_want_of_memory};
-use recording_command::Recorder;
+use recording_command::RecordingRuntime;
 use std::env;
 use std::io::{self, ErrorKind};
 use std::process::ExitCode;
@@ -13,7 +13,7 @@ fn words_of<R: Env + AllocGlobal>(rt: &R) -> io::Result<Vec<String>> {
 }
 
 /// Does what the process's words ask for, on standard input and standard output, and gives its exit status.
-pub fn run_process<R: Env + Input + Print + Recorder>(rt: &R) -> ExitCode {
+pub fn run_process<R: Env + Input + Print + RecordingRuntime>(rt: &R) -> ExitCode {
     let mut output = Sink::new(io::writer(rt));
     let status = match words_of(rt) {
         Ok(words) => {

@@ -9,9 +9,9 @@ ghost use Rattle.nfsbench_engine.specs.Ran.{IsSaidOfRan, IsSaidOfRun, IsSaidOfSe
 use crate::files::{read_history_file, read_plan_file};
 use judging_commands::{judge_files, put_number};
 use program_streams::{Output, Report, tell, tell_answer, tell_want_of_memory};
-use recording_command::Recorder;
+use recording_command::RecordingRuntime;
 use serving_commands::{
-    Beginning, Counts, Recorded, RunFault, RunRequest, ServeRequest, fault_report, run, serve,
+    Beginning, Counts, RunFault, RunRequest, RunTexts, ServeRequest, fault_report, run, serve,
 };
 use std::alloc::{AllocError, Global};
 use std::rt::Files;
@@ -29,7 +29,7 @@ fn run_lines(alloc: Global, counts: &Counts) -> Result<String, AllocError>
 }
 
 /// What is said of a run: what it comes to in numbers, and the verdict on the two texts that it wrote.
-pub fn judge_run(alloc: Global, recorded: &Recorded) -> Result<Report, AllocError>
+pub fn judge_run(alloc: Global, recorded: &RunTexts) -> Result<Report, AllocError>
     ensures exact { IfOk result (λ report. IsSaidOfRun recorded.now report.status report.line) }
     // Of the texts of a history and of a witness of it that is a yes.
     ensures yes { IsRecording recorded.now → IfOk result (λ report.
@@ -41,7 +41,7 @@ pub fn judge_run(alloc: Global, recorded: &Recorded) -> Result<Report, AllocErro
 }
 
 /// What is said of a run that ended so.
-fn run_answer(alloc: Global, ran: Result<Recorded, RunFault>) -> Result<Report, AllocError>
+fn run_answer(alloc: Global, ran: Result<RunTexts, RunFault>) -> Result<Report, AllocError>
     requires { IfOk ran IsRecording }
     ensures said { IfOk result (λ report. IsSaidOfRan ran report.status report.line) }
     ensures known { IfOk result (λ report. report.status < 3) }
@@ -53,7 +53,7 @@ fn run_answer(alloc: Global, ran: Result<Recorded, RunFault>) -> Result<Report, 
 }
 
 /// What is said of connections that were served: the verdict alone, which is a yes.
-fn serve_answer(alloc: Global, served: Result<Recorded, RunFault>) -> Result<Report, AllocError>
+fn serve_answer(alloc: Global, served: Result<RunTexts, RunFault>) -> Result<Report, AllocError>
     requires { IfOk served IsRecording }
     ensures said { IfOk result (λ report. IsSaidOfServed served report.status report.line) }
     ensures known { IfOk result (λ report. report.status < 3) }
@@ -82,7 +82,7 @@ fn tell_known<O: Output>(output: &mut O, answer: Result<Report, AllocError>) -> 
 }
 
 /// Says how a run ended.
-fn tell_run<O: Output>(alloc: Global, output: &mut O, ran: Result<Recorded, RunFault>) -> u8
+fn tell_run<O: Output>(alloc: Global, output: &mut O, ran: Result<RunTexts, RunFault>) -> u8
     requires { IfOk ran IsRecording }
     ensures told { MayTellOf IsSaidOfRan result (O.contents output.old) (O.contents output.new) }
     ensures memory_line { result ≡ 3
@@ -94,7 +94,7 @@ fn tell_run<O: Output>(alloc: Global, output: &mut O, ran: Result<Recorded, RunF
 }
 
 /// Says how the serving of connections ended.
-fn tell_served<O: Output>(alloc: Global, output: &mut O, served: Result<Recorded, RunFault>) -> u8
+fn tell_served<O: Output>(alloc: Global, output: &mut O, served: Result<RunTexts, RunFault>) -> u8
     requires { IfOk served IsRecording }
     ensures told { MayTellOf IsSaidOfServed result (O.contents output.old) (O.contents output.new) }
     ensures memory_line { result ≡ 3
@@ -117,11 +117,11 @@ fn beginning_at<R: Files + AllocGlobal>(rt: &R, path: Option<&str>) -> Result<Be
 }
 
 /// Runs the plan of this text from the start that the words name, as [`run`].
-fn run_from_start<R: Recorder>(
+fn run_from_start<R: RecordingRuntime>(
     rt: &R,
     request: &RunRequest<'_>,
     text: &[u8],
-) -> Result<Recorded, RunFault>
+) -> Result<RunTexts, RunFault>
     ensures { IfOk result IsRecording }
 {
     let beginning = beginning_at(rt, request.start)?;
@@ -129,7 +129,10 @@ fn run_from_start<R: Recorder>(
 }
 
 /// Serves connections from the start that the words name, as [`serve`].
-fn serve_from_start<R: Recorder>(rt: &R, request: &ServeRequest<'_>) -> Result<Recorded, RunFault>
+fn serve_from_start<R: RecordingRuntime>(
+    rt: &R,
+    request: &ServeRequest<'_>,
+) -> Result<RunTexts, RunFault>
     ensures { IfOk result IsRecording }
 {
     let beginning = beginning_at(rt, request.start)?;
@@ -137,7 +140,7 @@ fn serve_from_start<R: Recorder>(rt: &R, request: &ServeRequest<'_>) -> Result<R
 }
 
 /// Runs the plan at a path, writes its history and certificate, and says what they come to.
-pub(crate) fn run_path<R: Recorder, O: Output>(
+pub(crate) fn run_path<R: RecordingRuntime, O: Output>(
     rt: &R,
     request: &RunRequest<'_>,
     output: &mut O,
@@ -159,7 +162,7 @@ pub(crate) fn run_path<R: Recorder, O: Output>(
 }
 
 /// Serves connections, writes their history and certificate, and says the verdict on both.
-pub(crate) fn serve_words<R: Recorder, O: Output>(
+pub(crate) fn serve_words<R: RecordingRuntime, O: Output>(
     rt: &R,
     request: &ServeRequest<'_>,
     output: &mut O,

@@ -16,7 +16,7 @@ use clap::error::ErrorKind;
 use clap::{Arg, Command};
 use judging_commands::{SearchRequest, run_bundle, search_command, search_history, search_request};
 use program_streams::{Input, Output, tell, tell_answer, tell_want_of_memory};
-use recording_command::{Recorder, TapRequest, run_tap, tap_command, tap_request};
+use recording_command::{RecordingRuntime, TapRequest, run_tap, tap_command, tap_request};
 use serving_commands::{
     RunRequest, ServeRequest, run_command, run_request, serve_command, serve_request,
 };
@@ -175,7 +175,11 @@ fn show_path<R: Files + AllocGlobal, O: Output>(
 }
 
 /// Searches a certificate of the history at a path, as [`search_history`].
-fn search_path<R: Recorder, O: Output>(rt: &R, request: &SearchRequest<'_>, output: &mut O) -> u8
+fn search_path<R: RecordingRuntime, O: Output>(
+    rt: &R,
+    request: &SearchRequest<'_>,
+    output: &mut O,
+) -> u8
     ensures memory_line { result ≡ 3
         → Appends (O.contents output.old) (O.contents output.new) memory_line }
     ensures known { result < 4 }
@@ -256,7 +260,7 @@ pub(crate) fn judge_words<'a, R: Files + AllocGlobal, S: AsStr, I: Input, O: Out
 /// and what the parser's texts are no clause says. With `search` and a path it is what `search_history` gives; with `run`, a path and two
 /// paths to write it runs a text, with `serve` it serves connections, and with `tap` it records: these four may wait, the last two for as
 /// long as they are let.
-pub fn run_words<R: Recorder, S: AsStr, I: Input, O: Output>(
+pub fn run_words<R: RecordingRuntime, S: AsStr, I: Input, O: Output>(
     rt: &R,
     words: &[S],
     input: &mut I,

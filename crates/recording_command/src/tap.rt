@@ -7,11 +7,11 @@ ghost use Rattle.program_streams.specs.Told.{memory_line};
 ghost use Rattle.recording_command.specs.Tap.{IsNoRoot, IsTold};
 ghost use Rattle.recording_command.specs.declared.tap_end.TapEnd.{TapEnd};
 
-use crate::recorder::Recorder;
+use crate::runtime::RecordingRuntime;
 use crate::saving::{SaveFault, write_log};
 use crate::tap_end::{TapEnd, refusal_of, tell_end};
 use crate::tap_words::TapRequest;
-use nfs_relay::{Halt, Host, Order, OrderReader, Relay, calls_in};
+use nfs_relay::{Halt, Order, OrderReader, Relay, RelayRuntime, calls_in};
 use nfs_tap::TapLog;
 use nfs3_types::{FileHandle, HANDLE_LIMIT};
 use program_streams::{DigitsFault, Input, Output, READ_SIZE, decode_digits};
@@ -38,7 +38,7 @@ fn read_root(alloc: Global, text: &str) -> Result<FileHandle, TapEnd>
 }
 
 /// Does what the lines say of which the bytes are a piece.
-fn take_orders<R: Host>(
+fn take_orders<R: RelayRuntime>(
     rt: &R,
     relay: &Relay,
     orders: &mut OrderReader,
@@ -57,14 +57,18 @@ fn take_orders<R: Host>(
 }
 
 /// Says that the last order has no end, which may be a part of one.
-fn tell_unfinished<R: Host>(rt: &R, orders: &OrderReader) {
+fn tell_unfinished<R: RelayRuntime>(rt: &R, orders: &OrderReader) {
     if orders.is_amid_line() {
         let _ = eprintln!(rt; "the last order isn't done: it has no line feed");
     }
 }
 
 /// Hands the orders on an input to the relay, to the end of the input.
-fn read_orders<R: Host, I: Input>(rt: &R, relay: &Relay, input: &mut I) -> Result<(), AllocError> {
+fn read_orders<R: RelayRuntime, I: Input>(
+    rt: &R,
+    relay: &Relay,
+    input: &mut I,
+) -> Result<(), AllocError> {
     let mut buffer = vec![in rt.alloc(); 0; READ_SIZE]?;
     let mut orders = OrderReader::new(rt.alloc());
     for _ in rt.forever() {
@@ -82,7 +86,7 @@ fn read_orders<R: Host, I: Input>(rt: &R, relay: &Relay, input: &mut I) -> Resul
 }
 
 /// Writes what the log of a relay that has ended holds, and says how many calls that is.
-fn save<R: Host, W: Write>(rt: &R, relay: &Relay, file: &mut W) -> TapEnd {
+fn save<R: RelayRuntime, W: Write>(rt: &R, relay: &Relay, file: &mut W) -> TapEnd {
     let halt = relay.reason(rt);
     let log = relay.log().lock(rt);
     match write_log(rt.alloc(), &log, file) {
@@ -97,7 +101,7 @@ fn save<R: Host, W: Write>(rt: &R, relay: &Relay, file: &mut W) -> TapEnd {
 }
 
 /// Says why a recording ended before it was told to.
-fn tell_halt<R: Host>(rt: &R, halt: Option<Halt>, calls: usize) {
+fn tell_halt<R: RelayRuntime>(rt: &R, halt: Option<Halt>, calls: usize) {
     let reason = match halt {
         Some(Halt::LogFull) => "LogFull",
         Some(Halt::NoMemory) => "out of memory",
@@ -107,7 +111,12 @@ fn tell_halt<R: Host>(rt: &R, halt: Option<Halt>, calls: usize) {
 }
 
 /// Records so many connections as the relay takes.
-fn record_lanes<R: Recorder>(rt: &R, relay: &Relay, listener: TcpListener, path: &str) -> TapEnd {
+fn record_lanes<R: RecordingRuntime>(
+    rt: &R,
+    relay: &Relay,
+    listener: TcpListener,
+    path: &str,
+) -> TapEnd {
     relay.run(rt, listener);
     if let Some(refusal) = refusal_of(relay.reason(rt)) {
         return refusal;
@@ -119,7 +128,7 @@ fn record_lanes<R: Recorder>(rt: &R, relay: &Relay, listener: TcpListener, path:
 }
 
 /// Begins to record in a thread of its own, which writes the history when the relay has ended.
-fn begin_recording<'s, E, R: Host>(
+fn begin_recording<'s, E, R: RelayRuntime>(
     scope: &Scope<'s, E>,
     rt: &'s R,
     relay: &'s Relay,
@@ -134,7 +143,7 @@ fn begin_recording<'s, E, R: Host>(
 }
 
 /// Records until the input ends. The file is made first, since the recording may end before the input does.
-fn record_until_end<R: Recorder, I: Input>(
+fn record_until_end<R: RecordingRuntime, I: Input>(
     rt: &R,
     relay: &Relay,
     listener: TcpListener,
@@ -158,7 +167,11 @@ fn record_until_end<R: Recorder, I: Input>(
 }
 
 /// Records what the words ask for.
-fn record<R: Recorder, I: Input>(rt: &R, request: &TapRequest<'_>, input: &mut I) -> TapEnd {
+fn record<R: RecordingRuntime, I: Input>(
+    rt: &R,
+    request: &TapRequest<'_>,
+    input: &mut I,
+) -> TapEnd {
     let root = match read_root(rt.alloc(), request.root) {
         Ok(root) => root,
         Err(end) => return end,
@@ -178,7 +191,7 @@ fn record<R: Recorder, I: Input>(rt: &R, request: &TapRequest<'_>, input: &mut I
 }
 
 /// Records what the words ask for, and says what became of it.
-pub fn run_tap<R: Recorder, I: Input, O: Output>(
+pub fn run_tap<R: RecordingRuntime, I: Input, O: Output>(
     rt: &R,
     request: &TapRequest<'_>,
     input: &mut I,

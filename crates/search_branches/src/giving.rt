@@ -1,17 +1,17 @@
 //! The handles that replies give, bound to the objects that they name.
 
-use crate::desk::Desk;
+use crate::branch_facts::BranchFacts;
 use nfs3_types::{
     Answer, CreateSuccess, DirectoryName, FileHandle, NfsCall, NfsReply, Outcome,
     ReadDirPlusSuccess,
 };
-use search_problem::Found;
+use search_problem::FoundCall;
 use std::alloc::AllocError;
 use tree_answers::object_named;
 use tree_handles::{View, directory_of, named};
 use tree_nodes::Nodes;
 
-impl Desk {
+impl BranchFacts {
     /// The object of an entry of a directory.
     fn entry_object(&self, nodes: &Nodes, place: &DirectoryName) -> Option<u64> {
         let view = View {
@@ -80,7 +80,7 @@ impl Desk {
         &mut self,
         nodes: &Nodes,
         made: u64,
-        found: &Found,
+        found: &FoundCall,
     ) -> Result<(), AllocError> {
         let Outcome::Received(reply) = &found.outcome else {
             return Ok(());

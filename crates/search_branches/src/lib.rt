@@ -1,7 +1,7 @@
 //! The branches of a search for a certificate: prefixes of a serial order, each with its tree, and the moves that may follow.
 #![tactic(auto)]
 
-mod desk;
+mod branch_facts;
 mod digest;
 mod giving;
 mod moves;

@@ -1,20 +1,20 @@
 //! Which moves may follow a branch, the likeliest first.
 
-use crate::desk::Desk;
+use crate::branch_facts::BranchFacts;
 use cut_check::Stability;
 use nfs3_types::{Answer, NfsCall, NfsReply, Outcome};
-use search_problem::{Found, Move, Nature, Problem, find};
+use search_problem::{FoundCall, Move, Nature, Problem, find};
 use std::alloc::AllocError;
 
 /// Whether a call is a WRITE that was answered with bytes written.
-fn is_write(found: &Found) -> bool {
+fn is_write(found: &FoundCall) -> bool {
     match &found.outcome {
         Outcome::Received(NfsReply::Write(Answer::Done(success))) => success.count > 0,
         _ => false,
     }
 }
 
-impl Desk {
+impl BranchFacts {
     /// Whether the answered calls of the era are all placed.
     pub(crate) fn is_era_done(&self) -> bool {
         self.open.is_empty()

@@ -1,6 +1,6 @@
 //! The certificate of a branch in which every era has its places.
 
-use crate::desk::BoundHandle;
+use crate::branch_facts::BoundHandle;
 use crate::state::State;
 use certificate::{Bind, BindList, Certificate, EraPlan, EraPlanList, Place, PlaceList};
 use search_problem::{Move, Problem, find, full_count};
@@ -41,10 +41,10 @@ fn sorted_binds(alloc: Global, bound: &[BoundHandle]) -> Result<BindList, AllocE
 impl State {
     /// The certificate of the branch.
     pub fn certificate(&self, problem: &Problem<'_, '_>) -> Result<Certificate, AllocError> {
-        let alloc = self.desk.alloc;
+        let alloc = self.facts.alloc;
         let mut eras = Vec::new(alloc);
         let mut places = Vec::new(alloc);
-        for step in self.desk.path.iter() {
+        for step in self.facts.path.iter() {
             match step.chosen {
                 Move::Answer(number) => places.push(Place::Answered(number))?,
                 Move::Take(number) => places.push(taken_place(alloc, problem, number)?)?,
@@ -62,7 +62,7 @@ impl State {
             cut: None,
         })?;
         Ok(Certificate {
-            binds: sorted_binds(alloc, self.desk.bound.as_slice())?,
+            binds: sorted_binds(alloc, self.facts.bound.as_slice())?,
             eras: EraPlanList::new(eras),
         })
     }

@@ -2,7 +2,7 @@
 
 use crate::facts::size_asked;
 use nfs3_types::{Answer, Data, FileHandle, NfsCall, NfsReply, Outcome};
-use search_problem::Found;
+use search_problem::FoundCall;
 use std::alloc::AllocError;
 
 /// What a call does to a file's bytes.
@@ -34,7 +34,7 @@ impl Drop for Change {
 }
 
 /// How many bytes a WRITE wrote: as many as its reply says, or all.
-fn written(found: &Found, asked: u32) -> u64 {
+fn written(found: &FoundCall, asked: u32) -> u64 {
     match &found.outcome {
         Outcome::Received(NfsReply::Write(Answer::Done(success))) => u64::from(success.count),
         Outcome::Received(_) => 0,
@@ -43,7 +43,7 @@ fn written(found: &Found, asked: u32) -> u64 {
 }
 
 /// Whether a call took effect, or may have.
-fn is_done(found: &Found) -> bool {
+fn is_done(found: &FoundCall) -> bool {
     match &found.outcome {
         Outcome::Received(reply) => reply.failure().is_none(),
         Outcome::Taken(_) => true,
@@ -51,7 +51,7 @@ fn is_done(found: &Found) -> bool {
 }
 
 /// What a call does to a file's bytes, and to which; of a CREATE it is known by the handle that it was given.
-pub fn change_of(found: &Found) -> Result<Option<(FileHandle, Change)>, AllocError> {
+pub fn change_of(found: &FoundCall) -> Result<Option<(FileHandle, Change)>, AllocError> {
     if !is_done(found) {
         return Ok(None);
     }

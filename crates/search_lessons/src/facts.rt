@@ -3,7 +3,7 @@
 use nfs3_types::{
     Answer, CreateMode, DirectoryName, FileHandle, NfsCall, NfsReply, Outcome, StableHow,
 };
-use search_problem::{Found, Move, Nature, Problem, find};
+use search_problem::{FoundCall, Move, Nature, Problem, find};
 use std::alloc::{AllocError, Global};
 
 /// A call as a pass places it: with its reply, or as done in full.
@@ -20,7 +20,7 @@ pub fn found_of(
     alloc: Global,
     problem: &Problem<'_, '_>,
     number: u64,
-) -> Result<Option<Found>, AllocError> {
+) -> Result<Option<FoundCall>, AllocError> {
     find(alloc, problem.known(), move_of(problem, number))
 }
 
@@ -41,7 +41,7 @@ pub fn precedes(problem: &Problem<'_, '_>, one: u64, other: u64) -> bool {
 }
 
 /// Whether a crash can't take a call's place, whatever follows it: a success that changes the tree and isn't an unstable WRITE.
-pub fn is_stable(found: &Found, nature: Nature) -> bool {
+pub fn is_stable(found: &FoundCall, nature: Nature) -> bool {
     if nature != Nature::Changing {
         return false;
     }
@@ -106,7 +106,7 @@ pub fn handles_of(call: &NfsCall) -> (Option<&FileHandle>, Option<&FileHandle>) 
 }
 
 /// Whether a call was answered by a failure.
-pub fn is_failed(found: &Found) -> bool {
+pub fn is_failed(found: &FoundCall) -> bool {
     match &found.outcome {
         Outcome::Received(reply) => reply.failure().is_some(),
         Outcome::Taken(_) => false,
@@ -114,7 +114,7 @@ pub fn is_failed(found: &Found) -> bool {
 }
 
 /// The handle that a reply gives of what its call made or looked up.
-pub fn given_by(found: &Found) -> Option<&FileHandle> {
+pub fn given_by(found: &FoundCall) -> Option<&FileHandle> {
     match &found.outcome {
         Outcome::Received(
             NfsReply::Create(Answer::Done(success))

@@ -6,7 +6,7 @@ use nfs3_types::{
     Answer, CreateSuccess, DirectoryName, FileHandle, NfsCall, NfsReply, Outcome,
     ReadDirPlusSuccess,
 };
-use search_problem::{Found, Problem};
+use search_problem::{FoundCall, Problem};
 use std::alloc::{AllocError, Global};
 
 /// For each handle the names under which replies show it, whatever the directory.
@@ -79,7 +79,7 @@ impl NamesGiven {
     }
 
     /// Notes the handles that a call's reply gives.
-    fn note(&mut self, found: &Found) -> Result<(), AllocError> {
+    fn note(&mut self, found: &FoundCall) -> Result<(), AllocError> {
         let Outcome::Received(reply) = &found.outcome else {
             return Ok(());
         };

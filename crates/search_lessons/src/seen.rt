@@ -1,7 +1,7 @@
 //! What a reply shows of a file.
 
 use nfs3_types::{Answer, FileHandle, FileType, NfsCall, NfsReply, Outcome};
-use search_problem::Found;
+use search_problem::FoundCall;
 
 /// What a reply shows of a file's size.
 #[derive(Clone, Copy)]
@@ -25,7 +25,7 @@ pub struct Seen<'f> {
 
 impl<'f> Seen<'f> {
     /// Of a call that reads a file's bytes or size.
-    pub fn of(found: &'f Found) -> Option<Seen<'f>> {
+    pub fn of(found: &'f FoundCall) -> Option<Seen<'f>> {
         match (&found.call, &found.outcome) {
             (NfsCall::Read(read), Outcome::Received(NfsReply::Read(Answer::Done(success)))) => {
                 let bytes = success.bytes.as_slice();

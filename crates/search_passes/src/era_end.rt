@@ -3,7 +3,7 @@
 use crate::pass::Pass;
 use nfs3_types::{CommitArguments, NfsCall, WriteArguments};
 use search_lessons::{Kept, found_of, is_failed, is_stable};
-use search_problem::{Found, Move, Nature};
+use search_problem::{FoundCall, Move, Nature};
 use std::alloc::AllocError;
 
 /// An unstable WRITE of the era.
@@ -97,7 +97,7 @@ impl<'p, 's, 'a> Pass<'p, 's, 'a> {
         kept: &mut Vec<Kept>,
         unstable: &mut Vec<Unstable>,
         number: u64,
-        found: &Found,
+        found: &FoundCall,
     ) -> Result<(), AllocError> {
         if is_stable(found, self.problem.nature(number)) {
             kept.push(self.kept_call(number, false))?;

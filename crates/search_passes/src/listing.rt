@@ -3,7 +3,7 @@
 use crate::pass::Pass;
 use nfs3_types::{Answer, DirectoryName, FileHandle, NfsCall, NfsReply, Outcome};
 use search_lessons::{found_of, made_by};
-use search_problem::Found;
+use search_problem::FoundCall;
 use std::alloc::AllocError;
 
 /// The directory whose entries a call shows.
@@ -60,7 +60,7 @@ impl<'p, 's, 'a> Pass<'p, 's, 'a> {
     /// Whether an entry is as a reply shows it, once it is put or taken away; nothing of one that is in no directory that it shows.
     fn is_as_shown(
         &self,
-        found: &Found,
+        found: &FoundCall,
         place: Option<&DirectoryName>,
         is_put: bool,
     ) -> Option<bool> {
@@ -73,7 +73,7 @@ impl<'p, 's, 'a> Pass<'p, 's, 'a> {
     }
 
     /// Whether a call that is placed brings a directory nearer to what another one shows of it.
-    fn is_nearer(&self, found: &Found, helper: &Found) -> bool {
+    fn is_nearer(&self, found: &FoundCall, helper: &FoundCall) -> bool {
         let taken = self.is_as_shown(found, taken_by(&helper.call), false);
         let put = self.is_as_shown(found, put_by(&helper.call), true);
         taken != Some(false) && put != Some(false) && (taken.is_some() || put.is_some())
@@ -82,7 +82,7 @@ impl<'p, 's, 'a> Pass<'p, 's, 'a> {
     /// How many calls more may go ahead of a call that don't bring a directory nearer to what it shows, where one was placed ahead of it.
     pub(crate) fn blind_left(
         &self,
-        found: &Found,
+        found: &FoundCall,
         helper: u64,
         blind: u32,
     ) -> Result<u32, AllocError> {

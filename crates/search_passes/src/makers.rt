@@ -3,7 +3,7 @@
 use crate::pass::Pass;
 use nfs3_types::FileHandle;
 use search_lessons::{Lesson, found_of, given_by, handles_of, is_failed, made_by, shows_file};
-use search_problem::Found;
+use search_problem::FoundCall;
 use std::alloc::AllocError;
 
 /// What speaks for an unanswered call as the maker of what a handle names.
@@ -38,7 +38,7 @@ impl<'p, 's, 'a> Pass<'p, 's, 'a> {
     }
 
     /// The handles that a call needs and that name nothing.
-    fn unbound(&self, found: &Found) -> Result<Vec<FileHandle>, AllocError> {
+    fn unbound(&self, found: &FoundCall) -> Result<Vec<FileHandle>, AllocError> {
         let mut unbound = Vec::new(self.alloc);
         if !is_failed(found) {
             let (one, other) = handles_of(&found.call);
@@ -72,7 +72,7 @@ impl<'p, 's, 'a> Pass<'p, 's, 'a> {
         maker: u64,
         handle: &FileHandle,
         number: u64,
-        found: &Found,
+        found: &FoundCall,
     ) -> Result<bool, AllocError> {
         if !self.place_maker(maker, handle)? {
             return Ok(false);
@@ -90,7 +90,7 @@ impl<'p, 's, 'a> Pass<'p, 's, 'a> {
         maker: u64,
         handle: &FileHandle,
         number: u64,
-        found: &Found,
+        found: &FoundCall,
     ) -> Result<bool, AllocError> {
         let was_known = self.lessons.handle_of(maker).is_some();
         self.lessons.give_handle(maker, handle)?;
@@ -111,7 +111,7 @@ impl<'p, 's, 'a> Pass<'p, 's, 'a> {
         makers: &[u64],
         handle: &FileHandle,
         number: u64,
-        found: &Found,
+        found: &FoundCall,
     ) -> Result<Option<u64>, AllocError> {
         for maker in makers.iter().take(MOST_MAKERS) {
             if !self.lessons.may_make(*maker, handle) {
@@ -142,7 +142,7 @@ impl<'p, 's, 'a> Pass<'p, 's, 'a> {
     pub(crate) fn place_with_maker(
         &mut self,
         number: u64,
-        found: &Found,
+        found: &FoundCall,
     ) -> Result<bool, AllocError> {
         let unbound = self.unbound(found)?;
         for handle in unbound.iter() {
@@ -207,7 +207,11 @@ impl<'p, 's, 'a> Pass<'p, 's, 'a> {
     }
 
     /// Finds a maker for a handle of a call that names nothing, and says whether it did.
-    pub(crate) fn find_maker(&mut self, number: u64, found: &Found) -> Result<bool, AllocError> {
+    pub(crate) fn find_maker(
+        &mut self,
+        number: u64,
+        found: &FoundCall,
+    ) -> Result<bool, AllocError> {
         let unbound = self.unbound(found)?;
         for handle in unbound.iter() {
             let makers = self.makers_of(handle)?;
@@ -235,7 +239,7 @@ impl<'p, 's, 'a> Pass<'p, 's, 'a> {
 
     /// The object of the handle that a call's reply gives, if that handle could name what stands at the call's name, or what the call
     /// makes.
-    fn given_amiss(&self, found: &Found, entry: Option<u64>) -> Option<u64> {
+    fn given_amiss(&self, found: &FoundCall, entry: Option<u64>) -> Option<u64> {
         let given = self.object_of(given_by(found))?;
         let fits = match entry {
             Some(entry) => self.state.may_name(entry),
@@ -246,7 +250,11 @@ impl<'p, 's, 'a> Pass<'p, 's, 'a> {
 
     /// Takes back that an unanswered call made what a call's handles name, or what stands at its names, and guesses another one. It says
     /// whether that was guessed.
-    pub(crate) fn refute_makers(&mut self, number: u64, found: &Found) -> Result<bool, AllocError> {
+    pub(crate) fn refute_makers(
+        &mut self,
+        number: u64,
+        found: &FoundCall,
+    ) -> Result<bool, AllocError> {
         let (one, other) = handles_of(&found.call);
         let (from, to) = self.objects_named(found);
         let one = self.object_of(one);

@@ -3,7 +3,7 @@
 use crate::pass::Pass;
 use nfs3_types::DirectoryName;
 use search_lessons::{Lesson, Mending, Seen, Step, overlap, places_of};
-use search_problem::Found;
+use search_problem::FoundCall;
 use std::alloc::AllocError;
 use tree_handles::{View, named};
 
@@ -27,7 +27,7 @@ impl<'p, 's, 'a> Pass<'p, 's, 'a> {
     }
 
     /// The objects of the entries that a call names.
-    pub(crate) fn objects_named(&self, found: &Found) -> (Option<u64>, Option<u64>) {
+    pub(crate) fn objects_named(&self, found: &FoundCall) -> (Option<u64>, Option<u64>) {
         let (from, to) = places_of(&found.call);
         (self.entry_object(from), self.entry_object(to))
     }
@@ -100,7 +100,7 @@ impl<'p, 's, 'a> Pass<'p, 's, 'a> {
     }
 
     /// Learns which unanswered calls a call's handles and names need, and which changes of its names go first.
-    fn explain_names(&mut self, number: u64, found: &Found) -> Result<(), AllocError> {
+    fn explain_names(&mut self, number: u64, found: &FoundCall) -> Result<(), AllocError> {
         let (from, to) = places_of(&found.call);
         if self.find_maker(number, found)? {
             return Ok(());
@@ -122,7 +122,11 @@ impl<'p, 's, 'a> Pass<'p, 's, 'a> {
     }
 
     /// What a call's reply says of a file, where it shows one.
-    fn lessons_of_file(&self, number: u64, found: &Found) -> Result<Option<Vec<Step>>, AllocError> {
+    fn lessons_of_file(
+        &self,
+        number: u64,
+        found: &FoundCall,
+    ) -> Result<Option<Vec<Step>>, AllocError> {
         let Some(seen) = Seen::of(found) else {
             return Ok(None);
         };
@@ -143,7 +147,7 @@ impl<'p, 's, 'a> Pass<'p, 's, 'a> {
     }
 
     /// Learns what a call's reply says that can't be placed now.
-    pub(crate) fn explain(&mut self, number: u64, found: &Found) -> Result<(), AllocError> {
+    pub(crate) fn explain(&mut self, number: u64, found: &FoundCall) -> Result<(), AllocError> {
         let Some(steps) = self.lessons_of_file(number, found)? else {
             return self.explain_names(number, found);
         };

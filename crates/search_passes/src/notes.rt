@@ -3,7 +3,7 @@
 use search_lessons::{
     CallsByName, Files, Marks, NO_PLACE, Writer, change_of, found_of, is_stable, made_by, places_of,
 };
-use search_problem::{Found, Nature, Problem};
+use search_problem::{FoundCall, Nature, Problem};
 use std::alloc::{AllocError, Global};
 use std::collections::BTreeMap;
 
@@ -93,7 +93,7 @@ impl Notes {
     }
 
     /// Notes the names in a call that is placed.
-    fn place_names(&mut self, placed: Placed, found: &Found) -> Result<(), AllocError> {
+    fn place_names(&mut self, placed: Placed, found: &FoundCall) -> Result<(), AllocError> {
         let (from, to) = places_of(&found.call);
         if let Some(place) = from {
             self.changes
@@ -107,7 +107,7 @@ impl Notes {
     }
 
     /// Notes that an unanswered call may have made something, if it can.
-    fn put_maker(&mut self, number: u64, found: &Found) -> Result<(), AllocError> {
+    fn put_maker(&mut self, number: u64, found: &FoundCall) -> Result<(), AllocError> {
         if let Some(place) = made_by(&found.call) {
             let name = Vec::from_slice(self.alloc, place.name.as_slice())?;
             self.makers.insert(number, name)?;
@@ -116,7 +116,7 @@ impl Notes {
     }
 
     /// Notes a call that is placed.
-    pub(crate) fn place(&mut self, placed: Placed, found: &Found) -> Result<(), AllocError> {
+    pub(crate) fn place(&mut self, placed: Placed, found: &FoundCall) -> Result<(), AllocError> {
         self.place_names(placed, found)?;
         if placed.nature == Nature::Unanswered {
             self.put_maker(placed.number, found)?;
@@ -136,7 +136,7 @@ impl Notes {
     }
 
     /// Notes the names in an unanswered call that isn't kept, and that it may have made something.
-    fn leave_out_names(&mut self, number: u64, found: &Found) -> Result<(), AllocError> {
+    fn leave_out_names(&mut self, number: u64, found: &FoundCall) -> Result<(), AllocError> {
         self.put_maker(number, found)?;
         let (from, to) = places_of(&found.call);
         if let Some(place) = from {
@@ -153,7 +153,7 @@ impl Notes {
         &mut self,
         number: u64,
         era: usize,
-        found: &Found,
+        found: &FoundCall,
     ) -> Result<(), AllocError> {
         if let Some((handle, change)) = change_of(found)? {
             let writer = Writer {

@@ -4,7 +4,7 @@ use crate::notes::{Notes, Placed};
 use crate::watch::PassWatch;
 use search_branches::State;
 use search_lessons::{Lessons, NamesGiven, found_of, is_stable, move_of};
-use search_problem::{Found, Move, Nature, Problem};
+use search_problem::{FoundCall, Move, Nature, Problem};
 use std::alloc::{AllocError, Global};
 
 /// How many calls passes may fail to place, beside one in eight of all.
@@ -70,7 +70,7 @@ impl<'p, 's, 'a> Pass<'p, 's, 'a> {
     }
 
     /// What a call was that is placed last, if it may change the tree.
-    fn found_changing(&self, number: u64) -> Result<Option<Found>, AllocError> {
+    fn found_changing(&self, number: u64) -> Result<Option<FoundCall>, AllocError> {
         if self.problem.nature(number) == Nature::Looking {
             return Ok(None);
         }

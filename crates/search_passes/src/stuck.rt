@@ -2,7 +2,7 @@
 
 use crate::pass::Pass;
 use search_lessons::found_of;
-use search_problem::{Found, Nature};
+use search_problem::{FoundCall, Nature};
 use std::alloc::AllocError;
 
 /// How many calls may go ahead of a call in a row.
@@ -34,7 +34,7 @@ impl<'p, 's, 'a> Pass<'p, 's, 'a> {
     pub(crate) fn help(
         &mut self,
         number: u64,
-        found: &Found,
+        found: &FoundCall,
         blind: u32,
         most: u32,
     ) -> Result<bool, AllocError> {
@@ -71,7 +71,7 @@ impl<'p, 's, 'a> Pass<'p, 's, 'a> {
     }
 
     /// Places a call that isn't legal now, by what stands beside it, and says whether it could be placed; else nothing changes.
-    fn place_beside(&mut self, number: u64, found: &Found) -> Result<bool, AllocError> {
+    fn place_beside(&mut self, number: u64, found: &FoundCall) -> Result<bool, AllocError> {
         if self.place_helped(number, 1)? {
             return Ok(true);
         }

@@ -6,16 +6,16 @@ use nfs3_types::{NfsCall, Outcome};
 use std::alloc::{AllocError, Global};
 
 /// A call that is placed, and how it came out.
-pub struct Found {
+pub struct FoundCall {
     /// The call.
     pub call: NfsCall,
     /// The reply that it got, or that it is taken as done.
     pub outcome: Outcome,
 }
 
-impl Drop for Found {
+impl Drop for FoundCall {
     fn drop(self) {
-        let Found { call, outcome } = self;
+        let FoundCall { call, outcome } = self;
         drop(call);
         drop(outcome);
     }
@@ -30,14 +30,14 @@ pub fn full_count(call: &NfsCall) -> Option<u32> {
 }
 
 /// A call with the outcome that it has where it is placed.
-fn with_outcome(call: NfsCall, received: Option<Outcome>, is_taken: bool) -> Option<Found> {
+fn with_outcome(call: NfsCall, received: Option<Outcome>, is_taken: bool) -> Option<FoundCall> {
     if is_taken {
         drop(received);
         let outcome = Outcome::Taken(full_count(&call));
-        return Some(Found { call, outcome });
+        return Some(FoundCall { call, outcome });
     }
     match received {
-        Some(outcome) => Some(Found { call, outcome }),
+        Some(outcome) => Some(FoundCall { call, outcome }),
         None => {
             drop(call);
             None
@@ -50,7 +50,7 @@ pub fn find(
     alloc: Global,
     known: &KnownCalls<'_>,
     chosen: Move,
-) -> Result<Option<Found>, AllocError> {
+) -> Result<Option<FoundCall>, AllocError> {
     let (number, is_taken) = match chosen {
         Move::Answer(number) => (number, false),
         Move::Take(number) => (number, true),

@@ -6,7 +6,7 @@ mod moves;
 mod problem;
 mod survey;
 
-pub use found::{Found, find, full_count};
+pub use found::{FoundCall, find, full_count};
 pub use moves::Move;
 pub use problem::Problem;
 pub use survey::{EraSpan, Nature};

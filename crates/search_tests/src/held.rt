@@ -1,7 +1,7 @@
 //! A worker that is held at its first branch until another worker has taken one.
 
 use crate::samples::READ_BESIDE_WRITE;
-use cert_search::{Host, SearchEnd, SearchGate, search_calls};
+use cert_search::{SearchEnd, SearchGate, SearchRuntime, search_calls};
 use nfs_history::read_calls;
 use std::alloc::Global;
 use std::sync::atomic::{AtomicU64, Ordering};
@@ -58,7 +58,7 @@ impl<'r, R: Clock> SearchGate for HoldFirst<'r, R> {
 }
 
 /// Whether a certificate is found while the first worker is held, and another one took a branch meanwhile.
-fn is_found_by_two<R: Host>(rt: &R, alloc: Global) -> Result<bool, Fail> {
+fn is_found_by_two<R: SearchRuntime>(rt: &R, alloc: Global) -> Result<bool, Fail> {
     let bytes = hex::decode(alloc, READ_BESIDE_WRITE)?;
     let known = read_calls(alloc, bytes.as_slice())?;
     let gate = HoldFirst::new(rt);

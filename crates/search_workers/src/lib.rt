@@ -11,4 +11,4 @@ mod ways;
 mod worker;
 
 pub use gate::{OpenSearch, Progress, SearchGate};
-pub use running::{Host, Lack, pass_over_calls, run_workers};
+pub use running::{Lack, SearchRuntime, pass_over_calls, run_workers};

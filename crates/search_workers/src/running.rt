@@ -29,9 +29,9 @@ const MOST_BITS: u32 = 22;
 const FIRST_ROOM: usize = 256;
 
 /// What a search needs of the runtime.
-pub trait Host: Threads + Wait + Clock + AllocGlobal + Sync {}
+pub trait SearchRuntime: Threads + Wait + Clock + AllocGlobal + Sync {}
 
-impl<R> Host for R
+impl<R> SearchRuntime for R
 where
     R: Threads + Wait + Clock + AllocGlobal + Sync,
 {}
@@ -131,7 +131,7 @@ fn bits_for(states: u64) -> u32
 /// Has so many workers search by branches, each of which takes so many at most, and gives the plan that they found, which nobody has
 /// judged yet, and what they lacked else. A worker works in a thread of its own, or on the caller's where none can be made. Without a
 /// worker nothing is tried.
-pub fn run_workers<R: Host, G: SearchGate + Sync>(
+pub fn run_workers<R: SearchRuntime, G: SearchGate + Sync>(
     rt: &R,
     known: &KnownCalls<'_>,
     workers: u32,
@@ -160,7 +160,7 @@ pub fn run_workers<R: Host, G: SearchGate + Sync>(
 }
 
 /// The plan that at most so many passes over the history come to. Nobody has judged it yet.
-pub fn pass_over_calls<R: Host, G: SearchGate>(
+pub fn pass_over_calls<R: SearchRuntime, G: SearchGate>(
     rt: &R,
     known: &KnownCalls<'_>,
     turns: u64,

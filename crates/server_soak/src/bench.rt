@@ -196,7 +196,7 @@ fn run_threads<R: Wait + Threads + Clock + Sync>(
 }
 
 // A call and its reply as they stand in a history, with the reply's message, which a server makes ahead of its book's lock.
-struct Recorded {
+struct RecordedExchange {
     message: Vec<u8>,
     reply: NfsReply,
     spelled: SpelledReply,
@@ -205,9 +205,9 @@ struct Recorded {
     ghost same: { spelled.reply ≡ reply },
 }
 
-impl Drop for Recorded {
+impl Drop for RecordedExchange {
     fn drop(self) {
-        let Recorded {
+        let RecordedExchange {
             message,
             reply,
             spelled,
@@ -220,7 +220,7 @@ impl Drop for Recorded {
 }
 
 // A call and its reply, from their messages.
-fn read_exchange(alloc: Global, message: &[u8], reply: &[u8]) -> Result<Recorded> {
+fn read_exchange(alloc: Global, message: &[u8], reply: &[u8]) -> Result<RecordedExchange> {
     let Some(procedure) = procedure_of(message) else {
         bail!("a call was of no procedure");
     };
@@ -229,7 +229,7 @@ fn read_exchange(alloc: Global, message: &[u8], reply: &[u8]) -> Result<Recorded
         bail!("a call failed");
     };
     let reply = read_result(alloc, procedure.number(), results)?;
-    Ok(Recorded {
+    Ok(RecordedExchange {
         message: Vec::from_slice(alloc, message)?,
         spelled: SpelledReply::new(alloc, head.xid, &reply)?,
         reply,
@@ -239,11 +239,11 @@ fn read_exchange(alloc: Global, message: &[u8], reply: &[u8]) -> Result<Recorded
     })
 }
 
-impl Recorded {
+impl RecordedExchange {
     fn into_parts(self) -> (Vec<u8>, NfsReply, SpelledReply, bool)
         ensures { result.2.reply ≡ result.1 }
     {
-        let Recorded {
+        let RecordedExchange {
             message,
             reply,
             spelled,
@@ -254,7 +254,7 @@ impl Recorded {
 }
 
 // The calls of a history in which each call is answered before the next one comes.
-fn recorded_calls(alloc: Global, events: &[Event]) -> Result<Vec<Recorded>> {
+fn recorded_calls(alloc: Global, events: &[Event]) -> Result<Vec<RecordedExchange>> {
     let mut calls = Vec::new(alloc);
     for pair in events.chunks(2) {
         let [
@@ -270,7 +270,7 @@ fn recorded_calls(alloc: Global, events: &[Event]) -> Result<Vec<Recorded>> {
 }
 
 // The steps of a book for one call, as a server takes them under its book's lock; but the call's message is read here, too.
-fn keep_book(alloc: Global, desk: &mut Desk<SimDevice>, call: Recorded) -> Result<()> {
+fn keep_book(alloc: Global, desk: &mut Desk<SimDevice>, call: RecordedExchange) -> Result<()> {
     let (message, reply, spelled, is_safe) = call.into_parts();
     let token = desk.book.begin(1, message.as_slice())?;
     if is_safe {

@@ -13,7 +13,7 @@ use std::time::{Clock, Instant};
 
 /// What was found.
 #[derive(Drop)]
-struct Found {
+struct Findings {
     figures: Figures,
     wrong: Option<&'static str>,
 }
@@ -27,7 +27,7 @@ fn is_over<R: Clock>(rt: &R, start: &Instant, span: Span, servers: u64) -> Resul
 }
 
 // Makes servers for so long, or until one goes wrong.
-fn run<R: Wait + Clock + Threads + Sync>(rt: &R, alloc: Global, span: Span) -> Result<Found> {
+fn run<R: Wait + Clock + Threads + Sync>(rt: &R, alloc: Global, span: Span) -> Result<Findings> {
     let start = Instant::now(rt)?;
     let mut figures = Figures::none();
     for seed in 0..u64::MAX {
@@ -37,14 +37,14 @@ fn run<R: Wait + Clock + Threads + Sync>(rt: &R, alloc: Global, span: Span) -> R
         match live(rt, alloc, seed)? {
             Life::Fine(more) => figures = figures.with(more),
             Life::Wrong(what) => {
-                return Ok(Found {
+                return Ok(Findings {
                     figures,
                     wrong: Some(what),
                 });
             }
         }
     }
-    Ok(Found {
+    Ok(Findings {
         figures,
         wrong: None,
     })

@@ -10,7 +10,7 @@ use Rattle.witness_check.specs.Witness.{IsWitness}
 use Rattle.history_report.specs.Counted.{report_of}
 use Rattle.history_report.specs.Lost.{lost}
 use Rattle.serving_commands.specs.declared.recorded.Counts.{Counts}
-use Rattle.serving_commands.specs.declared.recorded.Recorded.{Recorded}
+use Rattle.serving_commands.specs.declared.recorded.RunTexts.{RunTexts}
 
 -- what a history and a certificate come to in numbers
 pub record AreCountsOf (known : KnownCalls) (plan : Certificate) (counts : Counts) : Type 0 where
@@ -20,12 +20,12 @@ pub record AreCountsOf (known : KnownCalls) (plan : Certificate) (counts : Count
   pub lost : counts.lost ≡ lost known.calls plan.eras
 
 -- the texts of a history and of a certificate that is a witness of it
-pub record IsRecordingOf (known : KnownCalls) (plan : Certificate) (recorded : Recorded) : Type 0 where
+pub record IsRecordingOf (known : KnownCalls) (plan : Certificate) (recorded : RunTexts) : Type 0 where
   pub file : IsCallsFile recorded.history.items known
   pub text : CertificateText recorded.certificate.items plan
   pub witness : IsWitness known plan
   pub counts : AreCountsOf known plan recorded.counts
 
 -- the texts of some history and of a witness of it
-abbrev pub IsRecording : Recorded → Type 0
+abbrev pub IsRecording : RunTexts → Type 0
 IsRecording recorded = (known : KnownCalls) × (plan : Certificate) × IsRecordingOf known plan recorded

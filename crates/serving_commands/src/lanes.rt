@@ -4,8 +4,8 @@ use crate::fault::RunFault;
 use crate::outputs::Outputs;
 use crate::words::ServeRequest;
 use journal_server::{OpenGate, Pass, Server, SimDevice};
-use nfs_relay::Host;
-use recording_command::Recorder;
+use nfs_relay::RelayRuntime;
+use recording_command::RecordingRuntime;
 use server_connection::{Export, StreamEnd, serve_export};
 use std::net::{Shutdown, TcpListener, TcpStream};
 use std::sync::Mutex;
@@ -38,7 +38,7 @@ type Lane = JoinHandle<Result<Pass, RunFault>>;
 
 impl Serving<'_> {
     /// The next connection that comes.
-    fn take<R: Host>(self, rt: &R) -> TcpStream {
+    fn take<R: RelayRuntime>(self, rt: &R) -> TcpStream {
         for _ in rt.forever() {
             match self.listener.accept() {
                 Ok((stream, _)) => return stream,
@@ -50,7 +50,7 @@ impl Serving<'_> {
     }
 
     /// Serves a connection to its end, and closes it.
-    fn serve<R: Host>(self, rt: &R, stream: TcpStream) -> Result<Pass, RunFault> {
+    fn serve<R: RelayRuntime>(self, rt: &R, stream: TcpStream) -> Result<Pass, RunFault> {
         let mut pass = self.server.join_lane(rt)?;
         let _ = stream.set_nodelay(true);
         let (mut reader, mut writer) = (&stream, &stream);
@@ -71,7 +71,7 @@ impl Serving<'_> {
     }
 
     /// Serves the next connection that comes, once connections may be taken.
-    fn serve_next<R: Host>(self, rt: &R) -> Result<Pass, RunFault> {
+    fn serve_next<R: RelayRuntime>(self, rt: &R) -> Result<Pass, RunFault> {
         let is_open = *self.is_open.lock(rt);
         if !is_open {
             return Err(RunFault::NoThread);
@@ -82,14 +82,14 @@ impl Serving<'_> {
 }
 
 /// Says how a connection ended, unless all that came was read.
-fn tell_end<R: Host>(rt: &R, lane: u32, end: StreamEnd) {
+fn tell_end<R: RelayRuntime>(rt: &R, lane: u32, end: StreamEnd) {
     if end != StreamEnd::End {
         let _ = eprintln!(rt; "lane {lane} ended: {end}");
     }
 }
 
 /// Begins the thread of a connection.
-fn begin_lane<'s, E, R: Host>(
+fn begin_lane<'s, E, R: RelayRuntime>(
     scope: &Scope<'s, E>,
     rt: &'s R,
     serving: Serving<'s>,
@@ -98,7 +98,7 @@ fn begin_lane<'s, E, R: Host>(
 }
 
 /// Begins the threads of so many connections.
-fn begin_lanes<'s, E, R: Host>(
+fn begin_lanes<'s, E, R: RelayRuntime>(
     scope: &Scope<'s, E>,
     rt: &'s R,
     serving: Serving<'s>,
@@ -115,7 +115,7 @@ fn begin_lanes<'s, E, R: Host>(
 }
 
 /// What the clients of connections know, once all have ended.
-fn join_lanes<R: Host>(rt: &R, lanes: Vec<Lane>) -> Result<Vec<Pass>, RunFault> {
+fn join_lanes<R: RelayRuntime>(rt: &R, lanes: Vec<Lane>) -> Result<Vec<Pass>, RunFault> {
     let mut passes = Vec::new(rt.alloc());
     for lane in lanes {
         passes.push(lane.join(rt)?)?;
@@ -124,7 +124,7 @@ fn join_lanes<R: Host>(rt: &R, lanes: Vec<Lane>) -> Result<Vec<Pass>, RunFault> 
 }
 
 /// Serves as many connections as are asked for, each on a thread of its own, once there is a thread for each and the files are made.
-pub(crate) fn serve_lanes<R: Recorder>(
+pub(crate) fn serve_lanes<R: RecordingRuntime>(
     rt: &R,
     serving: Serving<'_>,
     request: &ServeRequest<'_>,

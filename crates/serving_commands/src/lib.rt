@@ -12,7 +12,7 @@ mod words;
 
 pub use beginning::Beginning;
 pub use fault::{RunFault, fault_report};
-pub use recorded::{Counts, Recorded};
+pub use recorded::{Counts, RunTexts};
 pub use running::{run, run_text};
 pub use serving::serve;
 pub use words::{RunRequest, ServeRequest, run_command, run_request, serve_command, serve_request};

@@ -1,7 +1,7 @@
 //! The two files that a run writes.
 
 use crate::fault::RunFault;
-use crate::recorded::Recorded;
+use crate::recorded::RunTexts;
 use program_streams::write_pieces;
 use std::fs::{self, File};
 use std::rt::Files;
@@ -36,7 +36,7 @@ impl Outputs {
     }
 
     /// Writes the texts of what was recorded.
-    pub(crate) fn write(&mut self, recorded: &Recorded) -> Result<(), RunFault> {
+    pub(crate) fn write(&mut self, recorded: &RunTexts) -> Result<(), RunFault> {
         let history = write_pieces(&mut self.history, recorded.history.as_slice());
         let certificate = write_pieces(&mut self.certificate, recorded.certificate.as_slice());
         if history.is_ok() && certificate.is_ok() {

@@ -29,7 +29,7 @@ pub struct Counts {
 }
 
 /// The texts of a run's history and certificate, and what they come to in numbers.
-pub struct Recorded {
+pub struct RunTexts {
     /// The history's file.
     pub history: Vec<u8>,
     /// The certificate's text.
@@ -38,9 +38,9 @@ pub struct Recorded {
     pub counts: Counts,
 }
 
-impl Drop for Recorded {
+impl Drop for RunTexts {
     fn drop(self) {
-        let Recorded {
+        let RunTexts {
             history,
             certificate,
             counts: _,
@@ -88,11 +88,11 @@ fn recorded_of(
     alloc: Global,
     history: &History,
     certificate: &Certificate,
-) -> Result<Recorded, RunFault>
+) -> Result<RunTexts, RunFault>
     requires { IsWitness history.now.known certificate.now × IsCertificate certificate.now }
     ensures { IfOk result (IsRecordingOf history.now.known certificate.now) }
 {
-    Ok(Recorded {
+    Ok(RunTexts {
         history: file_of(alloc, history)?,
         certificate: write_certificate(alloc, certificate)?,
         counts: counts_of(history, certificate),
@@ -100,7 +100,7 @@ fn recorded_of(
 }
 
 /// The texts of what a server recorded.
-pub(crate) fn record_closed(alloc: Global, closed: Closed) -> Result<Recorded, RunFault>
+pub(crate) fn record_closed(alloc: Global, closed: Closed) -> Result<RunTexts, RunFault>
     requires { IsWitness closed.history.known closed.certificate × IsCertificate closed.certificate }
     ensures { IfOk result (IsRecordingOf closed.history.known closed.certificate) }
 {

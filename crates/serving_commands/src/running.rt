@@ -8,11 +8,11 @@ ghost use Rattle.serving_commands.specs.Told.{IsBadPlan};
 use crate::beginning::Beginning;
 use crate::fault::RunFault;
 use crate::outputs::Outputs;
-use crate::recorded::{Recorded, record_closed};
+use crate::recorded::{RunTexts, record_closed};
 use crate::words::RunRequest;
 use crash_harness::run_plan_from;
 use plan_text::{Plan, read_plan};
-use recording_command::Recorder;
+use recording_command::RecordingRuntime;
 use std::alloc::Global;
 use std::fs::File;
 use std::rt::Files;
@@ -34,7 +34,7 @@ fn record_plan<R: Threads + Wait + Sync + AllocGlobal>(
     rt: &R,
     beginning: Beginning,
     plan: &Plan,
-) -> Result<Recorded, RunFault>
+) -> Result<RunTexts, RunFault>
     ensures { IfOk result IsRecording }
 {
     let (profile, start) = beginning.into_parts();
@@ -48,7 +48,7 @@ pub fn run_text<R: Threads + Wait + Sync + AllocGlobal>(
     rt: &R,
     beginning: Beginning,
     text: &[u8],
-) -> Result<Recorded, RunFault>
+) -> Result<RunTexts, RunFault>
     // The certificate is a witness of the history.
     ensures explained { IfOk result IsRecording }
     // Of a text that is no plan the first bad line is told, memory aside.
@@ -62,18 +62,18 @@ pub fn run_text<R: Threads + Wait + Sync + AllocGlobal>(
 fn save<R: Files<File = File>>(
     rt: &R,
     request: &RunRequest<'_>,
-    recorded: &Recorded,
+    recorded: &RunTexts,
 ) -> Result<(), RunFault> {
     Outputs::create(rt, request.history, request.certificate)?.write(recorded)
 }
 
 /// Runs the plan that a text says, as [`run_text`], and writes both files that are asked for.
-pub fn run<R: Recorder>(
+pub fn run<R: RecordingRuntime>(
     rt: &R,
     request: &RunRequest<'_>,
     beginning: Beginning,
     text: &[u8],
-) -> Result<Recorded, RunFault>
+) -> Result<RunTexts, RunFault>
     ensures explained { IfOk result IsRecording }
     ensures bad_line { (k : ℕ) → IsBadLine text.now k → IsErrAnd result (IsBadPlan k) }
 {

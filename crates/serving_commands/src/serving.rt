@@ -6,10 +6,10 @@ ghost use Rattle.serving_commands.specs.Recording.{IsRecording};
 use crate::beginning::Beginning;
 use crate::fault::RunFault;
 use crate::lanes::{Served, Serving, SimServer, serve_lanes};
-use crate::recorded::{Recorded, record_closed};
+use crate::recorded::{RunTexts, record_closed};
 use crate::words::ServeRequest;
 use journal_server::{OpenGate, Profile, Server, SimDevice};
-use recording_command::Recorder;
+use recording_command::RecordingRuntime;
 use std::alloc::{AllocError, Global};
 use std::net::{IpAddr, Ipv4Addr, SocketAddr, TcpListener};
 use std::sync::Mutex;
@@ -31,7 +31,7 @@ fn server_from(
 }
 
 /// Ends a server, and writes what it recorded.
-fn save(alloc: Global, server: SimServer, served: Served) -> Result<Recorded, RunFault>
+fn save(alloc: Global, server: SimServer, served: Served) -> Result<RunTexts, RunFault>
     ensures { IfOk result IsRecording }
 {
     let Served {
@@ -46,11 +46,11 @@ fn save(alloc: Global, server: SimServer, served: Served) -> Result<Recorded, Ru
 
 /// Serves the connections that the words ask for by a server that begins so, and writes what it recorded: first each connection is taken on a
 /// thread of its own, and when all have ended the server closes. It waits as long as clients let it.
-pub fn serve<R: Recorder>(
+pub fn serve<R: RecordingRuntime>(
     rt: &R,
     request: &ServeRequest<'_>,
     beginning: Beginning,
-) -> Result<Recorded, RunFault>
+) -> Result<RunTexts, RunFault>
     // The certificate is a witness of the history.
     ensures explained { IfOk result IsRecording }
 {

@@ -20,7 +20,7 @@ use again::written_again;
 use anyhow::Result;
 use built::words_of_built;
 use case::{Asked, Case, Kind};
-use cert_search::Host;
+use cert_search::SearchRuntime;
 use judging_commands::judge;
 use lines::tell_lines;
 use parts::words_of_parts;
@@ -69,7 +69,7 @@ fn tell_again<W: Write>(
 }
 
 // Tells what came of a text.
-fn tell_text<R: Host, W: Write>(rt: &R, output: &mut W, case: &Case<'_>) -> Result<()> {
+fn tell_text<R: SearchRuntime, W: Write>(rt: &R, output: &mut W, case: &Case<'_>) -> Result<()> {
     let name = case.name;
     let alloc = rt.alloc();
     let text = hex::decode(alloc, case.digits)?;
@@ -117,7 +117,7 @@ fn tell_bundle<W: Write>(output: &mut W, alloc: Global, name: &str, bundle: &[u8
 }
 
 // Tells of each case.
-fn tell_all<R: Host, W: Write>(rt: &R, output: &mut W, cases: &str) -> Result<()> {
+fn tell_all<R: SearchRuntime, W: Write>(rt: &R, output: &mut W, cases: &str) -> Result<()> {
     let alloc = rt.alloc();
     let mut name = None;
     let mut bundle = Vec::new(alloc);

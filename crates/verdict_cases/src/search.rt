@@ -2,7 +2,7 @@
 
 use crate::case::Effort;
 use anyhow::{Result, bail};
-use cert_search::{Host, OpenSearch, SearchEnd, search_calls};
+use cert_search::{OpenSearch, SearchEnd, SearchRuntime, search_calls};
 use nfs_history::{KnownCalls, read_calls};
 use std::alloc::Global;
 use witness_check::{Verdict, check_calls};
@@ -21,7 +21,7 @@ fn words_of(alloc: Global, known: &KnownCalls<'_>, end: SearchEnd) -> Result<&'s
 }
 
 /// Searches a certificate of a history file, and says how that ended.
-pub fn search<R: Host>(rt: &R, bytes: &[u8], effort: Effort) -> Result<&'static str> {
+pub fn search<R: SearchRuntime>(rt: &R, bytes: &[u8], effort: Effort) -> Result<&'static str> {
     let known = read_calls(rt.alloc(), bytes)?;
     let workers = effort.workers.clamp(1, 64);
     let end = search_calls(rt, &known, workers, effort.turns, &OpenSearch);

@@ -41,7 +41,7 @@ pub(crate) struct BoundHandle {
 
 /// What is known of a branch beside its tree.
 #[derive(Drop)]
-pub(crate) struct Desk {
+pub(crate) struct BranchFacts {
     pub(crate) alloc: Global,
     /// Whether fingerprints are asked of the branch.
     pub(crate) is_hashed: bool,
@@ -62,16 +62,16 @@ pub(crate) struct Desk {
     pub(crate) waiting: BTreeMap<u64, ()>,
 }
 
-impl Desk {
+impl BranchFacts {
     /// Of the branch without a move. The tree has this digest.
     pub(crate) fn new(
         alloc: Global,
         problem: &Problem<'_, '_>,
         is_hashed: bool,
         tree_digest: u64,
-    ) -> Result<Desk, AllocError> {
+    ) -> Result<BranchFacts, AllocError> {
         let calls = problem.known().count().saturating_add(1);
-        let mut desk = Desk {
+        let mut facts = BranchFacts {
             alloc,
             is_hashed,
             has_one_handle: false,
@@ -91,8 +91,8 @@ impl Desk {
             open: BTreeMap::new(alloc),
             waiting: BTreeMap::new(alloc),
         };
-        desk.let_in(problem)?;
-        Ok(desk)
+        facts.let_in(problem)?;
+        Ok(facts)
     }
 
     /// The calls and replies of the era.
