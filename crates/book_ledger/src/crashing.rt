@@ -166,7 +166,7 @@ impl Ledger {
     /// The tree, unless memory ran out while a step of it was taken back: then it is worked out when it is needed again.
     pub fn tree(&self) -> Option<&FileTree>
         requires { IsTied self.now }
-        ensures tree { IfSome result (λ tree. Holds (λ book. tree_of book ≡ Some tree) self.now) }
+        ensures tree { IfSome result (λ tree. Holds (λ book. tree_of book ≡ Some tree.now) self.now) }
         ensures stands { Holds (λ book. book.condition ≡ running → IsSome result) self.now }
     {
         self.tree.as_ref()

@@ -231,7 +231,7 @@ impl<D: JournalDevice> Desk<D> {
 
     /// The book's tree, which there is while the book is running.
     pub fn tree(&self) -> Option<&FileTree>
-        ensures tree { IfSome result (λ tree. tree_of self.now.book ≡ Some tree) }
+        ensures tree { IfSome result (λ tree. tree_of self.now.book ≡ Some tree.now) }
         ensures stands { self.now.book.condition ≡ running → IsSome result }
     {
         self.book.tree()

@@ -350,7 +350,7 @@ impl<D: JournalDevice> Book<D> {
 
     /// Its tree, which it has while it is running. It has none if memory ran out while a step was taken back.
     pub fn tree(&self) -> Option<&FileTree>
-        ensures tree { IfSome result (λ tree. tree_of self.now ≡ Some tree) }
+        ensures tree { IfSome result (λ tree. tree_of self.now ≡ Some tree.now) }
         ensures stands { self.now.condition ≡ running → IsSome result }
     {
         self.ledger.tree()
