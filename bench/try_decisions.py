@@ -1,0 +1,242 @@
+#!/usr/bin/env python3
+"""Tries every plan of small random histories, and compares what `nfsbench decide` says: try_decisions.py PROGRAM [COUNT [SEED [CALLS]]].
+
+A history has two to CALLS calls (5 if not said) on a few lanes, often a crash or two, and replies that are drawn, so that about half of the histories have no
+witness. Every plan is tried by force: each binding of the handles to objects, each order, each cut, each call without a reply taken or not, a WRITE with each
+count. The rules of the tree and of cuts are those of `differ`, which share nothing with the program. COUNT is 1,000 and SEED 1 if they are left out. It prints
+how many were a yes, a no and undecided, and each history that the two decide differently; the status is 1 where there is one.
+"""
+import collections
+import itertools
+import pathlib
+import random
+import struct
+import subprocess
+import sys
+import tempfile
+
+from differ import layouts as nfs
+from differ.certificates import Certificate, Era, Place
+from differ.histories import read_history
+from differ.plans import Fault, check_cuts, check_verifiers, is_placeable, next_tree
+from differ.trees import Binds
+
+ROOT = b"\0"
+HANDLES = [b"\x0a", b"\x0b"]
+NAMES = [b"a", b"b"]
+OK, NOENT, EXIST, NOTDIR, NOTEMPTY, STALE = 0, 2, 17, 20, 66, 70
+VERIFIERS = [bytes(7) + b"\1", bytes(7) + b"\2"]
+
+
+def word(number):
+    return struct.pack(">I", number)
+
+
+def hyper(number):
+    return struct.pack(">Q", number)
+
+
+def opaque(data):
+    return word(len(data)) + data + b"\0" * (-len(data) % 4)
+
+
+# ---- messages: no attributes are given, and no size is checked
+
+NO_WCC, NO_ATTRIBUTES = word(0) + word(0), word(0)
+UNSET = word(0) * 6
+
+
+class Draw:
+    """One history. What a reply says is drawn from a tree that some order of the calls has made so far, or freely."""
+
+    def __init__(self, dice, most):
+        self.dice, self.events, self.waiting, self.xid, self.lane = dice, [], [], 0, 1
+        self.left, self.known = dice.randrange(2, most + 1), []
+
+    def place(self):
+        return opaque(ROOT if self.dice.random() < 0.85 or not self.known else self.dice.choice(self.known)) + opaque(self.dice.choice(NAMES))
+
+    def file(self):
+        """Mostly a handle that a reply gave before."""
+        return opaque(self.dice.choice(self.known if self.known and self.dice.random() < 0.97 else HANDLES))
+
+    def given(self):
+        """Mostly a handle that no reply gave before."""
+        fresh = [handle for handle in HANDLES if handle not in self.known]
+        return opaque(self.dice.choice(fresh if fresh and self.dice.random() < 0.7 else HANDLES))
+
+    def success_or(self, share, success, *failures):
+        return success if self.dice.random() < share else self.dice.choice(failures)
+
+    def call(self):
+        """A procedure, its arguments, and a reply's result."""
+        dice = self.dice
+        if not self.known:
+            kind = dice.choice(["create", "create", "create", "create", "mkdir", "remove", "lookup", "rename"])
+        else:
+            kind = dice.choice(["lookup", "create", "create", "mkdir", "remove", "rename", "write", "write", "write", "read", "commit", "getattr", "rmdir"])
+        post_op = word(1) + self.given() if dice.random() < 0.8 else word(0)
+        if kind == "lookup":
+            return 3, self.place(), self.success_or(0.5, word(OK) + self.given() + NO_ATTRIBUTES + NO_ATTRIBUTES, word(NOENT) + NO_ATTRIBUTES)
+        if kind == "create":
+            how = word(dice.choice([0, 1])) + UNSET
+            return 8, self.place() + how, self.success_or(0.75, word(OK) + post_op + NO_ATTRIBUTES + NO_WCC, word(EXIST) + NO_WCC)
+        if kind == "mkdir":
+            return 9, self.place() + UNSET, self.success_or(0.7, word(OK) + post_op + NO_ATTRIBUTES + NO_WCC, word(EXIST) + NO_WCC)
+        if kind in ("remove", "rmdir"):
+            failures = [word(NOENT) + NO_WCC, word(NOTDIR) + NO_WCC] if kind == "rmdir" else [word(NOENT) + NO_WCC]
+            return 12 if kind == "remove" else 13, self.place(), self.success_or(0.6, word(OK) + NO_WCC, *failures)
+        if kind == "rename":
+            return 14, self.place() + self.place(), self.success_or(0.6, word(OK) + NO_WCC + NO_WCC, word(NOENT) + NO_WCC + NO_WCC)
+        if kind == "write":
+            data, level = dice.choice([b"x", b"y", b"xy"]), dice.choice([0, 0, 0, 2])
+            count = len(data) if dice.random() < 0.8 else 1
+            arguments = self.file() + hyper(dice.choice([0, 0, 1])) + word(len(data)) + word(level) + opaque(data)
+            return 7, arguments, self.success_or(0.85, word(OK) + NO_WCC + word(count) + word(level) + dice.choice(VERIFIERS[:1] * 3 + VERIFIERS), word(STALE) + NO_WCC)
+        if kind == "read":
+            data = dice.choice([b"", b"x", b"y", b"xy", b"yx"])
+            is_end = dice.random() < 0.8
+            return 6, self.file() + hyper(0) + word(4), self.success_or(0.8, word(OK) + NO_ATTRIBUTES + word(len(data)) + word(is_end) + opaque(data), word(STALE) + NO_ATTRIBUTES)
+        if kind == "commit":
+            return 21, self.file() + hyper(0) + word(0), self.success_or(0.9, word(OK) + NO_WCC + dice.choice(VERIFIERS[:1] * 3 + VERIFIERS), word(STALE) + NO_WCC)
+        return 1, self.file(), self.success_or(0.3, word(OK) + self.attributes(), word(STALE))
+
+    def attributes(self):
+        kind = self.dice.choice([1, 2])
+        return word(kind) + word(0o644) + word(1) + word(0) * 2 + hyper(self.dice.choice([0, 1, 2])) + hyper(0) + word(0) * 2 + hyper(0) * 2 + word(0) * 6
+
+    def begin(self):
+        self.left -= 1
+        self.xid += 1
+        procedure, arguments, result = self.call()
+        header = word(self.xid) + word(0) + word(2) + word(100003) + word(3) + word(procedure) + word(0) * 4
+        self.events.append(word(0) + word(self.lane) + opaque(header + arguments))
+        self.waiting.append((self.lane, self.xid, result))
+
+    def answer(self):
+        lane, xid, result = self.waiting.pop(self.dice.randrange(len(self.waiting)))
+        self.known += [handle for handle in HANDLES if handle not in self.known and opaque(handle) in result]
+        self.events.append(word(1) + word(lane) + opaque(word(xid) + word(1) + word(0) + word(0) + word(0) + word(0) + result))
+
+    def make(self):
+        crashes = self.dice.choice([0, 0, 1, 1, 2])
+        while self.left or self.waiting:
+            if self.events and crashes and self.dice.random() < 0.2:
+                crashes -= 1
+                self.events.append(word(3))
+                self.waiting, self.lane = [], self.lane + 1
+            elif self.left and (not self.waiting or self.dice.random() < 0.55):
+                self.begin()
+            elif self.waiting and not self.left and self.dice.random() < 0.1:
+                self.waiting.pop()
+            elif self.waiting:
+                self.answer()
+        return b"NFSHIST1" + opaque(ROOT) + word(len(self.events)) + b"".join(self.events)
+
+
+# ---- every plan
+
+def ways_to_place(number, call):
+    """The places that a call may have: none, as it was answered, or as it is taken with a count."""
+    if not call.is_judged:
+        return [None]
+    if call.result is not None:
+        return [Place(number, False)]
+    if call.end is not None or not call.is_modifying:
+        return [None]
+    counts = range(len(call.arguments["data"]) + 1) if call.procedure == nfs.WRITE else [None]
+    return [None] + [Place(number, True, count) for count in counts]
+
+
+def keeps_order(history, places, number):
+    """Whether a call may stand behind these: it hadn't ended before one of them began."""
+    end = history.calls[number - 1].end
+    return end is None or all(history.calls[one.number - 1].begin < end for one in places)
+
+
+def orders(history, binds, tree, chosen, places, trees):
+    """Each order of the chosen places that runs from the tree, with the trees behind each place."""
+    if not chosen:
+        yield list(places), list(trees)
+        return
+    for at, place in enumerate(chosen):
+        if keeps_order(history, places, place.number):
+            after = next_tree(binds, trees[-1], history, place)
+            if after is not None:
+                yield from orders(history, binds, tree, chosen[:at] + chosen[at + 1:], places + [place], trees + [after])
+
+
+def plans(history, binds, tree, era, parts):
+    """Each plan of the eras from this one on that runs from the tree."""
+    if era > history.eras:
+        yield parts
+        return
+    numbers = [number for number, call in enumerate(history.calls, 1) if call.era == era]
+    for chosen in itertools.product(*(ways_to_place(number, history.calls[number - 1]) for number in numbers)):
+        placed = [place for place in chosen if place is not None]
+        for places, trees in orders(history, binds, tree, placed, [], [tree]):
+            for cut in [None] if era == history.eras else range(len(places) + 1):
+                part = Era()
+                part.places, part.cut = places, cut
+                yield from plans(history, binds, trees[-1] if cut is None else trees[cut], era + 1, parts + [part])
+
+
+def is_witness(history, pairs, parts):
+    text = Certificate()
+    text.binds, text.eras = pairs, parts
+    try:
+        check_cuts(history, text)
+        check_verifiers(history, text)
+    except Fault:
+        return False
+    return all(is_placeable(history.calls[place.number - 1], place) for part in parts for place in part.places)
+
+
+def has_witness(history):
+    objects = [None] + list(range(len(history.calls) + 1))
+    for named in itertools.product(objects, repeat=len(HANDLES)):
+        pairs = [(handle, number) for handle, number in zip(HANDLES, named) if number is not None]
+        binds = Binds(history.head.root, pairs)
+        if any(is_witness(history, pairs, parts) for parts in plans(history, binds, history.head.opening, 1, [])):
+            return True
+    return False
+
+
+def told_by(program, file):
+    ran = subprocess.run([*program.split(), file], stdout=subprocess.PIPE, stderr=subprocess.DEVNULL, timeout=120)
+    return ran.stdout.decode().strip()
+
+
+def kind_of(line):
+    for kind in ("undecided", "no", "yes"):
+        if kind in line.split():
+            return kind
+    return line
+
+
+def main():
+    program, count, seed, most = sys.argv[1], *(int(it) for it in (sys.argv[2:] + ["1000", "1", "5"][len(sys.argv) - 2:])[:3])
+    tally, whys, differ = collections.Counter(), collections.Counter(), 0
+    with tempfile.TemporaryDirectory() as folder:
+        file = pathlib.Path(folder) / "small.history"
+        for number in range(count):
+            data = Draw(random.Random(f"{seed}/{number}"), most).make()
+            wanted = "yes" if has_witness(read_history(data)) else "no"
+            file.write_bytes(data)
+            line = told_by(program, file)
+            got = kind_of(line)
+            tally[wanted, got] += 1
+            if got == "undecided":
+                whys[" ".join(line.split()[-1:]).split("(")[0]] += 1
+            elif got != wanted:
+                differ += 1
+                print(f"{number}: every plan says {wanted}, the program {line.split('history')[-1].strip()}")
+    for (wanted, got), many in sorted(tally.items()):
+        print(f"{wanted} by every plan, {got} by the program: {many}")
+    for why, many in whys.most_common():
+        print(f"undecided {why}: {many}")
+    return 1 if differ else 0
+
+
+if __name__ == "__main__":
+    sys.exit(main())

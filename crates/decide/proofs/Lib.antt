@@ -1,0 +1,3 @@
+mod SpanLaws
+mod Lasting
+mod Walking

@@ -1,0 +1,3 @@
+pub mod Decision
+pub mod Spanning
+pub mod Marking

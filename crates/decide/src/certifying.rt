@@ -1,0 +1,76 @@
+//! A certificate out of the way of a state. It is judged by who makes it, and nothing rests on it.
+
+use certificate::{Bind, BindList, Certificate, EraPlan, EraPlanList, Place, PlaceList};
+use decision_steps::BoundHandle;
+use decision_walk::{Deed, WayState};
+use nfs3_types::FileHandle;
+use std::alloc::{AllocError, Global};
+use std::collections::BTreeMap;
+
+/// A handle's bind.
+fn bind_of(alloc: Global, handle: &FileHandle, object: u64) -> Result<Bind, AllocError> {
+    let handle = FileHandle::from_slice(alloc, handle.as_slice())?;
+    Ok(Bind { handle, object })
+}
+
+/// The binds in the order of their handles.
+fn binds_of(alloc: Global, bound: &[BoundHandle]) -> Result<BindList, AllocError> {
+    let mut places = BTreeMap::new(alloc);
+    for (place, one) in bound.iter().enumerate() {
+        let key = Vec::from_slice(alloc, one.handle.as_slice())?;
+        places.insert(key, place)?;
+    }
+    let mut binds = Vec::new(alloc);
+    for (_key, place) in places.iter() {
+        if let Some(one) = bound.get(*place) {
+            binds.push(bind_of(alloc, &one.handle, one.object)?)?;
+        }
+    }
+    Ok(BindList::new(binds))
+}
+
+/// The plan of an era, in which so many places are kept.
+fn era_of(places: Vec<Place>, cut: Option<u64>) -> EraPlan {
+    EraPlan {
+        places: PlaceList::new(places),
+        cut,
+    }
+}
+
+/// The plans of the eras, the last of which has no cut.
+fn eras_of(alloc: Global, deeds: &[Deed], count: u64) -> Result<EraPlanList, AllocError> {
+    let mut eras = Vec::new(alloc);
+    let mut places = Vec::new(alloc);
+    let mut kept = None;
+    let mut left = count;
+    for deed in deeds {
+        match deed {
+            Deed::Placed(place) => places.push(*place)?,
+            Deed::Cut => kept = Some(places.len() as u64),
+            Deed::Ended => {
+                left = left.saturating_sub(1);
+                let all = places.len() as u64;
+                let cut = if left == 0 {
+                    None
+                } else {
+                    Some(kept.unwrap_or(all))
+                };
+                eras.push(era_of(places, cut))?;
+                places = Vec::new(alloc);
+                kept = None;
+            }
+        }
+    }
+    Ok(EraPlanList::new(eras))
+}
+
+/// The certificate of a way over so many eras.
+pub(crate) fn certificate_of(
+    alloc: Global,
+    state: &WayState,
+    eras: u64,
+) -> Result<Certificate, AllocError> {
+    let binds = binds_of(alloc, state.bound())?;
+    let eras = eras_of(alloc, state.deeds(), eras)?;
+    Ok(Certificate { binds, eras })
+}

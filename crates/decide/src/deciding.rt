@@ -1,0 +1,177 @@
+//! The decision.
+
+ghost use Rattle.std.specs.Prelude.{◌≡◌, ℕ, List, IfOk, IfSome};
+ghost use Rattle.certificate.specs.declared.plan.Certificate.{Certificate};
+ghost use Rattle.witness_check.specs.Witness.{IsWitness};
+ghost use Rattle.nfs_history.specs.declared.knowing.KnownCalls.{KnownCalls};
+ghost use Rattle.decide.specs.Decision.{Says, Walks, TellsOf};
+ghost use Rattle.decide.specs.Marking.{AreLasting};
+
+use crate::certifying::certificate_of;
+use crate::decision::{Decision, Refusal, Undecided};
+use crate::marking::marks_of;
+use crate::spans::{crash_marks, spans_of};
+use certificate::Certificate;
+use decision_core::{Event, Limits, Stop, Walked, timeline};
+use decision_walk::{HistoryMachine, WayState, Why};
+use nfs_history::History;
+use std::alloc::{AllocError, Global};
+use witness_check::{Verdict, check};
+
+/// Why a walk says nothing.
+fn decision_of(stop: Stop<Why>) -> Decision
+    ensures { (known : KnownCalls) → Says known result }
+{
+    match stop {
+        Stop::TooManyStates => Decision::Undecided(Undecided::TooManyStates),
+        Stop::TooManySteps => Decision::Undecided(Undecided::TooManySteps),
+        Stop::NotCovered(why) => Decision::Undecided(Undecided::NotCovered(why)),
+        Stop::NoMemory => Decision::NoMemory,
+    }
+}
+
+/// The events of the calls and crashes, where each has its place.
+fn events_of(alloc: Global, history: &History) -> Result<Option<Vec<Event>>, AllocError>
+    ensures { IfOk result (λ found. IfSome found (λ events. TellsOf history.now events.items)) }
+{
+    let marks = crash_marks(alloc, history.events())?;
+    if marks.len() as u64 != history.eras() {
+        return Ok(None);
+    }
+    let spans = spans_of(alloc, history, marks.as_slice())?;
+    timeline(alloc, spans.as_slice(), history.events().len() + 1)
+}
+
+/// The certificate of a state, if it is a witness.
+fn accepted(
+    alloc: Global,
+    history: &History,
+    state: &WayState,
+) -> Result<Option<Certificate>, AllocError>
+    ensures { IfOk result (λ found. IfSome found (IsWitness history.now.known)) }
+{
+    let certificate = certificate_of(alloc, state, history.eras())?;
+    match check(alloc, history, &certificate)? {
+        Verdict::Yes => Ok(Some(certificate)),
+        Verdict::No(_fault) => Ok(None),
+    }
+}
+
+/// The first witness that a state gives.
+fn first_accepted(
+    alloc: Global,
+    history: &History,
+    states: &[WayState],
+) -> Result<Option<Certificate>, AllocError>
+    ensures { IfOk result (λ found. IfSome found (IsWitness history.now.known)) }
+{
+    for state in states {
+        if let Some(certificate) = accepted(alloc, history, state)? {
+            return Ok(Some(certificate));
+        }
+    }
+    Ok(None)
+}
+
+/// The calls that are open when an event comes.
+fn open_calls(alloc: Global, history: &History, event: u64) -> Result<Vec<u64>, AllocError> {
+    let mut open = Vec::new(alloc);
+    let mut number: u64 = 0;
+    for recorded in history.recorded_calls() {
+        number = number.saturating_add(1);
+        let is_answered = match recorded.end {
+            Some(end) => end < event,
+            None => false,
+        };
+        if recorded.begin < event && !is_answered {
+            open.push(number)?;
+        }
+    }
+    Ok(open)
+}
+
+/// The place where a walk ended.
+fn refusal_of(
+    alloc: Global,
+    history: &History,
+    index: usize,
+    call: u64,
+) -> Result<Refusal, AllocError> {
+    let event = (index as u64).saturating_add(1);
+    Ok(Refusal {
+        event,
+        call,
+        open: open_calls(alloc, history, event)?,
+    })
+}
+
+/// Walks a history, of which these calls are marked and these are the events.
+fn walk(
+    alloc: Global,
+    history: &History,
+    marks: Vec<bool>,
+    events: &[Event],
+    limits: Limits,
+) -> Result<Walked<WayState>, Stop<Why>>
+    requires marks { AreLasting history.now.known marks.items }
+    requires tells { TellsOf history.now events.now }
+    ensures { IfOk result (Walks history.now.known) }
+{
+    let machine = HistoryMachine::new(alloc, history, marks);
+    decision_core::decide(alloc, &machine, events, limits)
+}
+
+/// What a walk decides.
+fn told(alloc: Global, history: &History, walked: Walked<WayState>) -> Result<Decision, AllocError>
+    requires { Walks history.now.known walked }
+    ensures { IfOk result (Says history.now.known) }
+{
+    match walked {
+        Walked::NoWitness { event, call } => {
+            Ok(Decision::No(refusal_of(alloc, history, event, call)?))
+        }
+        Walked::Left(states) => match first_accepted(alloc, history, states.as_slice())? {
+            Some(certificate) => Ok(Decision::Yes(certificate)),
+            None => Ok(Decision::Undecided(Undecided::NotAccepted)),
+        },
+    }
+}
+
+/// What is decided, with memory.
+fn decided(alloc: Global, history: &History, limits: Limits) -> Result<Decision, AllocError>
+    ensures { IfOk result (Says history.now.known) }
+{
+    let Some(events) = events_of(alloc, history)? else {
+        return Ok(Decision::Undecided(Undecided::NoEvents));
+    };
+    let marks = marks_of(alloc, history)?;
+    match walk(alloc, history, marks, events.as_slice(), limits) {
+        Ok(walked) => told(alloc, history, walked),
+        Err(stop) => Ok(decision_of(stop)),
+    }
+}
+
+/// Whether a history has any witness. A yes has one; where the answer is no, no certificate is one.
+pub fn decide(alloc: Global, history: &History, limits: Limits) -> Decision
+    ensures { Says history.now.known result }
+{
+    match decided(alloc, history, limits) {
+        Ok(decision) => decision,
+        Err(AllocError) => Decision::NoMemory,
+    }
+}
+
+#[cfg(test)]
+mod tests {
+    use super::*;
+    use std::rt::HostRuntime;
+
+    #[test]
+    fn nothing_is_open(rt: HostRuntime) {
+        assert!(rt; accepted_none(rt.alloc()));
+    }
+
+    fn accepted_none(_alloc: Global) -> bool {
+        true
+    }
+}

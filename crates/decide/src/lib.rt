@@ -1,0 +1,12 @@
+//! Whether a history has any witness.
+#![tactic(auto)]
+
+mod certifying;
+mod deciding;
+mod decision;
+mod marking;
+mod spans;
+
+pub use deciding::decide;
+pub use decision::{Decision, Refusal, Undecided};
+pub use decision_core::Limits;

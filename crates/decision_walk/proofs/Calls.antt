@@ -1,0 +1,73 @@
+-- a call that is placed, however it came out
+use Rattle.std.proofs.Common.{◌≡◌, ◌⊎◌, inl, inr, ℕ, ◌+◌, ◌-◌, ◌<◌, ◌≤◌, Bool, true, false, IsTrue, List, [], ◌∷◌, length, Option, Some, None, refl, sym, ap, ◌∙◌, subst, arith}
+use Rattle.std.specs.Prelude.{◌==◌, ◌||◌, cond}
+use Rattle.std.specs.Option.{option_map_or}
+use Rattle.std.specs.List.{list_any}
+use Rattle.std.proofs.lemmas.Bool.{true≢false, eq-eqb, or_right}
+use Rattle.nfs3_types.specs.declared.calls.NfsCall.{NfsCall}
+use Rattle.nfs3_types.specs.declared.calls.NfsCall.TheVariants as calls
+use Rattle.nfs3_types.specs.declared.replies.Outcome.{Outcome}
+use Rattle.nfs_history.specs.declared.history.Meaning.TheVariants as meanings
+use Rattle.nfs_history.specs.declared.history.RecordedCall.{RecordedCall}
+use Rattle.nfs_history.specs.declared.knowing.KnownCalls.{KnownCalls}
+use Rattle.nfs_history.specs.Precedence.{call_at}
+use Rattle.certificate.specs.declared.plan.Certificate.{Certificate}
+use Rattle.order_check.specs.Places.{may_take}
+use Rattle.decision_core.specs.Eras.{is_placed, EraNext}
+use Rattle.decision_law.specs.Laws.{binds_of}
+use Rattle.decision_law.specs.Machine.{Point, Changes, Next}
+use Rattle.decision_law.specs.Times.{era_of_number}
+use Rattle.decision_law.proofs.Placed.{is_call_number}
+use Rattle.decision_core.specs.Times.{IsAmong}
+use Rattle.decision_walk.specs.declared.way_state.WayState.{WayState}
+use Rattle.decision_walk.specs.Way.{may_change}
+use Rattle.decision_walk.specs.Standing.{is_marked, has_call, hints_of, numbers_of, IsAt}
+use Rattle.decision_walk.specs.Placings.{Comes, HasPlaced, HasAllOf, HasStepOf, IsMissing, MayNotLose}
+
+some_is : {X : Type 0} (a b : X) → Some a ≡ Some b → a ≡ b
+some_is a b e = cc
+
+module _ (known : KnownCalls) where
+  -- the era of a call
+  pub era_is : (n : ℕ) (recorded : RecordedCall) → call_at known.calls n ≡ Some recorded → era_of_number known n ≡ recorded.era
+  era_is n recorded stands =
+      ap (λ b. cond b (option_map_or (λ (r : RecordedCall). r.era) (call_at known.calls n) 0) (n - length known.calls)) (is_call_number known n recorded stands)
+      ∙ ap (λ o. option_map_or (λ (r : RecordedCall). r.era) o 0) stands
+
+  module _ (marks : List Bool) where
+    -- a call that has no place leads to nothing
+    pub all_of_steps : (states : List WayState) (state : WayState) (n : ℕ) (recorded : RecordedCall) → 0 < state.era → n ≤ length known.calls → call_at known.calls n ≡ Some recorded
+        → HasAllOf known marks states state n recorded → HasStepOf known marks states n state
+    all_of_steps states state n recorded late inside stands has plan gone point after at kept unplaced (inl real) =
+        let changes = real.2.1 in
+        let same : changes.recorded ≡ recorded = some_is changes.recorded recorded (sym changes.stands ∙ stands) in
+        let here : HasAllOf known marks states state n changes.recorded = subst (HasAllOf known marks states state n) (sym same) has in
+        here changes.call changes.outcome changes.judged changes.came_out plan gone point after at kept (record { era = real.1; tree = real.2.0; goes = changes.leads; cut = real.2.2 })
+    all_of_steps states state n recorded late inside stands has plan gone point after at kept unplaced (inr crash) = absurd (omega (arith, crash.0, at.era, late, inside))
+
+    -- of a number that is no call's, or of a call that is of another era, nothing comes
+    pub no_call_steps : (states : List WayState) (state : WayState) (n : ℕ) → 0 < state.era → n ≤ length known.calls → call_at known.calls n ≡ None → HasStepOf known marks states n state
+    no_call_steps states state n late inside none plan gone point after at kept unplaced (inl real) = absurd (differ real.2.1.recorded (sym none ∙ real.2.1.stands)) where
+      differ : (recorded : RecordedCall) → None ≡ Some recorded → ⊥
+      differ recorded e = cc
+    no_call_steps states state n late inside none plan gone point after at kept unplaced (inr crash) = absurd (omega (arith, crash.0, at.era, late, inside))
+
+    pub other_era_steps : (states : List WayState) (state : WayState) (n : ℕ) (recorded : RecordedCall) → 0 < state.era → n ≤ length known.calls → call_at known.calls n ≡ Some recorded
+        → (recorded.era ≡ state.era → ⊥) → HasStepOf known marks states n state
+    other_era_steps states state n recorded late inside stands other plan gone point after at kept unplaced (inl real) = absurd (other (sym (era_is n recorded stands) ∙ real.1 ∙ sym at.era))
+    other_era_steps states state n recorded late inside stands other plan gone point after at kept unplaced (inr crash) = absurd (omega (arith, crash.0, at.era, late, inside))
+
+    -- ---- calls that can't be lost
+
+    among_any : (calls : List ℕ) (m : ℕ) → IsAmong calls m → list_any (λ k. k == m) calls ≡ true
+    among_any [] m among = absurd among
+    among_any (k ∷ calls) m (inl same) = ap (λ b. b || list_any (λ j. j == m) calls) (eq-eqb k m same)
+    among_any (k ∷ calls) m (inr among) = or_right (k == m) (list_any (λ j. j == m) calls) (among_any calls m among)
+
+    pub marked_stays : (state : WayState) (n : ℕ) → is_marked marks n ≡ true → MayNotLose known marks state n
+    marked_stays state n marked plan gone point at lost = lost.0 marked
+
+    pub missing_stays : (state : WayState) (n : ℕ) → IsMissing known marks state → MayNotLose known marks state n
+    missing_stays state n missing plan gone point at lost =
+        true≢false (sym (among_any point.calls missing.number (lost.1 missing.number missing.marked (missing.era ∙ at.era)))
+        ∙ sym (at.placed missing.number (inr missing.marked)) ∙ missing.unplaced)

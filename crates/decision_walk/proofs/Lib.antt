@@ -1,0 +1,12 @@
+mod Later
+mod Attempted
+mod MachineLaws
+mod Followed
+mod SameCalls
+mod Looks
+mod PlacedLaws
+mod Crashes
+mod Calls
+mod Sameness
+mod Taking
+mod StepLaws

@@ -1,0 +1,71 @@
+-- where a walk begins, and what a state forgets
+use Rattle.std.proofs.Common.{◌≡◌, ◌≢◌, ◌⊎◌, inl, inr, ℕ, Bool, true, false, cond, List, [], ◌∷◌, Option, Some, None, refl, sym, ap, ◌∙◌, subst, eq-eqb}
+use Rattle.std.specs.Prelude.{◌==◌, ◌||◌, not, filter}
+use Rattle.std.specs.List.{list_any}
+use Rattle.std.proofs.lemmas.Bool.{eqb-true, ne_eqb, or_parts, eqb-false, true≢false}
+use Rattle.nfs_history.specs.declared.knowing.KnownCalls.{KnownCalls}
+use Rattle.certificate.specs.declared.plan.Certificate.{Certificate}
+use Rattle.certificate.specs.declared.plan.Place.{Place}
+use Rattle.witness_check.specs.Run.{base_of}
+use Rattle.tree_handles.specs.Binding.{Bindings}
+use Rattle.decision_core.specs.Eras.{is_placed}
+use Rattle.decision_core.specs.States.{also}
+use Rattle.decision_steps.specs.Known.{AgreesWith}
+use Rattle.decision_steps.specs.Listed.{bound_pairs}
+use Rattle.decision_steps.proofs.Placed.{bound_agree}
+use Rattle.decision_law.specs.Laws.{binds_of}
+use Rattle.decision_law.specs.Machine.{Point, first_point}
+use Rattle.decision_walk.specs.declared.way_state.WayState.{WayState}
+use Rattle.decision_walk.specs.Way.{bound_in, WayLeads}
+use Rattle.decision_walk.specs.Standing.{is_marked, has_call, HasBase, binds_in, IsAt}
+
+module _ (known : KnownCalls) (marks : List Bool) where
+  pub opens : (state : WayState) → state.bound.items ≡ [] → state.way.items ≡ [] → state.cut ≡ None → state.era ≡ 1 → state.placed.items ≡ [] → (plan : Certificate)
+      → IsAt known marks plan (λ _. false) (first_point known) state
+  opens state bound way cut era placed plan = record {
+    binds = bound_agree (binds_in known state) (binds_of known plan) [] refl refl (ap bound_pairs bound);
+    era = era;
+    tree = λ inside. subst (λ w. WayLeads known (binds_in known state) (base_of known) w (base_of known)) (sym way) refl;
+    base = λ inside. subst (λ c. HasBase known (binds_in known state) state.way.items c None) (sym cut) refl;
+    placed = λ n kept. ap (λ l. has_call l n) placed;
+  }
+
+  -- a call that is looked for stays, where another one is left out
+  has_other : (calls : List ℕ) (n m : ℕ) → m ≢ n → has_call (filter (λ k. not (k == n)) calls) m ≡ has_call calls m
+  has_other [] n m other = refl
+  has_other (k ∷ calls) n m other = go (k == n) refl (has_other calls n m other) where
+    go : (b : Bool) → (k == n) ≡ b → has_call (filter (λ j. not (j == n)) calls) m ≡ has_call calls m
+        → has_call (cond (not b) (k ∷ filter (λ j. not (j == n)) calls) (filter (λ j. not (j == n)) calls)) m ≡ ((k == m) || has_call calls m)
+    go true same rest = rest ∙ ap (λ b. b || has_call calls m) (sym (ne_eqb k m (λ it. other (sym it ∙ eqb-true k n same))))
+    go false apart rest = ap (λ b. (k == m) || b) rest
+
+  pub forgets : (plan : Certificate) (gone : ℕ → Bool) (point : Point known) (state after : WayState) (n : ℕ) → is_marked marks n ≡ false → after.bound.items ≡ state.bound.items
+      → after.way.items ≡ state.way.items → after.cut ≡ state.cut → after.era ≡ state.era → after.placed.items ≡ filter (λ m. not (m == n)) state.placed.items
+      → IsAt known marks plan gone point state → IsAt known marks plan (also gone n) point after
+  forgets plan gone point state after n unmarked bound way cut era placed at =
+      let binds : binds_in known state ≡ binds_in known after = ap (λ l. bound_in known (bound_pairs l)) (sym bound) in
+      record {
+        binds = subst (λ b. AgreesWith b (binds_of known plan)) binds at.binds;
+        era = era ∙ at.era;
+        tree = λ inside. subst (λ b. WayLeads known b (base_of known) after.way.items point.tree) binds (subst (λ w. WayLeads known (binds_in known state) (base_of known) w point.tree) (sym way) (at.tree inside));
+        base = λ inside. subst (λ c. HasBase known (binds_in known after) after.way.items c point.base) (sym cut)
+            (subst (λ b. HasBase known b after.way.items state.cut point.base) binds (subst (λ w. HasBase known (binds_in known state) w state.cut point.base) (sym way) (at.base inside)));
+        placed = λ m kept. ap (λ l. has_call l m) placed ∙ of_kept m kept;
+      } where
+        apart : (m : ℕ) → (also gone n m ≡ false) ⊎ (is_marked marks m ≡ true) → m ≢ n
+        apart m (inl kept) same = true≢false (sym (eq-eqb m n same) ∙ (or_parts (gone m) (m == n) kept).1)
+        apart m (inr marked) same = true≢false (sym marked ∙ ap (is_marked marks) same ∙ unmarked)
+
+        was : (m : ℕ) → (also gone n m ≡ false) ⊎ (is_marked marks m ≡ true) → (gone m ≡ false) ⊎ (is_marked marks m ≡ true)
+        was m (inl kept) = inl (or_parts (gone m) (m == n) kept).0
+        was m (inr marked) = inr marked
+
+        of_kept : (m : ℕ) → (also gone n m ≡ false) ⊎ (is_marked marks m ≡ true) → has_call (filter (λ k. not (k == n)) state.placed.items) m ≡ is_placed point m
+        of_kept m kept = has_other state.placed.items n m (apart m kept) ∙ at.placed m (was m kept)
+
+  -- a marked call is kept
+  pub forgets_nothing : (plan : Certificate) (gone : ℕ → Bool) (point : Point known) (state : WayState) (n : ℕ) → IsAt known marks plan gone point state → IsAt known marks plan (also gone n) point state
+  forgets_nothing plan gone point state n at = record { binds = at.binds; era = at.era; tree = at.tree; base = at.base; placed = λ m kept. at.placed m (was m kept) } where
+    was : (m : ℕ) → (also gone n m ≡ false) ⊎ (is_marked marks m ≡ true) → (gone m ≡ false) ⊎ (is_marked marks m ≡ true)
+    was m (inl kept) = inl (or_parts (gone m) (m == n) kept).0
+    was m (inr marked) = inr marked

@@ -1,0 +1,51 @@
+-- a state that comes to the same as another one stands for what that one stands for
+use Rattle.std.proofs.Common.{◌≡◌, ◌⊎◌, ℕ, ◌<◌, ◌≤◌, Bool, true, false, List, length, take, Option, Some, None, refl, sym, ap, ◌∙◌, subst}
+use Rattle.nfs_history.specs.declared.knowing.KnownCalls.{KnownCalls}
+use Rattle.certificate.specs.declared.plan.Certificate.{Certificate}
+use Rattle.certificate.specs.declared.plan.Place.{Place}
+use Rattle.tree_nodes.specs.Tree.{Tree}
+use Rattle.tree_handles.specs.Binding.{Bindings}
+use Rattle.witness_check.specs.Run.{base_of}
+use Rattle.decision_core.specs.States.{Replaces}
+use Rattle.decision_steps.specs.declared.state.State.{State}
+use Rattle.decision_steps.specs.Known.{AgreesWith}
+use Rattle.decision_law.specs.Laws.{binds_of}
+use Rattle.decision_law.specs.Machine.{Point}
+use Rattle.decision_walk.specs.declared.way_state.WayState.{WayState}
+use Rattle.decision_walk.specs.Way.{WayLeads}
+use Rattle.decision_walk.specs.Standing.{has_call, HasBase, binds_in, IsAt}
+use Rattle.decision_walk.specs.Placings.{SameWay, SameCut, SameBase}
+use Rattle.decision_walk.proofs.Later.{agrees_on, way_once}
+
+module _ (known : KnownCalls) where
+  same_tree : (state other : WayState) (way other_way : List Place) (tree : Tree) → SameWay known state way other other_way → WayLeads known (binds_in known state) (base_of known) way tree
+      → WayLeads known (binds_in known other) (base_of known) other_way tree
+  same_tree state other way other_way tree same leads =
+      subst (λ t. WayLeads known (binds_in known other) (base_of known) other_way t) (way_once known (binds_in known state) (base_of known) way same.tree tree same.leads leads) same.other_leads
+
+  same_base : (state other : WayState) (cut other_cut : Option ℕ) (base : Option Tree) → SameCut known state other cut other_cut → HasBase known (binds_in known state) state.way.items cut base
+      → HasBase known (binds_in known other) other.way.items other_cut base
+  same_base state other None None base same has = has
+  same_base state other None (Some other_kept) base same has = absurd same
+  same_base state other (Some kept) None base same has = absurd same
+  same_base state other (Some kept) (Some other_kept) base same has =
+      (same.0, (has.1.0, has.1.1, same_tree state other (take kept state.way.items) (take other_kept other.way.items) has.1.0 same.1 has.1.2))
+
+  pub same_stands : (marks : List Bool) (state other : WayState) → state.era ≡ other.era → ((n : ℕ) → has_call state.placed.items n ≡ has_call other.placed.items n) → SameBase known state other
+      → SameWay known state state.way.items other other.way.items → Replaces (IsAt known marks) state other
+  same_stands marks state other era calls base way plan gone point at = record {
+    binds = agrees_on (binds_in known other) (binds_in known state) (binds_of known plan) way.agrees at.binds;
+    era = sym era ∙ at.era;
+    tree = λ inside. same_tree state other state.way.items other.way.items point.tree way (at.tree inside);
+    base = λ inside. same_base state other state.cut other.cut point.base base (at.base inside);
+    placed = λ n kept. sym (calls n) ∙ at.placed n kept;
+  }
+
+  pub same_way_is : (state other : WayState) (way other_way : List Place) (one two : State) → one.binds ≡ binds_in known state → WayLeads known (binds_in known state) (base_of known) way one.tree
+      → WayLeads known (binds_in known other) (base_of known) other_way two.tree → one.tree ≡ two.tree → AgreesWith (binds_in known other) one.binds → SameWay known state way other other_way
+  same_way_is state other way other_way one two binds leads other_leads same agrees = record {
+    agrees = subst (λ b. AgreesWith (binds_in known other) b) binds agrees;
+    tree = one.tree;
+    leads = leads;
+    other_leads = subst (λ t. WayLeads known (binds_in known other) (base_of known) other_way t) (sym same) other_leads;
+  }

@@ -1,0 +1,3 @@
+pub mod Way
+pub mod Standing
+pub mod Placings

@@ -1,0 +1,15 @@
+//! A walk over a history: the machine whose states are ways of its calls from what stood at first.
+#![tactic(auto)]
+
+mod attempt;
+mod children;
+mod follow;
+mod machine;
+mod same;
+mod stepping;
+mod way_state;
+mod why;
+
+pub use machine::HistoryMachine;
+pub use way_state::{Deed, WayState};
+pub use why::Why;

@@ -1,0 +1,112 @@
+//! The machine of a history.
+
+ghost use Rattle.std.specs.Prelude.{◌≡◌, refl};
+ghost use Rattle.certificate.specs.declared.plan.Certificate.{Certificate};
+ghost use Rattle.decision_core.specs.Eras.{EraState, is_placed};
+ghost use Rattle.decision_core.proofs.ErasWalk.{eras_told};
+ghost use Rattle.tree_nodes.specs.Tree.{Tree};
+ghost use Rattle.decision_law.specs.Laws.{binds_of};
+ghost use Rattle.decision_law.specs.Machine.{Changes, Next, first_point};
+ghost use Rattle.decision_walk.specs.Standing.{IsAt, hints_of, numbers_of};
+
+use crate::children::is_marked;
+use crate::way_state::{WayState, has_call};
+use crate::why::Why;
+use decision_core::{Machine, Stop};
+use nfs_history::History;
+use std::alloc::Global;
+
+/// The machine of a history: its plans are certificates, and its states are ways. Calls may be marked that no crash takes away.
+pub struct HistoryMachine<'h> {
+    pub(crate) alloc: Global,
+    /// The history.
+    pub(crate) history: &'h History,
+    /// For each call whether it is told to be lost in no crash.
+    pub(crate) marks: Vec<bool>,
+}
+
+impl<'h> Drop for HistoryMachine<'h> {
+    fn drop(self) {
+        let HistoryMachine {
+            alloc: _,
+            history: _,
+            marks,
+        } = self;
+        drop(marks);
+    }
+}
+
+impl<'h> HistoryMachine<'h> {
+    /// The machine of a history, of which these calls are marked.
+    pub fn new(alloc: Global, history: &'h History, marks: Vec<bool>) -> HistoryMachine<'h>
+        ensures history { result.history.now ≡ history.now }
+        ensures marks { result.marks.items ≡ marks.items }
+    {
+        HistoryMachine {
+            alloc,
+            history,
+            marks,
+        }
+    }
+}
+
+impl<'h> Machine for HistoryMachine<'h> {
+    type State = WayState;
+
+    type Reason = Why;
+
+    ghost Plan = { Certificate };
+
+    ghost Point = { EraState Tree };
+
+    ghost first = { λ machine _. first_point machine.history.now.known };
+
+    ghost placed = { λ _. is_placed };
+
+    ghost Next = { λ machine plan. Next machine.history.now.known (hints_of machine.marks.items) (binds_of machine.history.now.known plan) };
+
+    ghost StandsFor = { λ machine. IsAt machine.history.now.known machine.marks.items };
+
+    fn opening(&self) -> Result<WayState, Stop<Why>> {
+        let alloc = self.alloc;
+        Ok(WayState {
+            bound: Vec::new(alloc),
+            way: Vec::new(alloc),
+            cut: None,
+            era: 1,
+            placed: Vec::new(alloc),
+            deeds: Vec::new(alloc),
+        })
+    }
+
+    fn is_placed(&self, state: &WayState, n: u64) -> bool {
+        has_call(state.placed.as_slice(), n)
+    }
+
+    fn step(&self, state: &WayState, n: u64) -> Result<Vec<WayState>, Stop<Why>> {
+        if n <= self.history.calls() {
+            self.step_call(state, n)
+        } else {
+            self.step_crash(state, n)
+        }
+    }
+
+    fn forget(&self, state: WayState, n: u64) -> WayState {
+        if is_marked(self.marks.as_slice(), n) {
+            return state;
+        }
+        state.without_call(n)
+    }
+
+    fn is_same(&self, state: &WayState, other: &WayState) -> bool {
+        self.same_state(state, other)
+    }
+
+    fn hash(&self, state: &WayState) -> u64 {
+        state.digest()
+    }
+
+    ghost told = { λ machine plan. eras_told (Changes machine.history.now.known (binds_of machine.history.now.known plan)) (numbers_of machine.history.now.known machine.marks.items) };
+
+    ghost fresh = { λ _ _ _. refl };
+}
