@@ -14,6 +14,7 @@ use crate::show_words::{ShowRequest, show_command, show_request};
 use crate::showing::show_bytes;
 use clap::error::ErrorKind;
 use clap::{Arg, Command};
+use deciding_command::{DecideRequest, decide_command, decide_history, decide_request};
 use judging_commands::{SearchRequest, run_bundle, search_command, search_history, search_request};
 use program_streams::{Input, Output, tell, tell_answer, tell_want_of_memory};
 use recording_command::{RecordingRuntime, TapRequest, run_tap, tap_command, tap_request};
@@ -43,6 +44,8 @@ enum Request<'a> {
     Show(ShowRequest<'a>),
     /// A certificate.
     Search(SearchRequest<'a>),
+    /// Whether there is a certificate.
+    Decide(DecideRequest<'a>),
     /// A recording.
     Tap(TapRequest<'a>),
     /// A run of a plan.
@@ -55,6 +58,7 @@ enum Request<'a> {
 #[derive(Clone, Copy)]
 pub(crate) enum Waiting<'a> {
     Search(SearchRequest<'a>),
+    Decide(DecideRequest<'a>),
     Tap(TapRequest<'a>),
     Run(RunRequest<'a>),
     Serve(ServeRequest<'a>),
@@ -106,6 +110,7 @@ fn command<'a>(alloc: Global) -> Result<Command<'a>, AllocError> {
         .subcommand(report_command(alloc)?)?
         .subcommand(show_command(alloc)?)?
         .subcommand(search_command(alloc)?)?
+        .subcommand(decide_command(alloc)?)?
         .subcommand(run_command(alloc)?)?
         .subcommand(serve_command(alloc)?)?
         .subcommand(tap_command(alloc)?)
@@ -124,6 +129,7 @@ fn read_words<'a, S: AsStr>(alloc: Global, words: &'a [S]) -> Result<Request<'a>
         },
         Some(("show", show)) => Ok(Request::Show(show_request(show))),
         Some(("search", search)) => Ok(Request::Search(search_request(search))),
+        Some(("decide", decide)) => Ok(Request::Decide(decide_request(decide))),
         Some(("run", run)) => Ok(Request::Run(run_request(run))),
         Some(("serve", serve)) => Ok(Request::Serve(serve_request(serve))),
         // The parser asks for both words of these two.
@@ -191,6 +197,23 @@ fn search_path<R: RecordingRuntime, O: Output>(
     }
 }
 
+/// Decides whether the history at a path has any certificate, as [`decide_history`].
+fn decide_path<R: RecordingRuntime, O: Output>(
+    rt: &R,
+    request: &DecideRequest<'_>,
+    output: &mut O,
+) -> u8
+    ensures memory_line { result ≡ 3
+        → Appends (O.contents output.old) (O.contents output.new) memory_line }
+    ensures known { result < 4 }
+{
+    match read_history_file(rt, request.history) {
+        Ok(Some(bytes)) => decide_history(rt, request, bytes.as_slice(), output),
+        Ok(None) => tell(output, b"refused: unreadable history\n", 2),
+        Err(AllocError) => tell_want_of_memory(output),
+    }
+}
+
 /// Judges what the words of a command line ask for, as [`run_words`]; where they ask for what may wait, that is handed back, and
 /// nothing is read or written.
 pub(crate) fn judge_words<'a, R: Files + AllocGlobal, S: AsStr, I: Input, O: Output>(
@@ -242,6 +265,7 @@ pub(crate) fn judge_words<'a, R: Files + AllocGlobal, S: AsStr, I: Input, O: Out
         ) => Ok(tell_answer(output, report_paths(rt, history, certificate))),
         Ok(Request::Show(request)) => Ok(show_path(rt, &request, output)),
         Ok(Request::Search(request)) => Err(Waiting::Search(request)),
+        Ok(Request::Decide(request)) => Err(Waiting::Decide(request)),
         Ok(Request::Tap(request)) => Err(Waiting::Tap(request)),
         Ok(Request::Run(request)) => Err(Waiting::Run(request)),
         Ok(Request::Serve(request)) => Err(Waiting::Serve(request)),
@@ -257,9 +281,10 @@ pub(crate) fn judge_words<'a, R: Files + AllocGlobal, S: AsStr, I: Input, O: Out
 /// Without further words it is `run_bundle`. With `check` and two paths both files are read, in this order, before
 /// anything is judged, and what is said is what `judge_read` gives; with `report` and two paths it is what `report_read`
 /// gives; with `show` and a path a line for each event, and the first fault of the history; which words ask for that, which files are opened
-/// and what the parser's texts are no clause says. With `search` and a path it is what `search_history` gives; with `run`, a path and two
-/// paths to write it runs a text, with `serve` it serves connections, and with `tap` it records: these four may wait, the last two for as
-/// long as they are let.
+/// and what the parser's texts are no clause says. With `search` and a path it is what `search_history` gives, with `decide` and a path what
+/// `decide_history` gives; with `run`, a path and two
+/// paths to write it runs a text, with `serve` it serves connections, and with `tap` it records: these five may wait or take long,
+/// the last two for as long as they are let.
 pub fn run_words<R: RecordingRuntime, S: AsStr, I: Input, O: Output>(
     rt: &R,
     words: &[S],
@@ -288,6 +313,7 @@ pub fn run_words<R: RecordingRuntime, S: AsStr, I: Input, O: Output>(
     match judge_words(rt, words, input, output) {
         Ok(status) => status,
         Err(Waiting::Search(request)) => search_path(rt, &request, output),
+        Err(Waiting::Decide(request)) => decide_path(rt, &request, output),
         Err(Waiting::Tap(request)) => run_tap(rt, &request, input, output),
         Err(Waiting::Run(request)) => run_path(rt, &request, output),
         Err(Waiting::Serve(request)) => serve_words(rt, &request, output),

@@ -1,0 +1,45 @@
+-- Believed.
+-- What a decision says of the bytes of a history file, by the definitions of `witness_check`.
+use Rattle.std.specs.Prelude.{ℕ, List}
+use Rattle.nfs_history.specs.declared.knowing.KnownCalls.{KnownCalls}
+use Rattle.nfs_history.specs.FirstFault.{FirstFault}
+use Rattle.nfs_history.specs.History.{IsCallsFile}
+use Rattle.witness_check.specs.Witness.{AreAccepted}
+use Rattle.decide.specs.Decision.{HasNoWitness}
+use Rattle.deciding_command.specs.declared.file_decision.FileDecision.{FileDecision}
+use Rattle.deciding_command.specs.declared.file_decision.FileDecision.TheVariants.{Yes, NoWitness, Undecided, BadHistory}
+
+-- the bytes are the file of a history of which no certificate is a witness
+abbrev pub IsWithoutWitness : List ℕ → Type 0
+IsWithoutWitness bytes = (history : KnownCalls) × IsCallsFile bytes history × HasNoWitness history
+
+-- so no certificate's text is accepted with them
+abbrev pub IsNeverAccepted : List ℕ → Type 0
+IsNeverAccepted bytes = (text : List ℕ) → ¬ AreAccepted bytes text
+
+-- a yes has a certificate's text; where the answer is that there is no witness, none is one; undecided claims nothing
+abbrev pub Decides : List ℕ → FileDecision → Type 0
+Decides bytes (Yes text) = AreAccepted bytes text.items
+Decides bytes (NoWitness event call) = IsWithoutWitness bytes × IsNeverAccepted bytes
+Decides bytes (Undecided reason) = Unit {0}
+Decides bytes (BadHistory fault) = FirstFault bytes fault
+
+-- ---- for the prover
+
+abbrev pub IsRefused : FileDecision → Type 0
+IsRefused (Yes text) = ⊥
+IsRefused (NoWitness event call) = ⊥
+IsRefused (Undecided reason) = ⊥
+IsRefused (BadHistory fault) = Unit {0}
+
+abbrev pub IsYes : FileDecision → Type 0
+IsYes (Yes text) = Unit {0}
+IsYes (NoWitness event call) = ⊥
+IsYes (Undecided reason) = ⊥
+IsYes (BadHistory fault) = ⊥
+
+abbrev pub IsNo : FileDecision → Type 0
+IsNo (Yes text) = ⊥
+IsNo (NoWitness event call) = Unit {0}
+IsNo (Undecided reason) = ⊥
+IsNo (BadHistory fault) = ⊥

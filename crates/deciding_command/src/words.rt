@@ -1,0 +1,74 @@
+//! The words that ask for a decision.
+
+use clap::builder::ValueParser;
+use clap::{Arg, ArgMatches, Command};
+use std::alloc::{AllocError, Global};
+
+/// Which history is decided, and how much that may cost.
+#[derive(Clone, Copy)]
+pub struct DecideRequest<'a> {
+    /// The path of the history.
+    pub history: &'a str,
+    /// The path that the certificate of a yes is written to, if one is wanted.
+    pub certificate: Option<&'a str>,
+    /// How many states may stand at once, from 1 to 1,000,000.
+    pub states: u32,
+    /// After how many seconds it gives up, from 1 to 1,000,000.
+    pub seconds: u32,
+}
+
+/// The most of both bounds.
+const MOST: u64 = 1_000_000;
+
+/// The bounds where the words don't say.
+const STATES: u32 = 10_000;
+
+const SECONDS: u32 = 60;
+
+fn history_path<'a>(alloc: Global) -> Arg<'a> {
+    Arg::new(alloc, "HISTORY")
+        .required(true)
+        .help("What the clients of a server saw")
+}
+
+fn certificate_option<'a>(alloc: Global) -> Arg<'a> {
+    Arg::new(alloc, "certificate")
+        .long("certificate")
+        .value_name("FILE")
+        .help("Writes the certificate of a yes to this file")
+}
+
+fn states_option<'a>(alloc: Global) -> Arg<'a> {
+    Arg::new(alloc, "states")
+        .long("states")
+        .value_parser(ValueParser::unsigned(1, MOST))
+        .help("How many states may stand at once, 10000 if not said")
+}
+
+fn seconds_option<'a>(alloc: Global) -> Arg<'a> {
+    Arg::new(alloc, "seconds")
+        .long("seconds")
+        .value_parser(ValueParser::unsigned(1, MOST))
+        .help("After how many seconds it gives up, 60 if not said")
+}
+
+/// The grammar of the words behind `decide`.
+pub fn decide_command<'a>(alloc: Global) -> Result<Command<'a>, AllocError> {
+    Command::new(alloc, "decide")
+        .about("Decides whether a history has any certificate")
+        .arg(certificate_option(alloc))?
+        .arg(states_option(alloc))?
+        .arg(seconds_option(alloc))?
+        .arg(history_path(alloc))
+}
+
+/// What the words behind `decide` ask for.
+pub fn decide_request<'a>(decide: &ArgMatches<'a>) -> DecideRequest<'a> {
+    DecideRequest {
+        // The parser asks for it.
+        history: decide.get_str("HISTORY").unwrap_or(""),
+        certificate: decide.get_str("certificate"),
+        states: decide.get_one("states").unwrap_or(STATES),
+        seconds: decide.get_one("seconds").unwrap_or(SECONDS),
+    }
+}
