@@ -1,3 +1,5 @@
 mod SpanLaws
 mod Lasting
 mod Walking
+mod TwoVerifiers
+mod Named

@@ -14,9 +14,10 @@ use Rattle.decision_core.specs.Eras.{is_placed, order_of}
 use Rattle.decision_core.specs.Events.{Tells}
 use Rattle.decision_core.specs.declared.spans.Span.{Span}
 use Rattle.decision_core.specs.Spanned.{AreSpansOf}
-use Rattle.decision_core.specs.Walked.{IfNoWitness}
+use Rattle.decision_core.specs.Walked.{IfNoWitness, NamesAnswer}
 use Rattle.history_file.specs.Owning.{all_happened}
 use Rattle.decide.specs.Spanning.{crash_list, all_spans}
+use Rattle.decide.proofs.Named.{named_at}
 use Rattle.decide.proofs.SpanLaws.{spans_are_of_times}
 use Rattle.decision_law.specs.Laws.{binds_of}
 use Rattle.decision_law.specs.Machine.{Next, first_point}
@@ -40,16 +41,17 @@ none_left history marks events lasting tells none plan witness =
     (is_order history.known (hints_of marks) (era_start (recording_of history).events) plan tells.timed (are_right history.known marks lasting) witness)
 
 walks : {State : Type 0} (history : HistoryValue) (marks : List Bool) (events : List Event) → AreLasting history.known marks → TellsOf history events
-    → (walked : Walked State) → IfNoWitness (NoOrders history.known marks events) walked → Walks history.known walked
-walks history marks events lasting tells (NoWitness event call) none = none_left history marks events lasting tells none
-walks history marks events lasting tells (Left states) none = tt
+    → (walked : Walked State) → NamesAnswer events walked → IfNoWitness (NoOrders history.known marks events) walked → Walks history.known walked
+walks history marks events lasting tells (NoWitness event call) named none = (none_left history marks events lasting tells none, named_at history events event call tells named.0 named.1)
+walks history marks events lasting tells (Left states) named none = tt
 
 -- so does a walk's answer, of a machine with the same history and marks
 pub answer_walks : {State E : Type 0} (history machines : HistoryValue) (marks machine_marks : List Bool) (events : List Event) → machines ≡ history → machine_marks ≡ marks → AreLasting history.known marks
-    → TellsOf history events → (r : Result (Walked State) E) → IfOk r (IfNoWitness (NoOrders machines.known machine_marks events)) → IfOk r (Walks history.known)
-answer_walks history machines marks machine_marks events same same_marks lasting tells (Ok walked) none =
-    walks history marks events lasting tells walked (subst (λ m. IfNoWitness (NoOrders history.known m events) walked) same_marks (subst (λ (h : HistoryValue). IfNoWitness (NoOrders h.known machine_marks events) walked) same none))
-answer_walks history machines marks machine_marks events same same_marks lasting tells (Err stop) none = none
+    → TellsOf history events → (r : Result (Walked State) E) → IfOk r (NamesAnswer events) → IfOk r (IfNoWitness (NoOrders machines.known machine_marks events)) → IfOk r (Walks history.known)
+answer_walks history machines marks machine_marks events same same_marks lasting tells (Ok walked) named none =
+    walks history marks events lasting tells walked named
+    (subst (λ m. IfNoWitness (NoOrders history.known m events) walked) same_marks (subst (λ (h : HistoryValue). IfNoWitness (NoOrders h.known machine_marks events) walked) same none))
+answer_walks history machines marks machine_marks events same same_marks lasting tells (Err stop) named none = none
 
 -- events that are made of the spans of a history tell its times
 pub events_tell : {V E : Type 0} (items : V → List Event) (history : HistoryValue) (marks : List ℕ) (spans : List Span) → IsHistory (recording_of history) history

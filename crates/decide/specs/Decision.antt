@@ -1,7 +1,8 @@
 -- What a decision says of a history (buffered durable linearizability, Izraelevitz, Mendes and Scott 2016, section 4, by the definition of
 -- `witness_check`).
-use Rattle.std.specs.Prelude.{ℕ, List}
+use Rattle.std.specs.Prelude.{◌≡◌, ℕ, ◌+◌, ◌≤◌, List, length, Some}
 use Rattle.nfs_history.specs.declared.knowing.KnownCalls.{KnownCalls}
+use Rattle.nfs_history.specs.Precedence.{end_of}
 use Rattle.certificate.specs.declared.plan.Certificate.{Certificate}
 use Rattle.witness_check.specs.Witness.{IsWitness}
 use Rattle.nfs_history.specs.HistoryValue.{HistoryValue}
@@ -18,16 +19,20 @@ use Rattle.decide.specs.declared.decision.Decision.TheVariants.{Yes, No, Undecid
 abbrev pub HasNoWitness : KnownCalls → Type 0
 HasNoWitness known = (plan : Certificate) → ¬ IsWitness known plan
 
+-- the call that is named, where it is one and no crash, was answered at the event that is named
+abbrev pub IsAnsweredAt : KnownCalls → ℕ → ℕ → Type 0
+IsAnsweredAt known call event = call ≤ length known.calls → end_of known.calls call ≡ Some event
+
 -- a yes has a witness, and where the answer is no there is none; the other answers claim nothing
 abbrev pub Says : KnownCalls → Decision → Type 0
 Says known (Yes plan) = IsWitness known plan
-Says known (No refusal) = HasNoWitness known
+Says known (No refusal) = HasNoWitness known × IsAnsweredAt known refusal.call refusal.event
 Says known (Undecided reason) = Unit {0}
 Says known NoMemory = Unit {0}
 
--- where no state is left there is none either
+-- where no state is left there is none either, and the call is named whose answer leaves none
 abbrev pub Walks : {State : Type 0} → KnownCalls → Walked State → Type 0
-Walks known (NoWitness event call) = HasNoWitness known
+Walks known (NoWitness event call) = HasNoWitness known × IsAnsweredAt known call (event + 1)
 Walks known (Left states) = Unit {0}
 
 -- the calls are timed by these starts of the history's eras, and the events tell when its calls and crashes begin and end

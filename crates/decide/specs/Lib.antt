@@ -1,3 +1,4 @@
 pub mod Decision
 pub mod Spanning
 pub mod Marking
+pub mod Verifiers

@@ -1,9 +1,11 @@
 //! The decision.
 
-ghost use Rattle.std.specs.Prelude.{◌≡◌, ℕ, List, IfOk, IfSome};
+ghost use Rattle.std.specs.Prelude.{◌≡◌, ◌+◌, ℕ, List, IfOk, IfSome};
 ghost use Rattle.certificate.specs.declared.plan.Certificate.{Certificate};
 ghost use Rattle.witness_check.specs.Witness.{IsWitness};
 ghost use Rattle.nfs_history.specs.declared.knowing.KnownCalls.{KnownCalls};
+ghost use Rattle.nfs_history.specs.History.{recording_of};
+ghost use Rattle.decision_law.specs.Times.{AreTimed, era_start};
 ghost use Rattle.decide.specs.Decision.{Says, Walks, TellsOf};
 ghost use Rattle.decide.specs.Marking.{AreLasting};
 
@@ -11,6 +13,7 @@ use crate::certifying::certificate_of;
 use crate::decision::{Decision, Refusal, Undecided};
 use crate::marking::marks_of;
 use crate::spans::{crash_marks, spans_of};
+use crate::verifiers::second_verifier;
 use certificate::Certificate;
 use decision_core::{Event, Limits, Stop, Walked, timeline};
 use decision_walk::{HistoryMachine, WayState, Why};
@@ -90,19 +93,20 @@ fn open_calls(alloc: Global, history: &History, event: u64) -> Result<Vec<u64>, 
     Ok(open)
 }
 
-/// The place where a walk ended.
+/// The place where a walk ended, at the event that is so far behind the first.
 fn refusal_of(
     alloc: Global,
     history: &History,
     index: usize,
     call: u64,
-) -> Result<Refusal, AllocError> {
-    let event = (index as u64).saturating_add(1);
-    Ok(Refusal {
-        event,
-        call,
-        open: open_calls(alloc, history, event)?,
-    })
+) -> Result<Refusal, AllocError>
+    ensures { IfOk result (λ refusal. (refusal.event ≡ index + 1) × (refusal.call ≡ call)) }
+{
+    let Some(event) = (index as u64).checked_add(1) else {
+        return Err(AllocError);
+    };
+    let open = open_calls(alloc, history, event)?;
+    Ok(Refusal { event, call, open })
 }
 
 /// Walks a history, of which these calls are marked and these are the events.
@@ -121,9 +125,25 @@ fn walk(
     decision_core::decide(alloc, &machine, events, limits)
 }
 
+/// What is decided where states are left and none gives a witness: no, where an era shows two write verifiers.
+fn told_by_verifiers(alloc: Global, history: &History) -> Result<Decision, AllocError>
+    requires { AreTimed history.now.known (era_start (recording_of history.now).events) }
+    ensures { IfOk result (Says history.now.known) }
+{
+    match second_verifier(history) {
+        Some(shown) => Ok(Decision::No(Refusal {
+            event: shown.at,
+            call: shown.number,
+            open: open_calls(alloc, history, shown.at)?,
+        })),
+        None => Ok(Decision::Undecided(Undecided::NotAccepted)),
+    }
+}
+
 /// What a walk decides.
 fn told(alloc: Global, history: &History, walked: Walked<WayState>) -> Result<Decision, AllocError>
-    requires { Walks history.now.known walked }
+    requires walks { Walks history.now.known walked }
+    requires timed { AreTimed history.now.known (era_start (recording_of history.now).events) }
     ensures { IfOk result (Says history.now.known) }
 {
     match walked {
@@ -132,7 +152,7 @@ fn told(alloc: Global, history: &History, walked: Walked<WayState>) -> Result<De
         }
         Walked::Left(states) => match first_accepted(alloc, history, states.as_slice())? {
             Some(certificate) => Ok(Decision::Yes(certificate)),
-            None => Ok(Decision::Undecided(Undecided::NotAccepted)),
+            None => told_by_verifiers(alloc, history),
         },
     }
 }
@@ -158,20 +178,5 @@ pub fn decide(alloc: Global, history: &History, limits: Limits) -> Decision
     match decided(alloc, history, limits) {
         Ok(decision) => decision,
         Err(AllocError) => Decision::NoMemory,
-    }
-}
-
-#[cfg(test)]
-mod tests {
-    use super::*;
-    use std::rt::HostRuntime;
-
-    #[test]
-    fn nothing_is_open(rt: HostRuntime) {
-        assert!(rt; accepted_none(rt.alloc()));
-    }
-
-    fn accepted_none(_alloc: Global) -> bool {
-        true
     }
 }

@@ -6,6 +6,7 @@ mod deciding;
 mod decision;
 mod marking;
 mod spans;
+mod verifiers;
 
 pub use deciding::decide;
 pub use decision::{Decision, Refusal, Undecided};

@@ -189,14 +189,3 @@ pub(crate) fn same_calls(calls: &[u64], others: &[u64]) -> bool
     }
     are_among(others, calls)
 }
-
-#[cfg(test)]
-mod tests {
-    use super::*;
-    use std::rt::HostRuntime;
-
-    #[test]
-    fn calls_are_found(rt: HostRuntime) {
-        assert!(rt; has_call(&[1, 2], 2));
-    }
-}

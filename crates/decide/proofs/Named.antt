@@ -1,0 +1,52 @@
+-- the call that is named was answered at the event that is named
+use Rattle.std.proofs.Common.{◌≡◌, ℕ, zero, suc, ◌+◌, ◌-◌, ◌<◌, ◌≤◌, leb, Bool, true, false, cond, List, [], ◌∷◌, length, get_or, Option, Some, None, refl, sym, ap, ◌∙◌, subst, arith}
+use Rattle.std.specs.Prelude.{option_and_then}
+use Rattle.std.proofs.lemmas.Bool.{le-leb}
+use Rattle.nfs_history.specs.declared.history.RecordedCall.{RecordedCall}
+use Rattle.nfs_history.specs.declared.knowing.KnownCalls.{KnownCalls}
+use Rattle.nfs_history.specs.HistoryValue.{HistoryValue}
+use Rattle.nfs_history.specs.History.{recording_of}
+use Rattle.nfs_history.specs.Precedence.{call_at, end_of}
+use Rattle.decision_core.specs.declared.deciding.Event.{Event}
+use Rattle.decision_core.specs.declared.deciding.Event.TheVariants.{Called, Answered, AtOnce, Passed}
+use Rattle.decision_core.specs.Times.{Times}
+use Rattle.decision_core.specs.Events.{Tells, IsAnswer}
+use Rattle.decision_law.specs.Times.{answered_end, era_start, times_of}
+use Rattle.decision_law.proofs.Numbered.{wanted_end}
+use Rattle.decide.specs.declared.verifiers.Shown.{Shown}
+use Rattle.decide.specs.Decision.{IsAnsweredAt, TellsOf}
+use Rattle.decide.specs.Verifiers.{IsShownIn}
+
+-- an item of a list doesn't depend on what stands past its end
+any_default : (xs : List Event) (i : ℕ) (d e : Event) → i < length xs → get_or xs i d ≡ get_or xs i e
+any_default [] i d e inside = absurd (omega (arith, inside))
+any_default (x ∷ xs) zero d e inside = refl
+any_default (x ∷ xs) (suc i) d e inside = any_default xs i d e (omega (arith, inside))
+
+-- an answer among events that tell these times
+answer_ends : (times : Times) (events : List Event) (i call : ℕ) → Tells times events → i < length events → IsAnswer (get_or events i Passed) call → times.end_of call ≡ Some (i + 1)
+answer_ends times events i call tells inside answer = go (get_or events i Passed) refl answer where
+  go : (e : Event) → get_or events i Passed ≡ e → IsAnswer e call → times.end_of call ≡ Some (i + 1)
+  go (Called m) is same = absurd same
+  go (Answered m) is same = ap times.end_of (sym same) ∙ tells.answers i m (inside, any_default events i (Answered m) Passed inside ∙ is)
+  go (AtOnce m) is same = ap times.end_of (sym same) ∙ tells.at_once i m (inside, any_default events i (AtOnce m) Passed inside ∙ is)
+  go Passed is same = absurd same
+
+module _ (known : KnownCalls) (start : ℕ → ℕ) where
+  -- the end of a call that has a place
+  call_ends : (n at : ℕ) → n ≤ length known.calls → (times_of known start).end_of n ≡ Some at → end_of known.calls n ≡ Some at
+  call_ends n at inside is =
+      let found = wanted_end (call_at known.calls n) at (at_call is) in
+      ap (option_and_then (λ (r : RecordedCall). r.«end»)) found.1 ∙ found.3 where
+        at_call : (times_of known start).end_of n ≡ Some at → option_and_then answered_end (call_at known.calls n) ≡ Some at
+        at_call e = sym (ap (λ b. cond b (option_and_then answered_end (call_at known.calls n)) (cond (leb (n - length known.calls) known.eras) (Some (start (n - length known.calls + 1))) None))
+            (le-leb n (length known.calls) inside)) ∙ e
+
+pub named_at : (history : HistoryValue) (events : List Event) (i call : ℕ) → TellsOf history events → i < length events → IsAnswer (get_or events i Passed) call → IsAnsweredAt history.known call (i + 1)
+named_at history events i call tells inside answer within =
+    call_ends history.known (era_start (recording_of history).events) call (i + 1) within
+    (answer_ends (times_of history.known (era_start (recording_of history).events)) events i call tells.tells inside answer)
+
+-- so of a call whose reply shows a verifier
+pub shown_at_end : (known : KnownCalls) (shown : Shown) → IsShownIn known shown → IsAnsweredAt known shown.number shown.at
+shown_at_end known shown is within = ap (option_and_then (λ (r : RecordedCall). r.«end»)) is.1 ∙ is.2.ended
