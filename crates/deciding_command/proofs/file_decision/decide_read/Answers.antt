@@ -1,0 +1,5 @@
+use Rattle.deciding_command.proofs.NoText.{no_text}
+use Rattle.deciding_command.proofs.file_decision.decide_read.Goals as goal
+
+pub returns-in-No : goal.returns-in-No
+returns-in-No c = no_text c.args.bytes.now c.args.history.now c.requires c.in-No.ensures.0
