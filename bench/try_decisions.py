@@ -203,15 +203,13 @@ def has_witness(history):
 
 
 def told_by(program, file):
-    ran = subprocess.run([*program.split(), file], stdout=subprocess.PIPE, stderr=subprocess.DEVNULL, timeout=120)
+    ran = subprocess.run([program, "decide", file], stdout=subprocess.PIPE, stderr=subprocess.DEVNULL, timeout=120)
     return ran.stdout.decode().strip()
 
 
 def kind_of(line):
-    for kind in ("undecided", "no", "yes"):
-        if kind in line.split():
-            return kind
-    return line
+    kinds = {"yes": "yes", "no witness": "no", "undecided": "undecided"}
+    return kinds.get(line.split(":")[0], line)
 
 
 def main():
@@ -227,10 +225,10 @@ def main():
             got = kind_of(line)
             tally[wanted, got] += 1
             if got == "undecided":
-                whys[" ".join(line.split()[-1:]).split("(")[0]] += 1
+                whys[line.partition(": ")[2].rstrip("0123456789 ")] += 1
             elif got != wanted:
                 differ += 1
-                print(f"{number}: every plan says {wanted}, the program {line.split('history')[-1].strip()}")
+                print(f"{number}: every plan says {wanted}, the program {line}")
     for (wanted, got), many in sorted(tally.items()):
         print(f"{wanted} by every plan, {got} by the program: {many}")
     for why, many in whys.most_common():

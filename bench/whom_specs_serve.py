@@ -27,6 +27,9 @@ ROOTS = {
     "decision_core": "",
     "decision_steps": "",
     "decision_law": "",
+    "decision_walk": "",
+    "decide": "",
+    "deciding_command": "",
 }
 
 BELIEVED, PROVER, CALLERS = "-- Believed.", "-- For the prover.", "-- For the prover, and for callers."

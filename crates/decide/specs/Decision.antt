@@ -1,3 +1,4 @@
+-- Believed.
 -- What a decision says of a history (buffered durable linearizability, Izraelevitz, Mendes and Scott 2016, section 4, by the definition of
 -- `witness_check`).
 use Rattle.std.specs.Prelude.{◌≡◌, ℕ, ◌+◌, ◌≤◌, List, length, Some}
@@ -29,6 +30,8 @@ Says known (Yes plan) = IsWitness known plan
 Says known (No refusal) = HasNoWitness known × IsAnsweredAt known refusal.call refusal.event
 Says known (Undecided reason) = Unit {0}
 Says known NoMemory = Unit {0}
+
+-- ---- for the prover
 
 -- where no state is left there is none either, and the call is named whose answer leaves none
 abbrev pub Walks : {State : Type 0} → KnownCalls → Walked State → Type 0

@@ -1,3 +1,4 @@
+-- For the prover.
 -- Which calls a walk is told to be lost in no crash: successes that are on stable storage by themselves (RFC 1813, section 4.7).
 use Rattle.std.specs.Prelude.{◌≡◌, ℕ, IsTrue, Bool, List, Some, None}
 use Rattle.nfs3_types.specs.declared.calls.NfsCall.{NfsCall}

@@ -1,3 +1,4 @@
+-- For the prover.
 -- Calls whose replies show a write verifier (RFC 1813, section 3.3.7: a server gives one verifier between two starts).
 use Rattle.std.specs.Prelude.{◌≡◌, ℕ, Some}
 use Rattle.nfs3_types.specs.declared.calls.NfsCall.{NfsCall}

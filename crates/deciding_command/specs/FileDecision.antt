@@ -24,13 +24,13 @@ Decides bytes (NoWitness event call) = IsWithoutWitness bytes × IsNeverAccepted
 Decides bytes (Undecided reason) = Unit {0}
 Decides bytes (BadHistory fault) = FirstFault bytes fault
 
--- ---- for the prover
-
 abbrev pub IsRefused : FileDecision → Type 0
 IsRefused (Yes text) = ⊥
 IsRefused (NoWitness event call) = ⊥
 IsRefused (Undecided reason) = ⊥
 IsRefused (BadHistory fault) = Unit {0}
+
+-- ---- for the prover and private functions
 
 abbrev pub IsYes : FileDecision → Type 0
 IsYes (Yes text) = Unit {0}

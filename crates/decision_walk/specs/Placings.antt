@@ -1,3 +1,4 @@
+-- For the prover.
 -- What placing a call in a state comes to (a form of this project's own).
 use Rattle.std.specs.Prelude.{◌≡◌, ◌⊎◌, ◌++◌, ℕ, ◌+◌, ◌<◌, ◌≤◌, Bool, true, false, List, [], ◌∷◌, length, take, Option, Some, None, Contains, IsTrue}
 use Rattle.nfs3_types.specs.declared.calls.NfsCall.{NfsCall}

@@ -1,3 +1,4 @@
+-- For the prover.
 -- Which points of a plan a state of the walk stands for (a form of this project's own; points are those of a plan of eras).
 use Rattle.std.specs.Prelude.{◌≡◌, ◌⊎◌, ◌==◌, ℕ, zero, suc, ◌<◌, ◌≤◌, Bool, true, false, List, length, take, Option, Some, None}
 use Rattle.std.specs.List.{list_any, slice_index_or}
