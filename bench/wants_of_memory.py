@@ -20,7 +20,7 @@ KNOWN = {
     "journal_server/src/crashing.rt": 1, "journal_server/src/desk.rt": 1, "journal_server/src/placing.rt": 1,
     "tree_stores/src/names/long.rt": 2, "tree_stores/src/names/short.rt": 1, "nfs_history/src/checking.rt": 1, "nfs_history/src/history.rt": 1,
     "nfs_relay/src/connection.rt": 1, "nfs_relay/src/relay.rt": 1, "judging_commands/src/search.rt": 1,
-    "book_ledger/src/answering.rt": 2, "book_ledger/src/beginning.rt": 1, "recorder/src/book.rt": 2, "book_ledger/src/ledger.rt": 2,
+    "book_ledger/src/answering.rt": 2, "book_ledger/src/beginning.rt": 2, "book_ledger/src/certifying.rt": 1, "book_ledger/src/crashing.rt": 1, "recorder/src/book.rt": 2, "book_ledger/src/ledger.rt": 2,
     "search_branches/src/state.rt": 1, "tree_nodes/src/nodes.rt": 1, "tree_nodes/src/table.rt": 1,
     "witness_check/src/run.rt": 2, "reply_order/src/binds.rt": 1, "history_lines/src/lines.rt": 1, "decision_core/src/deciding.rt": 3,
     "decision_core/src/register.rt": 2, "decision_core/src/states.rt": 2, "decision_walk/src/children.rt": 1, "decision_walk/src/stepping.rt": 1,
