@@ -1,0 +1,5 @@
+//! Small histories that are decided, by their bytes.
+#![tactic(auto)]
+
+#[cfg(test)]
+mod small;
