@@ -7,8 +7,8 @@ use Rattle.nfs3_types.specs.declared.calls.NfsCall.{NfsCall}
 use Rattle.nfs3_types.specs.declared.replies.Outcome.{Outcome}
 use Rattle.history_file.specs.declared.event.Event.{Event}
 use Rattle.history_file.specs.declared.event.Event.TheVariants as events
-use Rattle.nfs_history.specs.declared.history.Meaning.TheVariants as meanings
-use Rattle.nfs_history.specs.declared.history.RecordedCall.{RecordedCall}
+use Rattle.nfs_history.specs.declared.recorded.Meaning.TheVariants as meanings
+use Rattle.nfs_history.specs.declared.recorded.RecordedCall.{RecordedCall}
 use Rattle.nfs_history.specs.Precedence.{call_at}
 use Rattle.tree_nodes.proofs.Chains.{decide, differ}
 use Rattle.book_laws.specs.Book.{Book}

@@ -19,8 +19,8 @@ use Rattle.history_file.specs.declared.event.Event.TheVariants as owns
 use Rattle.history_file.specs.Event.{Event}
 use Rattle.history_file.specs.Event.Event.{call, reply, close}
 use Rattle.history_file.specs.Owning.{happened, all_happened}
-use Rattle.nfs_history.specs.declared.history.Meaning.TheVariants as meanings
-use Rattle.nfs_history.specs.declared.history.RecordedCall.{RecordedCall}
+use Rattle.nfs_history.specs.declared.recorded.Meaning.TheVariants as meanings
+use Rattle.nfs_history.specs.declared.recorded.RecordedCall.{RecordedCall}
 use Rattle.nfs_history.specs.declared.fault.Which.{Which}
 use Rattle.nfs_history.specs.HistoryValue.{CallsValue, HistoryValue}
 use Rattle.nfs_history.specs.Appending.{IsQuiet}
@@ -32,7 +32,7 @@ use Rattle.nfs_history.specs.Outside.{outside, was_failure, asked_size}
 use Rattle.nfs_history.specs.declared.fault.Which.TheVariants as which
 use Rattle.nfs3_types.specs.declared.calls.NfsCall.TheVariants as calls
 use Rattle.nfs3_types.specs.Limits.{file_limit}
-use Rattle.nfs_history.specs.declared.history.Meaning.{Meaning}
+use Rattle.nfs_history.specs.declared.recorded.Meaning.{Meaning}
 use Rattle.nfs_history.specs.Standing.{IsClosed, is_unanswered, has_unanswered, MayFollow, EachMayFollow}
 use Rattle.nfs_history.proofs.JudgingSteps.{AreRecorded-push}
 use Rattle.nfs_history.proofs.Lanes.{eras_quiet, eras_crash}

@@ -7,7 +7,7 @@ use Rattle.std.proofs.lemmas.Grind.{flat_map-append}
 use Rattle.nfs3_types.specs.declared.calls.NfsCall.{NfsCall}
 use Rattle.nfs3_types.specs.declared.replies.NfsReply.{NfsReply}
 use Rattle.nfs3_types.specs.declared.replies.Outcome.TheVariants as outcomes
-use Rattle.nfs_history.specs.declared.history.RecordedCall.{RecordedCall}
+use Rattle.nfs_history.specs.declared.recorded.RecordedCall.{RecordedCall}
 use Rattle.nfs_history.specs.Precedence.{call_at, begin_of, end_of}
 use Rattle.tree_starts.specs.Head.{Head}
 use Rattle.tree_nodes.specs.Tree.{entry_of}
@@ -24,7 +24,7 @@ use Rattle.book_laws.specs.Steps.Steps.{begins, places, flushes, answers, closes
 use Rattle.book_laws.proofs.Invariant.{Over, IsKnown, AreKnown, AllKnown, IsPaired, AreDistinct, EachDistinct, IsPlacedIn, IsPlaced, AreInOrder, AllRun, IsMade, AreDurable, IsCutSafely, IsInvariant}
 use Rattle.book_laws.proofs.Lists.{all_append, all_ahead, all_behind, all_each}
 use Rattle.cut_check.specs.Verifier.{verifier_of}
-use Rattle.nfs_history.specs.declared.history.Meaning.{Meaning}
+use Rattle.nfs_history.specs.declared.recorded.Meaning.{Meaning}
 use Rattle.nfs_history.specs.Calls.{calls_of}
 use Rattle.nfs_history.specs.History.{IsJudged, IsKnownAs}
 use Rattle.nfs_history.specs.Outside.{outside}

@@ -10,7 +10,7 @@ use Rattle.nfs3_types.specs.declared.replies.NfsReply.{NfsReply}
 use Rattle.nfs3_types.specs.declared.replies.NfsReply.TheVariants as replies
 use Rattle.nfs3_types.specs.declared.replies.Outcome.TheVariants as outcomes
 use Rattle.nfs3_types.specs.Procedures.{is_answered, failure_in}
-use Rattle.nfs_history.specs.declared.history.Meaning.TheVariants as meanings
+use Rattle.nfs_history.specs.declared.recorded.Meaning.TheVariants as meanings
 use Rattle.order_check.specs.Places.{may_take}
 use Rattle.tree_nodes.specs.Tree.{Tree}
 use Rattle.tree_nodes.proofs.Chains.{chained, mapped, both_pass, negated, none_is}

@@ -39,7 +39,6 @@ use Rattle.file_tree.specs.Success.{changed, change_done, change_answered, next_
 use Rattle.tree_laws.specs.Leaving.{only_looks}
 use Rattle.tree_laws.specs.Agreeing.{AgreeOn}
 use Rattle.tree_laws.proofs.Agreeing.{others_dont_matter}
-use Rattle.tree_laws.proofs.Keeping.{put_there}
 use Rattle.tree_laws.proofs.Newcomers.{only_its_own_is_new}
 use Rattle.book_laws.specs.Placing.{Placed, is_recorded}
 use Rattle.book_laws.specs.Book.{Setting, bindings_made, setting_made, next_by}
@@ -48,6 +47,7 @@ use Rattle.nfs_history.specs.Success.{succeeded}
 use Rattle.journal.proofs.Numbers.{Among}
 use Rattle.book_laws.proofs.Standing.{AllStand}
 use Rattle.book_laws.proofs.Renaming.{AreSmall, AreAlike, alike_bound}
+use Rattle.file_tree.proofs.StartStep.{put_there}
 
 -- ---- a call that makes no object doesn't heed its own number
 

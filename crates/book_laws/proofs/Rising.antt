@@ -15,7 +15,7 @@ use Rattle.byteorder.specs.Numbers.{big_from-cons, big_from-lt, big_number-reads
 use Rattle.hex.specs.Hex.{IsBytes}
 use Rattle.xdr_records.specs.Texts.{long_text}
 use Rattle.certificate.specs.CertificateText.{AreRising, HasHandle, AreEras}
-use Rattle.nfs_history.specs.declared.history.RecordedCall.{RecordedCall}
+use Rattle.nfs_history.specs.declared.recorded.RecordedCall.{RecordedCall}
 use Rattle.tree_nodes.specs.Tree.{entry_of}
 use Rattle.book_laws.specs.Placing.{Placed}
 use Rattle.book_laws.specs.Book.{Book, handle_of, object_in}

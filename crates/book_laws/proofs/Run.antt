@@ -29,7 +29,7 @@ use Rattle.nfs3_msgs.specs.Fits.{CallFits, ReplyFits}
 use Rattle.nfs3_msgs.specs.SpelledMessages.{call_spelled, reply_spelled}
 use Rattle.history_file.specs.Event.{Event}
 use Rattle.history_file.specs.Event.Event.{call, close}
-use Rattle.nfs_history.specs.declared.history.RecordedCall.{RecordedCall}
+use Rattle.nfs_history.specs.declared.recorded.RecordedCall.{RecordedCall}
 use Rattle.nfs_history.specs.Calls.{xid_of}
 use Rattle.nfs_history.specs.Standing.{IsClosed}
 use Rattle.tree_nodes.specs.declared.node.Node.{Node}
@@ -37,12 +37,12 @@ use Rattle.tree_nodes.specs.Files.{file_node}
 use Rattle.tree_nodes.specs.Tree.{Names, Tree, opening, entry_of}
 use Rattle.tree_nodes.proofs.Found.{some_found}
 use Rattle.file_tree.specs.Success.{next_tree}
-use Rattle.tree_laws.proofs.Keeping.{put_there}
 use Rattle.tree_laws.proofs.Replayed.{entries_opening}
 use Rattle.book_laws.specs.Book.{bindings_made}
 use Rattle.book_laws.specs.Steps.{begun, with_made, step_of, reply_message, IsRecordable, IsAnswerTo, Begins, Places, Flushes, Answers, opening_book}
 use Rattle.book_laws.specs.Steps.Steps.{begins, places, flushes, answers}
 use Rattle.book_laws.specs.Example.{create, created, asked, answer, after_begin, after_place, after_flush, after_answer, PremisesAreMet}
+use Rattle.file_tree.proofs.StartStep.{put_there}
 
 -- ---- transaction numbers
 

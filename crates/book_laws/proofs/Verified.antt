@@ -3,8 +3,8 @@ use Rattle.std.proofs.Common.{◌≡◌, ℕ, zero, suc, ◌+◌, ◌<◌, List,
 use Rattle.std.specs.Prelude.{IfSome, option_and_then}
 use Rattle.nfs3_types.specs.declared.calls.NfsCall.{NfsCall}
 use Rattle.nfs3_types.specs.declared.replies.Outcome.{Outcome}
-use Rattle.nfs_history.specs.declared.history.Meaning.TheVariants as meanings
-use Rattle.nfs_history.specs.declared.history.RecordedCall.{RecordedCall}
+use Rattle.nfs_history.specs.declared.recorded.Meaning.TheVariants as meanings
+use Rattle.nfs_history.specs.declared.recorded.RecordedCall.{RecordedCall}
 use Rattle.certificate.specs.declared.plan.Place.{Place}
 use Rattle.certificate.specs.declared.plan.EraPlan.{EraPlan}
 use Rattle.cut_check.specs.Places.{answered_with, era_at}

@@ -5,7 +5,7 @@ use Rattle.std.specs.List.{filter_map}
 use Rattle.nfs3_types.specs.declared.calls.NfsCall.{NfsCall}
 use Rattle.nfs3_types.specs.declared.replies.Outcome.{Outcome}
 use Rattle.replay_law.specs.Run as run
-use Rattle.nfs_history.specs.declared.history.RecordedCall.{RecordedCall}
+use Rattle.nfs_history.specs.declared.recorded.RecordedCall.{RecordedCall}
 use Rattle.nfs_history.specs.Precedence.{call_at}
 use Rattle.certificate.specs.declared.plan.Bind.{Bind}
 use Rattle.certificate.specs.declared.plan.Place.{Place}

@@ -19,8 +19,8 @@ use Rattle.history_file.specs.declared.event.Event.TheVariants as events
 use Rattle.history_file.specs.Owning.{all_happened}
 use Rattle.tree_starts.specs.declared.object.StartObject.{StartObject}
 use Rattle.tree_starts.specs.declared.profile.Profile.{Profile}
-use Rattle.nfs_history.specs.declared.history.Meaning.TheVariants as meanings
-use Rattle.nfs_history.specs.declared.history.RecordedCall.{RecordedCall}
+use Rattle.nfs_history.specs.declared.recorded.Meaning.TheVariants as meanings
+use Rattle.nfs_history.specs.declared.recorded.RecordedCall.{RecordedCall}
 use Rattle.nfs_history.specs.HistoryValue.{HistoryValue}
 use Rattle.nfs_history.specs.Calls.{xid_of}
 use Rattle.nfs_history.specs.Standing.{IsClosed, has_unanswered}

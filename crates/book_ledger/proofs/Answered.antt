@@ -12,8 +12,8 @@ use Rattle.nfs3_types.specs.declared.replies.Outcome.TheVariants as outcomes
 use Rattle.nfs3_types.specs.Procedures.{is_answered}
 use Rattle.nfs3_msgs.specs.Messages.{result_text}
 use Rattle.history_file.specs.declared.event.Event.TheVariants as owns
-use Rattle.nfs_history.specs.declared.history.Meaning.TheVariants as meanings
-use Rattle.nfs_history.specs.declared.history.RecordedCall.{RecordedCall}
+use Rattle.nfs_history.specs.declared.recorded.Meaning.TheVariants as meanings
+use Rattle.nfs_history.specs.declared.recorded.RecordedCall.{RecordedCall}
 use Rattle.nfs_history.specs.HistoryValue.{HistoryValue}
 use Rattle.nfs_history.specs.Appending.{Follows}
 use Rattle.nfs_history.specs.History.{Returns}

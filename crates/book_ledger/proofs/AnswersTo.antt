@@ -8,9 +8,9 @@ use Rattle.nfs3_types.specs.declared.calls.NfsCall.{NfsCall}
 use Rattle.nfs3_types.specs.declared.replies.NfsReply.{NfsReply}
 use Rattle.nfs3_types.specs.Procedures.{is_answered, procedure_called, procedure_answered}
 use Rattle.nfs3_msgs.specs.Messages.{IsResult, result_text}
-use Rattle.nfs_history.specs.declared.history.Meaning.{Meaning}
-use Rattle.nfs_history.specs.declared.history.Meaning.TheVariants as meanings
-use Rattle.nfs_history.specs.declared.history.RecordedCall.{RecordedCall}
+use Rattle.nfs_history.specs.declared.recorded.Meaning.{Meaning}
+use Rattle.nfs_history.specs.declared.recorded.Meaning.TheVariants as meanings
+use Rattle.nfs_history.specs.declared.recorded.RecordedCall.{RecordedCall}
 use Rattle.nfs_history.specs.HistoryValue.{HistoryValue}
 use Rattle.nfs_history.specs.History.{IsJudged, IsKnownAs}
 use Rattle.book_laws.specs.Steps.{IsAnswerTo}

@@ -1,6 +1,6 @@
 -- which messages are those of judged calls
-use Rattle.std.proofs.Common.{◌≡◌, ◌≢◌, ℕ, Bool, true, false, List, Option, Some, None, Result, Ok, Err, refl, sym, ap, ◌∙◌, subst, arith}
-use Rattle.std.specs.Prelude.{◌==◌, ◌&&◌, ◌<◌, ◌≤◌, not, length, is_none, IfOk, IsOkAnd}
+use Rattle.std.proofs.Common.{◌≡◌, ℕ, true, false, List, Option, Some, None, Result, Ok, Err, refl, sym, ap, ◌∙◌, subst, arith}
+use Rattle.std.specs.Prelude.{◌<◌, ◌≤◌, length, is_none, IfOk, IsOkAnd}
 use Rattle.std.proofs.lemmas.Bool.{eqb-true, eq-eqb}
 use Rattle.xdr_records.specs.Record.{record_limit}
 use Rattle.rpc_reader.specs.declared.fault.RpcFault.{RpcFault}
@@ -16,26 +16,8 @@ use Rattle.book_ledger.specs.declared.fault.BeginFault.{BeginFault}
 use Rattle.book_ledger.specs.declared.fault.BeginFault.TheVariants as faults
 use Rattle.book_laws.specs.Steps.{IsRecordable}
 use Rattle.book_ledger.specs.Recordable.{CanBeRecorded, asks_judged, AsksJudged, IsKeptInside, AreKeptArguments, IsKeptAsked}
-
-both_pass : (a b : Bool) → (a && b) ≡ true → (a ≡ true) × (b ≡ true)
-both_pass true b e = (refl, e)
-both_pass false b e = absurd (cc)
-
-differ : (b : Bool) → b ≡ true → b ≡ false → ⊥
-differ true e f = absurd (cc)
-differ false e f = absurd (cc)
-
-isnt_eq : (n m : ℕ) → n ≢ m → not (n == m) ≡ true
-isnt_eq n m other = go (n == m) refl where
-  go : (b : Bool) → (n == m) ≡ b → not b ≡ true
-  go true same = absurd (other (eqb-true n m same))
-  go false apart = refl
-
-eq_isnt : (n m : ℕ) → not (n == m) ≡ true → n ≢ m
-eq_isnt n m e same = differ (not (n == m)) e (ap not (eq-eqb n m same))
-
-all_pass : (a b c d : Bool) → a ≡ true → b ≡ true → c ≡ true → d ≡ true → (a && b && c && d) ≡ true
-all_pass a b c d e f g h = λ i. e i && f i && g i && h i
+use Rattle.tree_nodes.proofs.Chains.{both_pass, differ}
+use Rattle.journal.proofs.Meanings.{isnt_eq, eq_isnt, all_pass}
 
 -- ---- the head
 

@@ -14,7 +14,7 @@ use Rattle.history_file.specs.Event.Event.{call, reply, close, crash}
 use Rattle.history_file.specs.Owning.{happened, all_happened}
 use Rattle.nfs3_types.specs.declared.calls.NfsCall.{NfsCall}
 use Rattle.nfs3_types.specs.declared.replies.Outcome.{Outcome}
-use Rattle.nfs_history.specs.declared.history.RecordedCall.{RecordedCall}
+use Rattle.nfs_history.specs.declared.recorded.RecordedCall.{RecordedCall}
 use Rattle.nfs_history.specs.Calls.{CallEvent, calls_from, calls_of, eras_from}
 use Rattle.nfs_history.specs.HistoryValue.{HistoryValue}
 use Rattle.nfs_history.specs.History.{AreRecorded, AreCallsOf, IsHistory}

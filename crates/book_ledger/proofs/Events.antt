@@ -11,7 +11,7 @@ use Rattle.history_file.specs.declared.event.Event.TheVariants as owns
 use Rattle.history_file.specs.Event.{Event, Recording}
 use Rattle.history_file.specs.Event.Event.{call}
 use Rattle.history_file.specs.Owning.{happened, all_happened}
-use Rattle.nfs_history.specs.declared.history.RecordedCall.{RecordedCall}
+use Rattle.nfs_history.specs.declared.recorded.RecordedCall.{RecordedCall}
 use Rattle.nfs_history.specs.HistoryValue.{HistoryValue}
 use Rattle.nfs_history.specs.Appending.{with_event, Follows}
 use Rattle.nfs_history.specs.History.{AreCallsOf, IsHistory, recording_of}

@@ -35,10 +35,10 @@ use Rattle.file_tree.specs.Made as made
 use Rattle.file_tree.specs.Success.{changed, change_done, change_answered, next_tree}
 use Rattle.tree_laws.specs.Agreeing.{AgreeOn}
 use Rattle.tree_laws.proofs.Agreeing.{others_dont_matter}
-use Rattle.tree_laws.proofs.Keeping.{put_there}
 use Rattle.book_laws.proofs.Bound.{stays_absent}
 use Rattle.book_ledger.specs.Recordable.{may_make}
 use Rattle.book_ledger.proofs.Naming.{named_so}
+use Rattle.file_tree.proofs.StartStep.{put_there}
 
 gone : {X : Type 0} {o : Option X} → o ≡ None → IsSome o → ⊥
 gone e s = cc

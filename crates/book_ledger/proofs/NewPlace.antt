@@ -13,8 +13,8 @@ use Rattle.nfs3_types.specs.declared.replies.Outcome.TheVariants as outcomes
 use Rattle.nfs3_types.specs.Procedures.{procedure_answered}
 use Rattle.nfs3_msgs.specs.Messages.{IsResult, result_text}
 use Rattle.history_file.specs.declared.event.Event.TheVariants as owns
-use Rattle.nfs_history.specs.declared.history.Meaning.TheVariants as meanings
-use Rattle.nfs_history.specs.declared.history.RecordedCall.{RecordedCall}
+use Rattle.nfs_history.specs.declared.recorded.Meaning.TheVariants as meanings
+use Rattle.nfs_history.specs.declared.recorded.RecordedCall.{RecordedCall}
 use Rattle.nfs_history.specs.Precedence.{call_at}
 use Rattle.replay_law.specs.Run.{state_after, kept_steps}
 use Rattle.replay_law.specs.Undone.{UndoesAll}

@@ -3,7 +3,7 @@ use Rattle.std.proofs.Common.{◌≡◌, inl, inr, ℕ, ◌+◌, ◌-◌, true, 
 use Rattle.std.specs.Prelude.{IsSome, IfSome, slice_get}
 use Rattle.std.specs.List.{AllByRecursion}
 use Rattle.history_file.specs.declared.event.Event.{Event}
-use Rattle.nfs_history.specs.declared.history.RecordedCall.{RecordedCall}
+use Rattle.nfs_history.specs.declared.recorded.RecordedCall.{RecordedCall}
 use Rattle.nfs_history.specs.HistoryValue.{CallsValue}
 use Rattle.nfs_history.specs.Precedence.{call_at}
 use Rattle.replay_law.specs.Undone.{UndoesAll}

@@ -14,8 +14,8 @@ use Rattle.history_file.specs.declared.event.Event as owned
 use Rattle.history_file.specs.declared.event.Event.TheVariants as owns
 use Rattle.history_file.specs.Event.Event.{call}
 use Rattle.history_file.specs.Owning.{happened, all_happened}
-use Rattle.nfs_history.specs.declared.history.Meaning.TheVariants as meanings
-use Rattle.nfs_history.specs.declared.history.RecordedCall.{RecordedCall}
+use Rattle.nfs_history.specs.declared.recorded.Meaning.TheVariants as meanings
+use Rattle.nfs_history.specs.declared.recorded.RecordedCall.{RecordedCall}
 use Rattle.nfs_history.specs.HistoryValue.{HistoryValue}
 use Rattle.nfs_history.specs.Calls.{calls_of}
 use Rattle.nfs_history.specs.Precedence.{call_at}

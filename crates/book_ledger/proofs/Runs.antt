@@ -13,8 +13,8 @@ use Rattle.history_file.specs.declared.event.Event as owned
 use Rattle.history_file.specs.declared.event.Event.TheVariants as owns
 use Rattle.history_file.specs.Event.{Event}
 use Rattle.history_file.specs.Owning.{happened, all_happened}
-use Rattle.nfs_history.specs.declared.history.Meaning.TheVariants as meanings
-use Rattle.nfs_history.specs.declared.history.RecordedCall.{RecordedCall}
+use Rattle.nfs_history.specs.declared.recorded.Meaning.TheVariants as meanings
+use Rattle.nfs_history.specs.declared.recorded.RecordedCall.{RecordedCall}
 use Rattle.nfs_history.specs.Checking.{is_crash, is_on, was_cut_off}
 use Rattle.nfs_history.specs.Standing.{IsCutOff}
 use Rattle.nfs_history.proofs.Lanes.{cut_off_push, cut_off_is, is_cut_off}

@@ -10,8 +10,8 @@ use Rattle.history_file.specs.declared.event.Event.TheVariants as owns
 use Rattle.history_file.specs.Event.Event.{call}
 use Rattle.history_file.specs.Owning.{all_happened}
 use Rattle.nfs_history.specs.declared.checking.LaneState.TheVariants as lanes
-use Rattle.nfs_history.specs.declared.history.Meaning.TheVariants as meanings
-use Rattle.nfs_history.specs.declared.history.RecordedCall.{RecordedCall}
+use Rattle.nfs_history.specs.declared.recorded.Meaning.TheVariants as meanings
+use Rattle.nfs_history.specs.declared.recorded.RecordedCall.{RecordedCall}
 use Rattle.nfs_history.specs.HistoryValue.{HistoryValue}
 use Rattle.nfs_history.specs.Calls.{calls_of}
 use Rattle.nfs_history.specs.History.{IsHistory, recording_of}

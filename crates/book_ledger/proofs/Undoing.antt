@@ -6,7 +6,7 @@ use Rattle.std.specs.Prelude.{IsSome, option_and_then}
 use Rattle.std.specs.List.{AllByRecursion}
 use Rattle.std.proofs.lemmas.List.{drop-append-le, drop_all, take_all, take-map}
 use Rattle.std.proofs.lemmas.Grind.{flat_map-append}
-use Rattle.nfs_history.specs.declared.history.RecordedCall.{RecordedCall}
+use Rattle.nfs_history.specs.declared.recorded.RecordedCall.{RecordedCall}
 use Rattle.nfs3_types.specs.declared.calls.NfsCall.{NfsCall}
 use Rattle.nfs3_types.specs.declared.replies.Outcome.{Outcome}
 use Rattle.replay_law.specs.Run.{TakenStep, Era, state_after, kept_steps}

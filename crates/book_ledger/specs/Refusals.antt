@@ -5,7 +5,7 @@ use Rattle.std.specs.Prelude.{◌≡◌, ◌≢◌, ◌⊎◌, ℕ, ◌<◌, ◌
 use Rattle.nfs3_types.specs.declared.replies.NfsReply.{NfsReply}
 use Rattle.history_file.specs.Owning.{all_happened}
 use Rattle.history_file.specs.Event.Event.{close}
-use Rattle.nfs_history.specs.declared.history.RecordedCall.{RecordedCall}
+use Rattle.nfs_history.specs.declared.recorded.RecordedCall.{RecordedCall}
 use Rattle.nfs_history.specs.Calls.{xid_of}
 use Rattle.nfs_history.specs.Precedence.{call_at, end_of}
 use Rattle.nfs_history.specs.Standing.{IsCutOff, has_unanswered}

@@ -7,7 +7,7 @@ use Rattle.nfs3_types.specs.declared.replies.NfsReply.{NfsReply}
 use Rattle.nfs3_types.specs.declared.replies.Outcome.TheVariants as outcomes
 use Rattle.nfs3_types.specs.Procedures.{procedure_answered}
 use Rattle.nfs3_msgs.specs.Messages.{IsResult, result_text}
-use Rattle.nfs_history.specs.declared.history.RecordedCall.{RecordedCall}
+use Rattle.nfs_history.specs.declared.recorded.RecordedCall.{RecordedCall}
 use Rattle.nfs_history.specs.Precedence.{call_at}
 use Rattle.book_laws.specs.Placing.{Placed}
 use Rattle.book_laws.specs.Book.{Book}

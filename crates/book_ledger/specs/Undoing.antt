@@ -5,7 +5,7 @@ use Rattle.std.specs.Prelude.{◌≡◌, ℕ, ◌+◌, ◌-◌, ◌≤◌, List,
 use Rattle.std.specs.List.{AllByRecursion}
 use Rattle.replay_law.specs.Run.{state_after, kept_steps}
 use Rattle.replay_law.specs.Undone.{UndoesAll}
-use Rattle.nfs_history.specs.declared.history.RecordedCall.{RecordedCall}
+use Rattle.nfs_history.specs.declared.recorded.RecordedCall.{RecordedCall}
 use Rattle.tree_nodes.specs.declared.undo.Undo.{Undo}
 use Rattle.tree_nodes.specs.Tree.{Tree}
 use Rattle.tree_nodes.specs.Undo.{TakesBack}

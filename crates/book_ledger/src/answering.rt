@@ -2,7 +2,7 @@
 
 ghost use Rattle.std.specs.Prelude.{◌≡◌, ◌↔◌, ◌≤◌, Some, None, length, IfOk, OnOk, OnErr, IfErr, IsTrue};
 ghost use Rattle.history_file.specs.declared.event.Event.TheVariants as events;
-ghost use Rattle.nfs_history.specs.declared.history.RecordedCall.{RecordedCall};
+ghost use Rattle.nfs_history.specs.declared.recorded.RecordedCall.{RecordedCall};
 ghost use Rattle.nfs_history.specs.Appending.{Follows};
 ghost use Rattle.nfs_history.specs.Precedence.{call_at, end_of};
 ghost use Rattle.book_laws.specs.Book.Condition.{running};

@@ -6,7 +6,6 @@ ghost use Rattle.nfs3_types.specs.Procedures.{is_judged};
 ghost use Rattle.nfs_history.specs.Success.{write_success, commit_success};
 ghost use Rattle.cut_check.specs.Effect.{effect_of};
 ghost use Rattle.cut_check.specs.declared.effect.Effect.TheVariants.{Lasting};
-ghost use Rattle.cut_check.specs.Verifier.{verifier_of};
 ghost use Rattle.tree_laws.specs.Leaving.{only_looks};
 ghost use Rattle.tree_laws.specs.Outcomes.{count_written};
 ghost use Rattle.book_laws.specs.Placing.{is_recorded};
@@ -103,12 +102,12 @@ pub(crate) fn is_recorded(call: &NfsCall, outcome: &Outcome) -> bool
     may_change(call) && succeeded(call, outcome)
 }
 
-/// The level at which a WRITE was answered, with the bytes that it counts and the verifier, where it succeeded.
-fn write_answer(outcome: &Outcome) -> Option<(StableHow, u32, u64)>
-    ensures { result ≡ option_map (λ success. (success.level, success.count, success.verifier.value)) (write_success outcome.now) }
+/// The level at which a WRITE was answered, with the bytes that it counts, where it succeeded.
+fn write_answer(outcome: &Outcome) -> Option<(StableHow, u32)>
+    ensures { result ≡ option_map (λ success. (success.level, success.count)) (write_success outcome.now) }
 {
     let success = write_success(outcome)?;
-    Some((success.level, success.count, success.verifier.value))
+    Some((success.level, success.count))
 }
 
 /// The verifier of a COMMIT that succeeded.
@@ -127,22 +126,11 @@ pub(crate) fn promises(call: &NfsCall, outcome: &Outcome) -> bool
         NfsCall::Write(_) => {
             matches!(
                 write_answer(outcome),
-                Some((StableHow::DataSync | StableHow::FileSync, _, _))
+                Some((StableHow::DataSync | StableHow::FileSync, _))
             )
         }
         NfsCall::Commit(_) => commit_verifier(outcome).is_some(),
         _ => is_recorded(call, outcome),
-    }
-}
-
-/// The write verifier that a reply shows.
-pub(crate) fn verifier_of(call: &NfsCall, outcome: &Outcome) -> Option<u64>
-    ensures { result ≡ verifier_of call.now outcome.now }
-{
-    match call {
-        NfsCall::Write(_) => write_answer(outcome).map(|answer| answer.2),
-        NfsCall::Commit(_) => commit_verifier(outcome),
-        _ => None,
     }
 }
 

@@ -10,9 +10,9 @@ use crate::calls::{count_written, is_recorded};
 use crate::ledger::Ledger;
 use crate::lookups::{call_asked, object_made};
 use crate::placed::{CallState, EraOver, PlacedCall};
-use certificate::{Bind, BindList, Certificate, EraPlan, EraPlanList, Place, PlaceList};
+use certificate::{Bind, Certificate, EraPlan, Place};
 use nfs_history::History;
-use nfs3_types::FileHandle;
+use nfs3_types::{FileHandle, ItemList};
 use std::alloc::{AllocError, Global};
 
 /// The place of a call: with its reply where one was sent, else as taken if it changed the tree.
@@ -72,7 +72,7 @@ fn plan_over(alloc: Global, history: &History, era: &EraOver) -> Result<EraPlan,
     let lost = places_of(alloc, history, behind)?;
     places.extend_from_slice(lost.as_slice())?;
     Ok(EraPlan {
-        places: PlaceList::new(places),
+        places: ItemList::new(places),
         cut: Some(cut),
     })
 }
@@ -157,7 +157,7 @@ impl Ledger {
         let mut plans = plans_over(self.alloc, &self.history, self.over.as_slice())?;
         let places = places_of(self.alloc, &self.history, self.placed.as_slice())?;
         plans.push(EraPlan {
-            places: PlaceList::new(places),
+            places: ItemList::new(places),
             cut: None,
         })?;
         Ok(plans)
@@ -170,8 +170,8 @@ impl Ledger {
     {
         let binds = binds_made(self.alloc, &self.history, self.calls.as_slice())?;
         Ok(Certificate {
-            binds: BindList::new(binds),
-            eras: EraPlanList::new(self.plans()?),
+            binds: ItemList::new(binds),
+            eras: ItemList::new(self.plans()?),
         })
     }
 }

@@ -13,13 +13,14 @@ ghost use Rattle.book_ledger.specs.Recordable.{may_make};
 ghost use Rattle.book_ledger.specs.PlaceSteps.{with_own, without_own, bound_if, HasRoom, IsSame, HasLost, NameAlike, TakesStep, HasStepped, HasNoStep, HasStayed, IsReceived, IsNumbered, ShowsNow, MayGive, GivesAllowed, StopsWhere, IsShortAnswer, IsSayable, IsEntry, HasPlaced};
 ghost use Rattle.book_ledger.specs.Spelling.{IsSpelled, IsSpelledTo, IsOfCall};
 
-use crate::calls::{is_recorded, may_make, verifier_of};
+use crate::calls::{is_recorded, may_make};
 use crate::fault::PlaceFault;
 use crate::ledger::Ledger;
 use crate::lookups::{call_asked, message_of, object_made, object_of_call};
 use crate::placed::{CallState, Condition, PlacedCall};
 use crate::served::is_served;
 use crate::spelled::SpelledReply;
+use cut_check::shown_verifier;
 use file_tree::{Binds, FileTree, Profile, Undo};
 use journal::put_record;
 use nfs3_msgs::put_result;
@@ -172,7 +173,7 @@ impl Ledger {
         requires { IsAsked self.now.history.known.calls number }
         ensures { MatchBool result (ShowsNow self.now number outcome.now) (¬ ShowsNow self.now number outcome.now) }
     {
-        match verifier_of(call_asked(&self.history, number), outcome) {
+        match shown_verifier(call_asked(&self.history, number), outcome) {
             Some(verifier) => verifier == self.history.eras(),
             None => true,
         }

@@ -10,11 +10,11 @@ use crate::end::SearchEnd;
 use certificate::Certificate;
 use nfs_history::{History, KnownCalls};
 use reply_order::reply_order;
-use search_workers::{Lack, SearchGate, SearchRuntime, pass_over_calls, run_workers};
+use search_workers::{Lack, SearchGate, SearchRuntime, run_workers, sweep_over_calls};
 use std::alloc::{AllocError, Global};
 use witness_check::{Verdict, check_calls};
 
-/// How many branches each worker takes ahead of the passes, at most.
+/// How many branches each worker takes ahead of the sweeps, at most.
 const FIRST_BRANCHES: u64 = 1_000;
 
 /// A plan, if it is a witness.
@@ -32,8 +32,8 @@ fn if_witness(
     }
 }
 
-/// The plan that at most so many passes over the history come to, if it is a witness.
-fn pass_over<R: SearchRuntime, G: SearchGate>(
+/// The plan that at most so many sweeps over the history come to, if it is a witness.
+fn sweep_over<R: SearchRuntime, G: SearchGate>(
     rt: &R,
     known: &KnownCalls<'_>,
     turns: u64,
@@ -41,7 +41,7 @@ fn pass_over<R: SearchRuntime, G: SearchGate>(
 ) -> Result<Option<Certificate>, AllocError>
     ensures { IfOk result (λ found. IfSome found (λ plan. IsWitness known.now plan)) }
 {
-    match pass_over_calls(rt, known, turns, gate)? {
+    match sweep_over_calls(rt, known, turns, gate)? {
         Some(plan) => if_witness(rt.alloc(), known, plan),
         None => Ok(None),
     }
@@ -96,7 +96,7 @@ pub fn search_by_branches<R: SearchRuntime, G: SearchGate + Sync>(
     }
 }
 
-/// Searches a certificate by passes over the history, no more than `turns`, and where these come to none by branches.
+/// Searches a certificate by sweeps over the history, no more than `turns`, and where these come to none by branches.
 fn search_on<R: SearchRuntime, G: SearchGate + Sync>(
     rt: &R,
     known: &KnownCalls<'_>,
@@ -108,13 +108,13 @@ fn search_on<R: SearchRuntime, G: SearchGate + Sync>(
     ensures found { IsFoundOnly result (λ plan. IsWitness known.now plan) }
     ensures follows { (plan : Certificate) → IsReplyOrder known.now plan → IsWitness known.now plan → IsFoundOrNoMemory result }
 {
-    match pass_over(rt, known, turns, gate) {
+    match sweep_over(rt, known, turns, gate) {
         Ok(Some(passed)) => SearchEnd::Found(passed),
         Ok(None) | Err(AllocError) => search_by_branches(rt, known, workers, turns, gate),
     }
 }
 
-/// How many branches each of so many workers takes ahead of the passes: in all five for each four calls, but no more than half of its
+/// How many branches each of so many workers takes ahead of the sweeps: in all five for each four calls, but no more than half of its
 /// turns, and 1,000.
 fn first_turns(turns: u64, calls: u64, workers: u32) -> u64 {
     let share = calls.checked_div(u64::from(workers)).unwrap_or(calls);
@@ -122,7 +122,7 @@ fn first_turns(turns: u64, calls: u64, workers: u32) -> u64 {
     fair.min(turns / 2).min(FIRST_BRANCHES)
 }
 
-/// Searches a certificate of the history that these calls are of: by branches, as many as five for each four calls; then by passes
+/// Searches a certificate of the history that these calls are of: by branches, as many as five for each four calls; then by sweeps
 /// over the history; then by branches with the turns that are left, as [`search_by_branches`].
 pub fn search_calls<R: SearchRuntime, G: SearchGate + Sync>(
     rt: &R,

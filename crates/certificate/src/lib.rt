@@ -9,6 +9,6 @@ mod reading;
 mod writing;
 
 pub use parts::CertificateFault;
-pub use plan::{Bind, BindList, Certificate, EraPlan, EraPlanList, Place, PlaceList};
+pub use plan::{Bind, Certificate, EraPlan, Place};
 pub use reading::{TextFault, read_certificate};
 pub use writing::write_certificate;

@@ -6,7 +6,8 @@ ghost use Rattle.certificate.specs.declared.parts.CertificateFault.TheVariants.{
 ghost use Rattle.certificate.specs.CertificateText.{AreRising, HasHandle, IsCertificate};
 ghost use Rattle.certificate.specs.Parts.{InRange, first_bad_bind, first_wrong_cut, first_bad_era};
 
-use crate::plan::{Bind, BindList, Certificate, EraPlan, EraPlanList};
+use crate::plan::{Bind, Certificate, EraPlan};
+use nfs3_types::ItemList;
 use std::fmt;
 use thiserror::Error;
 
@@ -97,8 +98,8 @@ impl Certificate {
             return Err(CertificateFault::BadEra(number));
         }
         Ok(Certificate {
-            binds: BindList::new(binds),
-            eras: EraPlanList::new(eras),
+            binds: ItemList::new(binds),
+            eras: ItemList::new(eras),
         })
     }
 }

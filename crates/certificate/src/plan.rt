@@ -1,9 +1,9 @@
 //! The values that a certificate holds. A contract sees each list as the list of its items.
 
-ghost use Rattle.std.specs.Prelude.{◌≡◌, List};
+ghost use Rattle.std.specs.Prelude.{◌≡◌};
+ghost use Rattle.certificate.specs.Plan.{call_of};
 
-use nfs3_types::FileHandle;
-use std::marker::Model;
+use nfs3_types::{FileHandle, ItemList};
 
 /// A handle, and the number of the object that it names.
 #[derive(Drop)]
@@ -23,65 +23,14 @@ pub enum Place {
     Taken(u64, Option<u32>),
 }
 
-/// The binds, in the order of their handles.
-#[derive(Drop)]
-pub struct BindList {
-    binds: Vec<Bind>,
-}
-
-impl Model for BindList {
-    ghost use Rattle.std.specs.Prelude.{List};
-    ghost use Rattle.certificate.specs.declared.plan.Bind.{Bind};
-
-    ghost Value = { List Bind };
-
-    ghost view = { λ b. b.binds.items };
-}
-
-impl BindList {
-    /// A list of these.
-    pub fn new(binds: Vec<Bind>) -> BindList
-        ensures { result ≡ binds.items }
+impl Place {
+    /// The number of its call.
+    pub fn number(self) -> u64
+        ensures { result ≡ call_of self }
     {
-        BindList { binds }
-    }
-
-    /// Its items.
-    pub fn as_slice(&self) -> &[Bind]
-        ensures { result.now ≡ self.now }
-    {
-        self.binds.as_slice()
-    }
-}
-
-/// The places of an era, in the serial order.
-#[derive(Drop)]
-pub struct PlaceList {
-    places: Vec<Place>,
-}
-
-impl Model for PlaceList {
-    ghost use Rattle.std.specs.Prelude.{List};
-    ghost use Rattle.certificate.specs.declared.plan.Place.{Place};
-
-    ghost Value = { List Place };
-
-    ghost view = { λ p. p.places.items };
-}
-
-impl PlaceList {
-    /// A list of these.
-    pub fn new(places: Vec<Place>) -> PlaceList
-        ensures { result ≡ places.items }
-    {
-        PlaceList { places }
-    }
-
-    /// Its items.
-    pub fn as_slice(&self) -> &[Place]
-        ensures { result.now ≡ self.now }
-    {
-        self.places.as_slice()
+        match self {
+            Place::Answered(number) | Place::Taken(number, _) => number,
+        }
     }
 }
 
@@ -89,48 +38,17 @@ impl PlaceList {
 #[derive(Drop)]
 pub struct EraPlan {
     /// The era's places, in the serial order.
-    pub places: PlaceList,
+    pub places: ItemList<Place>,
     /// How many of the places survived the crash that ended the era; the last era has none.
     pub cut: Option<u64>,
 }
 
-/// The eras, in order.
-#[derive(Drop)]
-pub struct EraPlanList {
-    eras: Vec<EraPlan>,
-}
-
-impl Model for EraPlanList {
-    ghost use Rattle.std.specs.Prelude.{List};
-    ghost use Rattle.certificate.specs.declared.plan.EraPlan.{EraPlan};
-
-    ghost Value = { List EraPlan };
-
-    ghost view = { λ e. e.eras.items };
-}
-
-impl EraPlanList {
-    /// A list of these.
-    pub fn new(eras: Vec<EraPlan>) -> EraPlanList
-        ensures { result ≡ eras.items }
-    {
-        EraPlanList { eras }
-    }
-
-    /// Its items.
-    pub fn as_slice(&self) -> &[EraPlan]
-        ensures { result.now ≡ self.now }
-    {
-        self.eras.as_slice()
-    }
-}
-
 /// A certificate, which is a claim: nothing in it is trusted.
 pub struct Certificate {
-    /// Which object each handle names.
-    pub binds: BindList,
+    /// Which object each handle names, in the order of the handles.
+    pub binds: ItemList<Bind>,
     /// The places and the cut of each era, in order.
-    pub eras: EraPlanList,
+    pub eras: ItemList<EraPlan>,
 }
 
 impl Drop for Certificate {

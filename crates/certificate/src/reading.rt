@@ -10,7 +10,8 @@ ghost use Rattle.certificate.specs.BadLine.{IsBadLine, FaultHolds};
 ghost use Rattle.certificate.specs.Draft.{TakesLine, AreBinds, ArePlaces, spelled_by};
 
 use crate::line::{Line, read_line};
-use crate::plan::{Bind, BindList, Certificate, EraPlan, EraPlanList, Place, PlaceList};
+use crate::plan::{Bind, Certificate, EraPlan, Place};
+use nfs3_types::ItemList;
 use std::alloc::{AllocError, Global};
 use std::{fmt, mem};
 use text_words::{behind, split_at_byte};
@@ -113,7 +114,7 @@ impl Draft {
     {
         let places = mem::replace(&mut self.places, Vec::new(alloc));
         self.eras.push(EraPlan {
-            places: PlaceList::new(places),
+            places: ItemList::new(places),
             cut: Some(kept),
         })?;
         Ok(Step::GoesOn)
@@ -146,12 +147,12 @@ impl Draft {
             places,
         } = self;
         eras.push(EraPlan {
-            places: PlaceList::new(places),
+            places: ItemList::new(places),
             cut: None,
         })?;
         Ok(Certificate {
-            binds: BindList::new(binds),
-            eras: EraPlanList::new(eras),
+            binds: ItemList::new(binds),
+            eras: ItemList::new(eras),
         })
     }
 }

@@ -3,20 +3,9 @@
 ghost use Rattle.std.specs.Prelude.{◌<◌, ◌^◌, length};
 
 use crate::arguments::{call_in, call_on, put_attributes, put_head};
-use nfs3_types::Procedure;
+use nfs3_types::{Procedure, StableHow};
 use std::alloc::{AllocError, Global};
 use xdr_records::{put_opaque, put_u32, put_u64};
-
-/// How far a WRITE has to have come when it is answered.
-#[derive(Clone, Copy)]
-pub enum Level {
-    /// UNSTABLE: nothing has to be on stable storage.
-    Unstable,
-    /// DATA_SYNC: the data have to be on stable storage.
-    DataSync,
-    /// FILE_SYNC: the data and the file's attributes have to be on stable storage.
-    FileSync,
-}
 
 /// How a CREATE treats a name that is present; with a size, or a verifier.
 #[derive(Clone, Copy)]
@@ -74,11 +63,11 @@ pub fn read(
 }
 
 /// The word of a level.
-fn level_word(level: Level) -> u32 {
+fn level_word(level: StableHow) -> u32 {
     match level {
-        Level::Unstable => 0,
-        Level::DataSync => 1,
-        Level::FileSync => 2,
+        StableHow::Unstable => 0,
+        StableHow::DataSync => 1,
+        StableHow::FileSync => 2,
     }
 }
 
@@ -88,7 +77,7 @@ pub fn write(
     xid: u32,
     object: u64,
     offset: u64,
-    level: Level,
+    level: StableHow,
     bytes: &[u8],
 ) -> Result<Vec<u8>, AllocError>
     requires { length bytes.now < 2 ^ 32 }

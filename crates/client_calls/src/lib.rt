@@ -11,5 +11,5 @@ pub use directories::{
     remove_directory, rename,
 };
 pub use files::{
-    Creation, Level, commit, create, get_attributes, plain_call, read, read_link, set_size, write,
+    Creation, commit, create, get_attributes, plain_call, read, read_link, set_size, write,
 };

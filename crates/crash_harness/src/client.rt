@@ -1,10 +1,10 @@
 //! A client of one lane.
 
 use client_calls::{
-    Creation, Level, commit, create, look_up, make_directory, read, remove, rename, write,
+    Creation, commit, create, look_up, make_directory, read, remove, rename, write,
 };
 use journal_server::{CallFault, OpenGate, Pass, Server, SimDevice};
-use plan_text::{Operation, PlanLevel, PlanName};
+use plan_text::{Operation, PlanName};
 use rpc_reader::{ReplyBody, read_reply};
 use std::alloc::Global;
 use std::sync::Wait;
@@ -43,14 +43,6 @@ fn found_object(results: &[u8]) -> Option<u64> {
     let length = reader.u32().ok()?;
     let number = reader.u64().ok()?;
     (status == 0 && length == 8).then_some(number)
-}
-
-fn level_of(level: PlanLevel) -> Level {
-    match level {
-        PlanLevel::Unstable => Level::Unstable,
-        PlanLevel::DataSync => Level::DataSync,
-        PlanLevel::FileSync => Level::FileSync,
-    }
 }
 
 impl Client {
@@ -145,10 +137,14 @@ impl Client {
         };
         let (alloc, xid) = (self.alloc, self.next_xid());
         match operation {
-            Operation::Write(_, offset, text, level) => {
-                let level = level_of(*level);
-                Ok(Some(write(alloc, xid, object, *offset, level, text.as_slice())?))
-            }
+            Operation::Write(_, offset, text, level) => Ok(Some(write(
+                alloc,
+                xid,
+                object,
+                *offset,
+                *level,
+                text.as_slice(),
+            )?)),
             Operation::Read(_, offset, count) => Ok(Some(read(
                 alloc, xid, object, *offset, *count,
             )?)),

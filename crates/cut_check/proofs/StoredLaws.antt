@@ -12,9 +12,9 @@ use Rattle.nfs3_types.specs.declared.replies.CommitSuccess.{CommitSuccess}
 use Rattle.nfs3_types.specs.declared.replies.Outcome.{Outcome}
 use Rattle.nfs3_types.specs.declared.procedures.Procedure.{Procedure}
 use Rattle.nfs3_types.specs.Procedures.{asked_for}
-use Rattle.nfs_history.specs.declared.history.Meaning.{Meaning}
-use Rattle.nfs_history.specs.declared.history.Meaning.TheVariants as meanings
-use Rattle.nfs_history.specs.declared.history.RecordedCall.{RecordedCall}
+use Rattle.nfs_history.specs.declared.recorded.Meaning.{Meaning}
+use Rattle.nfs_history.specs.declared.recorded.Meaning.TheVariants as meanings
+use Rattle.nfs_history.specs.declared.recorded.RecordedCall.{RecordedCall}
 use Rattle.nfs_history.specs.Success.{write_success, commit_success}
 use Rattle.nfs_history.specs.Storage.{StorageValue, write_storage, commit_storage, storage_as, storage_in, has_succeeded_as}
 use Rattle.nfs_history.specs.Precedence.{call_at}

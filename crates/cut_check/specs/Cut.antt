@@ -3,7 +3,7 @@
 -- stable storage survives a crash; cuts are those of Izraelevitz, Mendes and Scott 2016, with a prefix of the order where
 -- they have a consistent cut).
 use Rattle.std.specs.Prelude.{◌≡◌, ℕ, ◌<◌, List, length, Some}
-use Rattle.nfs_history.specs.declared.history.RecordedCall.{RecordedCall}
+use Rattle.nfs_history.specs.declared.recorded.RecordedCall.{RecordedCall}
 use Rattle.certificate.specs.declared.plan.EraPlan.{EraPlan}
 use Rattle.certificate.specs.Plan.{cut_of}
 use Rattle.tree_handles.specs.Binding.{Bindings}

@@ -4,9 +4,9 @@ use Rattle.std.specs.Prelude.{◌==◌, ◌||◌, Bool, List, Option, Some, None
 use Rattle.nfs3_types.specs.declared.procedures.Procedure.{Procedure}
 use Rattle.nfs3_types.specs.declared.procedures.Procedure.TheVariants.{Write, Commit}
 use Rattle.nfs3_types.specs.Procedures.{number, changes_the_tree, asked_for}
-use Rattle.nfs_history.specs.declared.history.RecordedCall.{RecordedCall}
-use Rattle.nfs_history.specs.declared.history.CallKind.{CallKind}
-use Rattle.nfs_history.specs.declared.history.CallKind.TheVariants.{Answered}
+use Rattle.nfs_history.specs.declared.recorded.RecordedCall.{RecordedCall}
+use Rattle.nfs_history.specs.declared.recorded.CallKind.{CallKind}
+use Rattle.nfs_history.specs.declared.recorded.CallKind.TheVariants.{Answered}
 use Rattle.certificate.specs.declared.plan.Place.{Place}
 use Rattle.cut_check.specs.Places.{answered_at}
 

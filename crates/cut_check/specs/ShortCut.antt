@@ -1,7 +1,7 @@
 -- Believed.
 -- The first cut that is short of a stable place (an order of this project's own; what is stable: RFC 1813, section 4.8).
 use Rattle.std.specs.Prelude.{◌≡◌, ℕ, ◌<◌, List, length, Some}
-use Rattle.nfs_history.specs.declared.history.RecordedCall.{RecordedCall}
+use Rattle.nfs_history.specs.declared.recorded.RecordedCall.{RecordedCall}
 use Rattle.certificate.specs.declared.plan.EraPlan.{EraPlan}
 use Rattle.certificate.specs.Plan.{cut_of}
 use Rattle.tree_handles.specs.Binding.{Bindings}

@@ -4,7 +4,7 @@
 use Rattle.std.specs.Prelude.{◌&&◌, ℕ, nat_lt, Bool, false, if◌then◌else◌, Option, Some, None, is_some, option_and_then}
 use Rattle.std.specs.Option.{option_map_or}
 use Rattle.nfs3_types.specs.declared.calls.StableHow.{StableHow}
-use Rattle.nfs_history.specs.declared.history.RecordedCall.{RecordedCall}
+use Rattle.nfs_history.specs.declared.recorded.RecordedCall.{RecordedCall}
 use Rattle.nfs_history.specs.Storage.{StorageValue, storage_in, has_succeeded}
 use Rattle.tree_handles.specs.Binding.{Bindings, object_of}
 use Rattle.cut_check.specs.declared.effect.Effect.{Effect}

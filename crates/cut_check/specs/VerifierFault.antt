@@ -1,7 +1,7 @@
 -- Believed.
 -- The first era whose write verifiers are at fault (an order of this project's own; verifiers: RFC 1813, section 3.3.7).
 use Rattle.std.specs.Prelude.{◌≡◌, ◌⊎◌, ℕ, ◌<◌, IsTrue, List, Some}
-use Rattle.nfs_history.specs.declared.history.RecordedCall.{RecordedCall}
+use Rattle.nfs_history.specs.declared.recorded.RecordedCall.{RecordedCall}
 use Rattle.certificate.specs.declared.plan.EraPlan.{EraPlan}
 use Rattle.cut_check.specs.Places.{era_at}
 use Rattle.cut_check.specs.Verifier.{Shows, ShowsTwo, loses_write}

@@ -1,7 +1,7 @@
 //! That there is one last stable place, and at most one first fault of a kind, with which a plan lacks the property. No code runs.
 
 ghost use Rattle.std.specs.Prelude.{◌≡◌, ℕ, List};
-ghost use Rattle.nfs_history.specs.declared.history.RecordedCall.{RecordedCall};
+ghost use Rattle.nfs_history.specs.declared.recorded.RecordedCall.{RecordedCall};
 ghost use Rattle.certificate.specs.declared.plan.EraPlan.{EraPlan};
 ghost use Rattle.tree_handles.specs.Binding.{Bindings};
 ghost use Rattle.cut_check.specs.declared.effect.Effect.{Effect};

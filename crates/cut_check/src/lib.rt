@@ -18,4 +18,4 @@ pub use fault::{CutFault, VerifierFault};
 pub use laws::{one_first_short_cut, one_first_verifier_fault, one_last_stable};
 pub use places::{bindings, bindings_of_plan};
 pub use stability::Stability;
-pub use verifier::{check_verifiers, check_verifiers_of_calls};
+pub use verifier::{check_verifiers, check_verifiers_of_calls, shown_verifier};

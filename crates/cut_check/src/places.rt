@@ -3,7 +3,7 @@
 ghost use Rattle.std.specs.Prelude.{◌≡◌, IfOk};
 ghost use Rattle.nfs_history.specs.Precedence.{call_at};
 ghost use Rattle.nfs_history.specs.Storage.{storage_value};
-ghost use Rattle.certificate.specs.Plan.{cut_of, call_of};
+ghost use Rattle.certificate.specs.Plan.{cut_of};
 ghost use Rattle.cut_check.specs.Places.{bindings_of, effect_at};
 ghost use Rattle.cut_check.specs.Stored.{effect_of_storage, effect_of_stored, effect_of_changing};
 ghost use Rattle.cut_check.specs.Procedures.{procedure_answered, procedure_at};
@@ -55,15 +55,6 @@ fn procedure_answered(kind: CallKind) -> Option<Procedure>
     match kind {
         CallKind::Answered(procedure, _) => Some(procedure),
         CallKind::Unanswered(_) | CallKind::Unjudged => None,
-    }
-}
-
-/// The number of the call at a place.
-pub fn number_at(place: Place) -> u64
-    ensures { result ≡ call_of place }
-{
-    match place {
-        Place::Answered(number) | Place::Taken(number, _) => number,
     }
 }
 
@@ -143,7 +134,7 @@ pub fn effect_at(
     let Some(procedure) = procedure_at(calls, place) else {
         return Ok(Effect::Nothing);
     };
-    let number = number_at(place);
+    let number = place.number();
     if may_show_verifier(procedure) {
         return effect_of_stored(alloc, calls, binds, number);
     }

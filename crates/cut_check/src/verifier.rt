@@ -5,16 +5,17 @@ ghost use Rattle.std.specs.List.{list_any};
 ghost use Rattle.cut_check.specs.declared.fault.VerifierFault.{VerifierFault};
 ghost use Rattle.nfs_history.specs.Storage.{storage_value};
 ghost use Rattle.cut_check.specs.Stored.{brought_bytes};
-ghost use Rattle.cut_check.specs.Verifier.{verifier_at, writes_bytes_at, loses_write, VerifiersAgree};
+ghost use Rattle.cut_check.specs.Verifier.{verifier_of, verifier_at, writes_bytes_at, loses_write, VerifiersAgree};
 ghost use Rattle.cut_check.specs.VerifierFault.{IsVerifierFault};
 ghost use Rattle.cut_check.specs.Shown.{IsShown, IsShownWith, AddsSeen, AddsShown, IsAtFaultWith};
 ghost use Rattle.cut_check.specs.FaultNamed.{HasNoVerifierFault};
 
 use crate::fault::VerifierFault;
-use crate::places::{cut_of, number_at, procedure_at};
+use crate::places::{cut_of, procedure_at};
 use crate::procedures::{may_show_verifier, may_write};
 use certificate::{Certificate, EraPlan, Place};
-use nfs_history::{History, LentCalls, StorageCall};
+use nfs_history::{History, LentCalls, StorageCall, commit_success, write_success};
+use nfs3_types::{NfsCall, Outcome};
 use std::alloc::{AllocError, Global};
 use std::collections::BTreeSet;
 
@@ -24,6 +25,23 @@ enum Shown {
     Nothing,
     One(u64),
     Several,
+}
+
+/// The write verifier that the reply to a call shows.
+pub fn shown_verifier(call: &NfsCall, outcome: &Outcome) -> Option<u64>
+    ensures { result ≡ verifier_of call.now outcome.now }
+{
+    match call {
+        NfsCall::Write(_write) => match write_success(outcome) {
+            Some(success) => Some(success.verifier.value),
+            None => None,
+        },
+        NfsCall::Commit(_commit) => match commit_success(outcome) {
+            Some(success) => Some(success.verifier.value),
+            None => None,
+        },
+        _ => None,
+    }
 }
 
 /// The verifier that a place shows. A call that can show none isn't read.
@@ -40,7 +58,7 @@ fn verifier_at(
     if !may_show_verifier(procedure) {
         return Ok(None);
     }
-    match calls.storage(alloc, number_at(place))? {
+    match calls.storage(alloc, place.number())? {
         Some(call) => Ok(Some(call.verifier)),
         None => Ok(None),
     }
@@ -67,7 +85,7 @@ fn writes_bytes_at(
     if !may_write(procedure) {
         return Ok(false);
     }
-    match calls.storage(alloc, number_at(place))? {
+    match calls.storage(alloc, place.number())? {
         Some(call) => Ok(wrote_bytes(&call)),
         None => Ok(false),
     }

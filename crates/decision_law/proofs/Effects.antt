@@ -9,9 +9,9 @@ use Rattle.nfs3_types.specs.declared.calls.StableHow.TheVariants as levels
 use Rattle.nfs3_types.specs.declared.calls.WriteArguments.{WriteArguments}
 use Rattle.nfs3_types.specs.declared.replies.WriteSuccess.{WriteSuccess}
 use Rattle.nfs3_types.specs.declared.replies.Outcome.{Outcome}
-use Rattle.nfs_history.specs.declared.history.Meaning.{Meaning}
-use Rattle.nfs_history.specs.declared.history.Meaning.TheVariants as meanings
-use Rattle.nfs_history.specs.declared.history.RecordedCall.{RecordedCall}
+use Rattle.nfs_history.specs.declared.recorded.Meaning.{Meaning}
+use Rattle.nfs_history.specs.declared.recorded.Meaning.TheVariants as meanings
+use Rattle.nfs_history.specs.declared.recorded.RecordedCall.{RecordedCall}
 use Rattle.nfs_history.specs.declared.knowing.KnownCalls.{KnownCalls}
 use Rattle.nfs_history.specs.Success.{write_success, commit_success}
 use Rattle.certificate.specs.declared.plan.Place.{Place}
@@ -22,7 +22,7 @@ use Rattle.tree_starts.specs.declared.profile.Profile.{Profile}
 use Rattle.tree_starts.specs.declared.profile.Profile.TheVariants.{Plain, Strict}
 use Rattle.tree_starts.specs.Start.{object_made}
 use Rattle.tree_nodes.specs.Tree.{Tree, entry_of}
-use Rattle.tree_nodes.proofs.Chains.{chained}
+use Rattle.tree_nodes.proofs.Chains.{chained, both_pass}
 use Rattle.tree_handles.specs.Binding.{Bindings, object_of}
 use Rattle.tree_handles.specs.Live.{live_entry, as_file, file_of}
 use Rattle.file_tree.specs.Strict.{judged}
@@ -36,7 +36,6 @@ use Rattle.cut_check.specs.Places.{object_written, answered_with, answered_at, e
 use Rattle.cut_check.specs.Verifier.{verifier_of, writes_bytes, verifier_at, writes_bytes_at}
 use Rattle.decision_law.specs.NeverLost.{written, IsAnswered}
 use Rattle.decision_law.specs.Machine.{MayComeOut, Changes}
-use Rattle.decision_law.proofs.Placed.{and_parts}
 
 -- ---- a lasting call lasts whatever object its handle names
 
@@ -85,7 +84,7 @@ module _ (known : KnownCalls) where
       → answered_at known.calls place ≡ Some (call, outcome)
   answered_so (Answered n) recorded call outcome at a may =
       ap (option_and_then (λ r. answered_with r.meaning r.outcome)) a.stands ∙ answer_is recorded.meaning recorded.outcome call outcome a.judged a.answer
-  answered_so (Taken n count) recorded call outcome at a may = absurd (some_or_none recorded.«end» at a.ended (and_parts (is_none recorded.«end») (may_take recorded.meaning count) may).0)
+  answered_so (Taken n count) recorded call outcome at a may = absurd (some_or_none recorded.«end» at a.ended (both_pass (is_none recorded.«end») (may_take recorded.meaning count) may).0)
 
   module _ (binds : Bindings) (place : Place) (recorded : RecordedCall) (call : NfsCall) (outcome : Outcome) (at : ℕ) (a : IsAnswered known (call_of place) recorded call outcome at)
       (may : may_place place recorded ≡ true) where

@@ -6,9 +6,9 @@ use Rattle.nfs3_types.specs.declared.calls.NfsCall.{NfsCall}
 use Rattle.nfs3_types.specs.declared.calls.NfsCall.TheVariants as calls
 use Rattle.nfs3_types.specs.declared.replies.Outcome.{Outcome}
 use Rattle.nfs3_types.specs.declared.replies.Outcome.TheVariants as outcomes
-use Rattle.nfs_history.specs.declared.history.Meaning.{Meaning}
-use Rattle.nfs_history.specs.declared.history.Meaning.TheVariants as meanings
-use Rattle.nfs_history.specs.declared.history.RecordedCall.{RecordedCall}
+use Rattle.nfs_history.specs.declared.recorded.Meaning.{Meaning}
+use Rattle.nfs_history.specs.declared.recorded.Meaning.TheVariants as meanings
+use Rattle.nfs_history.specs.declared.recorded.RecordedCall.{RecordedCall}
 use Rattle.nfs_history.specs.declared.knowing.KnownCalls.{KnownCalls}
 use Rattle.nfs_history.specs.Precedence.{call_at}
 use Rattle.certificate.specs.declared.plan.Place.{Place}
@@ -19,10 +19,7 @@ use Rattle.witness_check.specs.Run.{step_with, step_of_call, step_at}
 use Rattle.decision_law.specs.Times.{may_stand, may_be_taken, is_of_call}
 use Rattle.decision_law.specs.NeverLost.{IsAnswered, IsNeverLost}
 use Rattle.decision_law.specs.Machine.{MayComeOut}
-
-pub and_parts : (a b : Bool) → (a && b) ≡ true → (a ≡ true) × (b ≡ true)
-and_parts true b is = (refl, is)
-and_parts false b is = absurd cc
+use Rattle.tree_nodes.proofs.Chains.{both_pass}
 
 or_true : (b : Bool) → (b || true) ≡ true
 or_true true = refl
@@ -67,7 +64,7 @@ some_count (meanings.Judged (calls.Commit a)) count is = absurd cc
 pub stands_placed : (place : Place) (recorded : RecordedCall) → may_place place recorded ≡ true → may_stand recorded ≡ true
 stands_placed (Answered n) recorded may = or_from (is_wanted recorded) (may_be_taken recorded) (inl may)
 stands_placed (Taken n count) recorded may =
-    let p = and_parts (is_none recorded.«end») (may_take recorded.meaning count) may in
+    let p = both_pass (is_none recorded.«end») (may_take recorded.meaning count) may in
     or_from (is_wanted recorded) (may_be_taken recorded) (inr (ap (λ b. b && (may_take recorded.meaning None || may_take recorded.meaning (Some 0))) p.0 ∙ some_count recorded.meaning count p.1))
 
 -- ---- the step at a place
@@ -106,7 +103,7 @@ step_placed calls (Answered n) recorded stands may =
           ∙ ap (option_and_then (step_with n (meanings.Judged p.0))) p.3;
     }
 step_placed calls (Taken n count) recorded stands may =
-    let ends = and_parts (is_none recorded.«end») (may_take recorded.meaning count) may in
+    let ends = both_pass (is_none recorded.«end») (may_take recorded.meaning count) may in
     let p = taken_parts recorded.meaning count ends.1 in
     record {
       call = p.0;

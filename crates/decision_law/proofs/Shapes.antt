@@ -5,7 +5,7 @@ use Rattle.std.specs.List.{AllByRecursion}
 use Rattle.std.proofs.lemmas.Bool.{eqb-true, false≢true}
 use Rattle.std.proofs.lemmas.List.{take-append-drop, map-append}
 use Rattle.std.proofs.lemmas.List.Folds.{list_any-append}
-use Rattle.nfs_history.specs.declared.history.RecordedCall.{RecordedCall}
+use Rattle.nfs_history.specs.declared.recorded.RecordedCall.{RecordedCall}
 use Rattle.nfs_history.specs.declared.knowing.KnownCalls.{KnownCalls}
 use Rattle.nfs_history.specs.Precedence as precedence
 use Rattle.nfs_history.specs.Precedence.{call_at}
@@ -25,8 +25,9 @@ use Rattle.decision_law.specs.Times.{AreTimed, may_stand, is_of_call, era_ended,
 use Rattle.decision_law.specs.NeverLost.{IsNeverLost, Hints, AreRight}
 use Rattle.decision_law.specs.Plans.{cut_era, whole_era, eras_of_plan}
 use Rattle.decision_law.proofs.Numbered.{passing, wanted_end, of_call, its_era}
-use Rattle.decision_law.proofs.Placed.{and_parts, is_call_number, stands_placed, wanted_call}
+use Rattle.decision_law.proofs.Placed.{is_call_number, stands_placed, wanted_call}
 use Rattle.decision_law.proofs.Runs.{HasRun}
+use Rattle.tree_nodes.proofs.Chains.{both_pass}
 
 -- ---- places as numbers
 
@@ -119,12 +120,12 @@ later_eras e (era ∷ eras) = joined (λ p. e ≤ p.era) (map (at_era e) era.pla
       here e (place ∷ places) = (omega arith, here e places)
 
 -- what passes two tests
-both_pass : (t u : RecordedCall → Bool) (o : Option RecordedCall) → passes t o ≡ true → passes u o ≡ true → (recorded : RecordedCall) × (o ≡ Some recorded) × (t recorded ≡ true) × (u recorded ≡ true)
-both_pass t u None first second = absurd cc
-both_pass t u (Some recorded) first second = (recorded, refl, first, second)
+passes_both : (t u : RecordedCall → Bool) (o : Option RecordedCall) → passes t o ≡ true → passes u o ≡ true → (recorded : RecordedCall) × (o ≡ Some recorded) × (t recorded ≡ true) × (u recorded ≡ true)
+passes_both t u None first second = absurd cc
+passes_both t u (Some recorded) first second = (recorded, refl, first, second)
 
 same_era : (a e : ℕ) → (nat_le a e && nat_le e a) ≡ true → a ≡ e
-same_era a e is = let p = and_parts (nat_le a e) (nat_le e a) is in grind (arith, p)
+same_era a e is = let p = both_pass (nat_le a e) (nat_le e a) is in grind (arith, p)
 
 cut_fits : (o : Option ℕ) (many : ℕ) → IfSome o (λ kept. kept ≤ many) → unwrap_or o many ≤ many
 cut_fits None many fits = omega arith
@@ -151,7 +152,7 @@ module _ (known : KnownCalls) (start : ℕ → ℕ) (timed : AreTimed known star
 
   placed_at : (e : ℕ) (place : Place) → IsTrue (is_of_era known.calls (at_era e place)) → IsTrue (is_placeable known.calls (at_era e place)) → IsPlaced e place
   placed_at e place of_era may =
-      let p = both_pass (λ call. nat_le call.era e && nat_le e call.era) (may_place place) (call_at known.calls (call_of place)) of_era may in
+      let p = passes_both (λ call. nat_le call.era e && nat_le e call.era) (may_place place) (call_at known.calls (call_of place)) of_era may in
       (p.0, p.1, same_era p.0.era e p.2, p.3)
 
   pub all_placed : (e : ℕ) (era : EraPlan) (eras : List EraPlan) → Facts e (era ∷ eras) → AllByRecursion (IsPlaced e) era.places

@@ -1,6 +1,6 @@
 -- The spans of a history's calls and crashes are those of its times.
 use Rattle.std.proofs.Common.{◌≡◌, inl, inr, ℕ, ◌+◌, ◌<◌, ◌≤◌, nat_le, Bool, true, false, cond, IsTrue, List, length, Some, None, Contains, refl, sym, ap, subst, ◌∙◌, arith}
-use Rattle.nfs_history.specs.declared.history.RecordedCall.{RecordedCall}
+use Rattle.nfs_history.specs.declared.recorded.RecordedCall.{RecordedCall}
 use Rattle.nfs_history.specs.declared.knowing.KnownCalls.{KnownCalls}
 use Rattle.nfs_history.specs.Precedence.{call_at}
 use Rattle.order_check.specs.Places.{is_wanted, passes}

@@ -13,8 +13,8 @@ use Rattle.nfs3_types.specs.declared.replies.WriteSuccess.{WriteSuccess}
 use Rattle.nfs3_types.specs.declared.replies.CommitSuccess.{CommitSuccess}
 use Rattle.nfs3_types.specs.declared.replies.Outcome.{Outcome}
 use Rattle.nfs3_types.specs.declared.replies.Outcome.TheVariants.{Received}
-use Rattle.nfs_history.specs.declared.history.Meaning.TheVariants as meanings
-use Rattle.nfs_history.specs.declared.history.RecordedCall.{RecordedCall}
+use Rattle.nfs_history.specs.declared.recorded.Meaning.TheVariants as meanings
+use Rattle.nfs_history.specs.declared.recorded.RecordedCall.{RecordedCall}
 use Rattle.nfs_history.specs.declared.knowing.KnownCalls.{KnownCalls}
 use Rattle.nfs_history.specs.Precedence.{call_at}
 use Rattle.cut_check.specs.declared.effect.Effect.TheVariants.{Lasting}

@@ -20,6 +20,7 @@ use Rattle.decision_steps.specs.Bound.{bound_behind, bound_where, with_handle, w
 use Rattle.decision_steps.proofs.Parts.{first_passes, second_passes}
 use Rattle.decision_steps.proofs.Replies.{given_same}
 use Rattle.decision_steps.proofs.Steps.{SeeAlike, under_same, under_heeds}
+use Rattle.tree_handles.proofs.HandleOf.{object_is}
 
 -- ---- one pair more
 
@@ -27,9 +28,6 @@ use Rattle.decision_steps.proofs.Steps.{SeeAlike, under_same, under_heeds}
 pub bound_is : (o : Option ℕ) (object : ℕ) → option_map_or (λ named. named == object) o false ≡ true → o ≡ Some object
 bound_is None object e = absurd (cc)
 bound_is (Some named) object e = ap Some (eqb-true named object e)
-
-pub is_bound_of : (binds : Bindings) (handle : List ℕ) (object : ℕ) → object_of binds handle ≡ Some object → is_bound binds handle object ≡ true
-is_bound_of binds handle object e = ap (λ o. option_map_or (λ named. named == object) o false) e ∙ eq-eqb object object refl
 
 lookup-behind : (other handle : List ℕ) (object : ℕ) (pairs : List (List ℕ × ℕ))
     → lookup (same_bytes other) (pairs ++ (handle, object) ∷ []) ≡ first_of (lookup (same_bytes other) pairs) (cond (same_bytes other handle) (Some object) None)
@@ -105,7 +103,7 @@ all_taken known plan (pair ∷ pairs) agrees bound =
       is = ap (option_and_then (λ more. with_handles more pairs)) one.1 ∙ rest.is;
       agrees = rest.agrees;
       grows = λ other named e. rest.grows other named (one.3 other named e);
-      bound = ap (λ b. b && are_bound rest.more pairs) (is_bound_of rest.more pair.0 pair.1 (rest.grows pair.0 pair.1 one.4)) ∙ rest.bound;
+      bound = ap (λ b. b && are_bound rest.more pairs) (object_is rest.more pair.0 pair.1 (rest.grows pair.0 pair.1 one.4)) ∙ rest.bound;
     }
 
 -- ---- a call that a plan goes on by

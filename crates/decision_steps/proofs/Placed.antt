@@ -18,7 +18,8 @@ use Rattle.decision_steps.specs.Placing.{placed_in, PlansAreCovered, StatesAreOf
 use Rattle.decision_steps.proofs.Parts.{first_passes, second_passes}
 use Rattle.decision_steps.proofs.Replies.{given_same}
 use Rattle.decision_steps.proofs.Steps.{under_same}
-use Rattle.decision_steps.proofs.Covering.{names_more, names_it, bound_is, is_bound_of, all_alike, follows}
+use Rattle.decision_steps.proofs.Covering.{names_more, names_it, bound_is, all_alike, follows}
+use Rattle.tree_handles.proofs.HandleOf.{object_is}
 
 -- what binding a pair comes to
 one_bound : (known more : Bindings) (pair : List ℕ × ℕ) → with_handle known pair ≡ Some more → AgreesWith known more × (object_of more pair.0 ≡ Some pair.1)
@@ -47,7 +48,7 @@ all_bound known more (pair ∷ pairs) e =
     let one = one_bound known found.0 pair found.1 in
     let rest = all_bound found.0 more pairs found.2 in (
       (λ handle named there. rest.0 handle named (one.0 handle named there)),
-      ap (λ b. b && are_bound more pairs) (is_bound_of more pair.0 pair.1 (rest.0 pair.0 pair.1 one.1)) ∙ rest.1,
+      ap (λ b. b && are_bound more pairs) (object_is more pair.0 pair.1 (rest.0 pair.0 pair.1 one.1)) ∙ rest.1,
     )
 
 -- bindings that agree have all bound that these have
@@ -55,7 +56,7 @@ bound_too : (more plan : Bindings) (pairs : List (List ℕ × ℕ)) → AgreesWi
 bound_too more plan [] agrees bound = refl
 bound_too more plan (pair ∷ pairs) agrees bound =
     let here = first_passes (is_bound more pair.0 pair.1) (are_bound more pairs) bound in
-    ap (λ b. b && are_bound plan pairs) (is_bound_of plan pair.0 pair.1 (agrees pair.0 pair.1 (bound_is (object_of more pair.0) pair.1 here)))
+    ap (λ b. b && are_bound plan pairs) (object_is plan pair.0 pair.1 (agrees pair.0 pair.1 (bound_is (object_of more pair.0) pair.1 here)))
     ∙ bound_too more plan pairs agrees (second_passes (is_bound more pair.0 pair.1) (are_bound more pairs) bound)
 
 -- so has one whose pairs are among them

@@ -15,7 +15,7 @@ fn is_known(binds: &Binds, handle: &FileHandle) -> bool
 }
 
 /// Whether each handle is bound that a call names.
-pub(crate) fn knows_handles(binds: &Binds, call: &NfsCall) -> bool
+pub fn knows_handles(binds: &Binds, call: &NfsCall) -> bool
     ensures { result ≡ knows_handles binds.now call.now }
 {
     if !is_known(binds, first_handle(call)) {
@@ -28,7 +28,7 @@ pub(crate) fn knows_handles(binds: &Binds, call: &NfsCall) -> bool
 }
 
 /// Whether an outcome is a reply that is a failure.
-pub(crate) fn is_failure(outcome: &Outcome) -> bool
+pub fn is_failure(outcome: &Outcome) -> bool
     ensures { result ≡ is_failure outcome.now }
 {
     match outcome {

@@ -12,6 +12,7 @@ mod state;
 #[cfg(test)]
 mod tests;
 
+pub use asked::{is_failure, knows_handles};
 pub use binding::BoundHandle;
 pub use fault::PlaceFault;
 pub use law::a_state_stands_for_its_plans;

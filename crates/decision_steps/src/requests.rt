@@ -4,7 +4,7 @@ ghost use Rattle.std.specs.Prelude.{◌<◌, ◌^◌, length};
 
 use nfs3_types::{
     Answer, CreateArguments, CreateMode, CreateSuccess, Data, DirectoryEntryPlus, DirectoryName,
-    Entries, Failure, FileHandle, Held, LookupSuccess, MkDirArguments, Name, NfsCall, NfsReply,
+    Failure, FileHandle, Held, ItemList, LookupSuccess, MkDirArguments, Name, NfsCall, NfsReply,
     Optional, Outcome, ReadArguments, ReadDirPlusArguments, ReadDirPlusSuccess, ReadSuccess,
     RenameArguments, RenameWcc, SetAttributes, SetTime, StableHow, Verifier, WccData,
     WriteArguments, WriteSuccess,
@@ -212,7 +212,7 @@ fn listed(alloc: Global, a: u8, b: u8) -> Result<NfsReply, AllocError> {
     let success = ReadDirPlusSuccess {
         attributes: Optional::none(),
         verifier: Verifier { value: 0 },
-        entries: Entries::new(entries),
+        entries: ItemList::new(entries),
         eof: true,
     };
     Ok(NfsReply::ReadDirPlus(Answer::Done(Held::new(alloc, success)?)))

@@ -1,14 +1,13 @@
 -- what stands of an object once a node is put at a path, or a path has none
-use Rattle.std.proofs.Common.{◌≡◌, ℕ, ◌⊎◌, inl, inr, Bool, true, false, cond, Option, Some, None, refl, sym, ap, ◌∙◌, eq-eqb, eqb-true}
+use Rattle.std.proofs.Common.{◌≡◌, ℕ, ◌⊎◌, inl, inr, true, cond, Option, Some, None, refl, sym, ap, ◌∙◌, eq-eqb, eqb-true}
 use Rattle.std.specs.Prelude.{◌==◌}
-use Rattle.std.specs.Ordering.{eq_by_cmp}
 use Rattle.std.specs.FinMap as map
 use Rattle.tree_nodes.specs.declared.node.Node.{Node}
-use Rattle.tree_nodes.specs.Tree.{Names, Tree, entry_of, path_cmp}
+use Rattle.tree_nodes.specs.Tree.{Names, Tree, entry_of}
 use Rattle.tree_nodes.proofs.Entries.{path_total}
 use Rattle.tree_nodes.proofs.Found.{found_stands, found_passes, some_found, tied, untied}
 use Rattle.tree_nodes.proofs.Chains.{same_some, value_of, empty_or, absent}
-use Rattle.tree_nodes.proofs.Soundness.{same_path}
+use Rattle.file_tree.proofs.StartStep.{is_or_isnt, put_there}
 
 -- an object stands at one path at most
 abbrev pub Once : Tree → Type 0
@@ -42,17 +41,6 @@ found_nowhere tree k nowhere = empty_or _ (λ there. go (value_of _ there)) wher
 
 pub isnt_found : (tree : Tree) (k : ℕ) → entry_of tree k ≡ None → (p : Names) (x : Node) → map.get tree p ≡ Some x → x.object ≡ k → ⊥
 isnt_found tree k none p x there is = absent _ none (some_found tree (λ e. e.1.object == k) p x there (eq-eqb x.object k is))
-
-pub is_or_isnt : (p q : Names) → (p ≡ q) ⊎ (p ≡ q → ⊥)
-is_or_isnt p q = go (same_path p q) where
-  go : (eq_by_cmp path_cmp p q ≡ true) × (p ≡ q) ⊎ (eq_by_cmp path_cmp p q ≡ false) → (p ≡ q) ⊎ (p ≡ q → ⊥)
-  go (inl tie) = inl tie.1
-  go (inr other) = inr (λ e. isnt (tied p q e) other) where
-    isnt : {b : Bool} → b ≡ true → b ≡ false → ⊥
-    isnt e f = cc
-
-pub put_there : (tree : Tree) (k : Names) (v : Node) (p : Names) → p ≡ k → map.get (map.insert tree k v) p ≡ Some v
-put_there tree k v p e = map.get-insert path_total tree k v p ∙ ap (λ b. cond b (Some v) (map.get tree p)) (tied p k e)
 
 pub put_elsewhere : (tree : Tree) (k : Names) (v : Node) (p : Names) → (p ≡ k → ⊥) → map.get (map.insert tree k v) p ≡ map.get tree p
 put_elsewhere tree k v p other = map.get-insert path_total tree k v p ∙ ap (λ b. cond b (Some v) (map.get tree p)) (untied p k other)

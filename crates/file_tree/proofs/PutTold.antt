@@ -22,8 +22,9 @@ use Rattle.file_tree.specs.Change.Change.{Put}
 use Rattle.file_tree.specs.Planning.{Makes, Fills}
 use Rattle.file_tree.specs.Strict.{told_of, told_at}
 use Rattle.file_tree.specs.Success.{changed}
-use Rattle.file_tree.proofs.AfterPut.{stands, numbered, put_there, put_others}
+use Rattle.file_tree.proofs.AfterPut.{stands, numbered, put_others}
 use Rattle.file_tree.proofs.ToldAfter.{made_unused, made_free, file_only, file_over}
+use Rattle.file_tree.proofs.StartStep.{put_there}
 
 -- a plain name is neither `.` nor `..`, and leads to what stands there
 plain_parts : (a b c : Bool) → not (a || b || c) ≡ true → (b ≡ false) × (c ≡ false)

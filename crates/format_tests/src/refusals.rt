@@ -1,8 +1,8 @@
 //! What can't be written is refused by name.
 
-use certificate::{Bind, Certificate, CertificateFault, EraPlan, PlaceList};
+use certificate::{Bind, Certificate, CertificateFault, EraPlan};
 use history_file::{WriteFault, write_history};
-use nfs3_types::FileHandle;
+use nfs3_types::{FileHandle, ItemList};
 use std::alloc::{AllocError, Global};
 use std::test::Fail;
 
@@ -30,7 +30,7 @@ fn eras(alloc: Global, cuts: &[Option<u64>]) -> Result<Vec<EraPlan>, AllocError>
     let mut eras = Vec::new(alloc);
     for cut in cuts {
         eras.push(EraPlan {
-            places: PlaceList::new(Vec::new(alloc)),
+            places: ItemList::new(Vec::new(alloc)),
             cut: *cut,
         })?;
     }

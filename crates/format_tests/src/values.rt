@@ -1,7 +1,7 @@
 //! What the clauses don't say: that the calls succeed with memory.
 
 use nfs3_types::{
-    Answer, DirectoryEntryPlus, DirectoryName, Entries, FileHandle, Held, Name, NfsCall, NfsReply,
+    Answer, DirectoryEntryPlus, DirectoryName, FileHandle, Held, ItemList, Name, NfsCall, NfsReply,
     Optional, Outcome, Procedure, ReadDirPlusSuccess, Verifier,
 };
 use std::alloc::{AllocError, Global};
@@ -28,7 +28,7 @@ fn listed(alloc: Global, cookie: u64) -> Result<Outcome, Fail> {
     let success = ReadDirPlusSuccess {
         attributes: Optional::none(),
         verifier: Verifier { value: 1 },
-        entries: Entries::new(entries),
+        entries: ItemList::new(entries),
         eof: true,
     };
     let answer = Answer::Done(Held::new(alloc, success)?);

@@ -7,7 +7,7 @@ use Rattle.nfs3_types.specs.declared.status.Failure.{Failure}
 use Rattle.nfs3_types.specs.declared.replies.Outcome.{Outcome}
 use Rattle.nfs3_types.specs.declared.replies.Outcome.TheVariants as outcomes
 use Rattle.nfs3_types.specs.Procedures.{failure_in}
-use Rattle.nfs_history.specs.declared.history.RecordedCall.{RecordedCall}
+use Rattle.nfs_history.specs.declared.recorded.RecordedCall.{RecordedCall}
 use Rattle.order_check.specs.Places as places
 use Rattle.tree_answers.specs.Failure as failures
 use Rattle.history_report.specs.declared.counting.HistoryNumbers.{HistoryNumbers}

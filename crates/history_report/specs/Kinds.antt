@@ -4,8 +4,8 @@
 use Rattle.std.specs.Prelude.{ℕ, ◌&&◌, not, Bool, true, false, List, length, drop, count_by, sum_by, is_none}
 use Rattle.std.specs.Option.{option_map_or}
 use Rattle.nfs3_types.specs.Procedures.{number, changes_the_tree}
-use Rattle.nfs_history.specs.declared.history.CallKind.{CallKind}
-use Rattle.nfs_history.specs.declared.history.CallKind.TheVariants as kinds
+use Rattle.nfs_history.specs.declared.recorded.CallKind.{CallKind}
+use Rattle.nfs_history.specs.declared.recorded.CallKind.TheVariants as kinds
 use Rattle.nfs_history.specs.Reread.{item_at}
 use Rattle.certificate.specs.declared.plan.Place.{Place}
 use Rattle.certificate.specs.declared.plan.Place.TheVariants.{Answered, Taken}

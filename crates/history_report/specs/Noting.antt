@@ -1,7 +1,7 @@
 -- For the prover.
 -- A report of calls with one more call: what the code's private functions say to the prover.
 use Rattle.std.specs.Prelude.{◌+◌, ◌<◌, ◌^◌, not, if◌then◌else◌}
-use Rattle.nfs_history.specs.declared.history.CallKind.{CallKind}
+use Rattle.nfs_history.specs.declared.recorded.CallKind.{CallKind}
 use Rattle.history_report.specs.declared.counting.HistoryNumbers.{HistoryNumbers}
 use Rattle.history_report.specs.Kinds.{is_judged_kind, is_answered_kind, is_excused_kind}
 

@@ -1,7 +1,7 @@
 //! What tells what a call is for a plan: the call, or its kind alone.
 
 ghost use Rattle.std.specs.Prelude.{◌≡◌};
-ghost use Rattle.nfs_history.specs.declared.history.CallKind.{CallKind};
+ghost use Rattle.nfs_history.specs.declared.recorded.CallKind.{CallKind};
 ghost use Rattle.nfs_history.specs.Reread.{call_kind};
 
 use nfs_history::{CallKind, RecordedCall};

@@ -32,6 +32,7 @@ use Rattle.journal.specs.Exactly.{IsOnly, MeansNothing, Exactly, ExactlySeen}
 use Rattle.journal.specs.Journal.{journal_record, record_text, RecordFits, IsChange, IsJournalRecord}
 use Rattle.journal.specs.SpelledRecord.{record_spelled}
 use Rattle.journal.specs.Parts.{asks_change, AsksChange, IsAsked, AreResults, IsSuccess, results_to}
+use Rattle.tree_nodes.proofs.Chains.{both_pass, differ, same_some}
 
 same_ok : {A E : Type 0} (x y : A) → ◌≡◌ {A = Result A E} (Ok x) (Ok y) → x ≡ y
 same_ok x y e = cc
@@ -102,14 +103,6 @@ no_reply procedure bytes =
 
 -- ---- a call's head
 
-both_pass : (a b : Bool) → (a && b) ≡ true → (a ≡ true) × (b ≡ true)
-both_pass true b e = (refl, e)
-both_pass false b e = absurd (cc)
-
-differ : (b : Bool) → b ≡ true → b ≡ false → ⊥
-differ true e f = absurd (cc)
-differ false e f = absurd (cc)
-
 either_of : (a b : Bool) → (a || b) ≡ true → (a ≡ true) ⊎ (b ≡ true)
 either_of true b e = inl refl
 either_of false b e = inr e
@@ -168,9 +161,6 @@ module _ (message : List ℕ) (r : Result CallHead RpcFault) (found : IfOk r (λ
 
 -- ---- the results in a reply
 
-same_some : {A : Type 0} (x y : A) → Some x ≡ Some y → x ≡ y
-same_some x y e = cc
-
 none_some : {A : Type 0} (x : A) → ◌≡◌ {A = Option A} None (Some x) → ⊥
 none_some x e = absurd (cc)
 
@@ -211,16 +201,16 @@ module _ (xid : ℕ) (message : List ℕ) (r : Result ReplyHead RpcFault) (found
 
 -- ---- a change
 
-isnt_eq : (n m : ℕ) → n ≢ m → not (n == m) ≡ true
+pub isnt_eq : (n m : ℕ) → n ≢ m → not (n == m) ≡ true
 isnt_eq n m other = go (n == m) refl where
   go : (b : Bool) → (n == m) ≡ b → not b ≡ true
   go true same = absurd (other (eqb-true n m same))
   go false apart = refl
 
-eq_isnt : (n m : ℕ) → not (n == m) ≡ true → n ≢ m
+pub eq_isnt : (n m : ℕ) → not (n == m) ≡ true → n ≢ m
 eq_isnt n m e same = differ (not (n == m)) e (ap not (eq-eqb n m same))
 
-all_pass : (a b c d : Bool) → a ≡ true → b ≡ true → c ≡ true → d ≡ true → (a && b && c && d) ≡ true
+pub all_pass : (a b c d : Bool) → a ≡ true → b ≡ true → c ≡ true → d ≡ true → (a && b && c && d) ≡ true
 all_pass a b c d e f g h = λ i. e i && f i && g i && h i
 
 module _ (call reply : List ℕ) where

@@ -1,7 +1,7 @@
 -- what passes tell of a history depends on its calls and events alone
 use Rattle.std.proofs.Common.{◌≡◌, ◌⊎◌, ℕ, List, Some, inl, inr, refl, sym, ap, subst, ◌∙◌}
 use Rattle.std.specs.Prelude.{is_some, count_by, IsTrue, Any}
-use Rattle.nfs_history.specs.declared.history.RecordedCall.{RecordedCall}
+use Rattle.nfs_history.specs.declared.recorded.RecordedCall.{RecordedCall}
 use Rattle.nfs_history.specs.HistoryValue.{HistoryValue, CallsValue}
 use Rattle.nfs_history.specs.Precedence.{call_at}
 use Rattle.server_passes.specs.PassValue.{ExchangeValue, PassValue}

@@ -5,8 +5,8 @@
 mod attributes;
 mod bytes;
 mod calls;
-mod entries;
 mod held;
+mod item_list;
 mod procedures;
 mod replies;
 mod short;
@@ -22,8 +22,8 @@ pub use calls::{
     ReadArguments, ReadDirArguments, ReadDirPlusArguments, RenameArguments, SetAttrArguments,
     StableHow, SymLinkArguments, WriteArguments,
 };
-pub use entries::Entries;
 pub use held::{Held, Optional};
+pub use item_list::ItemList;
 pub use procedures::{NFS_PROGRAM, NFS_VERSION, Procedure};
 pub use replies::{
     Answer, CommitSuccess, CreateSuccess, DirectoryEntry, DirectoryEntryPlus, LookupSuccess,

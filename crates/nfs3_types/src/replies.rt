@@ -5,8 +5,8 @@ ghost use Rattle.std.specs.Prelude.{◌≡◌, IfOk};
 use crate::attributes::{FileAttributes, Verifier, WccData};
 use crate::bytes::{Data, FileHandle, LinkText, Name};
 use crate::calls::StableHow;
-use crate::entries::Entries;
 use crate::held::{Held, Optional};
+use crate::item_list::ItemList;
 use crate::status::Failure;
 use std::alloc::AllocError;
 
@@ -116,7 +116,7 @@ pub struct ReadDirSuccess {
     /// `cookieverf`: goes with the cookies of the entries.
     pub verifier: Verifier,
     /// `entries` of `dirlist3`, in the order of the reply.
-    pub entries: Entries<DirectoryEntry>,
+    pub entries: ItemList<DirectoryEntry>,
     /// `eof` of `dirlist3`: whether the list reaches the end of the directory.
     pub eof: bool,
 }
@@ -172,7 +172,7 @@ pub struct ReadDirPlusSuccess {
     /// `cookieverf`: goes with the cookies of the entries.
     pub verifier: Verifier,
     /// `entries` of `dirlistplus3`, in the order of the reply.
-    pub entries: Entries<DirectoryEntryPlus>,
+    pub entries: ItemList<DirectoryEntryPlus>,
     /// `eof` of `dirlistplus3`: whether the list reaches the end of the directory.
     pub eof: bool,
 }

@@ -4,7 +4,7 @@ ghost use Rattle.std.specs.Prelude.{◌≡◌};
 
 use crate::fault::{Kind, MessageFault};
 use crate::value::XdrValue;
-use nfs3_types::Entries;
+use nfs3_types::ItemList;
 use std::alloc::{AllocError, Global};
 use xdr_records::{Reader, put_flag};
 
@@ -18,7 +18,7 @@ fn short(reader: &Reader<'_>) -> MessageFault
     }
 }
 
-impl<E: XdrValue> XdrValue for Entries<E> {
+impl<E: XdrValue> XdrValue for ItemList<E> {
     ghost use Rattle.std.specs.List.{AllByRecursion};
     ghost use Rattle.xdr_records.specs.Texts.{list_text};
     ghost use Rattle.nfs3_values.specs.Bytes.{entries};
@@ -31,12 +31,12 @@ impl<E: XdrValue> XdrValue for Entries<E> {
     ghost fits = { λ listed. AllByRecursion E.fits listed };
 
     #[tactic(auto, unfolding(crate::specs::Bytes::entries))]
-    fn read(alloc: Global, reader: &mut Reader<'_>) -> Result<Entries<E>, MessageFault> {
+    fn read(alloc: Global, reader: &mut Reader<'_>) -> Result<ItemList<E>, MessageFault> {
         let mut listed = Vec::new(alloc);
         let count = reader.left();
         for index in 0..count {
             if !bool::read(alloc, reader)? {
-                return Ok(Entries::new(listed));
+                return Ok(ItemList::new(listed));
             }
             listed.push(E::read(alloc, reader)?)?;
         }

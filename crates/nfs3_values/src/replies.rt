@@ -10,8 +10,8 @@ ghost use Rattle.nfs3_values.specs.Words.{status_of};
 use crate::fault::MessageFault;
 use crate::value::{XdrValue, bad_enum, read_word};
 use nfs3_types::{
-    Answer, CommitSuccess, CreateSuccess, Data, DirectoryEntry, DirectoryEntryPlus, Entries,
-    Failure, FileAttributes, FileHandle, LinkText, LookupSuccess, Name, Optional,
+    Answer, CommitSuccess, CreateSuccess, Data, DirectoryEntry, DirectoryEntryPlus, Failure,
+    FileAttributes, FileHandle, ItemList, LinkText, LookupSuccess, Name, Optional,
     ReadDirPlusSuccess, ReadDirSuccess, ReadLinkSuccess, ReadSuccess, RenameWcc, StableHow,
     Verifier, WccData, WriteSuccess,
 };
@@ -308,7 +308,7 @@ impl XdrValue for ReadDirSuccess {
     fn read(alloc: Global, reader: &mut Reader<'_>) -> Result<ReadDirSuccess, MessageFault> {
         let attributes = Optional::<FileAttributes>::read(alloc, reader)?;
         let verifier = Verifier::read(alloc, reader)?;
-        let entries = Entries::<DirectoryEntry>::read(alloc, reader)?;
+        let entries = ItemList::<DirectoryEntry>::read(alloc, reader)?;
         let eof = bool::read(alloc, reader)?;
         Ok(ReadDirSuccess {
             attributes,
@@ -381,7 +381,7 @@ impl XdrValue for ReadDirPlusSuccess {
     fn read(alloc: Global, reader: &mut Reader<'_>) -> Result<ReadDirPlusSuccess, MessageFault> {
         let attributes = Optional::<FileAttributes>::read(alloc, reader)?;
         let verifier = Verifier::read(alloc, reader)?;
-        let entries = Entries::<DirectoryEntryPlus>::read(alloc, reader)?;
+        let entries = ItemList::<DirectoryEntryPlus>::read(alloc, reader)?;
         let eof = bool::read(alloc, reader)?;
         Ok(ReadDirPlusSuccess {
             attributes,

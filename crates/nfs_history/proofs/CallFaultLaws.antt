@@ -11,9 +11,9 @@ use Rattle.nfs3_msgs.specs.Messages.{arguments, results, arguments_of, result_of
 use Rattle.nfs3_values.specs.Told as told
 use Rattle.nfs_history.specs.declared.fault.CallFault.{CallFault}
 use Rattle.nfs_history.specs.declared.fault.CallFault.TheVariants as faults
-use Rattle.nfs_history.specs.declared.history.Meaning.{Meaning}
-use Rattle.nfs_history.specs.declared.history.Meaning.TheVariants as meanings
-use Rattle.nfs_history.specs.declared.history.RecordedCall.{RecordedCall}
+use Rattle.nfs_history.specs.declared.recorded.Meaning.{Meaning}
+use Rattle.nfs_history.specs.declared.recorded.Meaning.TheVariants as meanings
+use Rattle.nfs_history.specs.declared.recorded.RecordedCall.{RecordedCall}
 use Rattle.nfs_history.specs.Calls.{ReplyEvent, CallEvent}
 use Rattle.nfs_history.specs.Effects.{Says, results_of, has_no_effect}
 use Rattle.nfs_history.specs.History.{CameOut, IsJudged, IsKnownAs, AreRecorded}

@@ -31,9 +31,9 @@ use Rattle.nfs_history.specs.declared.fault.EventFault.{EventFault}
 use Rattle.nfs_history.specs.declared.fault.EventFault.TheVariants as event_faults
 use Rattle.nfs_history.specs.declared.fault.CallFault.{CallFault}
 use Rattle.nfs_history.specs.declared.fault.HistoryFault.{HistoryFault}
-use Rattle.nfs_history.specs.declared.history.Meaning.{Meaning}
-use Rattle.nfs_history.specs.declared.history.Meaning.TheVariants as meanings
-use Rattle.nfs_history.specs.declared.history.RecordedCall.{RecordedCall}
+use Rattle.nfs_history.specs.declared.recorded.Meaning.{Meaning}
+use Rattle.nfs_history.specs.declared.recorded.Meaning.TheVariants as meanings
+use Rattle.nfs_history.specs.declared.recorded.RecordedCall.{RecordedCall}
 use Rattle.nfs_history.specs.HistoryValue.{HistoryValue}
 use Rattle.nfs_history.specs.Calls.{CallEvent, calls_of, eras_from, xid_of}
 use Rattle.nfs_history.specs.Standing.{CanBeCall, CanBeReply, has_unanswered, IsClosed, MayFollow, EachMayFollow}

@@ -5,8 +5,8 @@ use Rattle.nfs_history.specs.declared.fault.CallFault.{CallFault}
 use Rattle.nfs_history.specs.declared.judging.Stop.{Stop}
 use Rattle.nfs_history.specs.declared.judging.Stop.TheVariants as stops
 use Rattle.nfs_history.specs.declared.matching.SeenCall.{SeenCall}
-use Rattle.nfs_history.specs.declared.history.RecordedCall.{RecordedCall}
-use Rattle.nfs_history.specs.declared.history.CallKind.{CallKind}
+use Rattle.nfs_history.specs.declared.recorded.RecordedCall.{RecordedCall}
+use Rattle.nfs_history.specs.declared.recorded.CallKind.{CallKind}
 use Rattle.nfs_history.specs.Calls.{CallEvent}
 use Rattle.nfs_history.specs.Matching.{seen_call}
 use Rattle.nfs_history.specs.History.{IsRecorded, AreRecorded}

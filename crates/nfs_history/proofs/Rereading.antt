@@ -13,10 +13,10 @@ use Rattle.rpc_reader.specs.Messages.{IsCall, IsEnding}
 use Rattle.nfs3_types.specs.declared.replies.Outcome.{Outcome}
 use Rattle.nfs3_msgs.specs.Messages.{arguments, results, arguments_of, result_of}
 use Rattle.nfs3_values.specs.Told as told
-use Rattle.nfs_history.specs.declared.history.Meaning.{Meaning}
-use Rattle.nfs_history.specs.declared.history.Meaning.TheVariants as meanings
-use Rattle.nfs_history.specs.declared.history.RecordedCall.{RecordedCall}
-use Rattle.nfs_history.specs.declared.history.CallKind.{CallKind}
+use Rattle.nfs_history.specs.declared.recorded.Meaning.{Meaning}
+use Rattle.nfs_history.specs.declared.recorded.Meaning.TheVariants as meanings
+use Rattle.nfs_history.specs.declared.recorded.RecordedCall.{RecordedCall}
+use Rattle.nfs_history.specs.declared.recorded.CallKind.{CallKind}
 use Rattle.nfs_history.specs.declared.matching.SeenCall.{SeenCall}
 use Rattle.nfs_history.specs.declared.matching.SeenReply.{SeenReply}
 use Rattle.nfs_history.specs.Matching.{seen_call, seen_reply}

@@ -11,8 +11,8 @@ use Rattle.nfs3_types.specs.Procedures.{procedure_called}
 use Rattle.nfs3_values.specs.declared.fault.Kind.{Kind}
 use Rattle.nfs3_values.specs.Told as told
 use Rattle.nfs3_msgs.specs.Messages.{arguments, arguments_of, result_of}
-use Rattle.nfs_history.specs.declared.history.Meaning.{Meaning}
-use Rattle.nfs_history.specs.declared.history.Meaning.TheVariants as meanings
+use Rattle.nfs_history.specs.declared.recorded.Meaning.{Meaning}
+use Rattle.nfs_history.specs.declared.recorded.Meaning.TheVariants as meanings
 use Rattle.nfs_history.specs.Calls.{CallEvent}
 use Rattle.nfs_history.specs.Effects.{Says, results_of, has_no_effect}
 use Rattle.nfs_history.specs.Reread.{asked_from, came_from, came_out, meaning_in, outcome_in, known_call}

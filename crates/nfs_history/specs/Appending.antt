@@ -13,9 +13,9 @@ use Rattle.history_file.specs.Event.{Event, Recording}
 use Rattle.history_file.specs.Event.Event.{call, reply, close, crash}
 use Rattle.history_file.specs.Owning.{happened, all_happened}
 use Rattle.nfs_history.specs.declared.fault.HistoryFault.{HistoryFault}
-use Rattle.nfs_history.specs.declared.history.Meaning.TheVariants as meanings
+use Rattle.nfs_history.specs.declared.recorded.Meaning.TheVariants as meanings
 use Rattle.nfs_history.specs.declared.history.ReadCalls.{ReadCalls}
-use Rattle.nfs_history.specs.declared.history.RecordedCall.{RecordedCall}
+use Rattle.nfs_history.specs.declared.recorded.RecordedCall.{RecordedCall}
 use Rattle.nfs_history.specs.HistoryValue.{HistoryValue}
 use Rattle.nfs_history.specs.Answers.{IsErrorOf}
 use Rattle.nfs_history.specs.Calls.{CallEvent, calls_of}

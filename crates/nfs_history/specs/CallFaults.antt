@@ -12,7 +12,7 @@ use Rattle.nfs_history.specs.declared.fault.Which.{Which}
 use Rattle.nfs_history.specs.declared.fault.Which.TheVariants as which
 use Rattle.nfs_history.specs.declared.fault.CallFault.{CallFault}
 use Rattle.nfs_history.specs.declared.fault.CallFault.TheVariants as faults
-use Rattle.nfs_history.specs.declared.history.Meaning.{Meaning}
+use Rattle.nfs_history.specs.declared.recorded.Meaning.{Meaning}
 use Rattle.nfs_history.specs.Calls.{CallEvent}
 use Rattle.nfs3_types.specs.declared.procedures.Procedure.TheVariants as procedures
 use Rattle.nfs3_types.specs.Procedures.{number, is_judged}

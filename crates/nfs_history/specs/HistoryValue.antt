@@ -5,7 +5,7 @@
 use Rattle.std.specs.Prelude.{ℕ, List}
 use Rattle.tree_starts.specs.Head.{Head}
 use Rattle.history_file.specs.declared.event.Event.{Event}
-use Rattle.nfs_history.specs.declared.history.RecordedCall.{RecordedCall}
+use Rattle.nfs_history.specs.declared.recorded.RecordedCall.{RecordedCall}
 
 pub record CallsValue : Type 0 where
   pub head : Head

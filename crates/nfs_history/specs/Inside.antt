@@ -6,7 +6,7 @@ use Rattle.history_file.specs.declared.event.Event.{Event}
 use Rattle.history_file.specs.Owning.{all_happened}
 use Rattle.nfs_history.specs.declared.checking.OpenCalls.{OpenCalls}
 use Rattle.nfs_history.specs.declared.history.History.TheInside as history
-use Rattle.nfs_history.specs.declared.history.RecordedCall.{RecordedCall}
+use Rattle.nfs_history.specs.declared.recorded.RecordedCall.{RecordedCall}
 use Rattle.nfs_history.specs.declared.knowing.KnownCalls.TheInside as known
 use Rattle.nfs_history.specs.HistoryValue.{CallsValue, HistoryValue}
 use Rattle.nfs_history.specs.History.{recording_of, IsHistory}

@@ -18,7 +18,7 @@ use Rattle.nfs_history.specs.declared.fault.HistoryFault as joined
 use Rattle.nfs_history.specs.declared.fault.HistoryFault.TheVariants as joined_faults
 use Rattle.nfs_history.specs.declared.judging.Stop.{Stop}
 use Rattle.nfs_history.specs.declared.judging.Stop.TheVariants as stops
-use Rattle.nfs_history.specs.declared.history.RecordedCall.{RecordedCall}
+use Rattle.nfs_history.specs.declared.recorded.RecordedCall.{RecordedCall}
 use Rattle.nfs_history.specs.JoinedFaults.{of_call}
 use Rattle.history_file.specs.Event.{Event}
 use Rattle.nfs_history.specs.Calls.{CallEvent, calls_of}

@@ -3,7 +3,7 @@
 -- response comes before the other's invocation).
 use Rattle.std.specs.Prelude.{◌≡◌, ℕ, zero, suc, ◌<◌, List, Option, Some, None, option_and_then, option_map, unwrap_or}
 use Rattle.std.specs.List.{slice_get}
-use Rattle.nfs_history.specs.declared.history.RecordedCall.{RecordedCall}
+use Rattle.nfs_history.specs.declared.recorded.RecordedCall.{RecordedCall}
 
 -- call n of a list, from 1 on
 abbrev pub call_at : List RecordedCall → ℕ → Option RecordedCall

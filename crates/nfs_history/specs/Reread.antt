@@ -19,11 +19,11 @@ use Rattle.nfs3_types.specs.declared.replies.Outcome.{Outcome}
 use Rattle.nfs3_types.specs.declared.replies.Outcome.TheVariants as outcomes
 use Rattle.nfs3_values.specs.declared.fault.Kind.{Kind}
 use Rattle.nfs3_msgs.specs.Messages.{arguments_of, result_of}
-use Rattle.nfs_history.specs.declared.history.Meaning.{Meaning}
-use Rattle.nfs_history.specs.declared.history.Meaning.TheVariants as meanings
-use Rattle.nfs_history.specs.declared.history.RecordedCall.{RecordedCall}
-use Rattle.nfs_history.specs.declared.history.CallKind.{CallKind}
-use Rattle.nfs_history.specs.declared.history.CallKind.TheVariants as kinds
+use Rattle.nfs_history.specs.declared.recorded.Meaning.{Meaning}
+use Rattle.nfs_history.specs.declared.recorded.Meaning.TheVariants as meanings
+use Rattle.nfs_history.specs.declared.recorded.RecordedCall.{RecordedCall}
+use Rattle.nfs_history.specs.declared.recorded.CallKind.{CallKind}
+use Rattle.nfs_history.specs.declared.recorded.CallKind.TheVariants as kinds
 use Rattle.nfs_history.specs.declared.matching.SeenCall.{SeenCall}
 use Rattle.nfs_history.specs.Calls.{ReplyEvent, CallEvent, xid_of}
 use Rattle.nfs_history.specs.Matching.{seen_call}

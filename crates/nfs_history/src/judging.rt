@@ -14,9 +14,9 @@ ghost use Rattle.nfs_history.specs.Reread.{known_call, IsReadAs, AreReadTo};
 
 use crate::effects::{has_no_effect, is_judged, is_sealed, results_of, which_left_out};
 use crate::fault::{CallFault, HistoryFault, Which};
-use crate::history::{CallKind, Meaning, RecordedCall};
 use crate::limits::outside_model;
 use crate::matching::{SeenCall, SeenReply, transaction};
+use crate::recorded::{CallKind, Meaning, RecordedCall};
 use nfs3_msgs::{MessageFault, read_args, read_result};
 use nfs3_types::{NfsCall, Outcome};
 use rpc_reader::{CallHead, ReplyBody, read_call, read_reply};

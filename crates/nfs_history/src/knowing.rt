@@ -16,9 +16,9 @@ ghost use Rattle.nfs_history.specs.Storage.{storage_value, storage_in, brought_i
 use crate::checking::follow_all;
 use crate::fault::HistoryFault;
 use crate::head::LentHead;
-use crate::history::{CallKind, RecordedCall};
 use crate::judging::{kinds_of, read_again};
 use crate::matching::{SeenCall, count_eras, matched_calls};
+use crate::recorded::{CallKind, RecordedCall};
 use crate::storage::{StorageCall, brought_again, storage_again};
 use history_file::SeenEvent;
 use nfs3_types::FileHandle;

@@ -6,8 +6,9 @@ ghost use Rattle.nfs_history.specs.Precedence.{call_at, begin_of, end_of};
 ghost use Rattle.nfs_history.specs.Reread.{call_kind};
 ghost use Rattle.nfs_history.specs.Storage.{storage_value, storage_in, brought_in, has_succeeded};
 
-use crate::history::{CallKind, History};
+use crate::history::History;
 use crate::knowing::KnownCalls;
+use crate::recorded::CallKind;
 use crate::storage::StorageCall;
 use nfs3_types::FileHandle;
 use std::alloc::{AllocError, Global};

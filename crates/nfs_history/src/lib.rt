@@ -13,11 +13,12 @@ mod lent;
 mod limits;
 mod matching;
 mod reading;
+mod recorded;
 mod storage;
 
 pub use checking::{LaneState, OpenCalls};
 pub use fault::{CallFault, EventFault, HistoryFault, Which};
-pub use history::{CallKind, History, Meaning, RecordedCall, find_call};
+pub use history::History;
 pub use history_file::{Event, FileFault, Message, WriteFault, write_history, write_history_from};
 pub use knowing::KnownCalls;
 pub use laws::{
@@ -26,6 +27,7 @@ pub use laws::{
 };
 pub use lent::LentCalls;
 pub use reading::{read_calls, read_history};
+pub use recorded::{CallKind, Meaning, RecordedCall, find_call};
 pub use storage::{StorageCall, commit_success, succeeded, write_success};
 pub use tree_starts::{
     Profile, SeenNode, SeenObject, SeenStart, Start, StartFault, StartNode, StartObject,

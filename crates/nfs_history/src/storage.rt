@@ -14,14 +14,14 @@ ghost use Rattle.nfs3_msgs.specs.Messages.{arguments_of, result_of};
 ghost use Rattle.nfs_history.specs.Matching.{seen_call};
 ghost use Rattle.nfs_history.specs.History.{IsRecorded};
 ghost use Rattle.nfs_history.specs.Reread.{asked_from, came_from, known_call};
-ghost use Rattle.nfs_history.specs.declared.history.Meaning.TheVariants as meanings;
+ghost use Rattle.nfs_history.specs.declared.recorded.Meaning.TheVariants as meanings;
 ghost use Rattle.nfs_history.specs.Success.{write_success, commit_success, succeeded};
 ghost use Rattle.nfs_history.specs.Storage.{storage_value, write_storage, commit_storage, storage_as, storage_in, brought_as, brought_in};
 
 use crate::effects::{has_no_effect, results_of};
-use crate::history::{Meaning, RecordedCall};
 use crate::judging::body_of;
 use crate::matching::SeenCall;
+use crate::recorded::{Meaning, RecordedCall};
 use nfs3_msgs::{MessageFault, read_result};
 use nfs3_types::{
     Answer, CommitSuccess, NfsCall, NfsReply, Outcome, Procedure, StableHow, WriteSuccess,

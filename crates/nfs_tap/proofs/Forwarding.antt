@@ -3,15 +3,16 @@ use Rattle.std.proofs.Common.{◌≡◌, ℕ, ◌≤◌, false, List, [], ◌∷
 use Rattle.std.specs.Io.KnownBytes.{Appends, Consumes}
 use Rattle.xdr_records.specs.declared.fault.FeedFault.{FeedFault}
 use Rattle.xdr_records.specs.declared.fault.FeedFault.TheVariants as feed_faults
-use Rattle.xdr_records.specs.Record.{AreRecords, IsUnfinished, IsTooLong, IsCut, record_text, record_limit}
+use Rattle.xdr_records.specs.Record.{AreRecords, IsUnfinished, IsTooLong, IsSplit, record_text, record_limit}
 use Rattle.xdr_records.specs.Feed.{Feed, fresh, Grows, Breaks, TakesFirst}
-use Rattle.xdr_records.proofs.Cutting.{unfinished_none, cut_join}
+use Rattle.xdr_records.proofs.Splitting.{unfinished_none, split_join}
 use Rattle.nfs_tap.specs.declared.pump.PumpEnd.{PumpEnd}
 use Rattle.nfs_tap.specs.declared.pump.PumpEnd.TheVariants as ends
 use Rattle.nfs_tap.specs.Pumping.{frames, Behind, IsAnywhere, IsWritten, IsForwarded, Pumps, AreWithinLimit, IsIdle, Stops}
 use Rattle.program_streams.specs.Streams.{AppendsFront}
 use Rattle.program_streams.proofs.Fronts.{both as both_appended}
-use Rattle.nfs_tap.proofs.Fronts.{none_appended, none_consumed, both_consumed}
+use Rattle.nfs_tap.proofs.Fronts.{none_appended, none_consumed}
+use Rattle.program_streams.proofs.Pieces.{consumed_both}
 
 frames-append : (xs ys : List (List ℕ)) → frames (xs ++ ys) ≡ frames xs ++ frames ys
 frames-append [] ys = refl
@@ -108,8 +109,8 @@ stops_later end held mid held' old now new content so_far t s =
 -- ---- a piece of the stream
 
 -- whatever stands behind
-pub cut_anyhow : (Rest : List ℕ → Type 0) (bytes : List ℕ) (records : List (List ℕ)) (rest : List ℕ) → IsCut Rest bytes records rest → IsCut (λ _. Unit {0}) bytes records rest
-cut_anyhow Rest bytes records rest cut = record { front = cut.front; parts = cut.parts; whole = cut.whole; left = tt }
+pub split_anyhow : (Rest : List ℕ → Type 0) (bytes : List ℕ) (records : List (List ℕ)) (rest : List ℕ) → IsSplit Rest bytes records rest → IsSplit (λ _. Unit {0}) bytes records rest
+split_anyhow Rest bytes records rest split = record { front = split.front; parts = split.parts; whole = split.whole; left = tt }
 
 -- what the feed told of a piece
 pub record HasFed {X : Type 0} (r : Result X FeedFault) (old : Feed) (piece : List ℕ) (new : Feed) : Type 0 where
@@ -130,14 +131,14 @@ pub broken_all : (old : Feed) (piece : List ℕ) (new : Feed) → IsIdle old →
 broken_all old piece new idle b = ap (λ (f : Feed). f.waiting) b.now ∙ ap (λ (xs : List (List ℕ)). xs ++ b.records) idle.0
 
 -- the records that wait stand in the piece
-pub fed_cut : {X : Type 0} (r : Result X FeedFault) (old : Feed) (piece : List ℕ) (new : Feed) → HasFed r old piece new → (rest : List ℕ) × IsCut (λ _. Unit {0}) (old.rest ++ piece) new.waiting rest
-fed_cut (Ok x) old piece new fed =
+pub fed_split : {X : Type 0} (r : Result X FeedFault) (old : Feed) (piece : List ℕ) (new : Feed) → HasFed r old piece new → (rest : List ℕ) × IsSplit (λ _. Unit {0}) (old.rest ++ piece) new.waiting rest
+fed_split (Ok x) old piece new fed =
     let g = fed.ok in
-    (new.rest, subst (λ (xs : List (List ℕ)). IsCut (λ _. Unit {0}) (old.rest ++ piece) xs new.rest) (sym (grown_all old piece new fed.idle g)) (cut_anyhow IsUnfinished (old.rest ++ piece) g.records new.rest g.cut))
-fed_cut (Err feed_faults.RecordTooLong) old piece new fed =
+    (new.rest, subst (λ (xs : List (List ℕ)). IsSplit (λ _. Unit {0}) (old.rest ++ piece) xs new.rest) (sym (grown_all old piece new fed.idle g)) (split_anyhow IsUnfinished (old.rest ++ piece) g.records new.rest g.split))
+fed_split (Err feed_faults.RecordTooLong) old piece new fed =
     let b = fed.too_long refl in
-    (b.stop, subst (λ (xs : List (List ℕ)). IsCut (λ _. Unit {0}) (old.rest ++ piece) xs b.stop) (sym (broken_all old piece new fed.idle b)) (cut_anyhow IsTooLong (old.rest ++ piece) b.records b.stop b.cut))
-fed_cut (Err feed_faults.NoMemory) old piece new fed =
+    (b.stop, subst (λ (xs : List (List ℕ)). IsSplit (λ _. Unit {0}) (old.rest ++ piece) xs b.stop) (sym (broken_all old piece new fed.idle b)) (split_anyhow IsTooLong (old.rest ++ piece) b.records b.stop b.split))
+fed_split (Err feed_faults.NoMemory) old piece new fed =
     let none : new.waiting ≡ [] = ap (λ (f : Feed). f.waiting) (fed.no_memory refl) ∙ fed.idle.0 in
     (old.rest ++ piece, record { front = []; parts = refl; whole = subst (λ (xs : List (List ℕ)). AreRecords xs []) (sym none) refl; left = tt })
 
@@ -146,7 +147,7 @@ are_within [] bytes are = tt
 are_within (x ∷ xs) bytes are = (are.first.limit, are_within xs are.back are.others)
 
 pub fed_within : {X : Type 0} (r : Result X FeedFault) (old : Feed) (piece : List ℕ) (new : Feed) → HasFed r old piece new → AreWithinLimit new.waiting
-fed_within r old piece new fed = let cut = (fed_cut r old piece new fed).1 in are_within new.waiting cut.front cut.whole
+fed_within r old piece new fed = let split = (fed_split r old piece new fed).1 in are_within new.waiting split.front split.whole
 
 -- the first records of more
 pub record Split (xs ys : List (List ℕ)) (bytes : List ℕ) : Type 0 where
@@ -171,17 +172,17 @@ split (x ∷ xs) ys bytes are =
 pub stopped_in : {X : Type 0} (r : Result X FeedFault) (end : PumpEnd) (held held' : Option (List ℕ)) (old : Feed) (piece : List ℕ) (new : Feed) → HasFed r old piece new → Stops end held held' new.waiting
     → (written : List ℕ) × Appends held held' written × IsForwarded end (old.rest ++ piece) written
 stopped_in r end held held' old piece new fed s =
-    let some = fed_cut r old piece new fed in
-    let cut = some.1 in
-    let first = split s.front s.behind cut.front (subst (λ (xs : List (List ℕ)). AreRecords xs cut.front) s.parts cut.whole) in (
+    let some = fed_split r old piece new fed in
+    let whole = some.1 in
+    let first = split s.front s.behind whole.front (subst (λ (xs : List (List ℕ)). AreRecords xs whole.front) s.parts whole.whole) in (
       s.written,
       s.appended,
       record {
         records = s.front;
         rest = first.back ++ some.0;
-        cut = record {
+        split = record {
           front = first.front;
-          parts = cut.parts ∙ ap (λ l. l ++ some.0) first.parts ∙ append_assoc first.front first.back some.0;
+          parts = whole.parts ∙ ap (λ l. l ++ some.0) first.parts ∙ append_assoc first.front first.back some.0;
           whole = first.first;
           left = s.anywhere.2 (first.back ++ some.0);
         };
@@ -192,8 +193,8 @@ stopped_in r end held held' old piece new fed s =
 pub no_memory_for : {X : Type 0} (held held' : Option (List ℕ)) (old : Feed) (piece : List ℕ) (now : Feed) → HasFed {X = X} (Err feed_faults.NoMemory) old piece now → Appends held held' (frames now.waiting)
     → (written : List ℕ) × Appends held held' written × IsForwarded ends.NoMemory (old.rest ++ piece) written
 no_memory_for {X = X} held held' old piece now fed wrote =
-    let some = fed_cut {X = X} (Err feed_faults.NoMemory) old piece now fed in
-    (frames now.waiting, wrote, record { records = now.waiting; rest = some.0; cut = some.1; sent = all_written ends.NoMemory (frames now.waiting) })
+    let some = fed_split {X = X} (Err feed_faults.NoMemory) old piece now fed in
+    (frames now.waiting, wrote, record { records = now.waiting; rest = some.0; split = some.1; sent = all_written ends.NoMemory (frames now.waiting) })
 
 -- ---- the whole stream
 
@@ -202,7 +203,7 @@ pub record HasPumped (left left' held held' : Option (List ℕ)) (feed : Feed) :
   pub read : List ℕ
   pub records : List (List ℕ)
   pub consumed : Consumes left left' read
-  pub cut : IsCut IsUnfinished read records feed.rest
+  pub split : IsSplit IsUnfinished read records feed.rest
   pub appended : Appends held held' (frames records)
   pub idle : IsIdle feed
 
@@ -211,7 +212,7 @@ none_pumped left held = record {
   read = [];
   records = [];
   consumed = none_consumed left;
-  cut = record { front = []; parts = refl; whole = refl; left = (0, 0, unfinished_none) };
+  split = record { front = []; parts = refl; whole = refl; left = (0, 0, unfinished_none) };
   appended = none_appended held;
   idle = (refl, refl);
 }
@@ -222,21 +223,21 @@ pumped_still left mid left' held held' feed so_far still = record {
   read = so_far.read;
   records = so_far.records;
   consumed = still so_far.read so_far.consumed;
-  cut = so_far.cut;
+  split = so_far.split;
   appended = so_far.appended;
   idle = so_far.idle;
 }
 
 -- a piece more
 pub pumped_more : (left mid left' held between held' : Option (List ℕ)) (old new : Feed) (piece : List ℕ) → HasPumped left mid held between old → Consumes mid left' piece
-    → IsIdle new × ((records : List (List ℕ)) × IsCut IsUnfinished (old.rest ++ piece) records new.rest × Appends between held' (frames records)) → HasPumped left left' held held' new
+    → IsIdle new × ((records : List (List ℕ)) × IsSplit IsUnfinished (old.rest ++ piece) records new.rest × Appends between held' (frames records)) → HasPumped left left' held held' new
 pumped_more left mid left' held between held' old new piece so_far gave passed =
     let more = passed.1 in
     record {
       read = so_far.read ++ piece;
       records = so_far.records ++ more.0;
-      consumed = both_consumed left mid left' so_far.read piece so_far.consumed gave;
-      cut = cut_join IsUnfinished IsUnfinished so_far.read piece old.rest new.rest so_far.records more.0 so_far.cut more.1;
+      consumed = consumed_both left mid left' so_far.read piece so_far.consumed gave;
+      split = split_join IsUnfinished IsUnfinished so_far.read piece old.rest new.rest so_far.records more.0 so_far.split more.1;
       appended = subst (Appends held held') (sym (frames-append so_far.records more.0)) (both_appended held between held' (frames so_far.records) (frames more.0) so_far.appended more.2);
       idle = passed.0;
     }
@@ -249,12 +250,12 @@ pumps_within end left mid left' held between held' old piece so_far gave stopped
     record {
       read = so_far.read ++ piece;
       written = frames so_far.records ++ stopped.0;
-      consumed = both_consumed left mid left' so_far.read piece so_far.consumed gave;
+      consumed = consumed_both left mid left' so_far.read piece so_far.consumed gave;
       appended = both_appended held between held' (frames so_far.records) stopped.0 so_far.appended stopped.1;
       forwarded = record {
         records = so_far.records ++ f.records;
         rest = f.rest;
-        cut = cut_join IsUnfinished (Behind end) so_far.read piece old.rest f.rest so_far.records f.records so_far.cut f.cut;
+        split = split_join IsUnfinished (Behind end) so_far.read piece old.rest f.rest so_far.records f.records so_far.split f.split;
         sent = written_behind end so_far.records f.records stopped.0 f.sent;
       };
     }
@@ -269,7 +270,7 @@ pumps_behind end left left' held held' feed so_far may = record {
   forwarded = record {
     records = so_far.records;
     rest = feed.rest;
-    cut = record { front = so_far.cut.front; parts = so_far.cut.parts; whole = so_far.cut.whole; left = may so_far.cut.left };
+    split = record { front = so_far.split.front; parts = so_far.split.parts; whole = so_far.split.whole; left = may so_far.split.left };
     sent = all_written end (frames so_far.records);
   };
 }

@@ -1,5 +1,5 @@
 -- What a writer holds, and what a reader has left, piece by piece.
-use Rattle.std.proofs.Common.{◌≡◌, ℕ, ◌+◌, ◌≤◌, List, [], ◌++◌, ◌-◌, length, take, drop, Option, Some, None, refl, sym, ap, ◌∙◌, arith, append_assoc, append-nil, take_all}
+use Rattle.std.proofs.Common.{◌≡◌, ℕ, ◌+◌, ◌≤◌, List, [], ◌++◌, ◌-◌, length, take, drop, Option, Some, None, refl, sym, ap, ◌∙◌, arith, append-nil, take_all}
 use Rattle.std.proofs.lemmas.List.{take-append-le}
 use Rattle.std.specs.Io.KnownBytes.{Appends, Consumes, Keeps}
 
@@ -20,12 +20,6 @@ piece_read read old buffer size count is back =
 pub none_consumed : (left : Option (List ℕ)) → Consumes left left []
 none_consumed None = tt
 none_consumed (Some xs) = refl
-
-pub both_consumed : (old mid new : Option (List ℕ)) (front more : List ℕ) → Consumes old mid front → Consumes mid new more → Consumes old new (front ++ more)
-both_consumed None mid new front more a b = tt
-both_consumed (Some xs) None new front more a b = absurd a
-both_consumed (Some xs) (Some ys) None front more a b = absurd b
-both_consumed (Some xs) (Some ys) (Some zs) front more a b = a ∙ ap (λ l. front ++ l) b ∙ sym (append_assoc front more zs)
 
 -- a read that gave nothing
 pub unread : (old mid new : Option (List ℕ)) (bytes : List ℕ) → Consumes old mid bytes → Keeps mid new → Consumes old new bytes

@@ -2,7 +2,7 @@
 -- What a pump forwards of a stream: its whole records from the front, each as one fragment (RFC 5531, section 11).
 use Rattle.std.specs.Prelude.{◌≡◌, ◌≢◌, ℕ, ◌≤◌, false, List, [], ◌∷◌, ◌++◌, length, Option}
 use Rattle.std.specs.Io.KnownBytes.{Consumes, Appends}
-use Rattle.xdr_records.specs.Record.{IsUnfinished, IsTooLong, IsCut, record_text, record_limit}
+use Rattle.xdr_records.specs.Record.{IsUnfinished, IsTooLong, IsSplit, record_text, record_limit}
 use Rattle.xdr_records.specs.Feed.{Feed}
 use Rattle.history_file.specs.Event.{Event}
 use Rattle.history_file.specs.Event.Event.{call, reply}
@@ -40,7 +40,7 @@ pub record IsWritten (end : PumpEnd) (text written : List ℕ) : Type 0 where
 pub record IsForwarded (end : PumpEnd) (read written : List ℕ) : Type 0 where
   pub records : List (List ℕ)
   pub rest : List ℕ
-  pub cut : IsCut (Behind end) read records rest
+  pub split : IsSplit (Behind end) read records rest
   pub sent : IsWritten end (frames records) written
 
 -- what a pump does to the bytes that its reader has left and that its writer holds, where these are known

@@ -2,7 +2,7 @@
 
 ghost use Rattle.std.specs.Prelude.{◌≡◌, ◌≢◌, ◌≤◌, ◌++◌, ◌∷◌, ℕ, List, [], length, OnOk, OnErr, IfOk, IfErr, vec_len};
 ghost use Rattle.std.specs.Io.KnownBytes.{Appends, IsAtEnd};
-ghost use Rattle.xdr_records.specs.Record.{IsUnfinished, IsCut, record_text, record_limit};
+ghost use Rattle.xdr_records.specs.Record.{IsUnfinished, IsSplit, record_text, record_limit};
 ghost use Rattle.nfs_tap.specs.Noting.{with_event};
 ghost use Rattle.nfs_tap.specs.Pumping.{frames, event_of, IsAnywhere, IsNamed, AreWithinLimit, IsIdle, IsForwarded, IsEmptied, Stops, Pumps};
 
@@ -170,7 +170,7 @@ fn pass_on<R: Wait, W: Write>(
     piece: &[u8],
 ) -> Result<(), PumpEnd>
     requires { IsIdle feed.old }
-    ensures ok { OnOk result (IsIdle feed.new × ((records : List (List ℕ)) × IsCut IsUnfinished (feed.old.rest ++ piece.now) records feed.new.rest
+    ensures ok { OnOk result (IsIdle feed.new × ((records : List (List ℕ)) × IsSplit IsUnfinished (feed.old.rest ++ piece.now) records feed.new.rest
         × Appends (W.contents writer.old) (W.contents writer.new) (frames records))) }
     ensures err { IfErr result (λ end. (written : List ℕ) × Appends (W.contents writer.old) (W.contents writer.new) written
         × IsForwarded end (feed.old.rest ++ piece.now) written) }

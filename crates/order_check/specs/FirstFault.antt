@@ -3,7 +3,7 @@
 -- this project's own).
 use Rattle.std.specs.Prelude.{◌≡◌, ◌⊎◌, ◌==◌, ◌&&◌, not, nat_lt, ℕ, ◌+◌, ◌<◌, slice_index_or, take, drop, false, Bool, if◌then◌else◌, List, length, find, Option, Some, None, Result, Ok, Err, unwrap_or, option_map}
 use Rattle.std.specs.List.{enumerate_from, range_with_len, position_from}
-use Rattle.nfs_history.specs.declared.history.RecordedCall.{RecordedCall}
+use Rattle.nfs_history.specs.declared.recorded.RecordedCall.{RecordedCall}
 use Rattle.certificate.specs.declared.plan.EraPlan.{EraPlan}
 use Rattle.order_check.specs.declared.places.OrderedPlace.{OrderedPlace}
 use Rattle.order_check.specs.declared.fault.ShapeFault.{ShapeFault}

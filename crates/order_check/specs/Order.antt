@@ -3,7 +3,7 @@
 -- linearization respects the precedence of operations).
 use Rattle.std.specs.Prelude.{◌≡◌, ℕ, ◌<◌, ◌≤◌, List, [], ◌∷◌, ◌++◌, Option, Some, None}
 use Rattle.std.specs.List.{AllByRecursion}
-use Rattle.nfs_history.specs.declared.history.RecordedCall.{RecordedCall}
+use Rattle.nfs_history.specs.declared.recorded.RecordedCall.{RecordedCall}
 use Rattle.nfs_history.specs.Precedence.{begin_of, Precedes}
 use Rattle.certificate.specs.declared.plan.Place.{Place}
 use Rattle.certificate.specs.declared.plan.EraPlan.{EraPlan}

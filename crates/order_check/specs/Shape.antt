@@ -4,7 +4,7 @@
 -- cuts are this project's own).
 use Rattle.std.specs.Prelude.{◌≡◌, ◌≢◌, ◌==◌, ◌&&◌, ◌≤◌, ℕ, Bool, IsTrue, List, [], ◌∷◌, length, Some, IfSome}
 use Rattle.std.specs.List.{AllByRecursion, list_any}
-use Rattle.nfs_history.specs.declared.history.RecordedCall.{RecordedCall}
+use Rattle.nfs_history.specs.declared.recorded.RecordedCall.{RecordedCall}
 use Rattle.nfs_history.specs.Precedence.{call_at}
 use Rattle.certificate.specs.declared.plan.EraPlan.{EraPlan}
 use Rattle.order_check.specs.declared.places.OrderedPlace.{OrderedPlace}

@@ -4,8 +4,8 @@ use Rattle.std.specs.Prelude.{◌==◌, ◌&&◌, not, Bool, false}
 use Rattle.nfs3_types.specs.declared.procedures.Procedure.{Procedure}
 use Rattle.nfs3_types.specs.declared.procedures.Procedure.TheVariants.{Write}
 use Rattle.nfs3_types.specs.Procedures.{number, changes_the_tree}
-use Rattle.nfs_history.specs.declared.history.CallKind.{CallKind}
-use Rattle.nfs_history.specs.declared.history.CallKind.TheVariants as kinds
+use Rattle.nfs_history.specs.declared.recorded.CallKind.{CallKind}
+use Rattle.nfs_history.specs.declared.recorded.CallKind.TheVariants as kinds
 
 -- a procedure that changes the tree, but for WRITE
 abbrev pub changes_whole : Procedure → Bool

@@ -8,7 +8,6 @@ ghost use Rattle.order_check.specs.declared.fault.OrderFault.{OrderFault};
 ghost use Rattle.order_check.specs.Order.{RespectsOrder, EachEraRespectsOrder, BeganLast, BeganLastIfAny, IsEarlyFaultAmong, IsEarlyFault};
 
 use crate::fault::OrderFault;
-use crate::places::number_at;
 use certificate::{Certificate, Place};
 use nfs_history::{History, LentCalls};
 
@@ -40,7 +39,7 @@ fn check_era(history: &LentCalls<'_, '_>, places: &[Place]) -> Result<(), OrderF
 {
     let mut latest = None;
     for place in places {
-        let number = number_at(*place);
+        let number = place.number();
         if let Some(other) = latest
             && precedes(history, number, other)
         {

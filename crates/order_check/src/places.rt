@@ -3,7 +3,6 @@
 ghost use Rattle.std.specs.Prelude.{◌≡◌, ◌++◌, Some, None, map, IfOk};
 ghost use Rattle.nfs_history.specs.Precedence.{call_at};
 ghost use Rattle.certificate.specs.declared.plan.Place.{Place};
-ghost use Rattle.certificate.specs.Plan.{call_of};
 ghost use Rattle.order_check.specs.Places.{order_from, number_of, may_place, may_take, passes, is_wanted, is_known, is_of_era, is_placeable};
 ghost use Rattle.order_check.specs.Taking.{is_taken_whole};
 
@@ -29,16 +28,7 @@ impl OrderedPlace {
     pub fn number(&self) -> u64
         ensures { result ≡ number_of self.now }
     {
-        number_at(self.place)
-    }
-}
-
-/// The number of the call at a place.
-pub fn number_at(place: Place) -> u64
-    ensures { result ≡ call_of place }
-{
-    match place {
-        Place::Answered(number) | Place::Taken(number, _) => number,
+        self.place.number()
     }
 }
 

@@ -2,7 +2,7 @@
 use Rattle.std.proofs.Common.{◌≡◌, ℕ, ◌<◌, ◌≤◌, ◌^◌, List, ◌∷◌, ◌++◌, get_or, refl, sym, ap, ◌∙◌, arith, decimal, codes, Err}
 use Rattle.plan_text.specs.declared.words.WordFault.{WordFault}
 use Rattle.plan_text.specs.declared.words.WordFault.TheVariants.{NotOne, NoMemory}
-use Rattle.plan_text.specs.declared.plan.PlanLevel.{PlanLevel}
+use Rattle.nfs3_types.specs.declared.calls.StableHow.{StableHow}
 use Rattle.plan_text.specs.declared.plan.Operation.{Operation}
 use Rattle.plan_text.specs.declared.plan.Operation.TheVariants.{Rename, Write, Read}
 use Rattle.plan_text.specs.declared.plan.Step.{Step}
@@ -35,7 +35,7 @@ rename_names words x y o e lacks h =
     let cut = cut_space x p.0 y p.1 lacks (Lacks-name 32 p.0 (omega arith) p.3) (sym e ∙ p.2) in
     (rw cut.0 p.3, rw cut.1 p.4)
 
-pub write_parts : (words : List ℕ) (o : Operation) → IsOperation (codes "write " ++ words) o → (name : List ℕ) × (offset : ℕ) × (text : List ℕ) × (level : PlanLevel) × (words ≡ name ␣ decimal offset ␣ text ␣ level_word level) × IsName name × (offset < 2 ^ 64) × IsName text
+pub write_parts : (words : List ℕ) (o : Operation) → IsOperation (codes "write " ++ words) o → (name : List ℕ) × (offset : ℕ) × (text : List ℕ) × (level : StableHow) × (words ≡ name ␣ decimal offset ␣ text ␣ level_word level) × IsName name × (offset < 2 ^ 64) × IsName text
 write_parts words (Write name offset text level) h =
     let tails : words ≡ name ␣ decimal offset ␣ text ␣ level_word level = cc (h.0) in (name, offset, text, level, tails, h.1.0, h.1.1, h.1.2)
 write_parts words o h = absurd (other_letter (codes "write " ++ words) o 101 refl refl h.0)
@@ -45,7 +45,7 @@ write_space words o lacks h =
     let p = write_parts words o h in no_split 32 words p.0 (decimal p.1 ␣ p.2 ␣ level_word p.3) lacks p.4
 
 -- behind the name
-pub write_behind : (words x y : List ℕ) (o : Operation) → words ≡ x ++ 32 ∷ y → Lacks 32 x → IsOperation (codes "write " ++ words) o → (offset : ℕ) × (text : List ℕ) × (level : PlanLevel) × (y ≡ decimal offset ␣ text ␣ level_word level) × IsName x × (offset < 2 ^ 64) × IsName text
+pub write_behind : (words x y : List ℕ) (o : Operation) → words ≡ x ++ 32 ∷ y → Lacks 32 x → IsOperation (codes "write " ++ words) o → (offset : ℕ) × (text : List ℕ) × (level : StableHow) × (y ≡ decimal offset ␣ text ␣ level_word level) × IsName x × (offset < 2 ^ 64) × IsName text
 write_behind words x y o e lacks h =
     let p = write_parts words o h in
     let cut = cut_space x p.0 y (decimal p.1 ␣ p.2 ␣ level_word p.3) lacks (Lacks-name 32 p.0 (omega arith) p.5) (sym e ∙ p.4) in
@@ -56,7 +56,7 @@ write_second words x y o e lacks other h =
     let p = write_behind words x y o e lacks h in no_split 32 y (decimal p.0) (p.1 ␣ level_word p.2) other p.3
 
 -- behind the offset
-pub write_text : (words x y z w : List ℕ) (o : Operation) → words ≡ x ++ 32 ∷ y → Lacks 32 x → y ≡ z ++ 32 ∷ w → Lacks 32 z → IsOperation (codes "write " ++ words) o → (offset : ℕ) × (text : List ℕ) × (level : PlanLevel) × (z ≡ decimal offset) × (w ≡ text ␣ level_word level) × IsName x × (offset < 2 ^ 64) × IsName text
+pub write_text : (words x y z w : List ℕ) (o : Operation) → words ≡ x ++ 32 ∷ y → Lacks 32 x → y ≡ z ++ 32 ∷ w → Lacks 32 z → IsOperation (codes "write " ++ words) o → (offset : ℕ) × (text : List ℕ) × (level : StableHow) × (z ≡ decimal offset) × (w ≡ text ␣ level_word level) × IsName x × (offset < 2 ^ 64) × IsName text
 write_text words x y z w o e lacks d other h =
     let p = write_behind words x y o e lacks h in
     let cut = cut_space z (decimal p.0) w (p.1 ␣ level_word p.2) other (Lacks-decimal 32 p.0 (omega arith) p.5) (sym d ∙ p.3) in
@@ -67,7 +67,7 @@ write_third words x y z w o e lacks d other last h =
     let p = write_text words x y z w o e lacks d other h in no_split 32 w p.1 (level_word p.2) last p.4
 
 -- all four
-pub write_all : (words x y z w t l : List ℕ) (o : Operation) → words ≡ x ++ 32 ∷ y → Lacks 32 x → y ≡ z ++ 32 ∷ w → Lacks 32 z → w ≡ t ++ 32 ∷ l → Lacks 32 t → IsOperation (codes "write " ++ words) o → (offset : ℕ) × (level : PlanLevel) × (z ≡ decimal offset) × (offset < 2 ^ 64) × IsName x × IsName t × (l ≡ level_word level)
+pub write_all : (words x y z w t l : List ℕ) (o : Operation) → words ≡ x ++ 32 ∷ y → Lacks 32 x → y ≡ z ++ 32 ∷ w → Lacks 32 z → w ≡ t ++ 32 ∷ l → Lacks 32 t → IsOperation (codes "write " ++ words) o → (offset : ℕ) × (level : StableHow) × (z ≡ decimal offset) × (offset < 2 ^ 64) × IsName x × IsName t × (l ≡ level_word level)
 write_all words x y z w t l o e lacks d other f last h =
     let p = write_text words x y z w o e lacks d other h in
     let cut = cut_space t p.1 l (level_word p.2) last (Lacks-name 32 p.1 (omega arith) p.7) (sym f ∙ p.4) in

@@ -3,8 +3,8 @@ use Rattle.std.proofs.Common.{◌≡◌, ◌≢◌, ℕ, ◌<◌, ◌≤◌, ◌
 use Rattle.std.specs.List.{list_all, AllByRecursion}
 use Rattle.std.proofs.lemmas.Bool.{eq-eqb}
 use Rattle.std.proofs.lemmas.Fmt.{decimal_injective}
-use Rattle.plan_text.specs.declared.plan.PlanLevel.{PlanLevel}
-use Rattle.plan_text.specs.declared.plan.PlanLevel.TheVariants.{Unstable, DataSync, FileSync}
+use Rattle.nfs3_types.specs.declared.calls.StableHow.{StableHow}
+use Rattle.nfs3_types.specs.declared.calls.StableHow.TheVariants.{Unstable, DataSync, FileSync}
 use Rattle.plan_text.specs.declared.plan.Operation.{Operation}
 use Rattle.plan_text.specs.declared.plan.Operation.TheVariants.{Create, MakeDirectory, Remove, Lookup, Rename, Write, Read, Commit}
 use Rattle.plan_text.specs.declared.plan.LaneStep.{LaneStep}
@@ -36,7 +36,7 @@ Lacks-name byte bytes below h = Lacks-bytes byte bytes below h.2
 pub cut_space : (u v r s : List ℕ) → Lacks 32 u → Lacks 32 v → u ␣ r ≡ v ␣ s → (u ≡ v) × (r ≡ s)
 cut_space u v r s lu lv e = split_same 32 u v r s lu lv e
 
-pub level_same : (l m : PlanLevel) → level_word l ≡ level_word m → l ≡ m
+pub level_same : (l m : StableHow) → level_word l ≡ level_word m → l ≡ m
 level_same Unstable Unstable e = refl
 level_same DataSync DataSync e = refl
 level_same FileSync FileSync e = refl
@@ -180,7 +180,7 @@ name_line name h = Lacks-name 10 name (omega arith) h
 number_line : (n : ℕ) → n < 2 ^ 64 → Lacks 10 (decimal n)
 number_line n h = Lacks-decimal 10 n (omega arith) h
 
-level_line : (l : PlanLevel) → Lacks 10 (level_word l)
+level_line : (l : StableHow) → Lacks 10 (level_word l)
 level_line Unstable = lacks_all 10 (codes "U") refl
 level_line DataSync = lacks_all 10 (codes "D") refl
 level_line FileSync = lacks_all 10 (codes "F") refl

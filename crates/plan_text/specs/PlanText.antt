@@ -2,8 +2,8 @@
 -- The text of a plan, version 1. A plan has one spelling. (This project's own format.)
 use Rattle.std.specs.Prelude.{◌≡◌, ℕ, ◌<◌, ◌≤◌, ◌+◌, ◌^◌, ◌⊎◌, List, [], ◌∷◌, ◌++◌, length, codes, Option, Some, None, decimal, IfSome}
 use Rattle.std.specs.List.{flat_map, AllByRecursion}
-use Rattle.plan_text.specs.declared.plan.PlanLevel.{PlanLevel}
-use Rattle.plan_text.specs.declared.plan.PlanLevel.TheVariants.{Unstable, DataSync, FileSync}
+use Rattle.nfs3_types.specs.declared.calls.StableHow.{StableHow}
+use Rattle.nfs3_types.specs.declared.calls.StableHow.TheVariants.{Unstable, DataSync, FileSync}
 use Rattle.plan_text.specs.declared.plan.Operation.{Operation}
 use Rattle.plan_text.specs.declared.plan.Operation.TheVariants.{Create, MakeDirectory, Remove, Lookup, Rename, Write, Read, Commit}
 use Rattle.plan_text.specs.declared.plan.Step.{Step}
@@ -20,7 +20,7 @@ abbrev pub ◌␣◌ : List ℕ → List ℕ → List ℕ
 word ␣ words = word ++ 32 ∷ words
 
 -- the letter of a level
-abbrev pub level_word : PlanLevel → List ℕ
+abbrev pub level_word : StableHow → List ℕ
 level_word Unstable = codes "U"
 level_word DataSync = codes "D"
 level_word FileSync = codes "F"

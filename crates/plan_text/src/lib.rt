@@ -8,5 +8,5 @@ mod plan;
 mod reading;
 mod words;
 
-pub use plan::{LaneStep, Operation, Plan, PlanLevel, PlanName, Step, StepList};
+pub use plan::{LaneStep, Operation, Plan, PlanName, Step};
 pub use reading::{PlanFault, read_plan};

@@ -2,6 +2,7 @@
 
 ghost use Rattle.std.specs.Prelude.{◌≡◌, ◌≤◌, ℕ, List, length, IfOk};
 
+use nfs3_types::{ItemList, StableHow};
 use std::alloc::{AllocError, Global};
 use std::marker::Model;
 
@@ -44,17 +45,6 @@ impl PlanName {
     }
 }
 
-/// What a WRITE asks to be on disk before it is answered, `stable_how` (RFC 1813, section 3.3.7).
-#[derive(Clone, Copy, PartialEq, Eq)]
-pub enum PlanLevel {
-    /// Nothing, `U`.
-    Unstable,
-    /// The data, `D`.
-    DataSync,
-    /// The data and the file's attributes, `F`.
-    FileSync,
-}
-
 /// What a client asks. Every name stands in the root directory.
 #[derive(Drop)]
 pub enum Operation {
@@ -69,7 +59,7 @@ pub enum Operation {
     /// Move what the first name names to the second.
     Rename(PlanName, PlanName),
     /// Write the bytes of the second name into the file, from an offset in bytes.
-    Write(PlanName, u64, PlanName, PlanLevel),
+    Write(PlanName, u64, PlanName, StableHow),
     /// Read from an offset in bytes, at most a count of bytes.
     Read(PlanName, u64, u32),
     /// Ask for what was written to be on disk.
@@ -96,37 +86,6 @@ pub enum Step {
     Crash(u64),
 }
 
-/// The steps, in order.
-#[derive(Drop)]
-pub struct StepList {
-    steps: Vec<Step>,
-}
-
-impl Model for StepList {
-    ghost use Rattle.std.specs.Prelude.{List};
-    ghost use Rattle.plan_text.specs.declared.plan.Step.{Step};
-
-    ghost Value = { List Step };
-
-    ghost view = { λ s. s.steps.items };
-}
-
-impl StepList {
-    /// A list of these.
-    pub fn new(steps: Vec<Step>) -> StepList
-        ensures { result ≡ steps.items }
-    {
-        StepList { steps }
-    }
-
-    /// Its items.
-    pub fn as_slice(&self) -> &[Step]
-        ensures { result.now ≡ self.now }
-    {
-        self.steps.as_slice()
-    }
-}
-
 /// A plan.
 pub struct Plan {
     /// The append to the journal that fails, counted from 1 over the whole run.
@@ -134,7 +93,7 @@ pub struct Plan {
     /// The barrier that fails, counted from 1 over the whole run.
     pub barrier_fault: Option<u64>,
     /// What clients ask for, and when the server crashes, in order.
-    pub steps: StepList,
+    pub steps: ItemList<Step>,
 }
 
 impl Drop for Plan {

@@ -10,8 +10,9 @@ ghost use Rattle.plan_text.specs.BadLine.{IsBadLine, FaultHolds};
 ghost use Rattle.plan_text.specs.Draft.{IsDraft, Takes, TakesLine, lines_in};
 
 use crate::line::{Line, is_crash, is_lane, read_line};
-use crate::plan::{Plan, Step, StepList};
+use crate::plan::{Plan, Step};
 use crate::words::WordFault;
+use nfs3_types::ItemList;
 use std::alloc::{AllocError, Global};
 use std::fmt;
 use text_words::{behind, split_at_byte};
@@ -183,7 +184,7 @@ impl Draft {
         Plan {
             append_fault,
             barrier_fault,
-            steps: StepList::new(steps),
+            steps: ItemList::new(steps),
         }
     }
 }

@@ -4,9 +4,10 @@ ghost use Rattle.std.specs.Prelude.{◌≡◌, ◌↔◌, MatchOption, IsTrue};
 ghost use Rattle.std.specs.List.{All};
 ghost use Rattle.plan_text.specs.Line.{Tells};
 ghost use Rattle.plan_text.specs.PlanText.{IsName, IsNameByte, level_word};
-ghost use Rattle.plan_text.specs.declared.plan.PlanLevel.{PlanLevel};
+ghost use Rattle.nfs3_types.specs.declared.calls.StableHow.{StableHow};
 
-use crate::plan::{NAME_LIMIT, PlanLevel, PlanName};
+use crate::plan::{NAME_LIMIT, PlanName};
+use nfs3_types::StableHow;
 use std::alloc::{AllocError, Global};
 
 /// Why words aren't read.
@@ -48,17 +49,17 @@ pub fn name_of(alloc: Global, bytes: &[u8]) -> Result<PlanName, WordFault>
 }
 
 /// The level that a letter names.
-pub fn level_of(word: &[u8]) -> Option<PlanLevel>
-    ensures { MatchOption result ((l : PlanLevel) → word.now ≡ level_word l → ⊥) (λ l. word.now ≡ level_word l) }
+pub fn level_of(word: &[u8]) -> Option<StableHow>
+    ensures { MatchOption result ((l : StableHow) → word.now ≡ level_word l → ⊥) (λ l. word.now ≡ level_word l) }
 {
     if word == b"U".as_slice() {
-        return Some(PlanLevel::Unstable);
+        return Some(StableHow::Unstable);
     }
     if word == b"D".as_slice() {
-        return Some(PlanLevel::DataSync);
+        return Some(StableHow::DataSync);
     }
     if word == b"F".as_slice() {
-        return Some(PlanLevel::FileSync);
+        return Some(StableHow::FileSync);
     }
     None
 }

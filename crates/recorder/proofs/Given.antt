@@ -3,7 +3,7 @@ use Rattle.std.proofs.Common.{◌≡◌, List, ℕ, Result, Ok, Err, refl, sym, 
 use Rattle.std.specs.Prelude.{OnOk, IfErr}
 use Rattle.nfs3_types.specs.declared.replies.NfsReply.{NfsReply}
 use Rattle.nfs3_types.specs.declared.replies.Outcome.TheVariants.{Received}
-use Rattle.nfs_history.specs.declared.history.RecordedCall.{RecordedCall}
+use Rattle.nfs_history.specs.declared.recorded.RecordedCall.{RecordedCall}
 use Rattle.book_ledger.specs.Spelling.{Spelled, IsSpelled, IsSpelledTo, IsOfCall}
 
 pub placed_with : {X E : Type 0} (r : Result X E) (P : NfsReply → Type 0) (reply : NfsReply) → OnOk r ((said : NfsReply) → Received reply ≡ Received said → P said) → OnOk r (P reply)

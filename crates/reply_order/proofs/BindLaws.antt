@@ -13,9 +13,9 @@ use Rattle.std.proofs.lemmas.List.Sorted.{Contains-permutation, IsPermutation-sy
 use Rattle.std.proofs.lemmas.Map.Keys.{IsDistinct-IsPermutation}
 use Rattle.std.proofs.lemmas.List.Elements.{recursion_from_All}
 use Rattle.tree_starts.specs.Start.{object_made}
-use Rattle.nfs_history.specs.declared.history.RecordedCall.{RecordedCall}
-use Rattle.nfs_history.specs.declared.history.CallKind.{CallKind}
-use Rattle.nfs_history.specs.declared.history.CallKind.TheVariants as kinds
+use Rattle.nfs_history.specs.declared.recorded.RecordedCall.{RecordedCall}
+use Rattle.nfs_history.specs.declared.recorded.CallKind.{CallKind}
+use Rattle.nfs_history.specs.declared.recorded.CallKind.TheVariants as kinds
 use Rattle.nfs_history.specs.HistoryValue.{CallsValue}
 use Rattle.nfs_history.specs.Precedence.{call_at}
 use Rattle.nfs_history.specs.Reread.{call_kind}

@@ -15,9 +15,9 @@ use Rattle.nfs3_types.specs.declared.replies.NfsReply.TheVariants as replies
 use Rattle.nfs3_types.specs.declared.replies.Outcome.{Outcome}
 use Rattle.nfs3_types.specs.declared.replies.Outcome.TheVariants as outcomes
 use Rattle.tree_starts.specs.Start.{object_made}
-use Rattle.nfs_history.specs.declared.history.RecordedCall.{RecordedCall}
-use Rattle.nfs_history.specs.declared.history.CallKind.{CallKind}
-use Rattle.nfs_history.specs.declared.history.CallKind.TheVariants as kinds
+use Rattle.nfs_history.specs.declared.recorded.RecordedCall.{RecordedCall}
+use Rattle.nfs_history.specs.declared.recorded.CallKind.{CallKind}
+use Rattle.nfs_history.specs.declared.recorded.CallKind.TheVariants as kinds
 use Rattle.nfs_history.specs.HistoryValue.{CallsValue}
 use Rattle.nfs_history.specs.Precedence.{call_at, end_of}
 use Rattle.nfs_history.specs.Reread.{call_kind}

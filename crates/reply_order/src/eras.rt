@@ -7,7 +7,8 @@ ghost use Rattle.reply_order.specs.declared.replies.Reply.{Reply};
 ghost use Rattle.reply_order.specs.Making.{is_of_era, place_of, places_in, AreGrouped, era_plan, plans_up_to};
 
 use crate::replies::Reply;
-use certificate::{EraPlan, Place, PlaceList};
+use certificate::{EraPlan, Place};
+use nfs3_types::ItemList;
 use std::alloc::{AllocError, Global};
 
 /// The replies era by era, each era's in the order that they had.
@@ -50,7 +51,7 @@ fn era_plan(alloc: Global, replies: &[Reply], era: u64, eras: u64) -> Result<Era
         None
     };
     Ok(EraPlan {
-        places: PlaceList::new(places),
+        places: ItemList::new(places),
         cut,
     })
 }

@@ -9,8 +9,9 @@ ghost use Rattle.reply_order.specs.Making.{IsMade};
 use crate::binds::sorted_binds;
 use crate::eras::{all_plans, by_era};
 use crate::replies::ordered_replies;
-use certificate::{BindList, Certificate, EraPlanList};
+use certificate::Certificate;
 use nfs_history::KnownCalls;
+use nfs3_types::ItemList;
 use std::alloc::{AllocError, Global};
 
 /// The plan, made of the replies in their order.
@@ -22,8 +23,8 @@ fn made_plan(alloc: Global, history: &KnownCalls<'_>) -> Result<Certificate, All
     let grouped = by_era(replies)?;
     let eras = all_plans(alloc, grouped.as_slice(), history.eras())?;
     Ok(Certificate {
-        binds: BindList::new(binds),
-        eras: EraPlanList::new(eras),
+        binds: ItemList::new(binds),
+        eras: ItemList::new(eras),
     })
 }
 

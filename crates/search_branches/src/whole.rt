@@ -2,7 +2,8 @@
 
 use crate::branch_facts::BoundHandle;
 use crate::state::State;
-use certificate::{Bind, BindList, Certificate, EraPlan, EraPlanList, Place, PlaceList};
+use certificate::{Bind, Certificate, EraPlan, Place};
+use nfs3_types::ItemList;
 use search_problem::{Move, Problem, find, full_count};
 use std::alloc::{AllocError, Global};
 use std::collections::BTreeMap;
@@ -16,7 +17,7 @@ fn taken_place(alloc: Global, problem: &Problem<'_, '_>, number: u64) -> Result<
 }
 
 /// The binds in the order of their handles.
-fn sorted_binds(alloc: Global, bound: &[BoundHandle]) -> Result<BindList, AllocError> {
+fn sorted_binds(alloc: Global, bound: &[BoundHandle]) -> Result<ItemList<Bind>, AllocError> {
     let mut objects = BTreeMap::new(alloc);
     for bind in bound {
         if let Some(object) = bind.object {
@@ -35,7 +36,7 @@ fn sorted_binds(alloc: Global, bound: &[BoundHandle]) -> Result<BindList, AllocE
             object: bind.object,
         })?;
     }
-    Ok(BindList::new(binds))
+    Ok(ItemList::new(binds))
 }
 
 impl State {
@@ -50,7 +51,7 @@ impl State {
                 Move::Take(number) => places.push(taken_place(alloc, problem, number)?)?,
                 Move::Cut(kept) => {
                     eras.push(EraPlan {
-                        places: PlaceList::new(places),
+                        places: ItemList::new(places),
                         cut: Some(kept as u64),
                     })?;
                     places = Vec::new(alloc);
@@ -58,12 +59,12 @@ impl State {
             }
         }
         eras.push(EraPlan {
-            places: PlaceList::new(places),
+            places: ItemList::new(places),
             cut: None,
         })?;
         Ok(Certificate {
             binds: sorted_binds(alloc, self.facts.bound.as_slice())?,
-            eras: EraPlanList::new(eras),
+            eras: ItemList::new(eras),
         })
     }
 }

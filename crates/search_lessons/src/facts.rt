@@ -1,4 +1,4 @@
-//! What a pass asks of a call.
+//! What a sweep asks of a call.
 
 use nfs3_types::{
     Answer, CreateMode, DirectoryName, FileHandle, NfsCall, NfsReply, Outcome, StableHow,
@@ -6,7 +6,7 @@ use nfs3_types::{
 use search_problem::{FoundCall, Move, Nature, Problem, find};
 use std::alloc::{AllocError, Global};
 
-/// A call as a pass places it: with its reply, or as done in full.
+/// A call as a sweep places it: with its reply, or as done in full.
 pub fn move_of(problem: &Problem<'_, '_>, number: u64) -> Move {
     if problem.nature(number) == Nature::Unanswered {
         Move::Take(number)

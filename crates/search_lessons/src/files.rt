@@ -1,4 +1,4 @@
-//! The files of a pass, each as the list of the calls that changed its bytes.
+//! The files of a sweep, each as the list of the calls that changed its bytes.
 
 use crate::changes::Change;
 use indexmap::IndexMap;
@@ -185,7 +185,7 @@ impl FileLog {
     }
 }
 
-/// The files of a pass by their handles.
+/// The files of a sweep by their handles.
 #[derive(Drop)]
 pub struct Files {
     alloc: Global,

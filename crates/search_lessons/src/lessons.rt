@@ -1,4 +1,4 @@
-//! What passes learn.
+//! What sweeps learn.
 
 use nfs3_types::FileHandle;
 use std::alloc::{AllocError, Global};
@@ -28,7 +28,7 @@ pub struct Step {
     pub place: u64,
 }
 
-/// What passes have learned. Calls are named by their numbers.
+/// What sweeps have learned. Calls are named by their numbers.
 #[derive(Drop)]
 pub struct Lessons {
     alloc: Global,
@@ -48,7 +48,7 @@ pub struct Lessons {
     refuted: BTreeMap<u64, Vec<FileHandle>>,
     /// The pairs of calls of which one was said to go ahead of the other for a name that both change.
     turned: BTreeMap<(u64, u64), ()>,
-    /// WRITEs that a COMMIT of the pass before kept.
+    /// WRITEs that a COMMIT of the sweep before kept.
     pub committed: BTreeMap<u64, ()>,
 }
 
@@ -63,7 +63,7 @@ fn add_weight(calls: &mut BTreeMap<u64, u64>, number: u64, weight: u64) -> Resul
 }
 
 impl Lessons {
-    /// Before the first pass.
+    /// Before the first sweep.
     pub fn new(alloc: Global) -> Lessons {
         Lessons {
             alloc,

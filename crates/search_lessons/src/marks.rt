@@ -1,4 +1,4 @@
-//! What a pass notes of its eras.
+//! What a sweep notes of its eras.
 
 use crate::lessons::{Lesson, Step};
 use std::alloc::{AllocError, Global};
@@ -15,7 +15,7 @@ pub struct Kept {
     pub is_committed: bool,
 }
 
-/// What a pass notes of its eras, counted from 0.
+/// What a sweep notes of its eras, counted from 0.
 #[derive(Drop)]
 pub struct Marks {
     /// For each era the first of its places that are known to be lost.

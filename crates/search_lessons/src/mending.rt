@@ -1,4 +1,4 @@
-//! How a file can have become what a reply shows of it, where it isn't so in a pass.
+//! How a file can have become what a reply shows of it, where it isn't so in a sweep.
 
 use crate::facts::overlap;
 use crate::files::{FileLog, Files, Folded, Item, order_of};
@@ -22,11 +22,11 @@ pub struct Mending<'m, 's, 'a> {
     pub alloc: Global,
     /// The history, and what its calls can do.
     pub problem: &'m Problem<'s, 'a>,
-    /// What the passes have learned so far.
+    /// What the sweeps have learned so far.
     pub lessons: &'m Lessons,
-    /// The files of the pass, with the calls that changed them.
+    /// The files of the sweep, with the calls that changed them.
     pub files: &'m Files,
-    /// What the pass noted of its eras.
+    /// What the sweep noted of its eras.
     pub marks: &'m Marks,
     /// What the reply shows of the file.
     pub seen: &'m Seen<'m>,
@@ -71,7 +71,7 @@ impl<'m, 's, 'a> Mending<'m, 's, 'a> {
             || self.marks.committed.contains_key(&item.number)
     }
 
-    /// Whether a crash may have taken a call that the pass has kept.
+    /// Whether a crash may have taken a call that the sweep has kept.
     fn may_be_lost(&self, item: &Item) -> bool {
         if item.era >= self.era || self.is_safe(item) || !self.lessons.may_be_lost(item.number) {
             return false;

@@ -1,4 +1,4 @@
-//! What a search for a certificate is done by: workers over branches, each in a thread, and passes over the history. A plan that they
+//! What a search for a certificate is done by: workers over branches, each in a thread, and sweeps over the history. A plan that they
 //! come to has to be judged by who calls them.
 #![tactic(auto)]
 
@@ -11,4 +11,4 @@ mod ways;
 mod worker;
 
 pub use gate::{OpenSearch, Progress, SearchGate};
-pub use running::{Lack, SearchRuntime, pass_over_calls, run_workers};
+pub use running::{Lack, SearchRuntime, run_workers, sweep_over_calls};

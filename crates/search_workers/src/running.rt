@@ -1,4 +1,4 @@
-//! Workers over a history's calls, and passes over them.
+//! Workers over a history's calls, and sweeps over them.
 
 ghost use Rattle.std.specs.Prelude.{◌≤◌};
 ghost use Rattle.std.specs.Thread.{IsSync};
@@ -12,8 +12,8 @@ use crate::worker::{Seat, Team, work};
 use certificate::Certificate;
 use crossbeam_deque::{Stealer, Worker};
 use nfs_history::KnownCalls;
-use search_passes::plan_of;
 use search_problem::Problem;
+use search_sweeps::plan_of;
 use seen_states::{Claimer, SeenTable};
 use std::alloc::{AllocError, Global};
 use std::sync::Wait;
@@ -159,8 +159,8 @@ pub fn run_workers<R: SearchRuntime, G: SearchGate + Sync>(
     Ok(outcome_of(rt, &board))
 }
 
-/// The plan that at most so many passes over the history come to. Nobody has judged it yet.
-pub fn pass_over_calls<R: SearchRuntime, G: SearchGate>(
+/// The plan that at most so many sweeps over the history come to. Nobody has judged it yet.
+pub fn sweep_over_calls<R: SearchRuntime, G: SearchGate>(
     rt: &R,
     known: &KnownCalls<'_>,
     turns: u64,

@@ -1,11 +1,11 @@
-//! How far passes are, told once a second.
+//! How far sweeps are, told once a second.
 
 use crate::gate::{Progress, SearchGate};
 use crate::watch::Watch;
-use search_passes::PassWatch;
+use search_sweeps::SweepWatch;
 use std::time::Clock;
 
-/// Tells a gate how far passes are.
+/// Tells a gate how far sweeps are.
 #[derive(Drop)]
 pub(crate) struct PassTeller<'t, R, G> {
     rt: &'t R,
@@ -27,7 +27,7 @@ impl<'t, R: Clock, G: SearchGate> PassTeller<'t, R, G> {
     }
 }
 
-impl<'t, R: Clock, G: SearchGate> PassWatch for PassTeller<'t, R, G> {
+impl<'t, R: Clock, G: SearchGate> SweepWatch for PassTeller<'t, R, G> {
     fn at(&mut self, depth: usize) {
         if self.watch.is_due(self.rt) {
             self.gate.tell(Progress {

@@ -4,13 +4,13 @@ use Rattle.std.proofs.lemmas.List.{length-append, length-map}
 use Rattle.std.specs.Io.KnownBytes.{Appends, Consumes}
 use Rattle.xdr_records.specs.declared.fault.FeedFault.{FeedFault}
 use Rattle.xdr_records.specs.declared.fault.FeedFault.TheVariants as feed_faults
-use Rattle.xdr_records.specs.Record.{AreRecords, IsUnfinished, IsTooLong, IsCut}
+use Rattle.xdr_records.specs.Record.{AreRecords, IsUnfinished, IsTooLong, IsSplit}
 use Rattle.xdr_records.specs.Feed.{Feed, fresh}
-use Rattle.xdr_records.proofs.Cutting.{unfinished_none, cut_join}
+use Rattle.xdr_records.proofs.Splitting.{unfinished_none, split_join}
 use Rattle.nfs_tap.specs.Pumping.{frames}
 use Rattle.program_streams.proofs.Fronts.{both as both_appended}
-use Rattle.nfs_tap.proofs.Fronts.{none_appended, none_consumed, both_consumed}
-use Rattle.nfs_tap.proofs.Forwarding.{HasFed, grown_all, broken_all, fed_cut, split}
+use Rattle.nfs_tap.proofs.Fronts.{none_appended, none_consumed}
+use Rattle.nfs_tap.proofs.Forwarding.{HasFed, grown_all, broken_all, fed_split, split}
 use Rattle.server_passes.specs.PassValue.{ExchangeValue, PassValue}
 use Rattle.server_connection.specs.declared.export.Export.{Export}
 use Rattle.server_connection.specs.declared.end.StreamEnd.{StreamEnd}
@@ -19,6 +19,7 @@ use Rattle.server_connection.specs.declared.intake.Intake.{Intake}
 use Rattle.server_connection.specs.Serving.{messages, replies, IsToldOf, IsSent, Behind, EndsIn, Serves}
 use Rattle.server_connection.specs.Steps.{Answers, Stops, IsReady, IsEmptied, Takes}
 use Rattle.server_connection.proofs.Answering.{messages-append, replies-append, frames_more, told_none, told_join, sent_behind, stop_behind}
+use Rattle.program_streams.proofs.Pieces.{consumed_both}
 
 -- ---- a piece of the stream
 
@@ -27,17 +28,17 @@ module _ (export : Export) (old : Feed) (piece : List ℕ) (new : Feed) (before 
   pub stopped_in : {X : Type 0} (r : Result X FeedFault) (end : StreamEnd) (most : ℕ) → HasFed r old piece new → Stops export end most new.waiting before after held held'
       → EndsIn export end most (old.rest ++ piece) before after held held'
   stopped_in r end most fed s =
-      let some = fed_cut r old piece new fed in
-      let cut = some.1 in
-      let first = split (messages s.answers) s.behind cut.front (subst (λ (xs : List (List ℕ)). AreRecords xs cut.front) s.parts cut.whole) in
+      let some = fed_split r old piece new fed in
+      let whole = some.1 in
+      let first = split (messages s.answers) s.behind whole.front (subst (λ (xs : List (List ℕ)). AreRecords xs whole.front) s.parts whole.whole) in
       record {
         answers = s.answers;
         left = s.left;
         count = s.count;
         rest = first.back ++ some.0;
-        cut = record {
+        split = record {
           front = first.front;
-          parts = cut.parts ∙ ap (λ l. l ++ some.0) first.parts ∙ append_assoc first.front first.back some.0;
+          parts = whole.parts ∙ ap (λ l. l ++ some.0) first.parts ∙ append_assoc first.front first.back some.0;
           whole = first.first;
           left = stop_behind end s.left s.behind first.back some.0 s.stop first.others;
         };
@@ -54,13 +55,13 @@ module _ (export : Export) (old : Feed) (piece : List ℕ) (new : Feed) (before 
 
   -- it ended behind them
   ended_at : (end : StreamEnd) (a : Answers export new.waiting before after held held') (most left : ℕ) (rest : List ℕ) → most ≡ length new.waiting + left
-      → IsCut (Behind end left) (old.rest ++ piece) new.waiting rest → IsSent end (replies a.answers) (frames (replies a.answers)) → EndsIn export end most (old.rest ++ piece) before after held held'
-  ended_at end a most left rest count cut sent = record {
+      → IsSplit (Behind end left) (old.rest ++ piece) new.waiting rest → IsSent end (replies a.answers) (frames (replies a.answers)) → EndsIn export end most (old.rest ++ piece) before after held held'
+  ended_at end a most left rest count split sent = record {
     answers = a.answers;
     left = left;
     count = counted a most left count;
     rest = rest;
-    cut = subst (λ (xs : List (List ℕ)). IsCut (Behind end left) (old.rest ++ piece) xs rest) a.are cut;
+    split = subst (λ (xs : List (List ℕ)). IsSplit (Behind end left) (old.rest ++ piece) xs rest) a.are split;
     told = a.told;
     written = frames (replies a.answers);
     appended = a.appended;
@@ -72,12 +73,12 @@ module _ (export : Export) (old : Feed) (piece : List ℕ) (new : Feed) (before 
   too_long_in most left fed a count =
       let b = fed.too_long refl in
       ended_at ends.RecordTooLong a most left b.stop count
-      (subst (λ (xs : List (List ℕ)). IsCut IsTooLong (old.rest ++ piece) xs b.stop) (sym (broken_all old piece new fed.idle b)) b.cut) refl
+      (subst (λ (xs : List (List ℕ)). IsSplit IsTooLong (old.rest ++ piece) xs b.stop) (sym (broken_all old piece new fed.idle b)) b.split) refl
 
   pub no_memory_in : {X : Type 0} (most left : ℕ) → HasFed {X = X} (Err feed_faults.NoMemory) old piece new → Answers export new.waiting before after held held' → most ≡ length new.waiting + left
       → EndsIn export ends.NoMemory most (old.rest ++ piece) before after held held'
   no_memory_in {X = X} most left fed a count =
-      let some = fed_cut {X = X} (Err feed_faults.NoMemory) old piece new fed in
+      let some = fed_split {X = X} (Err feed_faults.NoMemory) old piece new fed in
       ended_at ends.NoMemory a most left some.0 count some.1 (inl refl)
 
 -- a piece was taken
@@ -86,13 +87,13 @@ pub grown_in : (export : Export) {X : Type 0} (x : X) (old now new : Intake) (pi
 grown_in export x old now new piece before after held held' fed same a e =
     let g = fed.ok in
     let are : g.records ≡ messages a.answers = sym (grown_all old.feed piece now.feed fed.idle g) ∙ a.are in
-    let cut : IsCut IsUnfinished (old.feed.rest ++ piece) (messages a.answers) now.feed.rest =
-    subst (λ (xs : List (List ℕ)). IsCut IsUnfinished (old.feed.rest ++ piece) xs now.feed.rest) are g.cut in
+    let split : IsSplit IsUnfinished (old.feed.rest ++ piece) (messages a.answers) now.feed.rest =
+    subst (λ (xs : List (List ℕ)). IsSplit IsUnfinished (old.feed.rest ++ piece) xs now.feed.rest) are g.split in
     record {
       ready = record { idle = (e.waiting, e.broken ∙ g.still); more = e.more };
       answers = a.answers;
       count = sym same ∙ counted export old.feed piece now.feed before after held held' a now.left new.left e.count;
-      cut = subst (λ (l : List ℕ). IsCut IsUnfinished (old.feed.rest ++ piece) (messages a.answers) l) (sym e.rest) cut;
+      split = subst (λ (l : List ℕ). IsSplit IsUnfinished (old.feed.rest ++ piece) (messages a.answers) l) (sym e.rest) split;
       told = a.told;
       appended = a.appended;
     }
@@ -105,7 +106,7 @@ pub record HasServed (export : Export) (most : ℕ) (before after : PassValue) (
   pub answers : List ExchangeValue
   pub count : most ≡ length answers + intake.left
   pub consumed : Consumes left left' read
-  pub cut : IsCut IsUnfinished read (messages answers) intake.feed.rest
+  pub split : IsSplit IsUnfinished read (messages answers) intake.feed.rest
   pub told : IsToldOf export answers before after
   pub appended : Appends held held' (frames (replies answers))
   pub ready : IsReady intake
@@ -116,7 +117,7 @@ none_served export pass left held intake is more = record {
   answers = [];
   count = sym (zero-add intake.left);
   consumed = none_consumed left;
-  cut = record { front = []; parts = sym (ap (λ (f : Feed). f.rest) is); whole = refl; left = subst (λ (f : Feed). IsUnfinished f.rest) (sym is) (0, 0, unfinished_none) };
+  split = record { front = []; parts = sym (ap (λ (f : Feed). f.rest) is); whole = refl; left = subst (λ (f : Feed). IsUnfinished f.rest) (sym is) (0, 0, unfinished_none) };
   told = told_none export pass;
   appended = none_appended held;
   ready = record { idle = (ap (λ (f : Feed). f.waiting) is, ap (λ (f : Feed). f.broken) is); more = more };
@@ -132,7 +133,7 @@ serves_none export end most pass left held behind sent = record {
     left = most;
     count = sym (zero-add most);
     rest = [];
-    cut = record { front = []; parts = refl; whole = refl; left = behind };
+    split = record { front = []; parts = refl; whole = refl; left = behind };
     told = told_none export pass;
     written = [];
     appended = none_appended held;
@@ -148,7 +149,7 @@ module _ (export : Export) (most : ℕ) (before mid : PassValue) (left unread he
     answers = so_far.answers;
     count = so_far.count;
     consumed = still so_far.read so_far.consumed;
-    cut = so_far.cut;
+    split = so_far.split;
     told = so_far.told;
     appended = so_far.appended;
     ready = so_far.ready;
@@ -161,9 +162,9 @@ module _ (export : Export) (most : ℕ) (before mid : PassValue) (left unread he
     read = so_far.read ++ piece;
     answers = so_far.answers ++ t.answers;
     count = omega (arith, so_far.count, t.count, length-append so_far.answers t.answers);
-    consumed = both_consumed left unread left' so_far.read piece so_far.consumed gave;
-    cut = subst (λ (xs : List (List ℕ)). IsCut IsUnfinished (so_far.read ++ piece) xs new.feed.rest) (sym (messages-append so_far.answers t.answers))
-        (cut_join IsUnfinished IsUnfinished so_far.read piece intake.feed.rest new.feed.rest (messages so_far.answers) (messages t.answers) so_far.cut t.cut);
+    consumed = consumed_both left unread left' so_far.read piece so_far.consumed gave;
+    split = subst (λ (xs : List (List ℕ)). IsSplit IsUnfinished (so_far.read ++ piece) xs new.feed.rest) (sym (messages-append so_far.answers t.answers))
+        (split_join IsUnfinished IsUnfinished so_far.read piece intake.feed.rest new.feed.rest (messages so_far.answers) (messages t.answers) so_far.split t.split);
     told = told_join export so_far.answers t.answers before mid after so_far.told t.told;
     appended = subst (Appends held held') (sym (frames_more so_far.answers t.answers))
         (both_appended held between held' (frames (replies so_far.answers)) (frames (replies t.answers)) so_far.appended t.appended);
@@ -175,14 +176,14 @@ module _ (export : Export) (most : ℕ) (before mid : PassValue) (left unread he
       → EndsIn export end intake.left (intake.feed.rest ++ piece) mid after between held' → Serves export end most before after left left' held held'
   serves_within end after left' held' piece gave e = record {
     read = so_far.read ++ piece;
-    consumed = both_consumed left unread left' so_far.read piece so_far.consumed gave;
+    consumed = consumed_both left unread left' so_far.read piece so_far.consumed gave;
     ended = record {
       answers = so_far.answers ++ e.answers;
       left = e.left;
       count = omega (arith, so_far.count, e.count, length-append so_far.answers e.answers);
       rest = e.rest;
-      cut = subst (λ (xs : List (List ℕ)). IsCut (Behind end e.left) (so_far.read ++ piece) xs e.rest) (sym (messages-append so_far.answers e.answers))
-          (cut_join IsUnfinished (Behind end e.left) so_far.read piece intake.feed.rest e.rest (messages so_far.answers) (messages e.answers) so_far.cut e.cut);
+      split = subst (λ (xs : List (List ℕ)). IsSplit (Behind end e.left) (so_far.read ++ piece) xs e.rest) (sym (messages-append so_far.answers e.answers))
+          (split_join IsUnfinished (Behind end e.left) so_far.read piece intake.feed.rest e.rest (messages so_far.answers) (messages e.answers) so_far.split e.split);
       told = told_join export so_far.answers e.answers before mid after so_far.told e.told;
       written = frames (replies so_far.answers) ++ e.written;
       appended = both_appended held between held' (frames (replies so_far.answers)) e.written so_far.appended e.appended;
@@ -202,7 +203,7 @@ module _ (export : Export) (most : ℕ) (before mid : PassValue) (left unread he
       left = intake.left;
       count = so_far.count;
       rest = intake.feed.rest;
-      cut = record { front = so_far.cut.front; parts = so_far.cut.parts; whole = so_far.cut.whole; left = may so_far.cut.left };
+      split = record { front = so_far.split.front; parts = so_far.split.parts; whole = so_far.split.whole; left = may so_far.split.left };
       told = so_far.told;
       written = frames (replies so_far.answers);
       appended = so_far.appended;

@@ -3,7 +3,7 @@
 -- fragment (RFC 5531, section 11).
 use Rattle.std.specs.Prelude.{◌≡◌, ◌≢◌, ◌⊎◌, ℕ, ◌+◌, ◌≤◌, List, [], ◌∷◌, ◌++◌, length, map, take, Option}
 use Rattle.std.specs.Io.KnownBytes.{Consumes, Appends}
-use Rattle.xdr_records.specs.Record.{IsRecord, IsUnfinished, IsTooLong, IsCut, record_text}
+use Rattle.xdr_records.specs.Record.{IsRecord, IsUnfinished, IsTooLong, IsSplit, record_text}
 use Rattle.nfs_tap.specs.Pumping.{frames}
 use Rattle.server_passes.specs.PassValue.{ExchangeValue, PassValue}
 use Rattle.journal_server.specs.declared.fault.CallFault.{CallFault}
@@ -92,7 +92,7 @@ pub record EndsIn (export : Export) (end : StreamEnd) (most : ℕ) (bytes : List
   pub left : ℕ
   pub count : most ≡ length answers + left
   pub rest : List ℕ
-  pub cut : IsCut (Behind end left) bytes (messages answers) rest
+  pub split : IsSplit (Behind end left) bytes (messages answers) rest
   pub told : IsToldOf export answers old new
   pub written : List ℕ
   pub appended : Appends held held' written

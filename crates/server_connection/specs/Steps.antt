@@ -2,7 +2,7 @@
 -- What the private functions say to the prover.
 use Rattle.std.specs.Prelude.{◌≡◌, ◌≢◌, ◌⊎◌, ◌<◌, ◌≤◌, ℕ, ◌+◌, List, [], ◌∷◌, ◌++◌, length, take, Option}
 use Rattle.std.specs.Io.KnownBytes.{Appends}
-use Rattle.xdr_records.specs.Record.{IsUnfinished, IsCut, record_text}
+use Rattle.xdr_records.specs.Record.{IsUnfinished, IsSplit, record_text}
 use Rattle.nfs_tap.specs.Pumping.{frames, IsIdle}
 use Rattle.server_passes.specs.PassValue.{ExchangeValue, PassValue}
 use Rattle.journal_server.specs.declared.fault.CallFault.{CallFault}
@@ -103,6 +103,6 @@ pub record Takes (export : Export) (old : Intake) (piece : List ℕ) (new : Inta
   pub ready : IsReady new
   pub answers : List ExchangeValue
   pub count : old.left ≡ length answers + new.left
-  pub cut : IsCut IsUnfinished (old.feed.rest ++ piece) (messages answers) new.feed.rest
+  pub split : IsSplit IsUnfinished (old.feed.rest ++ piece) (messages answers) new.feed.rest
   pub told : IsToldOf export answers before after
   pub appended : Appends held held' (frames (replies answers))

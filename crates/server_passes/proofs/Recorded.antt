@@ -9,7 +9,7 @@ use Rattle.history_file.specs.Event.{Event}
 use Rattle.history_file.specs.Event.Event.{call, reply, close, crash}
 use Rattle.history_file.specs.Owning.{all_happened}
 use Rattle.nfs_history.specs.Calls.{ReplyEvent, CallEvent, first_reply, calls_from, calls_of, xid_of}
-use Rattle.nfs_history.specs.declared.history.RecordedCall.{RecordedCall}
+use Rattle.nfs_history.specs.declared.recorded.RecordedCall.{RecordedCall}
 use Rattle.nfs_history.specs.HistoryValue.{HistoryValue}
 use Rattle.nfs_history.specs.History.{IsRecorded, AreRecorded, IsHistory, recording_of}
 use Rattle.nfs_history.specs.Precedence.{call_at}

@@ -4,7 +4,7 @@ use Rattle.std.specs.Prelude.{◌==◌, nat_eq, ℕ, if◌then◌else◌, List, 
 use Rattle.std.specs.HashMap.{get}
 use Rattle.std.specs.Option.{option_map_or}
 use Rattle.history_file.specs.declared.event.Event.{Event}
-use Rattle.nfs_history.specs.declared.history.RecordedCall.{RecordedCall}
+use Rattle.nfs_history.specs.declared.recorded.RecordedCall.{RecordedCall}
 use Rattle.server_passes.specs.PassValue.{ExchangeValue}
 use Rattle.server_passes.specs.Matching.{message_at}
 use Rattle.server_passes.specs.declared.lanes.AnsweredCall.{AnsweredCall}

@@ -6,7 +6,7 @@ use Rattle.std.specs.List.{filter_map}
 use Rattle.std.specs.Option.{option_map_or}
 use Rattle.history_file.specs.declared.event.Event.{Event}
 use Rattle.history_file.specs.declared.event.Event.TheVariants as events
-use Rattle.nfs_history.specs.declared.history.RecordedCall.{RecordedCall}
+use Rattle.nfs_history.specs.declared.recorded.RecordedCall.{RecordedCall}
 use Rattle.nfs_history.specs.HistoryValue.{HistoryValue}
 use Rattle.nfs_history.specs.Precedence.{call_at}
 use Rattle.server_passes.specs.PassValue.{ExchangeValue, PassValue}

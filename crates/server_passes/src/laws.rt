@@ -2,7 +2,7 @@
 
 ghost use Rattle.std.specs.Prelude.{◌≡◌, ℕ, Some, IfSome};
 ghost use Rattle.nfs_history.specs.declared.history.History.{History};
-ghost use Rattle.nfs_history.specs.declared.history.RecordedCall.{RecordedCall};
+ghost use Rattle.nfs_history.specs.declared.recorded.RecordedCall.{RecordedCall};
 ghost use Rattle.nfs_history.specs.History.{IsHistory, recording_of};
 ghost use Rattle.nfs_history.specs.Precedence.{call_at};
 ghost use Rattle.server_passes.specs.Matching.{exchange_of, WasRecorded};

@@ -5,11 +5,11 @@ ghost use Rattle.std.specs.Prelude.{◌≤◌, length};
 use crate::known::{Known, ObjectKind};
 use crate::random::Random;
 use client_calls::{
-    Creation, Level, commit, create, get_attributes, look_up, make_directory, make_link,
-    plain_call, read, read_directory, read_directory_plus, read_link, remove, remove_directory,
-    rename, set_size, write,
+    Creation, commit, create, get_attributes, look_up, make_directory, make_link, plain_call, read,
+    read_directory, read_directory_plus, read_link, remove, remove_directory, rename, set_size,
+    write,
 };
-use nfs3_types::Procedure;
+use nfs3_types::{Procedure, StableHow};
 use std::alloc::{AllocError, Global};
 
 /// What is written.
@@ -46,11 +46,11 @@ pub fn bytes_of(count: u64) -> &'static [u8]
     }
 }
 
-fn level_of(pick: u64) -> Level {
+fn level_of(pick: u64) -> StableHow {
     match pick {
-        0 => Level::FileSync,
-        1 => Level::DataSync,
-        _ => Level::Unstable,
+        0 => StableHow::FileSync,
+        1 => StableHow::DataSync,
+        _ => StableHow::Unstable,
     }
 }
 

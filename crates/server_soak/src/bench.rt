@@ -5,13 +5,13 @@ ghost use Rattle.std.specs.Prelude.{◌≡◌};
 use crate::random::Random;
 use crate::told::{made_object, number_at, procedure_of};
 use anyhow::{Context, Result, bail};
-use client_calls::{Creation, Level, create, read, remove, rename, write};
+use client_calls::{Creation, create, read, remove, rename, write};
 use history_file::Event;
 use journal_server::{
     CallFault, Closed, Desk, OpenGate, Pass, Profile, Server, SimDevice, SpelledReply, Start,
 };
 use nfs3_msgs::read_result;
-use nfs3_types::{NfsReply, Procedure};
+use nfs3_types::{NfsReply, Procedure, StableHow};
 use rpc_reader::{ReplyBody, read_reply};
 use std::alloc::Global;
 use std::io::Print;
@@ -91,7 +91,14 @@ fn write_once<R: Wait>(
     turn: u64,
 ) -> Result<(), CallFault> {
     let offset = turn % 16 * 64;
-    let wrote = write(alloc, 1, file, offset, Level::Unstable, PIECE.as_slice())?;
+    let wrote = write(
+        alloc,
+        1,
+        file,
+        offset,
+        StableHow::Unstable,
+        PIECE.as_slice(),
+    )?;
     call(rt, server, pass, wrote)?;
     Ok(())
 }
@@ -125,7 +132,7 @@ fn change_once<R: Wait>(
     );
     let message = match turn % 4 {
         0 => create(alloc, 1, 0, one.as_slice(), Creation::Unchecked(None))?,
-        1 => write(alloc, 1, last, 0, Level::Unstable, PIECE.as_slice())?,
+        1 => write(alloc, 1, last, 0, StableHow::Unstable, PIECE.as_slice())?,
         2 => rename(alloc, 1, (0, one.as_slice()), (0, two.as_slice()))?,
         _ => remove(alloc, 1, 0, two.as_slice())?,
     };

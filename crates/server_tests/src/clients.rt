@@ -1,7 +1,8 @@
 //! What clients ask, and whether they are answered so.
 
-use client_calls::{Creation, Level, create, write};
+use client_calls::{Creation, create, write};
 use journal_server::{CallFault, Gate, JournalDevice, Pass, Server};
+use nfs3_types::StableHow;
 use std::alloc::Global;
 use std::sync::Wait;
 
@@ -48,7 +49,7 @@ pub fn write_file<R: Wait, G: Gate, D: JournalDevice>(
     server: &Server<G, D>,
     pass: &mut Pass,
     xid: u32,
-    asked: (u64, Level),
+    asked: (u64, StableHow),
 ) -> Result<(), CallFault> {
     let (object, level) = asked;
     let message = write(alloc, xid, object, 0, level, b"abc")?;

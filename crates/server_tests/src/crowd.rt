@@ -5,8 +5,9 @@ use crate::samples::{
     OpenServer, Opening, PLAIN, PLAIN_WITH_FILE, STRICT, STRICT_WITH_FILE, count_answered,
     explains, open_server,
 };
-use client_calls::{Creation, Level, create, remove, rename, write};
+use client_calls::{Creation, create, remove, rename, write};
 use journal_server::{CallFault, Closed, Pass};
+use nfs3_types::StableHow;
 use std::alloc::Global;
 use std::sync::Wait;
 use std::test::Fail;
@@ -50,7 +51,7 @@ fn make_and_write<R: Wait>(
     let made = create(alloc, xid, 0, &[name], Creation::Unchecked(None))?;
     let reply = server.call(rt, pass, made.as_slice())?;
     let object = object_in(reply.as_slice());
-    let wrote = write(alloc, xid, object, 0, Level::Unstable, b"abc")?;
+    let wrote = write(alloc, xid, object, 0, StableHow::Unstable, b"abc")?;
     drop(server.call(rt, pass, wrote.as_slice())?);
     Ok(())
 }

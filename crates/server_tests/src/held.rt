@@ -3,8 +3,8 @@
 use crate::clients::{join, make_file, write_file};
 use crate::doors::{Door, Doors};
 use crate::samples::{device, explains_by};
-use client_calls::Level;
 use journal_server::{CallFault, Closed, Pass, Point, Server, SimDevice};
+use nfs3_types::StableHow;
 use std::alloc::Global;
 use std::sync::Wait;
 use std::test::Fail;
@@ -39,7 +39,7 @@ fn write_beside<R: Wait + Clock>(
     door: &Door,
 ) -> bool {
     let reached = door.reached.wait(rt);
-    let wrote = write_file(rt, alloc, server, pass, 1, (2, Level::Unstable));
+    let wrote = write_file(rt, alloc, server, pass, 1, (2, StableHow::Unstable));
     let held = !door.forced.is_set();
     door.open();
     reached && held && wrote.is_ok()
@@ -57,7 +57,7 @@ fn write_both<R: Wait + Clock + Threads + Sync>(
     let mut free = join(rt, server)?;
     let (one, two) = run_both(
         rt,
-        || write_file(rt, alloc, server, &mut held, 1, (1, Level::Unstable)),
+        || write_file(rt, alloc, server, &mut held, 1, (1, StableHow::Unstable)),
         || write_beside(rt, alloc, server, &mut free, door),
     );
     Ok((first, held, free, one.is_ok() && two))

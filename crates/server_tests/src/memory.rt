@@ -2,10 +2,11 @@
 
 use crate::samples::{OpenServer, Opening, PLAIN, STRICT_WITH_FILE, device};
 use client_calls::{
-    Creation, Level, commit, create, make_directory, make_link, read, read_directory,
-    read_directory_plus, remove, rename, set_size, write,
+    Creation, commit, create, make_directory, make_link, read, read_directory, read_directory_plus,
+    remove, rename, set_size, write,
 };
 use journal_server::{CallFault, CloseFault, Closed, CrashFault, OpenGate, Pass, Server};
+use nfs3_types::StableHow;
 use std::alloc::{AllocError, Global};
 use std::sync::Wait;
 use std::test::Fail;
@@ -15,7 +16,7 @@ use witness_check::{Verdict, check};
 fn first_messages(alloc: Global, held: u64) -> Result<Vec<Vec<u8>>, AllocError> {
     let (file, folder) = (held.saturating_add(1), held.saturating_add(3));
     let made = create(alloc, 1, 0, b"a", Creation::Unchecked(None))?;
-    let wrote = write(alloc, 2, file, 4090, Level::Unstable, b"over two pages")?;
+    let wrote = write(alloc, 2, file, 4090, StableHow::Unstable, b"over two pages")?;
     let directory = make_directory(alloc, 3, 0, b"d")?;
     let moved = rename(alloc, 4, (0, b"a"), (folder, b"b"))?;
     let link = make_link(alloc, 5, folder, b"c", b"text")?;

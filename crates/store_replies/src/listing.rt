@@ -3,7 +3,7 @@
 use crate::decision::{Decision, Stop};
 use crate::scene::Scene;
 use nfs3_types::{
-    Answer, DirectoryEntry, DirectoryEntryPlus, Entries, Failure, Held, Name, NfsReply, Optional,
+    Answer, DirectoryEntry, DirectoryEntryPlus, Failure, Held, ItemList, Name, NfsReply, Optional,
     ReadDirArguments, ReadDirPlusArguments, ReadDirPlusSuccess, ReadDirSuccess, TRANSFER_LIMIT,
     Verifier,
 };
@@ -136,7 +136,7 @@ pub(crate) fn list<'a>(
     let success = ReadDirSuccess {
         attributes: scene.attributes(&call.directory)?,
         verifier: Verifier { value: 0 },
-        entries: Entries::new(entries(scene, names, span)?),
+        entries: ItemList::new(entries(scene, names, span)?),
         eof: span.whole,
     };
     let success = Held::new(scene.alloc, success)?;
@@ -159,7 +159,7 @@ pub(crate) fn list_plus<'a>(
     let success = ReadDirPlusSuccess {
         attributes: scene.attributes(&call.directory)?,
         verifier: Verifier { value: 0 },
-        entries: Entries::new(entries_plus(scene, names, span)?),
+        entries: ItemList::new(entries_plus(scene, names, span)?),
         eof: span.whole,
     };
     let success = Held::new(scene.alloc, success)?;

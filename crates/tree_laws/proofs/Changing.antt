@@ -52,7 +52,8 @@ use Rattle.tree_laws.specs.WritingOver.{size_over, WritesOver, ByteStays}
 use Rattle.tree_nodes.proofs.Chains.{chained, passed, same_some, both_pass, negated, none_is, absent}
 use Rattle.tree_laws.proofs.Handles.{IsFileAt, directory_stands, file_stands, names_object}
 use Rattle.tree_laws.proofs.Removing.{named_stands}
-use Rattle.tree_laws.proofs.Sizes.{resized_length, resized_byte, written_length, written_ahead, written_behind}
+use Rattle.tree_laws.proofs.Sizes.{resized_byte, written_length, written_ahead, written_behind}
+use Rattle.file_tree.proofs.Planned.{resized_long}
 
 -- a node of the same object in place of one that is no directory
 pub record Replaces (tree : Tree) (path : Names) (node : Node) : Type 0 where
@@ -98,7 +99,7 @@ bytes_of (contents.Link _) = []
 left_by_size : (bytes : List ℕ) (size byte : ℕ) → (size ≤ byte → ⊥) → ByteStays bytes (resized bytes size) byte
 left_by_size bytes size byte spared =
     elim (cases_lt byte size) [
-      | inl within ↦ record { same = resized_byte bytes size byte within; stands = λ _. omega (arith, within, resized_length bytes size) }
+      | inl within ↦ record { same = resized_byte bytes size byte within; stands = λ _. omega (arith, within, resized_long bytes size) }
       | inr past ↦ absurd (spared past)
     ]
 

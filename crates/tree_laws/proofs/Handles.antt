@@ -1,7 +1,6 @@
 -- what handles name in a tree
 use Rattle.std.proofs.Common.{◌≡◌, ℕ, List, Some, sym, ap, ◌∙◌, subst}
 use Rattle.std.specs.Prelude.{◌==◌}
-use Rattle.std.proofs.lemmas.Bool.{eqb-true}
 use Rattle.std.specs.FinMap as map
 use Rattle.tree_nodes.specs.declared.node.Node.{Node}
 use Rattle.tree_nodes.specs.declared.node.File.{File}
@@ -12,16 +11,13 @@ use Rattle.tree_handles.specs.Binding.{Bindings, object_of}
 use Rattle.tree_handles.specs.Live.{FileEntry, live_entry, as_directory, directory_of, as_file, file_of}
 use Rattle.tree_laws.specs.WellFormed.{IsDirectoryAt}
 use Rattle.tree_nodes.proofs.Chains.{chained}
-use Rattle.tree_nodes.proofs.Found.{found_stands, found_passes}
+use Rattle.tree_nodes.proofs.Found.{found_stands}
+use Rattle.tree_handles.proofs.Standing.{own_number}
 
 pub live_stands : (binds : Bindings) (tree : Tree) (handle : List ℕ) (e : Names × Node) → live_entry binds tree handle ≡ Some e → map.get tree e.0 ≡ Some e.1
 live_stands binds tree handle e h =
     let found = chained (entry_of tree) (object_of binds handle) e h in
     found_stands tree (λ x. x.1.object == found.0) e found.2
-
--- the entry of an object has its number
-pub entry_object : (tree : Tree) (object : ℕ) (e : Names × Node) → entry_of tree object ≡ Some e → e.1.object ≡ object
-entry_object tree object e h = eqb-true e.1.object object (found_passes tree (λ x. x.1.object == object) e h)
 
 directory_is : (tree : Tree) (path : Names) (object : ℕ) (content : Content) (d : Names) → map.get tree path ≡ Some (record { object = object; content = content }) → as_directory path content ≡ Some d
     → IsDirectoryAt tree d
@@ -58,7 +54,7 @@ pub names_object : (binds : Bindings) (tree : Tree) (handle : List ℕ) (f : Fil
 names_object binds tree handle f h =
     let live = chained (λ e. as_file e.0 e.1.object e.1.content) (live_entry binds tree handle) f h in
     let found = chained (entry_of tree) (object_of binds handle) live.0 live.1 in
-    found.1 ∙ ap Some (sym (entry_object tree found.0 live.0 found.2) ∙ as_object live.0.0 live.0.1.object live.0.1.content live.2) where
+    found.1 ∙ ap Some (sym (own_number tree found.0 live.0 found.2) ∙ as_object live.0.0 live.0.1.object live.0.1.content live.2) where
       as_object : (path : Names) (object : ℕ) (content : _) → as_file path object content ≡ Some f → object ≡ f.object
       as_object path object contents.Directory e = absurd (cc)
       as_object path object (contents.File file) e = cc

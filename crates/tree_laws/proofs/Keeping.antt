@@ -1,22 +1,22 @@
 -- what keeps a tree well formed
 use Rattle.std.proofs.Common.{◌≡◌, ℕ, ◌⊎◌, inl, inr, true, false, cond, eq-eqb, List, [], ◌∷◌, ◌++◌, length, drop, Some, None, refl, sym, ap, ◌∙◌, subst, arith, append_assoc, append-nil, length-append}
 use Rattle.std.specs.Prelude.{IsSome, ◌==◌}
-use Rattle.std.specs.Ordering.{eq_by_cmp}
 use Rattle.std.specs.FinMap as map
 use Rattle.tree_nodes.specs.declared.node.Node.{Node}
 use Rattle.tree_nodes.specs.declared.node.Content.TheVariants.{Directory}
 use Rattle.tree_nodes.specs.Tree.{Names, Tree, path_cmp, opening}
 use Rattle.tree_nodes.specs.Moved.{is_from}
 use Rattle.tree_nodes.proofs.Entries.{path_total}
-use Rattle.tree_nodes.proofs.Soundness.{same_path, ahead_same}
+use Rattle.tree_nodes.proofs.Soundness.{ahead_same}
 use Rattle.tree_handles.specs.Kind.{is_directory}
 use Rattle.tree_laws.specs.Renaming.{IsOutside, HasMoved}
 use Rattle.tree_laws.specs.WellFormed.{IsDirectoryAt, IsWellFormed}
 use Rattle.tree_nodes.proofs.Chains.{same_some, differ, decide, absent, value_of}
 use Rattle.tree_nodes.proofs.Found.{tied, ended, parts_of, from_front, some_found, bare_below}
 use Rattle.tree_laws.proofs.Changing.{IsChild, Replaces, Grows, Shrinks, Moves}
-use Rattle.tree_laws.proofs.Staying.{get_put, get_left}
+use Rattle.tree_laws.proofs.Staying.{get_left}
 use Rattle.tree_nodes.proofs.MovedLaw.{cancel}
+use Rattle.file_tree.proofs.StartStep.{is_or_isnt, put_there, get_put}
 
 -- ---- paths and directories
 
@@ -43,15 +43,6 @@ as_it_was : (before after : Tree) (p q : Names) → map.get after q ≡ map.get 
 as_it_was before after p q e d = record { object = d.object; stands = e ∙ d.stands }
 
 -- ---- a node that is put
-
-pub put_there : (tree : Tree) (k : Names) (v : Node) (p : Names) → p ≡ k → map.get (map.insert tree k v) p ≡ Some v
-put_there tree k v p e = map.get-insert path_total tree k v p ∙ ap (λ b. cond b (Some v) (map.get tree p)) (tied p k e)
-
-pub is_or_isnt : (p q : Names) → (p ≡ q) ⊎ (p ≡ q → ⊥)
-is_or_isnt p q = go (same_path p q) where
-  go : (eq_by_cmp path_cmp p q ≡ true) × (p ≡ q) ⊎ (eq_by_cmp path_cmp p q ≡ false) → (p ≡ q) ⊎ (p ≡ q → ⊥)
-  go (inl tie) = inl tie.1
-  go (inr other) = inr (λ e. differ _ (tied p q e) other)
 
 module _ (tree : Tree) (k : Names) (v : Node) (formed : IsWellFormed tree) where
   -- in place of a node of the same object, which is no directory

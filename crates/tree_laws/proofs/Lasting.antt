@@ -17,9 +17,9 @@ use Rattle.tree_laws.specs.Types.{MayBecome, ObjectsLast}
 use Rattle.tree_laws.specs.WellFormed.{IsWellFormed}
 use Rattle.tree_nodes.proofs.Chains.{mapped, same_some}
 use Rattle.tree_laws.proofs.Changing.{Replaces, Grows, Moves, Fits, Over, change_fits}
-use Rattle.tree_laws.proofs.Keeping.{is_or_isnt, put_there, unused, left, Came, came}
+use Rattle.tree_laws.proofs.Keeping.{unused, left, Came, came}
 use Rattle.tree_laws.proofs.Moved.{has_moved}
-use Rattle.tree_laws.proofs.Staying.{get_put}
+use Rattle.file_tree.proofs.StartStep.{is_or_isnt, put_there, get_put}
 
 stays_so : (content : Content) → MayBecome content content
 stays_so contents.Directory = tt

@@ -16,10 +16,11 @@ use Rattle.tree_laws.specs.Renaming.{HasMoved}
 use Rattle.tree_nodes.proofs.Chains.{chained, mapped, value_of, absent, decide, differ}
 use Rattle.tree_laws.proofs.Changing.{Replaces, Grows, Moves, Fits, Over, change_fits}
 use Rattle.tree_nodes.proofs.Found.{some_found, from_front, parts_of, bare_below}
-use Rattle.tree_laws.proofs.Handles.{entry_object, live_stands}
-use Rattle.tree_laws.proofs.Keeping.{is_or_isnt, put_there}
+use Rattle.tree_laws.proofs.Handles.{live_stands}
 use Rattle.tree_laws.proofs.Moved.{has_moved}
-use Rattle.tree_laws.proofs.Staying.{get_put, get_left}
+use Rattle.tree_laws.proofs.Staying.{get_left}
+use Rattle.file_tree.proofs.StartStep.{is_or_isnt, put_there, get_put}
+use Rattle.tree_handles.proofs.Standing.{own_number}
 
 -- a node of this object stands somewhere
 record Stands (tree : Tree) (object : ℕ) : Type 0 where
@@ -74,13 +75,13 @@ lives : (binds : Bindings) (tree : Tree) (handle : List ℕ) (object : ℕ) → 
     → (now : Names × Node) × (live_entry binds tree handle ≡ Some now) × (now.1.object ≡ object)
 lives binds tree handle object bound s =
     let found = value_of _ (some_found tree (λ e. e.1.object == object) s.path s.node s.there (eq-eqb s.node.object object s.same)) in
-    (found.0, ap (option_and_then (entry_of tree)) bound ∙ found.1, entry_object tree object found.0 found.1)
+    (found.0, ap (option_and_then (entry_of tree)) bound ∙ found.1, own_number tree object found.0 found.1)
 
 pub handles_last : HandlesLast
 handles_last binds before after number call outcome handle e formed next live kept =
     let change = mapped (changed before) (change_of binds before number call outcome) after next in
     let fits = change_fits binds before number call outcome change.0 change.1 in
     let found = chained (entry_of before) (object_of binds handle) e live in
-    let object : e.1.object ≡ found.0 = entry_object before found.0 e found.2 in
+    let object : e.1.object ≡ found.0 = own_number before found.0 e found.2 in
     let stands = on before e.0 e.1 (live_stands binds before handle e live) number (Over binds before call outcome) (is_rename call) (path_taken binds before call) (path_asked binds before call) change.0 fits kept in
     lives binds after handle e.1.object (found.1 ∙ ap Some (sym object)) (subst (λ (t : Tree). Stands t e.1.object) change.2 stands)

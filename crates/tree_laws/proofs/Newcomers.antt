@@ -16,10 +16,9 @@ use Rattle.tree_nodes.proofs.Chains.{mapped, value_of, decide, differ, same_some
 use Rattle.tree_nodes.proofs.Entries.{path_total}
 use Rattle.tree_nodes.proofs.Found.{some_found, found_stands, from_front, parts_of}
 use Rattle.tree_laws.proofs.Changing.{Replaces, Grows, Sets, Fits, Over, change_fits}
-use Rattle.tree_laws.proofs.Handles.{entry_object}
-use Rattle.tree_laws.proofs.Keeping.{is_or_isnt, put_there}
 use Rattle.tree_laws.proofs.Moved.{has_moved}
-use Rattle.tree_laws.proofs.Staying.{get_put}
+use Rattle.file_tree.proofs.StartStep.{is_or_isnt, put_there, get_put}
+use Rattle.tree_handles.proofs.Standing.{own_number}
 
 left_over : {X : Type 0} (b : Bool) (o : Option X) (x : X) → cond b None o ≡ Some x → o ≡ Some x
 left_over true o x e = absurd (cc)
@@ -76,4 +75,4 @@ only_its_own_is_new binds before after number call outcome object next stands =
     let entry = value_of (entry_of after object) stands in
     let there = found_stands after (λ e. e.1.object == object) entry.0 entry.1 in
     behind before number object (Over binds before call outcome) (is_rename call) (path_taken binds before call) (path_asked binds before call) change.0 fits
-    entry.0.0 entry.0.1 (ap (λ (t : Tree). map.get t entry.0.0) change.2 ∙ there) (entry_object after object entry.0 entry.1)
+    entry.0.0 entry.0.1 (ap (λ (t : Tree). map.get t entry.0.0) change.2 ∙ there) (own_number after object entry.0 entry.1)

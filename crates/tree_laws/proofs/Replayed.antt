@@ -15,10 +15,10 @@ use Rattle.replay_law.specs.Run.{TakenStep, state_after}
 use Rattle.tree_nodes.specs.Moved.{moved, moved_entries, put_all}
 use Rattle.tree_nodes.proofs.Entries.{path_ties}
 use Rattle.tree_nodes.proofs.Found.{tied}
-use Rattle.tree_laws.proofs.Staying.{get_put, get_left}
-use Rattle.tree_laws.proofs.Keeping.{is_or_isnt}
+use Rattle.tree_laws.proofs.Staying.{get_left}
 use Rattle.tree_laws.specs.Outcomes.{step}
 use Rattle.tree_laws.specs.Example.{handles, create, write, two_written, read, two_read, look_up, none_found, set_size, make_directory, remove_directory, rename_file, rename_directory, make_link, remove_file, unseen, IsRun}
+use Rattle.file_tree.proofs.StartStep.{is_or_isnt, get_put}
 
 abbrev pub root : Node
 root = record { object = 0; content = contents.Directory }

@@ -28,10 +28,11 @@ use Rattle.tree_laws.specs.WellFormed.{IsWellFormed}
 use Rattle.tree_laws.specs.FileBytes.{BytesBecome, AreWritten, WriteSets, AreResized, SetAttrSets}
 use Rattle.tree_nodes.proofs.Chains.{chained, mapped, passed, same_some, both_pass}
 use Rattle.tree_laws.proofs.Handles.{IsFileAt, names_object}
-use Rattle.tree_laws.proofs.Keeping.{put_there}
 use Rattle.tree_laws.proofs.Running.{steps_keep}
-use Rattle.tree_laws.proofs.Sizes.{resized_length, resized_byte, written_length, written_new, written_ahead, written_behind}
+use Rattle.tree_laws.proofs.Sizes.{resized_byte, written_length, written_new, written_ahead, written_behind}
 use Rattle.tree_laws.proofs.Written.{finds_file, wrote}
+use Rattle.file_tree.proofs.StartStep.{put_there}
+use Rattle.file_tree.proofs.Planned.{resized_long}
 
 -- a file that is put in place of the one that a handle names
 became : (binds : Bindings) (before after : Tree) (handle bytes : List ℕ) (f : FileEntry) (Become : List ℕ → List ℕ → Type 0) → IsWellFormed after → file_of binds before handle ≡ Some f
@@ -129,7 +130,7 @@ resizes binds before after call size (Some n) live formed is e =
     let tests = passed (nat_le n file_limit) _ change.0 found.2 in
     let same = same_some n size is in
     became binds before after call.object (resized f.file.bytes n) f (AreResized size) formed found.1 (ap (changed before) (same_some _ change.0 tests.1) ∙ change.2)
-    (subst (λ m. AreResized m f.file.bytes (resized f.file.bytes n)) same (record { ends = resized_length f.file.bytes n; ahead = resized_byte f.file.bytes n }))
+    (subst (λ m. AreResized m f.file.bytes (resized f.file.bytes n)) same (record { ends = resized_long f.file.bytes n; ahead = resized_byte f.file.bytes n }))
 
 module _ (binds : Bindings) (before after : Tree) (call : SetAttrArguments) (size : ℕ) (formed : IsWellFormed after) (given : call.attributes.size ≡ Some size) where
   sets : option_map (changed before) (set_attributes binds before call) ≡ Some after → BytesBecome binds call.object before after (AreResized size)

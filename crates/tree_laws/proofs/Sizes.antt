@@ -2,12 +2,9 @@
 use Rattle.std.proofs.Common.{◌≡◌, ℕ, ◌+◌, ◌-◌, ◌<◌, ◌≤◌, ◌⊎◌, inl, inr, List, ◌++◌, length, take, drop, replicate, refl, sym, ap, ◌∙◌, arith, length-append, length-drop}
 use Rattle.std.specs.Prelude.{slice_index, max}
 use Rattle.std.proofs.lemmas.Bool.{cases_lt}
-use Rattle.std.proofs.lemmas.List.{length-take, length-replicate, take_all, get_or_append_left, get_or-append_right, get_or-take, get_or-drop, get_or-replicate, get_or_past}
+use Rattle.std.proofs.lemmas.List.{length-take, take_all, get_or_append_left, get_or-append_right, get_or-take, get_or-drop, get_or-replicate, get_or_past}
 use Rattle.tree_stores.specs.Files.{resized, written}
-
-pub resized_length : (bytes : List ℕ) (size : ℕ) → length (resized bytes size) ≡ size
-resized_length bytes size =
-    omega (arith, length-append (take size bytes) (replicate {A = ℕ} (size - length bytes) 0), length-replicate {A = ℕ} (size - length bytes) 0, length-take size bytes)
+use Rattle.file_tree.proofs.Planned.{resized_long}
 
 pub resized_byte : (bytes : List ℕ) (size i : ℕ) → i < size → slice_index (resized bytes size) i ≡ slice_index bytes i
 resized_byte bytes size i within = go (cases_lt i (length bytes)) where
@@ -19,7 +16,7 @@ resized_byte bytes size i within = go (cases_lt i (length bytes)) where
 
 module _ (old : List ℕ) (offset : ℕ) (added : List ℕ) where
   front_length : length (resized old offset ++ added) ≡ offset + length added
-  front_length = omega (arith, length-append (resized old offset) added, resized_length old offset)
+  front_length = omega (arith, length-append (resized old offset) added, resized_long old offset)
 
   pub written_length : length (written old offset added) ≡ max (length old) (offset + length added)
   written_length =
@@ -29,12 +26,12 @@ module _ (old : List ℕ) (offset : ℕ) (added : List ℕ) where
   written_new i within =
       let same : offset + i - offset ≡ i = omega arith in
       get_or_append_left (resized old offset ++ added) (drop (offset + length added) old) 0 (offset + i) (omega (arith, front_length))
-      ∙ get_or-append_right (resized old offset) added offset (offset + i) 0 (resized_length old offset) (omega arith) ∙ ap (slice_index added) same
+      ∙ get_or-append_right (resized old offset) added offset (offset + i) 0 (resized_long old offset) (omega arith) ∙ ap (slice_index added) same
 
   pub written_ahead : (i : ℕ) → i < offset → slice_index (written old offset added) i ≡ slice_index old i
   written_ahead i ahead =
       get_or_append_left (resized old offset ++ added) (drop (offset + length added) old) 0 i (omega (arith, front_length))
-      ∙ get_or_append_left (resized old offset) added 0 i (omega (arith, resized_length old offset)) ∙ resized_byte old offset i ahead
+      ∙ get_or_append_left (resized old offset) added 0 i (omega (arith, resized_long old offset)) ∙ resized_byte old offset i ahead
 
   pub written_behind : (i : ℕ) → offset + length added ≤ i → slice_index (written old offset added) i ≡ slice_index old i
   written_behind i behind =

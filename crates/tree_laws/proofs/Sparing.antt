@@ -28,11 +28,11 @@ use Rattle.tree_laws.specs.OnePath.{path_of}
 use Rattle.tree_laws.specs.Outcomes.{IsSuccess}
 use Rattle.tree_laws.specs.Renaming.{IsRenamed}
 use Rattle.tree_laws.specs.StandsOn.{Spares, AllSpare, WhatStoodStays}
-use Rattle.tree_laws.proofs.Keeping.{is_or_isnt}
 use Rattle.tree_laws.proofs.Kept.{failure_leaves}
 use Rattle.tree_laws.proofs.Renamed.{rename_moves}
 use Rattle.tree_laws.proofs.Starting.{each_stands}
 use Rattle.tree_laws.proofs.Staying.{others_stay}
+use Rattle.file_tree.proofs.StartStep.{is_or_isnt}
 
 -- the path of an entry that is named is that of its name
 named_path : (binds : Bindings) (tree : Tree) (place : DirectoryName) (path : Names) (node : Node) → named binds tree place ≡ Some (path, node) → path_of binds tree place ≡ Some path

@@ -3,7 +3,6 @@ use Rattle.std.proofs.Common.{◌≡◌, ◌≢◌, ℕ, Bool, true, false, cond
 use Rattle.std.specs.FinMap as map
 use Rattle.file_tree.specs.Change.{Change}
 use Rattle.file_tree.specs.Change.Change.{Keep, Put, Remove, Move}
-use Rattle.tree_nodes.specs.declared.node.Node.{Node}
 use Rattle.tree_nodes.specs.Tree.{Names, Tree}
 use Rattle.tree_nodes.proofs.Entries.{path_total}
 use Rattle.file_tree.specs.Success.{changed, change_of}
@@ -12,9 +11,7 @@ use Rattle.tree_laws.specs.OnePath.{OthersStay, path_asked, is_rename}
 use Rattle.tree_nodes.proofs.Chains.{mapped}
 use Rattle.tree_nodes.proofs.Found.{untied}
 use Rattle.tree_laws.proofs.Changing.{Fits, Over, change_fits}
-
-pub get_put : (tree : Tree) (path other : Names) (node : Node) → (other ≡ path → ⊥) → map.get (map.insert tree path node) other ≡ map.get tree other
-get_put tree path other node apart = map.get-insert path_total tree path node other ∙ ap (λ b. cond b (Some node) (map.get tree other)) (untied other path apart)
+use Rattle.file_tree.proofs.StartStep.{get_put}
 
 pub get_left : (tree : Tree) (path other : Names) → (other ≡ path → ⊥) → map.get (map.remove tree path) other ≡ map.get tree other
 get_left tree path other apart = map.get-remove path_total tree path other ∙ ap (λ b. cond b None (map.get tree other)) (untied other path apart)

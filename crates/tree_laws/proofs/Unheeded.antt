@@ -56,7 +56,7 @@ use Rattle.file_tree.specs.Written.{reaches, write_at, write_change, set_attribu
 use Rattle.file_tree.specs.Removed.{rename_at, remove_entry, remove_directory, rename}
 use Rattle.file_tree.specs.Success.{changed, change_written, change_created, change_set, change_directory_made, change_link_made, change_removed, change_directory_removed, change_renamed, change_done, change_answered, change_taken, change_of, next_tree}
 use Rattle.tree_laws.specs.LaterBinds.{bound_too, HandleWaits}
-use Rattle.tree_laws.proofs.Keeping.{put_there}
+use Rattle.file_tree.proofs.StartStep.{put_there}
 
 -- what stands ahead of both
 ahead : (object : ℕ) (b : Bool) (first : ℕ) (x y : Option ℕ) → (x ≡ y) ⊎ ((y ≡ None) × (x ≡ Some object))

@@ -23,9 +23,9 @@ use Rattle.tree_laws.specs.WritingOver.{ByteStays, OtherBytesStay}
 use Rattle.tree_nodes.proofs.Chains.{mapped, same_some}
 use Rattle.tree_laws.proofs.Changing.{Replaces, Grows, Moves, Sets, Fits, Over, bytes_of, change_fits}
 use Rattle.tree_laws.proofs.Handles.{IsFileAt, file_stands, names_object}
-use Rattle.tree_laws.proofs.Keeping.{is_or_isnt, put_there, unused, left, Came, came}
+use Rattle.tree_laws.proofs.Keeping.{unused, left, Came, came}
 use Rattle.tree_laws.proofs.Moved.{has_moved}
-use Rattle.tree_laws.proofs.Staying.{get_put}
+use Rattle.file_tree.proofs.StartStep.{is_or_isnt, put_there, get_put}
 
 -- what may become a file is one
 was_file : (content : Content) (y : File) → MayBecome content (contents.File y) → (x : File) × (content ≡ contents.File x)

@@ -31,10 +31,11 @@ use Rattle.tree_laws.specs.WellFormed.{IsWellFormed}
 use Rattle.tree_laws.specs.ReadBack.{ReadsBack, OnlyWhatWasWritten, WhatWasWritten}
 use Rattle.tree_nodes.proofs.Chains.{chained, mapped, passed, same_some, both_pass, value_of}
 use Rattle.tree_nodes.proofs.Found.{found_stands, some_found, pointwise_same}
-use Rattle.tree_laws.proofs.Handles.{IsFileAt, entry_object, names_object}
-use Rattle.tree_laws.proofs.Keeping.{put_there}
+use Rattle.tree_laws.proofs.Handles.{IsFileAt, names_object}
 use Rattle.tree_laws.proofs.Running.{steps_keep}
-use Rattle.tree_laws.proofs.Sizes.{resized_length}
+use Rattle.file_tree.proofs.StartStep.{put_there}
+use Rattle.file_tree.proofs.Planned.{resized_long}
+use Rattle.tree_handles.proofs.Standing.{own_number}
 
 -- ---- bytes
 
@@ -42,7 +43,7 @@ use Rattle.tree_laws.proofs.Sizes.{resized_length}
 written_at : (old : List ℕ) (offset : ℕ) (added : List ℕ) (n : ℕ) → n ≤ length added → take n (drop offset (written old offset added)) ≡ take n added
 written_at old offset added n within =
     ap (λ (xs : List ℕ). take n (drop offset xs)) (append_assoc (resized old offset) added (drop (offset + length added) old))
-    ∙ ap (take n) (drop_at (resized old offset) (added ++ drop (offset + length added) old) offset (resized_length old offset))
+    ∙ ap (take n) (drop_at (resized old offset) (added ++ drop (offset + length added) old) offset (resized_long old offset))
     ∙ take-append-le n added (drop (offset + length added) old) within
 
 -- ---- the file that a handle names
@@ -53,7 +54,7 @@ pub finds_file : (binds : Bindings) (tree : Tree) (handle : List ℕ) (path : Na
 finds_file binds tree handle path object file formed bound stands =
     let found = value_of _ (some_found tree (λ e. e.1.object == object) path (record { object = object; content = contents.File file }) stands (eq-eqb object object refl)) in
     let there = found_stands tree (λ e. e.1.object == object) found.0 found.1 in
-    let same = entry_object tree object found.0 found.1 in
+    let same = own_number tree object found.0 found.1 in
     let place = formed.objects found.0.0 path found.0.1 (record { object = object; content = contents.File file }) there stands same in
     let node = same_some found.0.1 (record { object = object; content = contents.File file }) (sym there ∙ ap (map.get tree) place ∙ stands) in
     ap (option_and_then (λ e. as_file e.0 e.1.object e.1.content)) (ap (option_and_then (entry_of tree)) bound ∙ found.1 ∙ (λ i. Some (place i, node i)))

@@ -18,9 +18,9 @@ use Rattle.replay_law.specs.Run.{TakenStep, state_after}
 use Rattle.tree_starts.specs.Start.{object_made}
 use Rattle.tree_starts.specs.declared.profile.Profile.{Profile}
 use Rattle.tree_starts.specs.declared.profile.Profile.TheVariants.{Strict}
-use Rattle.nfs_history.specs.declared.history.Meaning.{Meaning}
-use Rattle.nfs_history.specs.declared.history.Meaning.TheVariants as meanings
-use Rattle.nfs_history.specs.declared.history.RecordedCall.{RecordedCall}
+use Rattle.nfs_history.specs.declared.recorded.Meaning.{Meaning}
+use Rattle.nfs_history.specs.declared.recorded.Meaning.TheVariants as meanings
+use Rattle.nfs_history.specs.declared.recorded.RecordedCall.{RecordedCall}
 use Rattle.nfs_history.specs.declared.knowing.KnownCalls.{KnownCalls}
 use Rattle.nfs_history.specs.Precedence.{call_at}
 use Rattle.certificate.specs.declared.plan.Certificate.{Certificate}

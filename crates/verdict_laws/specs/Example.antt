@@ -20,8 +20,8 @@ use Rattle.tree_starts.specs.Start.{IsStart}
 use Rattle.tree_starts.specs.declared.object.StartObject.{StartObject}
 use Rattle.tree_starts.specs.declared.object.StartNode.TheVariants as kinds
 use Rattle.tree_starts.specs.declared.profile.Profile.TheVariants.{Strict}
-use Rattle.nfs_history.specs.declared.history.Meaning.TheVariants.{Judged}
-use Rattle.nfs_history.specs.declared.history.RecordedCall.{RecordedCall}
+use Rattle.nfs_history.specs.declared.recorded.Meaning.TheVariants.{Judged}
+use Rattle.nfs_history.specs.declared.recorded.RecordedCall.{RecordedCall}
 use Rattle.nfs_history.specs.declared.knowing.KnownCalls.{KnownCalls}
 use Rattle.certificate.specs.declared.plan.Certificate.{Certificate}
 use Rattle.certificate.specs.declared.plan.EraPlan.{EraPlan}

@@ -3,7 +3,7 @@
 -- no word on eras, cuts and verifiers.
 use Rattle.std.specs.Prelude.{◌≡◌, ℕ, IsTrue, IsSome, List, [], ◌∷◌, Some, None}
 use Rattle.std.specs.List.{AllByRecursion}
-use Rattle.nfs_history.specs.declared.history.RecordedCall.{RecordedCall}
+use Rattle.nfs_history.specs.declared.recorded.RecordedCall.{RecordedCall}
 use Rattle.nfs_history.specs.Precedence.{call_at}
 use Rattle.nfs_history.specs.declared.knowing.KnownCalls.{KnownCalls}
 use Rattle.certificate.specs.declared.plan.Certificate.{Certificate}

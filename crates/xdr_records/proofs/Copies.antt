@@ -7,8 +7,8 @@ use Rattle.std.proofs.Math.Seq.{take-add, take-append-add, drop-append-add}
 use Rattle.xdr_records.specs.Spelling.{Joined}
 use Rattle.xdr_records.specs.Record.{IsHeader, IsFragment, AreFragments, IsRecord, AreRecords}
 use Rattle.xdr_records.specs.Scan.{EndsAt}
-use Rattle.xdr_records.specs.Cuts.{Follows}
-use Rattle.xdr_records.proofs.Cutting.{records_join}
+use Rattle.xdr_records.specs.Splits.{Follows}
+use Rattle.xdr_records.proofs.Splitting.{records_join}
 use Rattle.xdr_records.proofs.Marks.{same_headers, length-fragment}
 
 -- behind `at` bytes stand the fragments that are still to be copied, up to the record's end

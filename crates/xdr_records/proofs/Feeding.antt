@@ -2,12 +2,12 @@
 use Rattle.std.proofs.Common.{◌≡◌, ◌≤◌, inl, inr, ℕ, ◌-◌, true, false, Option, Some, None, IsSome, IsNone, Result, Ok, Err, OnOk, IsErr, List, [], ◌∷◌, ◌++◌, length, take, drop, refl, sym, ap, subst, ◌∙◌, append_assoc, arith}
 use Rattle.std.proofs.lemmas.Bool.{cases_lt}
 use Rattle.std.proofs.lemmas.List.{append-nil, take-append-drop, take-append-le}
-use Rattle.xdr_records.specs.Record.{Begun, IsPart, IsRecord, AreRecords, IsUnfinished, IsTooLong, IsCut}
+use Rattle.xdr_records.specs.Record.{Begun, IsPart, IsRecord, AreRecords, IsUnfinished, IsTooLong, IsSplit}
 use Rattle.xdr_records.specs.Scan.{EndsAt}
-use Rattle.xdr_records.specs.Cuts.{Follows, Leaves}
+use Rattle.xdr_records.specs.Splits.{Follows, Leaves}
 use Rattle.xdr_records.specs.Feed.{Feed, Grows, Breaks, Run}
 use Rattle.xdr_records.specs.Feed.Run.{start, fed, took}
-use Rattle.xdr_records.proofs.Cutting.{unfinished_none, unfinished_no_record, too_long_no_record, not_both, same_cut, cut_join}
+use Rattle.xdr_records.proofs.Splitting.{unfinished_none, unfinished_no_record, too_long_no_record, not_both, same_split, split_join}
 use Rattle.xdr_records.proofs.Copies.{drop_all_front}
 
 -- no record ends in the piece
@@ -16,7 +16,7 @@ grows_open old new piece at size sound b waiting rest still =
     record {
       sound = sound;
       records = [];
-      cut = record { front = []; parts = sym rest; whole = refl; left = subst IsUnfinished (sym rest) (at, size, b) };
+      split = record { front = []; parts = sym rest; whole = refl; left = subst IsUnfinished (sym rest) (at, size, b) };
       waiting = waiting ∙ sym (append-nil old.waiting);
       still = still;
     }
@@ -27,7 +27,7 @@ breaks_open old new piece sound b now =
       sound = sound;
       records = [];
       stop = old.rest ++ piece;
-      cut = record { front = []; parts = refl; whole = refl; left = b };
+      split = record { front = []; parts = refl; whole = refl; left = b };
       now = now ∙ ap (λ (xs : List (List ℕ)). let f : Feed = record { waiting = xs; rest = []; broken = true } in f) (sym (append-nil old.waiting));
     }
 
@@ -42,9 +42,9 @@ ends_behind rest piece end size at sum b e =
     ]
 
 -- the records that end in the piece
-pub whole_cut : (Rest : List ℕ → Type 0) (rest piece behind left c : List ℕ) (end used : ℕ) (records : List (List ℕ)) → length rest ≤ end → IsRecord (take end (rest ++ piece)) c
-    → behind ≡ drop (end - length rest) piece → left ≡ drop used behind → Follows c behind used records → Rest left → IsCut Rest (rest ++ piece) records left
-whole_cut Rest rest piece behind left c end used records long r behind_is left_is f last =
+pub whole_split : (Rest : List ℕ → Type 0) (rest piece behind left c : List ℕ) (end used : ℕ) (records : List (List ℕ)) → length rest ≤ end → IsRecord (take end (rest ++ piece)) c
+    → behind ≡ drop (end - length rest) piece → left ≡ drop used behind → Follows c behind used records → Rest left → IsSplit Rest (rest ++ piece) records left
+whole_split Rest rest piece behind left c end used records long r behind_is left_is f last =
     let all : rest ++ piece ≡ take end (rest ++ piece) ++ behind =
     sym (take-append-drop end (rest ++ piece)) ∙ ap (λ (x : List ℕ). take end (rest ++ piece) ++ x) (drop_all_front end rest piece long ∙ sym behind_is) in
     let parts : rest ++ piece ≡ (take end (rest ++ piece) ++ take used behind) ++ left =
@@ -76,7 +76,7 @@ module _ (old new : Feed) (piece behind left c : List ℕ) (end used : ℕ) (rec
       record {
         sound = sound;
         records = records;
-        cut = whole_cut IsUnfinished old.rest piece behind new.rest c end used records long whole behind_is rest follows (subst IsUnfinished (sym rest) (leaves_some begun (drop used behind) leaves now.0));
+        split = whole_split IsUnfinished old.rest piece behind new.rest c end used records long whole behind_is rest follows (subst IsUnfinished (sym rest) (leaves_some begun (drop used behind) leaves now.0));
         waiting = ap (λ (f : Feed). f.waiting) now.1;
         still = ap (λ (f : Feed). f.broken) now.1 ∙ sound;
       }
@@ -87,52 +87,52 @@ module _ (old new : Feed) (piece behind left c : List ℕ) (end used : ℕ) (rec
         sound = sound;
         records = records;
         stop = drop used behind;
-        cut = whole_cut IsTooLong old.rest piece behind (drop used behind) c end used records long whole behind_is refl follows (leaves_none begun (drop used behind) leaves now.0);
+        split = whole_split IsTooLong old.rest piece behind (drop used behind) c end used records long whole behind_is refl follows (leaves_none begun (drop used behind) leaves now.0);
         now = now.1;
       }
 
 -- ---- any calls
 
-pub run_cut : {bytes : List ℕ} {taken : List (List ℕ)} {feed : Feed} → Run bytes taken feed → IsCut IsUnfinished bytes (taken ++ feed.waiting) feed.rest
-run_cut start = record { front = []; parts = refl; whole = refl; left = (0, 0, unfinished_none) }
-run_cut (fed {bytes = bytes} {taken = taken} {old = old} piece new r g) =
-    let cut = cut_join IsUnfinished IsUnfinished bytes piece old.rest new.rest (taken ++ old.waiting) g.records (run_cut r) g.cut in
+pub run_split : {bytes : List ℕ} {taken : List (List ℕ)} {feed : Feed} → Run bytes taken feed → IsSplit IsUnfinished bytes (taken ++ feed.waiting) feed.rest
+run_split start = record { front = []; parts = refl; whole = refl; left = (0, 0, unfinished_none) }
+run_split (fed {bytes = bytes} {taken = taken} {old = old} piece new r g) =
+    let split = split_join IsUnfinished IsUnfinished bytes piece old.rest new.rest (taken ++ old.waiting) g.records (run_split r) g.split in
     let same : (taken ++ old.waiting) ++ g.records ≡ taken ++ new.waiting = append_assoc taken old.waiting g.records ∙ ap (λ (x : List (List ℕ)). taken ++ x) (sym g.waiting) in
-    subst (λ (xs : List (List ℕ)). IsCut IsUnfinished (bytes ++ piece) xs new.rest) same cut
-run_cut (took {bytes = bytes} {taken = taken} {old = old} content new r t) =
+    subst (λ (xs : List (List ℕ)). IsSplit IsUnfinished (bytes ++ piece) xs new.rest) same split
+run_split (took {bytes = bytes} {taken = taken} {old = old} content new r t) =
     let same : taken ++ old.waiting ≡ (taken ++ content ∷ []) ++ new.waiting =
     ap (λ (x : List (List ℕ)). taken ++ x) t.waiting ∙ sym (append_assoc taken (content ∷ []) new.waiting) in
-    let cut = subst (λ (xs : List (List ℕ)). IsCut IsUnfinished bytes xs old.rest) same (run_cut r) in
-    subst (λ (x : List ℕ). IsCut IsUnfinished bytes ((taken ++ content ∷ []) ++ new.waiting) x) (sym t.rest) cut
+    let split = subst (λ (xs : List (List ℕ)). IsSplit IsUnfinished bytes xs old.rest) same (run_split r) in
+    subst (λ (x : List ℕ). IsSplit IsUnfinished bytes ((taken ++ content ∷ []) ++ new.waiting) x) (sym t.rest) split
 
 -- where a header passes the limit
-pub run_break : {bytes : List ℕ} {taken : List (List ℕ)} {old : Feed} (piece : List ℕ) (new : Feed) → Run bytes taken old → (b : Breaks old piece new) → IsCut IsTooLong (bytes ++ piece) (taken ++ new.waiting) b.stop
+pub run_break : {bytes : List ℕ} {taken : List (List ℕ)} {old : Feed} (piece : List ℕ) (new : Feed) → Run bytes taken old → (b : Breaks old piece new) → IsSplit IsTooLong (bytes ++ piece) (taken ++ new.waiting) b.stop
 run_break {bytes = bytes} {taken = taken} {old = old} piece new r b =
-    let cut = cut_join IsUnfinished IsTooLong bytes piece old.rest b.stop (taken ++ old.waiting) b.records (run_cut r) b.cut in
+    let split = split_join IsUnfinished IsTooLong bytes piece old.rest b.stop (taken ++ old.waiting) b.records (run_split r) b.split in
     let same : (taken ++ old.waiting) ++ b.records ≡ taken ++ new.waiting =
     append_assoc taken old.waiting b.records ∙ ap (λ (x : List (List ℕ)). taken ++ x) (sym (ap (λ (f : Feed). f.waiting) b.now)) in
-    subst (λ (xs : List (List ℕ)). IsCut IsTooLong (bytes ++ piece) xs b.stop) same cut
+    subst (λ (xs : List (List ℕ)). IsSplit IsTooLong (bytes ++ piece) xs b.stop) same split
 
 -- ---- one way
 
-pub one_cut : (bytes : List ℕ) (xs ys : List (List ℕ)) (rest rest' : List ℕ) → IsCut IsUnfinished bytes xs rest → IsCut IsUnfinished bytes ys rest' → (xs ≡ ys) × (rest ≡ rest')
-one_cut bytes xs ys rest rest' a b = same_cut IsUnfinished IsUnfinished unfinished_no_record unfinished_no_record bytes xs ys rest rest' a b
+pub one_split : (bytes : List ℕ) (xs ys : List (List ℕ)) (rest rest' : List ℕ) → IsSplit IsUnfinished bytes xs rest → IsSplit IsUnfinished bytes ys rest' → (xs ≡ ys) × (rest ≡ rest')
+one_split bytes xs ys rest rest' a b = same_split IsUnfinished IsUnfinished unfinished_no_record unfinished_no_record bytes xs ys rest rest' a b
 
-pub one_stop : (bytes : List ℕ) (xs ys : List (List ℕ)) (stop stop' : List ℕ) → IsCut IsTooLong bytes xs stop → IsCut IsTooLong bytes ys stop' → (xs ≡ ys) × (stop ≡ stop')
-one_stop bytes xs ys stop stop' a b = same_cut IsTooLong IsTooLong too_long_no_record too_long_no_record bytes xs ys stop stop' a b
+pub one_stop : (bytes : List ℕ) (xs ys : List (List ℕ)) (stop stop' : List ℕ) → IsSplit IsTooLong bytes xs stop → IsSplit IsTooLong bytes ys stop' → (xs ≡ ys) × (stop ≡ stop')
+one_stop bytes xs ys stop stop' a b = same_split IsTooLong IsTooLong too_long_no_record too_long_no_record bytes xs ys stop stop' a b
 
-pub one_of_both : (bytes : List ℕ) (xs ys : List (List ℕ)) (rest stop : List ℕ) → IsCut IsUnfinished bytes xs rest → IsCut IsTooLong bytes ys stop → ⊥
+pub one_of_both : (bytes : List ℕ) (xs ys : List (List ℕ)) (rest stop : List ℕ) → IsSplit IsUnfinished bytes xs rest → IsSplit IsTooLong bytes ys stop → ⊥
 one_of_both bytes xs ys rest stop a b =
-    let same = same_cut IsUnfinished IsTooLong unfinished_no_record too_long_no_record bytes xs ys rest stop a b in
+    let same = same_split IsUnfinished IsTooLong unfinished_no_record too_long_no_record bytes xs ys rest stop a b in
     not_both stop (subst IsUnfinished same.1 a.left) b.left
 
-pub grows_sound : (old new : Feed) (piece : List ℕ) → Grows old piece new → (records : List (List ℕ)) (stop : List ℕ) → IsCut IsTooLong (old.rest ++ piece) records stop → ⊥
-grows_sound old new piece g records stop cut = one_of_both (old.rest ++ piece) g.records records new.rest stop g.cut cut
+pub grows_sound : (old new : Feed) (piece : List ℕ) → Grows old piece new → (records : List (List ℕ)) (stop : List ℕ) → IsSplit IsTooLong (old.rest ++ piece) records stop → ⊥
+grows_sound old new piece g records stop split = one_of_both (old.rest ++ piece) g.records records new.rest stop g.split split
 
-pub breaks_sound : (old new : Feed) (piece : List ℕ) → Breaks old piece new → (records : List (List ℕ)) (rest : List ℕ) → IsCut IsUnfinished (old.rest ++ piece) records rest → ⊥
-breaks_sound old new piece b records rest cut = one_of_both (old.rest ++ piece) records b.records rest b.stop cut b.cut
+pub breaks_sound : (old new : Feed) (piece : List ℕ) → Breaks old piece new → (records : List (List ℕ)) (rest : List ℕ) → IsSplit IsUnfinished (old.rest ++ piece) records rest → ⊥
+breaks_sound old new piece b records rest split = one_of_both (old.rest ++ piece) records b.records rest b.stop split b.split
 
 -- what is not Ok is an error
-pub err_of_grows : {T E : Type 0} (r : Result T E) (old new : Feed) (piece : List ℕ) → OnOk r (Grows old piece new) → (records : List (List ℕ)) (stop : List ℕ) → IsCut IsTooLong (old.rest ++ piece) records stop → IsErr r
-err_of_grows (Ok x) old new piece g records stop cut = absurd (grows_sound old new piece g records stop cut)
-err_of_grows (Err e) old new piece g records stop cut = refl
+pub err_of_grows : {T E : Type 0} (r : Result T E) (old new : Feed) (piece : List ℕ) → OnOk r (Grows old piece new) → (records : List (List ℕ)) (stop : List ℕ) → IsSplit IsTooLong (old.rest ++ piece) records stop → IsErr r
+err_of_grows (Ok x) old new piece g records stop split = absurd (grows_sound old new piece g records stop split)
+err_of_grows (Err e) old new piece g records stop split = refl

@@ -7,6 +7,6 @@ pub mod Written
 pub mod Loops
 pub mod KindLaws
 pub mod Marks
-pub mod Cutting
+pub mod Splitting
 pub mod Copies
 pub mod Feeding

@@ -1,7 +1,7 @@
 -- For the prover, and for callers.
 -- What becomes at each call of a feed of bytes with record marking (RFC 5531, section 11).
 use Rattle.std.specs.Prelude.{◌≡◌, ℕ, Bool, true, false, List, [], ◌∷◌, ◌++◌}
-use Rattle.xdr_records.specs.Record.{IsCut, IsUnfinished, IsTooLong}
+use Rattle.xdr_records.specs.Record.{IsSplit, IsUnfinished, IsTooLong}
 
 -- the whole records that wait, the bytes behind the last whole record, and whether a header took its record
 -- past the limit, behind which no byte is kept
@@ -26,7 +26,7 @@ stopped old records = record { waiting = old.waiting ++ records; rest = []; brok
 pub record Grows (old : Feed) (piece : List ℕ) (new : Feed) : Type 0 where
   pub sound : old.broken ≡ false
   pub records : List (List ℕ)
-  pub cut : IsCut IsUnfinished (old.rest ++ piece) records new.rest
+  pub split : IsSplit IsUnfinished (old.rest ++ piece) records new.rest
   pub waiting : new.waiting ≡ old.waiting ++ records
   pub still : new.broken ≡ false
 
@@ -35,7 +35,7 @@ pub record Breaks (old : Feed) (piece : List ℕ) (new : Feed) : Type 0 where
   pub sound : old.broken ≡ false
   pub records : List (List ℕ)
   pub stop : List ℕ
-  pub cut : IsCut IsTooLong (old.rest ++ piece) records stop
+  pub split : IsSplit IsTooLong (old.rest ++ piece) records stop
   pub now : new ≡ stopped old records
 
 -- the first of the records that wait is taken

@@ -10,5 +10,5 @@ pub mod Kinds
 pub mod Record
 pub mod Feed
 pub mod Scan
-pub mod Cuts
+pub mod Splits
 pub mod FaultText

@@ -92,7 +92,7 @@ abbrev pub IsTooLong : List ℕ → Type 0
 IsTooLong bytes = (at : ℕ) × (size : ℕ) × Begun PassesLimit at size bytes
 
 -- the bytes are whole records, and behind them a rest
-pub record IsCut (Rest : List ℕ → Type 0) (bytes : List ℕ) (records : List (List ℕ)) (rest : List ℕ) : Type 0 where
+pub record IsSplit (Rest : List ℕ → Type 0) (bytes : List ℕ) (records : List (List ℕ)) (rest : List ℕ) : Type 0 where
   pub front : List ℕ
   pub parts : bytes ≡ front ++ rest
   pub whole : AreRecords records front

@@ -1,14 +1,14 @@
 //! The records of a stream of bytes, which comes in pieces.
 
 ghost use Rattle.std.specs.Prelude.{◌≡◌, ◌≤◌, ◌+◌, ◌++◌, ℕ, List, [], true, false, length, IsErr, IsErrOf, IsSome, IsNone, OnOk, IfSome, IfNone};
-ghost use Rattle.xdr_records.specs.Record.{IsCut, IsUnfinished, IsTooLong};
+ghost use Rattle.xdr_records.specs.Record.{IsSplit, IsUnfinished, IsTooLong};
 ghost use Rattle.xdr_records.specs.Feed.{fresh, fed_on, stopped, Grows, Breaks, TakesFirst};
-ghost use Rattle.xdr_records.specs.Cuts.{Leaves};
+ghost use Rattle.xdr_records.specs.Splits.{Leaves};
 
-use crate::cut::{Cut, WholeRecord, cut_on};
 use crate::fault::FeedFault;
 use crate::scan::{Scan, content, look_ahead};
 use crate::seam::Seam;
+use crate::split::{Split, WholeRecord, split_on};
 use bytes::BytesMut;
 use std::alloc::{AllocError, Global};
 use std::collections::VecDeque;
@@ -82,19 +82,19 @@ impl RecordFeed {
     }
 
     // Keeps the records, and in place of the rest the bytes that stand behind them.
-    fn keep(&mut self, cut: Cut, behind: &[u8]) -> Result<(), FeedFault>
-        requires { Leaves cut.begun behind.now }
-        ensures ok { OnOk result (IsSome cut.begun
-            × (self.new ≡ fed_on self.old cut.records.items behind.now)) }
-        ensures too_long { IsErrOf result FeedFault.RecordTooLong → IsNone cut.begun
-            × (self.new ≡ stopped self.old cut.records.items) }
+    fn keep(&mut self, split: Split, behind: &[u8]) -> Result<(), FeedFault>
+        requires { Leaves split.begun behind.now }
+        ensures ok { OnOk result (IsSome split.begun
+            × (self.new ≡ fed_on self.old split.records.items behind.now)) }
+        ensures too_long { IsErrOf result FeedFault.RecordTooLong → IsNone split.begun
+            × (self.new ≡ stopped self.old split.records.items) }
         ensures no_memory { IsErrOf result FeedFault.NoMemory → self.new ≡ self.old }
     {
-        let Cut {
+        let Split {
             mut records,
             used: _,
             begun,
-        } = cut;
+        } = split;
         match begun {
             None => {
                 self.waiting.append(&mut records)?;
@@ -119,9 +119,9 @@ impl RecordFeed {
         ensures too_long { IsErrOf result FeedFault.RecordTooLong → self.old.broken ≡ false
             → Breaks self.old piece.now self.new }
         ensures found { (records : List (List ℕ)) (stop : List ℕ)
-            → IsCut IsTooLong (self.old.rest ++ piece.now) records stop → IsErr result }
+            → IsSplit IsTooLong (self.old.rest ++ piece.now) records stop → IsErr result }
         ensures only { (records : List (List ℕ)) (rest : List ℕ) → self.old.broken ≡ false
-            → IsCut IsUnfinished (self.old.rest ++ piece.now) records rest
+            → IsSplit IsUnfinished (self.old.rest ++ piece.now) records rest
             → IsErrOf result FeedFault.RecordTooLong → ⊥ }
         ensures no_memory { IsErrOf result FeedFault.NoMemory
             → (self.old.broken ≡ false) × (self.new ≡ self.old) }
@@ -146,9 +146,9 @@ impl RecordFeed {
             Scan::Whole(end, size) => {
                 let first = content(self.alloc, &bytes, end, size)?;
                 let behind = &piece[end - self.rest.len()..];
-                let cut = cut_on(self.alloc, WholeRecord::new(first), behind)?;
-                let used = cut.used;
-                self.keep(cut, &behind[used..])
+                let split = split_on(self.alloc, WholeRecord::new(first), behind)?;
+                let used = split.used;
+                self.keep(split, &behind[used..])
             }
         }
     }

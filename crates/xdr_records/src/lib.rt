@@ -2,7 +2,6 @@
 //! appended to some bytes. And the records of a stream of bytes, after RFC 5531, section 11.
 #![tactic(auto)]
 
-mod cut;
 mod fault;
 mod feed;
 mod marked;
@@ -11,11 +10,12 @@ mod reader;
 mod scan;
 mod seam;
 mod spelled;
+mod split;
 mod writer;
 
 pub use fault::{FeedFault, XdrFault};
 pub use feed::RecordFeed;
-pub use marked::{calls_give_the_records, records_are_cut_one_way};
+pub use marked::{calls_give_the_records, records_are_split_one_way};
 pub use marking::frame;
 pub use reader::Reader;
 pub use scan::RECORD_LIMIT;

@@ -8,7 +8,7 @@ use crate::writer::put_u32;
 use std::alloc::{AllocError, Global};
 
 /// The record as one fragment, which is its last (RFC 5531, section 11).
-#[tactic(auto, using(crate::proofs::Cutting::framed))]
+#[tactic(auto, using(crate::proofs::Splitting::framed))]
 pub fn frame(alloc: Global, record: &[u8]) -> Result<Vec<u8>, AllocError>
     requires { length «record».now ≤ 2097152 }
     ensures spelled { IfOk result (λ text. IsRecord text.items «record».now) }

@@ -1,6 +1,6 @@
 use Rattle.std.proofs.Common.{Option, false, sym, ap, ◌∙◌}
 use Rattle.std.specs.Option.{option_map_or}
-use Rattle.nfs_history.specs.declared.history.CallKind.{CallKind}
+use Rattle.nfs_history.specs.declared.recorded.CallKind.{CallKind}
 use Rattle.nfs_history.specs.Precedence.{call_at}
 use Rattle.order_check.specs.Taking.{is_taken_whole}
 use Rattle.order_check.proofs.TakenLaws.{taken_whole}

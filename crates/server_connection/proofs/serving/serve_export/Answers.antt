@@ -1,6 +1,6 @@
 use Rattle.std.proofs.Common.{◌≡◌, ◌<◌, length, take, sym, subst, inl, inr, refl, arith, rules}
 use Rattle.std.specs.Io.KnownBytes.{Consumes, Keeps}
-use Rattle.xdr_records.proofs.Cutting.{unfinished_none}
+use Rattle.xdr_records.proofs.Splitting.{unfinished_none}
 use Rattle.nfs_tap.proofs.Fronts.{piece_read, unread}
 use Rattle.server_connection.specs.declared.end.StreamEnd.TheVariants as ends
 use Rattle.server_connection.proofs.Streams.{none_served, serves_none, served_still, served_more, serves_within}

@@ -1,6 +1,6 @@
 use Rattle.std.proofs.Common.{Bool, take, drop, subst, arith}
 use Rattle.xdr_records.specs.Record.{IsHeader}
-use Rattle.xdr_records.proofs.Cutting.{scan_past, scan_lacks, scan_next, scan_last}
+use Rattle.xdr_records.proofs.Splitting.{scan_past, scan_lacks, scan_next, scan_last}
 use Rattle.xdr_records.proofs.scan.look_ahead.Goals as goal
 
 pub returns-then-len-sum : goal.returns-then-len-sum

@@ -1,6 +1,6 @@
 use Rattle.std.proofs.Common.{◌≤◌, length, drop, ◌∙◌, sym, arith}
 use Rattle.std.proofs.lemmas.List.{length-take-le, length-drop}
-use Rattle.xdr_records.proofs.Cutting.{word_between}
+use Rattle.xdr_records.proofs.Splitting.{word_between}
 use Rattle.xdr_records.proofs.seam.Seam.header.Goals as goal
 
 pub returns : goal.returns

@@ -1,4 +1,0 @@
-use Rattle.search_passes.proofs.pass.Pass.+place_behind.Given as goal
-
-abbrev pub decreases-place_behind : goal.decreases-place_behind
-decreases-place_behind l = l.deepest

@@ -1,6 +1,0 @@
-use Rattle.search_passes.proofs.pass.Pass.find_left_out.Given as goal
-
-abbrev pub invariant-loop-other : goal.invariant-loop-other
-invariant-loop-other l =
-    (goal.iterator-loop-other).can_next l.other-iterator ×
-    (goal.iterator-loop-other).is_finite l.other-iterator
