@@ -65,16 +65,19 @@ fn others<R: Drop>(alloc: Global, waiting: &[u64], n: u64) -> Result<Vec<u64>, S
 fn take_answer<M: Machine>(
     alloc: Global,
     machine: &M,
+    work: &mut M::Work,
     states: Vec<M::State>,
     waiting: Vec<u64>,
     n: u64,
     limits: &mut Limits,
 ) -> Result<(Vec<M::State>, Vec<u64>), Stop<M::Reason>>
-    ensures { IfOk result (λ pair. IsAnswerStep (M.StandsFor machine.now) (M.placed machine.now) (M.Next machine.now) n waiting.items pair.1.items states.items pair.0.items) }
+    requires { M.Fits machine.now work.old }
+    ensures fits { M.Fits machine.now work.new }
+    ensures answer { IfOk result (λ pair. IsAnswerStep (M.StandsFor machine.now) (M.placed machine.now) (M.Next machine.now) n waiting.items pair.1.items states.items pair.0.items) }
 {
     let left = others(alloc, waiting.as_slice(), n)?;
-    let extended = extend(alloc, machine, states, left.as_slice(), n, limits)?;
-    let after = forget_in_all(alloc, machine, extended, n, limits)?;
+    let extended = extend(alloc, machine, work, states, left.as_slice(), n, limits)?;
+    let after = forget_in_all(alloc, machine, work, extended, n, limits)?;
     Ok((after, left))
 }
 
@@ -82,12 +85,15 @@ fn take_answer<M: Machine>(
 fn take_event<M: Machine>(
     alloc: Global,
     machine: &M,
+    work: &mut M::Work,
     states: Vec<M::State>,
     waiting: Vec<u64>,
     event: Event,
     limits: &mut Limits,
 ) -> Result<(Vec<M::State>, Vec<u64>), Stop<M::Reason>>
-    ensures { IfOk result (λ pair. IsEventStep (M.StandsFor machine.now) (M.placed machine.now) (M.Next machine.now) event waiting.items pair.1.items states.items pair.0.items) }
+    requires { M.Fits machine.now work.old }
+    ensures fits { M.Fits machine.now work.new }
+    ensures event { IfOk result (λ pair. IsEventStep (M.StandsFor machine.now) (M.placed machine.now) (M.Next machine.now) event waiting.items pair.1.items states.items pair.0.items) }
 {
     match event {
         Event::Called(n) => {
@@ -97,8 +103,8 @@ fn take_event<M: Machine>(
             }
             Ok((states, waiting))
         }
-        Event::Answered(n) => take_answer(alloc, machine, states, waiting, n, limits),
-        Event::AtOnce(n) => take_answer(alloc, machine, states, waiting, n, limits),
+        Event::Answered(n) => take_answer(alloc, machine, work, states, waiting, n, limits),
+        Event::AtOnce(n) => take_answer(alloc, machine, work, states, waiting, n, limits),
         Event::Passed => Ok((states, waiting)),
     }
 }
@@ -133,13 +139,22 @@ pub fn decide<M: Machine>(
         → (order : List ℕ) → ¬ IsWitness (M.placed machine.now) (M.Next machine.now plan) times (M.first machine.now plan) order)) }
 {
     let mut limits = limits;
+    let mut work = machine.work();
     let mut states = Vec::new(alloc);
     if states.push(machine.opening()?).is_err() {
         return Err(Stop::NoMemory);
     }
     let mut waiting = Vec::new(alloc);
     for (index, event) in events.iter().enumerate() {
-        let (after, left) = take_event(alloc, machine, states, waiting, *event, &mut limits)?;
+        let (after, left) = take_event(
+            alloc,
+            machine,
+            &mut work,
+            states,
+            waiting,
+            *event,
+            &mut limits,
+        )?;
         if let Some(call) = call_unexplained(*event, after.as_slice()) {
             return Ok(Walked::NoWitness {
                 event: index,

@@ -11,15 +11,18 @@ use std::alloc::Global;
 /// Puts all of these states there.
 fn put_all<M: Machine>(
     machine: &M,
+    work: &mut M::Work,
     states: &mut States<M::State>,
     more: Vec<M::State>,
     limits: &Limits,
 ) -> Result<(), Stop<M::Reason>>
-    ensures { IfOk result (λ _. Grows states.old.items.items states.new.items.items
+    requires { M.Fits machine.now work.old }
+    ensures fits { M.Fits machine.now work.new }
+    ensures there { IfOk result (λ _. Grows states.old.items.items states.new.items.items
         × ((s : M.State) → Contains more.items s → HasFor (M.StandsFor machine.now) states.new.items.items s)) }
 {
     for state in more {
-        put(machine, states, state, limits)?;
+        put(machine, work, states, state, limits)?;
     }
     Ok(())
 }
@@ -27,34 +30,40 @@ fn put_all<M: Machine>(
 /// All states that placing the call may lead to, which is a step.
 fn step_within<M: Machine>(
     machine: &M,
+    work: &mut M::Work,
     state: &M::State,
     call: u64,
     limits: &mut Limits,
 ) -> Result<Vec<M::State>, Stop<M::Reason>>
-    ensures { IfOk result (λ after. HasStep (M.StandsFor machine.now) (M.placed machine.now) (M.Next machine.now) after.items call state.now) }
+    requires { M.Fits machine.now work.old }
+    ensures fits { M.Fits machine.now work.new }
+    ensures step { IfOk result (λ after. HasStep (M.StandsFor machine.now) (M.placed machine.now) (M.Next machine.now) after.items call state.now) }
 {
     if limits.steps == 0 {
         return Err(Stop::TooManySteps);
     }
     limits.steps -= 1;
-    machine.step(state, call)
+    machine.step(work, state, call)
 }
 
 /// Puts all that come of placing one of these calls in a state there.
 fn place_calls<M: Machine>(
     machine: &M,
+    work: &mut M::Work,
     states: &mut States<M::State>,
     state: &M::State,
     calls: &[u64],
     limits: &mut Limits,
 ) -> Result<(), Stop<M::Reason>>
-    ensures { IfOk result (λ _. Grows states.old.items.items states.new.items.items
+    requires { M.Fits machine.now work.old }
+    ensures fits { M.Fits machine.now work.new }
+    ensures placings { IfOk result (λ _. Grows states.old.items.items states.new.items.items
         × HasPlacings (M.StandsFor machine.now) (M.placed machine.now) (M.Next machine.now) states.new.items.items calls.now state.now) }
 {
     for call in calls {
         if !machine.is_placed(state, *call) {
-            let after = step_within(machine, state, *call, limits)?;
-            put_all(machine, states, after, limits)?;
+            let after = step_within(machine, work, state, *call, limits)?;
+            put_all(machine, work, states, after, limits)?;
         }
     }
     Ok(())
@@ -63,16 +72,19 @@ fn place_calls<M: Machine>(
 /// The same for each of these states.
 fn place_in_all<M: Machine>(
     machine: &M,
+    work: &mut M::Work,
     states: &mut States<M::State>,
     each: &[M::State],
     calls: &[u64],
     limits: &mut Limits,
 ) -> Result<(), Stop<M::Reason>>
-    ensures { IfOk result (λ _. Grows states.old.items.items states.new.items.items
+    requires { M.Fits machine.now work.old }
+    ensures fits { M.Fits machine.now work.new }
+    ensures placings { IfOk result (λ _. Grows states.old.items.items states.new.items.items
         × HasAllPlacings (M.StandsFor machine.now) (M.placed machine.now) (M.Next machine.now) states.new.items.items calls.now each.now) }
 {
     for state in each {
-        place_calls(machine, states, state, calls, limits)?;
+        place_calls(machine, work, states, state, calls, limits)?;
     }
     Ok(())
 }
@@ -80,35 +92,41 @@ fn place_in_all<M: Machine>(
 /// Puts a state to the first ones where the call is placed, else to the second.
 fn sort_into<M: Machine>(
     machine: &M,
+    work: &mut M::Work,
     state: M::State,
     n: u64,
     with: &mut States<M::State>,
     without: &mut States<M::State>,
     limits: &Limits,
 ) -> Result<(), Stop<M::Reason>>
-    ensures { IfOk result (λ _. (Grows with.old.items.items with.new.items.items × Grows without.old.items.items without.new.items.items)
+    requires { M.Fits machine.now work.old }
+    ensures fits { M.Fits machine.now work.new }
+    ensures sorted { IfOk result (λ _. (Grows with.old.items.items with.new.items.items × Grows without.old.items.items without.new.items.items)
         × IsSortedInto (M.StandsFor machine.now) (M.placed machine.now) (M.Next machine.now) n with.new.items.items without.new.items.items state) }
 {
     if machine.is_placed(&state, n) {
-        put(machine, with, state, limits)
+        put(machine, work, with, state, limits)
     } else {
-        put(machine, without, state, limits)
+        put(machine, work, without, state, limits)
     }
 }
 
 /// The same for each of these states.
 fn sort_out<M: Machine>(
     machine: &M,
+    work: &mut M::Work,
     states: Vec<M::State>,
     n: u64,
     with: &mut States<M::State>,
     without: &mut States<M::State>,
     limits: &Limits,
 ) -> Result<(), Stop<M::Reason>>
-    ensures { IfOk result (λ _. IsSortedOut (M.StandsFor machine.now) (M.placed machine.now) (M.Next machine.now) n states.items with.new.items.items without.new.items.items) }
+    requires { M.Fits machine.now work.old }
+    ensures fits { M.Fits machine.now work.new }
+    ensures sorted { IfOk result (λ _. IsSortedOut (M.StandsFor machine.now) (M.placed machine.now) (M.Next machine.now) n states.items with.new.items.items without.new.items.items) }
 {
     for state in states {
-        sort_into(machine, state, n, with, without, limits)?;
+        sort_into(machine, work, state, n, with, without, limits)?;
     }
     Ok(())
 }
@@ -118,25 +136,42 @@ fn sort_out<M: Machine>(
 pub(crate) fn extend<M: Machine>(
     alloc: Global,
     machine: &M,
+    work: &mut M::Work,
     states: Vec<M::State>,
     waiting: &[u64],
     n: u64,
     limits: &mut Limits,
 ) -> Result<Vec<M::State>, Stop<M::Reason>>
-    ensures { IfOk result (λ after. ExtendsAll (M.StandsFor machine.now) (M.placed machine.now) (M.Next machine.now) waiting.now n states.items after.items) }
+    requires { M.Fits machine.now work.old }
+    ensures fits { M.Fits machine.now work.new }
+    ensures extended { IfOk result (λ after. ExtendsAll (M.StandsFor machine.now) (M.placed machine.now) (M.Next machine.now) waiting.now n states.items after.items) }
 {
     let mut found = no_states(alloc);
     let mut layer = no_states(alloc);
-    sort_out(machine, states, n, &mut found, &mut layer, limits)?;
+    sort_out(machine, work, states, n, &mut found, &mut layer, limits)?;
     let last = [n];
     let rounds = waiting.len().saturating_add(1);
     for _round in 0..rounds {
         if layer.items.is_empty() {
             return Ok(found.items);
         }
-        place_in_all(machine, &mut found, layer.items.as_slice(), &last, limits)?;
+        place_in_all(
+            machine,
+            work,
+            &mut found,
+            layer.items.as_slice(),
+            &last,
+            limits,
+        )?;
         let mut next = no_states(alloc);
-        place_in_all(machine, &mut next, layer.items.as_slice(), waiting, limits)?;
+        place_in_all(
+            machine,
+            work,
+            &mut next,
+            layer.items.as_slice(),
+            waiting,
+            limits,
+        )?;
         layer = next;
     }
     if layer.items.is_empty() {
@@ -150,15 +185,18 @@ pub(crate) fn extend<M: Machine>(
 pub(crate) fn forget_in_all<M: Machine>(
     alloc: Global,
     machine: &M,
+    work: &mut M::Work,
     states: Vec<M::State>,
     n: u64,
     limits: &Limits,
 ) -> Result<Vec<M::State>, Stop<M::Reason>>
-    ensures { IfOk result (λ after. ForgetsAll (M.StandsFor machine.now) (M.placed machine.now) (M.Next machine.now) n states.items after.items) }
+    requires { M.Fits machine.now work.old }
+    ensures fits { M.Fits machine.now work.new }
+    ensures forgotten { IfOk result (λ after. ForgetsAll (M.StandsFor machine.now) (M.placed machine.now) (M.Next machine.now) n states.items after.items) }
 {
     let mut left = no_states(alloc);
     for state in states {
-        put(machine, &mut left, machine.forget(state, n), limits)?;
+        put(machine, work, &mut left, machine.forget(state, n), limits)?;
     }
     Ok(left.items)
 }

@@ -47,6 +47,9 @@ pub trait Machine {
     /// Why the machine doesn't decide a step.
     type Reason: Drop;
 
+    /// What a walk works in, whichever of its states it is at. Nothing that is said of the states depends on it.
+    type Work: Drop;
+
     // What a plan fixes and the walk leaves open.
     ghost Plan: { Type 0 };
 
@@ -65,25 +68,41 @@ pub trait Machine {
     // The state stands for a plan's point, where it may have forgotten of these calls whether they are placed.
     ghost StandsFor: { Self → Plan → (ℕ → Bool) → Point → Self.State → Type 0 };
 
+    // The machine can go on working in this.
+    ghost Fits: { Self → Self.Work → Type 0 };
+
     /// The state that stands for where each plan begins.
     fn opening(&self) -> Result<Self::State, Stop<Self::Reason>>
         ensures { IfOk result (λ state. (plan : Plan) → StandsFor self.now plan (λ _. false) (first self.now plan) state) };
+
+    /// What a walk works in at first.
+    fn work(&self) -> Self::Work
+        ensures { Fits self.now result };
 
     /// Whether a call is placed that can't be forgotten.
     fn is_placed(&self, state: &Self::State, n: u64) -> bool
         ensures { TellsPlaced (StandsFor self.now) (placed self.now) state.now n result };
 
     /// States for all that placing the call may lead to.
-    fn step(&self, state: &Self::State, n: u64) -> Result<Vec<Self::State>, Stop<Self::Reason>>
-        ensures { IfOk result (λ states. HasStep (StandsFor self.now) (placed self.now) (Next self.now) states.items n state.now) };
+    fn step(
+        &self,
+        work: &mut Self::Work,
+        state: &Self::State,
+        n: u64,
+    ) -> Result<Vec<Self::State>, Stop<Self::Reason>>
+        requires { Fits self.now work.old }
+        ensures fits { Fits self.now work.new }
+        ensures states { IfOk result (λ states. HasStep (StandsFor self.now) (placed self.now) (Next self.now) states.items n state.now) };
 
     /// The state, which need not know of this call any more whether it is placed. It isn't asked again.
     fn forget(&self, state: Self::State, n: u64) -> Self::State
         ensures { Forgets (StandsFor self.now) n state result };
 
     /// Whether the second state stands for all that the first stands for.
-    fn is_same(&self, state: &Self::State, other: &Self::State) -> bool
-        ensures { IsTrue result → Replaces (StandsFor self.now) state.now other.now };
+    fn is_same(&self, work: &mut Self::Work, state: &Self::State, other: &Self::State) -> bool
+        requires { Fits self.now work.old }
+        ensures fits { Fits self.now work.new }
+        ensures same { IsTrue result → Replaces (StandsFor self.now) state.now other.now };
 
     /// A number that is the same of states that are the same. Where it isn't, more states are kept than need be.
     fn hash(&self, state: &Self::State) -> u64;

@@ -74,6 +74,8 @@ impl Machine for RegisterMachine {
 
     type Reason = ();
 
+    type Work = ();
+
     ghost Plan = { Unit {0} };
 
     ghost Point = { RegisterState };
@@ -86,15 +88,19 @@ impl Machine for RegisterMachine {
 
     ghost StandsFor = { λ _ _ _. StandsForItself };
 
+    ghost Fits = { λ _ _. Unit {0} };
+
     fn opening(&self) -> Result<Register, Stop<()>> {
         Ok(Register::new(self.alloc))
     }
+
+    fn work(&self) {}
 
     fn is_placed(&self, state: &Register, n: u64) -> bool {
         state.has(n)
     }
 
-    fn step(&self, state: &Register, n: u64) -> Result<Vec<Register>, Stop<()>> {
+    fn step(&self, _work: &mut (), state: &Register, n: u64) -> Result<Vec<Register>, Stop<()>> {
         let mut states = Vec::new(self.alloc);
         let value = if n < 100 {
             n
@@ -114,7 +120,7 @@ impl Machine for RegisterMachine {
         state
     }
 
-    fn is_same(&self, state: &Register, other: &Register) -> bool {
+    fn is_same(&self, _work: &mut (), state: &Register, other: &Register) -> bool {
         state.value == other.value && state.calls == other.calls
     }
 

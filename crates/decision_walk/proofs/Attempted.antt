@@ -1,5 +1,5 @@
 -- a call that is tried covers each plan that goes on by it
-use Rattle.std.proofs.Common.{◌≡◌, ◌⊎◌, inl, inr, ℕ, Bool, true, false, List, [], ◌∷◌, ◌++◌, length, Option, Some, None, Ok, Err, Result, refl, sym, ap, ◌∙◌, subst}
+use Rattle.std.proofs.Common.{◌≡◌, ◌⊎◌, inl, inr, ℕ, Bool, true, false, List, [], ◌∷◌, ◌++◌, length, Option, Some, None, refl, sym, ap, ◌∙◌, subst}
 use Rattle.nfs3_types.specs.declared.calls.NfsCall.{NfsCall}
 use Rattle.nfs3_types.specs.declared.replies.Outcome.{Outcome}
 use Rattle.nfs_history.specs.declared.knowing.KnownCalls.{KnownCalls}
@@ -13,14 +13,12 @@ use Rattle.tree_handles.specs.Binding.{Bindings}
 use Rattle.file_tree.specs.Setting.{under}
 use Rattle.witness_check.specs.Run.{base_of, step_at}
 use Rattle.decision_steps.specs.declared.binding.BoundHandle.{BoundHandle}
-use Rattle.decision_steps.specs.declared.fault.PlaceFault.{PlaceFault}
-use Rattle.decision_steps.specs.declared.fault.PlaceFault.TheVariants.{NotLegal}
 use Rattle.decision_steps.specs.declared.state.State.{State}
 use Rattle.decision_steps.specs.declared.state.Step.{Step}
 use Rattle.decision_steps.specs.Bound.{bound_behind}
 use Rattle.decision_steps.specs.Known.{AgreesWith, knows_handles, is_failure}
 use Rattle.decision_steps.specs.Listed.{bound_pairs}
-use Rattle.decision_steps.specs.Placing.{placed_in, StepsFrom, Covers}
+use Rattle.decision_steps.specs.Placing.{placed_in}
 use Rattle.decision_steps.proofs.Placed.{handles_stay_bound}
 use Rattle.decision_steps.proofs.Unknown.{under_keeps}
 use Rattle.decision_law.specs.Laws.{binds_of}
@@ -28,7 +26,7 @@ use Rattle.decision_walk.specs.declared.attempt.Attempt.{Attempt}
 use Rattle.decision_walk.specs.declared.way_state.WayState.{WayState}
 use Rattle.decision_walk.specs.Way.{bound_in, state_of, WayLeads, longer, may_change}
 use Rattle.decision_walk.specs.Standing.{binds_in}
-use Rattle.decision_walk.specs.Placings.{GoesOn, binds_after, Covered, CoversPlans}
+use Rattle.decision_walk.specs.Placings.{GoesOn, binds_after, CoversPlans, IsFound}
 use Rattle.decision_walk.proofs.Later.{agrees_self, settles, knows_more, way_later, way_joined, way_once}
 use Rattle.decision_walk.proofs.Looks.{look_keeps}
 
@@ -58,9 +56,9 @@ module _ (known : KnownCalls) (state : WayState) (place : Place) (call : NfsCall
 
   module _ (step : step_at known.calls place ≡ Some (record { number = call_of place; call = call; outcome = outcome })) (next : State) (bound : List BoundHandle)
       (attempt : Attempt) (belongs : Belongs live.binds call outcome attempt.grows) (placed : placed_in known.head.profile live object call outcome ≡ Some next)
-      (adds : next.binds ≡ bound_behind live.binds (bound_pairs bound)) (bound_is : attempt.bound.items ≡ bound) where
+      (adds : next.binds ≡ bound_behind live.binds (bound_pairs bound)) (bound_is : bound_pairs attempt.bound.items ≡ bound_pairs bound) where
     after_is : next.binds ≡ binds_after known state attempt
-    after_is = adds ∙ ap (λ b. bound_behind b (bound_pairs bound)) binds ∙ ap (λ l. bound_in known (bound_pairs state.bound.items ++ bound_pairs l)) (sym bound_is)
+    after_is = adds ∙ ap (λ b. bound_behind b (bound_pairs bound)) binds ∙ ap (λ l. bound_in known (bound_pairs state.bound.items ++ l)) (sym bound_is)
 
     keeps : AgreesWith (binds_in known state) (binds_after known state attempt)
     keeps = subst (λ b. AgreesWith (binds_in known state) b) after_is
@@ -110,9 +108,18 @@ module _ (known : KnownCalls) (state : WayState) (place : Place) (call : NfsCall
       (subst (λ p. (plan : Bindings) (after : Tree) → AgreesWith live.binds plan → under p plan live.tree object call outcome ≡ Some after → ⊥) profile_is none)
 
   pub placed_covers_by : step_at known.calls place ≡ Some (record { number = call_of place; call = call; outcome = outcome }) → (next : State) (bound : List BoundHandle) (attempt : Attempt)
-      → Belongs live.binds call outcome attempt.grows → placed_in profile live object call outcome ≡ Some next → next.binds ≡ bound_behind live.binds (bound_pairs bound) → attempt.bound.items ≡ bound
+      → Belongs live.binds call outcome attempt.grows → placed_in profile live object call outcome ≡ Some next → next.binds ≡ bound_behind live.binds (bound_pairs bound) → bound_pairs attempt.bound.items ≡ bound_pairs bound
       → ((plan : Bindings) (after : Tree) → AgreesWith live.binds plan → under profile plan live.tree object call outcome ≡ Some after → (next.tree ≡ after) × AgreesWith next.binds plan)
       → CoversPlans known state place call outcome (Some attempt)
   placed_covers_by step next bound attempt belongs placed adds bound_is covers =
       placed_covers known state place call outcome object live made binds leads step next bound attempt belongs (subst (λ p. placed_in p live object call outcome ≡ Some next) profile_is placed) adds bound_is
       (subst (λ p. (plan : Bindings) (after : Tree) → AgreesWith live.binds plan → under p plan live.tree object call outcome ≡ Some after → (next.tree ≡ after) × AgreesWith next.binds plan) profile_is covers)
+
+  -- and of what was found by a step
+  pub found_covers : step_at known.calls place ≡ Some (record { number = call_of place; call = call; outcome = outcome }) → (next : State) (step : Step) (grows : Bool) (found : Option Attempt)
+      → IsFound grows step found → Belongs live.binds call outcome grows → placed_in profile live object call outcome ≡ Some next → next.binds ≡ bound_behind live.binds (bound_pairs step.bound.items)
+      → ((plan : Bindings) (after : Tree) → AgreesWith live.binds plan → under profile plan live.tree object call outcome ≡ Some after → (next.tree ≡ after) × AgreesWith next.binds plan)
+      → CoversPlans known state place call outcome found
+  found_covers at next step grows None is belongs placed adds covers = absurd is
+  found_covers at next step grows (Some attempt) is belongs placed adds covers =
+      placed_covers_by at next step.bound.items attempt (subst (λ g. Belongs live.binds call outcome g) (sym is.0) belongs) placed adds is.1 covers

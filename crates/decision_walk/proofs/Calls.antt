@@ -1,28 +1,18 @@
 -- a call that is placed, however it came out
-use Rattle.std.proofs.Common.{◌≡◌, ◌⊎◌, inl, inr, ℕ, ◌+◌, ◌-◌, ◌<◌, ◌≤◌, Bool, true, false, IsTrue, List, [], ◌∷◌, length, Option, Some, None, refl, sym, ap, ◌∙◌, subst, arith}
+use Rattle.std.proofs.Common.{◌≡◌, inl, inr, ℕ, ◌-◌, ◌<◌, ◌≤◌, Bool, true, List, [], ◌∷◌, length, Some, None, sym, ap, ◌∙◌, subst, arith}
 use Rattle.std.specs.Prelude.{◌==◌, ◌||◌, cond}
 use Rattle.std.specs.Option.{option_map_or}
 use Rattle.std.specs.List.{list_any}
 use Rattle.std.proofs.lemmas.Bool.{true≢false, eq-eqb, or_right}
-use Rattle.nfs3_types.specs.declared.calls.NfsCall.{NfsCall}
-use Rattle.nfs3_types.specs.declared.calls.NfsCall.TheVariants as calls
-use Rattle.nfs3_types.specs.declared.replies.Outcome.{Outcome}
-use Rattle.nfs_history.specs.declared.history.Meaning.TheVariants as meanings
-use Rattle.nfs_history.specs.declared.history.RecordedCall.{RecordedCall}
+use Rattle.nfs_history.specs.declared.recorded.RecordedCall.{RecordedCall}
 use Rattle.nfs_history.specs.declared.knowing.KnownCalls.{KnownCalls}
 use Rattle.nfs_history.specs.Precedence.{call_at}
-use Rattle.certificate.specs.declared.plan.Certificate.{Certificate}
-use Rattle.order_check.specs.Places.{may_take}
-use Rattle.decision_core.specs.Eras.{is_placed, EraNext}
-use Rattle.decision_law.specs.Laws.{binds_of}
-use Rattle.decision_law.specs.Machine.{Point, Changes, Next}
 use Rattle.decision_law.specs.Times.{era_of_number}
 use Rattle.decision_law.proofs.Placed.{is_call_number}
 use Rattle.decision_core.specs.Times.{IsAmong}
 use Rattle.decision_walk.specs.declared.way_state.WayState.{WayState}
-use Rattle.decision_walk.specs.Way.{may_change}
-use Rattle.decision_walk.specs.Standing.{is_marked, has_call, hints_of, numbers_of, IsAt}
-use Rattle.decision_walk.specs.Placings.{Comes, HasPlaced, HasAllOf, HasStepOf, IsMissing, MayNotLose}
+use Rattle.decision_walk.specs.Standing.{is_marked}
+use Rattle.decision_walk.specs.Placings.{HasAllOf, HasStepOf, IsMissing, MayNotLose}
 
 some_is : {X : Type 0} (a b : X) → Some a ≡ Some b → a ≡ b
 some_is a b e = cc

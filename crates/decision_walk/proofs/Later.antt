@@ -1,6 +1,6 @@
 -- ways under handles that are bound alike, and which trees they lead to
-use Rattle.std.proofs.Common.{◌≡◌, ℕ, Bool, true, false, cond, List, [], ◌∷◌, ◌++◌, length, Option, Some, None, refl, sym, ap, ◌∙◌, subst, eq-eqb}
-use Rattle.std.specs.Prelude.{◌==◌, ◌&&◌, is_some, option_and_then}
+use Rattle.std.proofs.Common.{◌≡◌, ℕ, Bool, true, cond, List, [], ◌∷◌, ◌++◌, length, Option, Some, None, refl, sym, ap, ◌∙◌, subst, eq-eqb}
+use Rattle.std.specs.Prelude.{◌&&◌, is_some, option_and_then}
 use Rattle.std.specs.Option.{option_map_or}
 use Rattle.nfs3_types.specs.declared.calls.NfsCall.{NfsCall}
 use Rattle.nfs3_types.specs.declared.replies.Outcome.{Outcome}
@@ -12,7 +12,6 @@ use Rattle.tree_starts.specs.Start.{object_made}
 use Rattle.tree_nodes.specs.Tree.{Tree}
 use Rattle.tree_handles.specs.Binding.{Bindings, object_of, is_bound}
 use Rattle.tree_answers.specs.Asked.{first_handle, second_handle}
-use Rattle.witness_check.specs.Run.{step_at}
 use Rattle.decision_steps.specs.declared.state.State.{State}
 use Rattle.decision_steps.specs.Bound.{bound_where, with_handle, with_handles, are_bound}
 use Rattle.decision_steps.specs.Given.{given}
@@ -67,7 +66,7 @@ knows_more binds more call agrees e =
     (second_more binds more (second_handle call) agrees (second_passes (is_known binds (first_handle call)) (option_map_or (is_known binds) (second_handle call) true) e))
 
 module _ (known : KnownCalls) where
-  by_later : (binds more : Bindings) (tree after : Tree) (step : TakenStep NfsCall Outcome) → AgreesWith binds more → LeadsBy known binds tree step after → LeadsBy known more tree step after
+  pub by_later : (binds more : Bindings) (tree after : Tree) (step : TakenStep NfsCall Outcome) → AgreesWith binds more → LeadsBy known binds tree step after → LeadsBy known more tree step after
   by_later binds more tree after step agrees by = record {
     knows = knows_more binds more step.call agrees by.knows;
     placed = settles known.head.profile tree after binds binds more (object_made (length known.head.start) step.number) step.call step.outcome by.knows by.placed agrees;

@@ -1,7 +1,8 @@
 mod Later
+mod Fronts
+mod Trails
 mod Attempted
 mod MachineLaws
-mod Followed
 mod SameCalls
 mod Looks
 mod PlacedLaws

@@ -1,13 +1,10 @@
 -- where a walk begins, and what a state forgets
-use Rattle.std.proofs.Common.{◌≡◌, ◌≢◌, ◌⊎◌, inl, inr, ℕ, Bool, true, false, cond, List, [], ◌∷◌, Option, Some, None, refl, sym, ap, ◌∙◌, subst, eq-eqb}
+use Rattle.std.proofs.Common.{◌≡◌, ◌≢◌, ◌⊎◌, inl, inr, ℕ, Bool, true, false, cond, List, [], ◌∷◌, None, refl, sym, ap, ◌∙◌, subst, eq-eqb}
 use Rattle.std.specs.Prelude.{◌==◌, ◌||◌, not, filter}
-use Rattle.std.specs.List.{list_any}
-use Rattle.std.proofs.lemmas.Bool.{eqb-true, ne_eqb, or_parts, eqb-false, true≢false}
+use Rattle.std.proofs.lemmas.Bool.{eqb-true, ne_eqb, or_parts, true≢false}
 use Rattle.nfs_history.specs.declared.knowing.KnownCalls.{KnownCalls}
 use Rattle.certificate.specs.declared.plan.Certificate.{Certificate}
-use Rattle.certificate.specs.declared.plan.Place.{Place}
 use Rattle.witness_check.specs.Run.{base_of}
-use Rattle.tree_handles.specs.Binding.{Bindings}
 use Rattle.decision_core.specs.Eras.{is_placed}
 use Rattle.decision_core.specs.States.{also}
 use Rattle.decision_steps.specs.Known.{AgreesWith}

@@ -1,5 +1,5 @@
 -- the states in which a call is placed stand for all points to which it may lead
-use Rattle.std.proofs.Common.{◌≡◌, ◌⊎◌, inl, inr, ℕ, zero, suc, ◌+◌, ◌<◌, ◌≤◌, Bool, true, false, IsTrue, List, [], ◌∷◌, ◌++◌, length, take, Option, Some, None, refl, sym, ap, ◌∙◌, subst, arith}
+use Rattle.std.proofs.Common.{◌≡◌, ◌⊎◌, inl, inr, ℕ, ◌<◌, ◌≤◌, Bool, true, false, List, [], ◌∷◌, ◌++◌, length, take, Option, Some, None, refl, sym, ap, ◌∙◌, subst, arith}
 use Rattle.std.specs.Prelude.{◌==◌, ◌||◌, Contains}
 use Rattle.std.specs.List.{list_any}
 use Rattle.std.proofs.lemmas.Bool.{cases_lt}
@@ -12,16 +12,16 @@ use Rattle.certificate.specs.Plan.{call_of}
 use Rattle.tree_nodes.specs.Tree.{Tree}
 use Rattle.tree_handles.specs.Binding.{Bindings}
 use Rattle.witness_check.specs.Run.{base_of}
-use Rattle.decision_core.specs.Eras.{is_placed, IsAheadOfCut, IsFirstLost, IsBehindCut}
+use Rattle.decision_core.specs.Eras.{IsAheadOfCut, IsFirstLost, IsBehindCut}
 use Rattle.decision_steps.specs.Known.{AgreesWith}
-use Rattle.decision_steps.specs.Listed.{bound_pairs}
 use Rattle.decision_law.specs.Laws.{binds_of}
 use Rattle.decision_law.specs.Machine.{Point, Changes}
 use Rattle.decision_walk.specs.declared.attempt.Attempt.{Attempt}
 use Rattle.decision_walk.specs.declared.way_state.WayState.{WayState}
 use Rattle.decision_walk.specs.Way.{bound_in, WayLeads, longer}
-use Rattle.decision_walk.specs.Standing.{is_marked, numbers_of, has_call, HasBase, binds_in, IsAt}
-use Rattle.decision_walk.specs.Placings.{binds_after, Covered, CoversPlans, IsChild, HasChild, HasChildren, Comes, HasPlaced, HoldsAt, MayNotLose}
+use Rattle.decision_walk.specs.Standing.{numbers_of, has_call, HasBase, binds_in, IsAt}
+use Rattle.decision_walk.specs.Placings.{binds_after, Covered, CoversPlans, IsChild, HasChildren, HasPlaced, HoldsAt, MayNotLose}
+use Rattle.decision_walk.proofs.Fronts.{take_ahead, take_whole}
 use Rattle.decision_walk.proofs.Later.{way_later}
 
 -- ---- calls that are placed
@@ -50,16 +50,6 @@ pub has_more : (placed calls : List ℕ) (n m : ℕ) → has_call placed m ≡ l
 has_more placed calls n m same = any_push (λ k. k == m) placed n ∙ ap (λ b. (n == m) || b) same
 
 -- ---- parts of a way
-
-take_ahead : {X : Type 0} (xs ys : List X) (k : ℕ) → k ≤ length xs → take k (xs ++ ys) ≡ take k xs
-take_ahead [] ys zero inside = refl
-take_ahead [] ys (suc k) inside = absurd (omega (arith, inside))
-take_ahead (x ∷ xs) ys zero inside = refl
-take_ahead (x ∷ xs) ys (suc k) inside = ap (λ l. x ∷ l) (take_ahead xs ys k (omega (arith, inside)))
-
-take_whole : {X : Type 0} (xs : List X) → take (length xs) xs ≡ xs
-take_whole [] = refl
-take_whole (x ∷ xs) = ap (λ l. x ∷ l) (take_whole xs)
 
 longer_length : (way : List Place) (grows : Bool) (place : Place) → length way ≤ length (longer way grows place)
 longer_length way true place = go way where

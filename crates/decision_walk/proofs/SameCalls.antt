@@ -1,6 +1,6 @@
 -- lists with the same calls
 use Rattle.std.proofs.Common.{◌≡◌, ◌⊎◌, inl, inr, ℕ, ◌+◌, ◌<◌, Bool, true, false, List, [], ◌∷◌, length, drop, get_or, refl, sym, ap, ◌∙◌, subst}
-use Rattle.std.specs.Prelude.{◌==◌, ◌||◌}
+use Rattle.std.specs.Prelude.{◌==◌}
 use Rattle.std.proofs.lemmas.Bool.{eqb-true, or_cases, true≢false}
 use Rattle.std.proofs.lemmas.List.{at_drop_more}
 use Rattle.decision_walk.specs.Standing.{has_call}

@@ -1,21 +1,26 @@
 -- a state that comes to the same as another one stands for what that one stands for
-use Rattle.std.proofs.Common.{◌≡◌, ◌⊎◌, ℕ, ◌<◌, ◌≤◌, Bool, true, false, List, length, take, Option, Some, None, refl, sym, ap, ◌∙◌, subst}
+use Rattle.std.proofs.Common.{◌≡◌, ℕ, Bool, true, List, take, Option, Some, None, refl, sym, ◌∙◌, subst}
+use Rattle.std.specs.Prelude.{IfSome}
 use Rattle.nfs_history.specs.declared.knowing.KnownCalls.{KnownCalls}
-use Rattle.certificate.specs.declared.plan.Certificate.{Certificate}
 use Rattle.certificate.specs.declared.plan.Place.{Place}
 use Rattle.tree_nodes.specs.Tree.{Tree}
-use Rattle.tree_handles.specs.Binding.{Bindings}
+use Rattle.tree_nodes.specs.Unprinted.{same_text}
 use Rattle.witness_check.specs.Run.{base_of}
 use Rattle.decision_core.specs.States.{Replaces}
-use Rattle.decision_steps.specs.declared.state.State.{State}
-use Rattle.decision_steps.specs.Known.{AgreesWith}
+use Rattle.decision_steps.specs.Bound.{are_bound}
+use Rattle.decision_steps.specs.Listed.{bound_pairs}
+use Rattle.decision_steps.proofs.Placed.{bound_agree}
 use Rattle.decision_law.specs.Laws.{binds_of}
-use Rattle.decision_law.specs.Machine.{Point}
 use Rattle.decision_walk.specs.declared.way_state.WayState.{WayState}
 use Rattle.decision_walk.specs.Way.{WayLeads}
 use Rattle.decision_walk.specs.Standing.{has_call, HasBase, binds_in, IsAt}
-use Rattle.decision_walk.specs.Placings.{SameWay, SameCut, SameBase}
+use Rattle.decision_walk.specs.Placings.{PrintsAs, SameWay, SameCut, SameBase}
 use Rattle.decision_walk.proofs.Later.{agrees_on, way_once}
+
+-- what is said of a call's answer, said in other words
+pub if_some : {X : Type 0} (o : Option X) (P Q : X → Type 0) → ((x : X) → P x → Q x) → IfSome o P → IfSome o Q
+if_some (Some x) P Q f p = f x p
+if_some None P Q f p = p
 
 module _ (known : KnownCalls) where
   same_tree : (state other : WayState) (way other_way : List Place) (tree : Tree) → SameWay known state way other other_way → WayLeads known (binds_in known state) (base_of known) way tree
@@ -41,11 +46,13 @@ module _ (known : KnownCalls) where
     placed = λ n kept. sym (calls n) ∙ at.placed n kept;
   }
 
-  pub same_way_is : (state other : WayState) (way other_way : List Place) (one two : State) → one.binds ≡ binds_in known state → WayLeads known (binds_in known state) (base_of known) way one.tree
-      → WayLeads known (binds_in known other) (base_of known) other_way two.tree → one.tree ≡ two.tree → AgreesWith (binds_in known other) one.binds → SameWay known state way other other_way
-  same_way_is state other way other_way one two binds leads other_leads same agrees = record {
-    agrees = subst (λ b. AgreesWith (binds_in known other) b) binds agrees;
-    tree = one.tree;
-    leads = leads;
-    other_leads = subst (λ t. WayLeads known (binds_in known other) (base_of known) other_way t) (sym same) other_leads;
-  }
+  pub same_way_is : (state other : WayState) (way other_way : List Place) (text other_text : List ℕ) → PrintsAs known state way text → PrintsAs known other other_way other_text → text ≡ other_text
+      → are_bound (binds_in known state) (bound_pairs other.bound.items) ≡ true → SameWay known state way other other_way
+  same_way_is state other way other_way text other_text one two same alike =
+      let trees : one.tree ≡ two.tree = same_text one.tree two.tree one.printable two.printable (sym one.is ∙ same ∙ two.is) in
+      record {
+        agrees = bound_agree (binds_in known other) (binds_in known state) (bound_pairs other.bound.items) alike refl refl;
+        tree = one.tree;
+        leads = one.leads;
+        other_leads = subst (λ t. WayLeads known (binds_in known other) (base_of known) other_way t) (sym trees) two.leads;
+      }

@@ -1,3 +1,4 @@
 pub mod Way
+pub mod Live
 pub mod Standing
 pub mod Placings

@@ -9,15 +9,17 @@ use Rattle.certificate.specs.declared.plan.Certificate.{Certificate}
 use Rattle.certificate.specs.declared.plan.Place.{Place}
 use Rattle.certificate.specs.Plan.{call_of}
 use Rattle.tree_nodes.specs.Tree.{Tree}
+use Rattle.tree_nodes.specs.Printed.{IsPrintable, tree_text}
 use Rattle.tree_handles.specs.Binding.{Bindings}
 use Rattle.file_tree.specs.Setting.{next_in}
 use Rattle.witness_check.specs.Run.{base_of}
 use Rattle.nfs3_types.specs.declared.replies.Outcome.TheVariants.{Taken}
-use Rattle.nfs_history.specs.declared.history.Meaning.TheVariants as meanings
-use Rattle.nfs_history.specs.declared.history.RecordedCall.{RecordedCall}
+use Rattle.nfs_history.specs.declared.recorded.Meaning.TheVariants as meanings
+use Rattle.nfs_history.specs.declared.recorded.RecordedCall.{RecordedCall}
 use Rattle.order_check.specs.Places.{may_take}
 use Rattle.decision_core.specs.States.{Holds, HasStep}
 use Rattle.decision_core.specs.Eras.{is_placed, HasStable, IsAheadOfCut, IsFirstLost, IsBehindCut}
+use Rattle.decision_steps.specs.declared.state.Step.{Step}
 use Rattle.decision_steps.specs.Known.{AgreesWith}
 use Rattle.decision_steps.specs.Listed.{bound_pairs}
 use Rattle.decision_law.specs.Laws.{binds_of}
@@ -132,6 +134,18 @@ module _ (known : KnownCalls) where
     -- and all to which a call or a crash may lead
     abbrev pub HasStepOf : List WayState → ℕ → WayState → Type 0
     HasStepOf states n state = HasStep (IsAt known marks) is_placed (λ plan. Next known (hints_of marks) (binds_of known plan)) states n state
+
+-- what was found by a step has the handles that it bound
+abbrev pub IsFound : Bool → Step → Option Attempt → Type 0
+IsFound grows step None = ⊥
+IsFound grows step (Some attempt) = (attempt.grows ≡ grows) × (bound_pairs attempt.bound.items ≡ bound_pairs step.bound.items)
+
+-- the way leads with the state's handles to a tree that is printed so
+pub record PrintsAs (known : KnownCalls) (state : WayState) (way : List Place) (text : List ℕ) : Type 0 where
+  pub tree : Tree
+  pub leads : WayLeads known (binds_in known state) (base_of known) way tree
+  pub printable : IsPrintable tree
+  pub is : text ≡ tree_text tree
 
 -- the first state's handles name alike what the second's name, and the ways lead to one tree
 pub record SameWay (known : KnownCalls) (state : WayState) (way : List Place) (other : WayState) (other_way : List Place) : Type 0 where

@@ -2,18 +2,22 @@
 
 ghost use Rattle.std.specs.Prelude.{◌≡◌, ◌⊎◌, true, false, IfOk, Some, Ok};
 ghost use Rattle.certificate.specs.Plan.{call_of};
-ghost use Rattle.witness_check.specs.Run.{step_at};
+ghost use Rattle.witness_check.specs.Run.{base_of, step_at};
 ghost use Rattle.decision_steps.specs.Known.{is_failure, knows_handles};
-ghost use Rattle.decision_walk.specs.Way.{may_change};
-ghost use Rattle.decision_walk.specs.Placings.{CoversPlans};
+ghost use Rattle.decision_walk.specs.Way.{WayLeads, may_change};
+ghost use Rattle.decision_walk.specs.Standing.{binds_in};
+ghost use Rattle.decision_walk.specs.Live.{FitsWork};
+ghost use Rattle.decision_steps.specs.declared.state.State.{State};
+ghost use Rattle.decision_steps.specs.Placing.{StepsFrom};
+ghost use Rattle.decision_walk.specs.Placings.{CoversPlans, IsFound};
 
-use crate::follow::{knows_handles, number_at};
+use crate::live::{Live, WalkWork};
 use crate::machine::HistoryMachine;
-use crate::way_state::WayState;
+use crate::way_state::{WayState, copy_bound};
 use crate::why::Why;
 use certificate::Place;
 use decision_core::Stop;
-use decision_steps::{BoundHandle, PlaceFault, State};
+use decision_steps::{BoundHandle, PlaceFault, State, Step, is_failure, knows_handles};
 use nfs3_types::{NfsCall, Outcome};
 
 /// A call that could be placed: the handles that it bound, and whether it belongs to the way.
@@ -30,16 +34,6 @@ pub(crate) fn may_change(call: &NfsCall) -> bool
     call.procedure().changes_the_tree()
 }
 
-/// Whether an outcome is a reply that is a failure.
-fn is_failure(outcome: &Outcome) -> bool
-    ensures { result ≡ is_failure outcome.now }
-{
-    match outcome {
-        Outcome::Received(reply) => reply.failure().is_some(),
-        Outcome::Taken(_) => false,
-    }
-}
-
 /// Whether a call that came out so belongs to the way: it changes the tree, and its handles are bound.
 fn belongs(live: &State, number: u64, call: &NfsCall, outcome: &Outcome) -> Result<bool, Stop<Why>>
     ensures keeps { result ≡ Ok false → (may_change call.now ≡ false) ⊎ (is_failure outcome.now ≡ true) }
@@ -54,33 +48,102 @@ fn belongs(live: &State, number: u64, call: &NfsCall, outcome: &Outcome) -> Resu
     Ok(true)
 }
 
+/// A state that stands as it did, with what was found where a call was tried in it.
+pub(crate) struct Tried {
+    pub(crate) stands: State,
+    pub(crate) found: Option<Attempt>,
+}
+
+impl Drop for Tried {
+    fn drop(self) {
+        let Tried { stands, found } = self;
+        drop(stands);
+        drop(found);
+    }
+}
+
+impl Tried {
+    /// The state, and what was found.
+    fn into_parts(self) -> (State, Option<Attempt>)
+        ensures stands { result.0 ≡ self.stands }
+        ensures found { result.1 ≡ self.found }
+    {
+        let Tried { stands, found } = self;
+        (stands, found)
+    }
+}
+
 impl<'h> HistoryMachine<'h> {
+    /// Takes a step back, and tells what was found by it.
+    fn found_step(&self, stands: State, step: Step, grows: bool) -> Result<Tried, Stop<Why>>
+        requires { (before : State) × StepsFrom before step stands }
+        ensures found { IfOk result (λ tried. IsFound grows step tried.found) }
+        ensures stands { IfOk result (λ tried. (before : State) → StepsFrom before step stands → tried.stands ≡ before) }
+    {
+        let mut bound = Vec::new(self.alloc);
+        copy_bound(self.alloc, &mut bound, step.bound.as_slice())?;
+        let stands = stands.take_back(step)?;
+        let found = Some(Attempt { bound, grows });
+        Ok(Tried { stands, found })
+    }
+
+    /// Tries a call, which came out so, where the state stands, and takes it back. Nothing is found where no plan lets it come out so
+    /// there.
+    fn try_call(
+        &self,
+        stands: State,
+        _state: &WayState,
+        place: Place,
+        call: &NfsCall,
+        outcome: &Outcome,
+    ) -> Result<Tried, Stop<Why>>
+        requires step { step_at self.now.history.now.known.calls place ≡ Some (record { number = call_of place; call = call.now; outcome = outcome.now }) }
+        requires binds { stands.binds ≡ binds_in self.now.history.now.known _state.now }
+        requires leads { WayLeads self.now.history.now.known (binds_in self.now.history.now.known _state.now) (base_of self.now.history.now.known) _state.now.way.items stands.tree }
+        ensures found { IfOk result (λ tried. CoversPlans self.now.history.now.known _state.now place call.now outcome.now tried.found) }
+        ensures stands { IfOk result (λ tried. tried.stands ≡ stands) }
+    {
+        let number = place.number();
+        let grows = belongs(&stands, number, call, outcome)?;
+        let Some(object) = self.object_made(number) else {
+            return Err(Stop::NotCovered(Why::WayLost));
+        };
+        let mut stands = stands;
+        match stands.place(self.alloc, self.history.profile(), object, call, outcome) {
+            Ok(step) => self.found_step(stands, step, grows),
+            Err(PlaceFault::NotLegal) => {
+                let found = None;
+                Ok(Tried { stands, found })
+            }
+            Err(PlaceFault::HandleNotGiven) => Err(Stop::NotCovered(Why::HandleNotGiven(number))),
+            Err(PlaceFault::NoMemory) => Err(Stop::NoMemory),
+        }
+    }
+
     /// Tries a call, which came out so, in a state. Nothing is found where no plan lets it come out so there.
     pub(crate) fn attempt(
         &self,
+        work: &mut WalkWork,
         state: &WayState,
         place: Place,
         call: &NfsCall,
         outcome: &Outcome,
     ) -> Result<Option<Attempt>, Stop<Why>>
-        requires { step_at self.now.history.now.known.calls place ≡ Some (record { number = call_of place; call = call.now; outcome = outcome.now }) }
-        ensures { IfOk result (CoversPlans self.now.history.now.known state.now place call.now outcome.now) }
+        requires fits { FitsWork self.now.history.now.known work.old }
+        requires step { step_at self.now.history.now.known.calls place ≡ Some (record { number = call_of place; call = call.now; outcome = outcome.now }) }
+        ensures fits { FitsWork self.now.history.now.known work.new }
+        ensures found { IfOk result (CoversPlans self.now.history.now.known state.now place call.now outcome.now) }
     {
-        let mut live = self.replay(state.bound.as_slice(), state.way.as_slice())?;
-        let number = number_at(place);
-        let grows = belongs(&live, number, call, outcome)?;
-        let Some(object) = self.object_made(number) else {
-            return Err(Stop::NotCovered(Why::WayLost));
-        };
-        match live.place(self.alloc, self.history.profile(), object, call, outcome) {
-            Ok(step) => {
-                let (undo, bound) = step.into_parts();
-                drop(undo);
-                Ok(Some(Attempt { bound, grows }))
-            }
-            Err(PlaceFault::NotLegal) => Ok(None),
-            Err(PlaceFault::HandleNotGiven) => Err(Stop::NotCovered(Why::HandleNotGiven(number))),
-            Err(PlaceFault::NoMemory) => Err(Stop::NoMemory),
-        }
+        let stood = self.taken_out(work)?;
+        let live = self.go_to(stood, state.bound.as_slice(), state.way.as_slice())?;
+        let (stands, bound, trail) = live.into_parts();
+        let tried = self.try_call(stands, state, place, call, outcome)?;
+        let (state, found) = tried.into_parts();
+        work.live = Some(Live {
+            state,
+            bound,
+            trail,
+        });
+        Ok(found)
     }
 }

@@ -7,10 +7,11 @@ ghost use Rattle.decision_core.specs.Layers.{Grows};
 ghost use Rattle.decision_walk.specs.Standing.{is_marked};
 ghost use Rattle.decision_law.specs.Times.{era_of_number};
 ghost use Rattle.decision_walk.specs.Way.{longer};
+ghost use Rattle.decision_walk.specs.Live.{FitsWork};
 ghost use Rattle.decision_walk.specs.Placings.{IsChild, HasChild, HasChildren, HasPlaced, IsMissing, MayNotLose};
 
 use crate::attempt::Attempt;
-use crate::follow::number_at;
+use crate::live::WalkWork;
 use crate::machine::HistoryMachine;
 use crate::way_state::{Deed, WayState, copy_bound, has_call};
 use crate::why::Why;
@@ -133,7 +134,7 @@ impl<'h> HistoryMachine<'h> {
         copy_bound(alloc, &mut bound, state.bound.as_slice())?;
         copy_bound(alloc, &mut bound, attempt.bound.as_slice())?;
         let way = longer(state.way.as_slice(), attempt.grows, place, alloc)?;
-        let placed = and_call(alloc, state.placed.as_slice(), number_at(place))?;
+        let placed = and_call(alloc, state.placed.as_slice(), place.number())?;
         let deeds = longer_deeds(alloc, state, place, cut)?;
         let era = state.era;
         Ok(WayState {
@@ -181,7 +182,7 @@ impl<'h> HistoryMachine<'h> {
         if self.history.eras() <= state.era {
             return Ok(());
         }
-        if !self.may_lose(state, number_at(place)) {
+        if !self.may_lose(state, place.number()) {
             return Ok(());
         }
         self.put_child(states, state, place, attempt, Some(state.way.len()))
@@ -190,17 +191,20 @@ impl<'h> HistoryMachine<'h> {
     /// Puts all states there to which placing the call, which came out so, may lead.
     pub(crate) fn place_as(
         &self,
+        work: &mut WalkWork,
         states: &mut Vec<WayState>,
         state: &WayState,
         place: Place,
         call: &NfsCall,
         outcome: &Outcome,
     ) -> Result<(), Stop<Why>>
+        requires fits { FitsWork self.now.history.now.known work.old }
         requires step { step_at self.now.history.now.known.calls place ≡ Some (record { number = call_of place; call = call.now; outcome = outcome.now }) }
         requires inside { state.now.era ≤ self.now.history.now.known.eras }
-        ensures { IfOk result (λ _. Grows states.old.items states.new.items × HasPlaced self.now.history.now.known self.now.marks.items states.new.items state.now (call_of place) call.now outcome.now) }
+        ensures fits { FitsWork self.now.history.now.known work.new }
+        ensures placed { IfOk result (λ _. Grows states.old.items states.new.items × HasPlaced self.now.history.now.known self.now.marks.items states.new.items state.now (call_of place) call.now outcome.now) }
     {
-        match self.attempt(state, place, call, outcome)? {
+        match self.attempt(work, state, place, call, outcome)? {
             Some(attempt) => self.put_children(states, state, place, &attempt),
             None => Ok(()),
         }

@@ -1,54 +1,22 @@
-//! A way, gone again from what stood at first.
+//! The steps of which ways are made, and what stood at first.
 
-ghost use Rattle.std.specs.Prelude.{◌≡◌, Some, IfOk, IfSome, OnOk, length};
-ghost use Rattle.certificate.specs.Plan.{call_of};
+ghost use Rattle.std.specs.Prelude.{◌≡◌, [], IfOk, IfSome, OnOk, length};
 ghost use Rattle.tree_starts.specs.Start.{object_made};
 ghost use Rattle.witness_check.specs.Run.{base_of};
-ghost use Rattle.decision_steps.specs.Known.{is_known, knows_handles};
-ghost use Rattle.decision_steps.specs.Listed.{bound_pairs};
-ghost use Rattle.decision_walk.specs.Way.{bound_in, LeadsBy, LeadsAt, WayLeads};
+ghost use Rattle.tree_nodes.specs.Undo.{TakesBack};
+ghost use Rattle.decision_walk.specs.Way.{bound_in, LeadsBy, LeadsAt};
 
 use crate::machine::HistoryMachine;
 use crate::why::Why;
 use certificate::Place;
 use decision_core::Stop;
-use decision_steps::{BoundHandle, PlaceFault, State};
+use decision_steps::{PlaceFault, State, knows_handles};
 use file_tree::FileTree;
 use nfs_history::Meaning;
-use nfs3_types::{FileHandle, NfsCall, Outcome};
+use nfs3_types::{NfsCall, Outcome};
 use std::alloc::AllocError;
-use tree_answers::{first_handle, second_handle};
 use tree_handles::Binds;
-
-/// The number of the call at a place.
-pub(crate) fn number_at(place: Place) -> u64
-    ensures { result ≡ call_of place }
-{
-    match place {
-        Place::Answered(number) => number,
-        Place::Taken(number, _count) => number,
-    }
-}
-
-/// Whether a handle is bound.
-fn is_known(binds: &Binds, handle: &FileHandle) -> bool
-    ensures { result ≡ is_known binds.now handle.now }
-{
-    binds.object(handle.as_slice()).is_some()
-}
-
-/// Whether each handle is bound that a call names.
-pub(crate) fn knows_handles(binds: &Binds, call: &NfsCall) -> bool
-    ensures { result ≡ knows_handles binds.now call.now }
-{
-    if !is_known(binds, first_handle(call)) {
-        return false;
-    }
-    match second_handle(call) {
-        Some(handle) => is_known(binds, handle),
-        None => true,
-    }
-}
+use tree_nodes::Undo;
 
 /// That a state couldn't be made again.
 pub(crate) fn way_lost() -> Stop<Why> {
@@ -64,25 +32,14 @@ impl<'h> HistoryMachine<'h> {
         number.checked_add(first as u64)
     }
 
-    /// The root's handle, and these that are bound behind it.
-    fn bind_pairs(&self, bound: &[BoundHandle]) -> Result<Binds, AllocError>
-        ensures { IfOk result (λ binds. binds ≡ bound_in self.now.history.now.known (bound_pairs bound.now)) }
-    {
-        let mut binds = Binds::of_root(self.alloc, self.history.root().as_slice())?;
-        for one in bound {
-            binds.push(one.handle.as_slice(), one.object)?;
-        }
-        Ok(binds)
-    }
-
-    /// What stood at first, with these handles bound.
-    fn first_state(&self, bound: &[BoundHandle]) -> Result<State, AllocError>
+    /// What stood at first, with the root's handle bound.
+    pub(crate) fn first_state(&self) -> Result<State, AllocError>
         ensures tree { IfOk result (λ state. state.tree ≡ base_of self.now.history.now.known) }
-        ensures binds { IfOk result (λ state. state.binds ≡ bound_in self.now.history.now.known (bound_pairs bound.now)) }
+        ensures binds { IfOk result (λ state. state.binds ≡ bound_in self.now.history.now.known []) }
     {
         let start = self.history.start().lend(self.alloc)?;
         let tree = FileTree::of_start(self.alloc, &start)?;
-        let binds = self.bind_pairs(bound)?;
+        let binds = Binds::of_root(self.alloc, self.history.root().as_slice())?;
         Ok(State { tree, binds })
     }
 
@@ -93,9 +50,10 @@ impl<'h> HistoryMachine<'h> {
         number: u64,
         call: &NfsCall,
         outcome: &Outcome,
-    ) -> Result<(), Stop<Why>>
+    ) -> Result<Undo, Stop<Why>>
         ensures binds { OnOk result (state.new.binds ≡ state.old.binds) }
         ensures leads { OnOk result (LeadsBy self.now.history.now.known state.old.binds state.old.tree (record { number = number; call = call.now; outcome = outcome.now }) state.new.tree) }
+        ensures undo { IfOk result (λ undo. TakesBack undo state.new.tree state.old.tree) }
     {
         if !knows_handles(&state.binds, call) {
             return Err(way_lost());
@@ -105,8 +63,9 @@ impl<'h> HistoryMachine<'h> {
         };
         match state.place(self.alloc, self.history.profile(), object, call, outcome) {
             Ok(step) => {
-                if step.bound.is_empty() {
-                    Ok(())
+                let (undo, bound) = step.into_parts();
+                if bound.is_empty() {
+                    Ok(undo)
                 } else {
                     Err(way_lost())
                 }
@@ -117,11 +76,12 @@ impl<'h> HistoryMachine<'h> {
     }
 
     /// Takes the step of the call at a place.
-    fn take_place(&self, state: &mut State, place: Place) -> Result<(), Stop<Why>>
+    pub(crate) fn take_place(&self, state: &mut State, place: Place) -> Result<Undo, Stop<Why>>
         ensures binds { OnOk result (state.new.binds ≡ state.old.binds) }
         ensures leads { OnOk result (LeadsAt self.now.history.now.known state.old.binds state.old.tree place state.new.tree) }
+        ensures undo { IfOk result (λ undo. TakesBack undo state.new.tree state.old.tree) }
     {
-        let Some(recorded) = self.history.find_call(number_at(place)) else {
+        let Some(recorded) = self.history.find_call(place.number()) else {
             return Err(way_lost());
         };
         let Meaning::Judged(call) = &recorded.meaning else {
@@ -137,17 +97,5 @@ impl<'h> HistoryMachine<'h> {
                 self.take(state, number, call, &outcome)
             }
         }
-    }
-
-    /// The state to which a way leads, where these handles are bound.
-    pub(crate) fn replay(&self, bound: &[BoundHandle], way: &[Place]) -> Result<State, Stop<Why>>
-        ensures binds { IfOk result (λ state. state.binds ≡ bound_in self.now.history.now.known (bound_pairs bound.now)) }
-        ensures leads { IfOk result (λ state. WayLeads self.now.history.now.known (bound_in self.now.history.now.known (bound_pairs bound.now)) (base_of self.now.history.now.known) way.now state.tree) }
-    {
-        let mut state = self.first_state(bound)?;
-        for place in way {
-            self.take_place(&mut state, *place)?;
-        }
-        Ok(state)
     }
 }

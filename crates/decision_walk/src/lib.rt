@@ -4,12 +4,16 @@
 mod attempt;
 mod children;
 mod follow;
+mod going;
+mod guessing;
+mod live;
 mod machine;
 mod same;
 mod stepping;
 mod way_state;
 mod why;
 
+pub use live::WalkWork;
 pub use machine::HistoryMachine;
 pub use way_state::{Deed, WayState};
 pub use why::Why;

@@ -7,9 +7,11 @@ ghost use Rattle.decision_core.proofs.ErasWalk.{eras_told};
 ghost use Rattle.tree_nodes.specs.Tree.{Tree};
 ghost use Rattle.decision_law.specs.Laws.{binds_of};
 ghost use Rattle.decision_law.specs.Machine.{Changes, Next, first_point};
+ghost use Rattle.decision_walk.specs.Live.{FitsWork};
 ghost use Rattle.decision_walk.specs.Standing.{IsAt, hints_of, numbers_of};
 
 use crate::children::is_marked;
+use crate::live::WalkWork;
 use crate::way_state::{WayState, has_call};
 use crate::why::Why;
 use decision_core::{Machine, Stop};
@@ -55,6 +57,8 @@ impl<'h> Machine for HistoryMachine<'h> {
 
     type Reason = Why;
 
+    type Work = WalkWork;
+
     ghost Plan = { Certificate };
 
     ghost Point = { EraState Tree };
@@ -66,6 +70,8 @@ impl<'h> Machine for HistoryMachine<'h> {
     ghost Next = { λ machine plan. Next machine.history.now.known (hints_of machine.marks.items) (binds_of machine.history.now.known plan) };
 
     ghost StandsFor = { λ machine. IsAt machine.history.now.known machine.marks.items };
+
+    ghost Fits = { λ machine. FitsWork machine.history.now.known };
 
     fn opening(&self) -> Result<WayState, Stop<Why>> {
         let alloc = self.alloc;
@@ -79,13 +85,22 @@ impl<'h> Machine for HistoryMachine<'h> {
         })
     }
 
+    fn work(&self) -> WalkWork {
+        WalkWork { live: None }
+    }
+
     fn is_placed(&self, state: &WayState, n: u64) -> bool {
         has_call(state.placed.as_slice(), n)
     }
 
-    fn step(&self, state: &WayState, n: u64) -> Result<Vec<WayState>, Stop<Why>> {
+    fn step(
+        &self,
+        work: &mut WalkWork,
+        state: &WayState,
+        n: u64,
+    ) -> Result<Vec<WayState>, Stop<Why>> {
         if n <= self.history.calls() {
-            self.step_call(state, n)
+            self.step_call(work, state, n)
         } else {
             self.step_crash(state, n)
         }
@@ -98,8 +113,8 @@ impl<'h> Machine for HistoryMachine<'h> {
         state.without_call(n)
     }
 
-    fn is_same(&self, state: &WayState, other: &WayState) -> bool {
-        self.same_state(state, other)
+    fn is_same(&self, work: &mut WalkWork, state: &WayState, other: &WayState) -> bool {
+        self.same_state(work, state, other)
     }
 
     fn hash(&self, state: &WayState) -> u64 {

@@ -2,15 +2,17 @@
 
 ghost use Rattle.std.specs.Prelude.{◌≡◌, ◌+◌, ◌<◌, ◌≤◌, IfOk, Some, length, IsTrue};
 ghost use Rattle.nfs_history.specs.Precedence.{call_at};
-ghost use Rattle.nfs_history.specs.declared.history.Meaning.TheVariants as meanings;
+ghost use Rattle.nfs_history.specs.declared.recorded.Meaning.TheVariants as meanings;
 ghost use Rattle.nfs3_types.specs.declared.replies.Outcome.{Outcome};
-ghost use Rattle.nfs_history.specs.declared.history.RecordedCall.{RecordedCall};
+ghost use Rattle.nfs_history.specs.declared.recorded.RecordedCall.{RecordedCall};
 ghost use Rattle.decision_core.specs.Layers.{Grows};
+ghost use Rattle.decision_walk.specs.Live.{FitsWork};
 ghost use Rattle.decision_walk.specs.Placings.{IsCrashed, bytes_brought, kept_way, HasPlaced, HasCounts, HasTaken, HasAllOf, HasStepOf};
 
 use crate::attempt::may_change;
 use crate::children::and_call;
 use crate::follow::way_lost;
+use crate::live::WalkWork;
 use crate::machine::HistoryMachine;
 use crate::way_state::{Deed, WayState, copy_bound};
 use crate::why::Why;
@@ -24,7 +26,7 @@ use std::alloc::{AllocError, Global};
 const MOST_BYTES: usize = 64;
 
 /// How many bytes a WRITE brought.
-fn bytes_brought(call: &NfsCall) -> Option<usize>
+pub(crate) fn bytes_brought(call: &NfsCall) -> Option<usize>
     ensures { result ≡ bytes_brought call.now }
 {
     match call {
@@ -55,19 +57,29 @@ impl<'h> HistoryMachine<'h> {
     /// Puts the states there to which a WRITE may lead that wrote fewer bytes than this.
     fn place_counts(
         &self,
+        work: &mut WalkWork,
         states: &mut Vec<WayState>,
         state: &WayState,
         n: u64,
         call: &NfsCall,
         counts: u32,
     ) -> Result<(), Stop<Why>>
+        requires fits { FitsWork self.now.history.now.known work.old }
         requires stands { (recorded : RecordedCall) × (call_at self.now.history.now.known.calls n ≡ Some recorded) × (recorded.meaning ≡ meanings.Judged call.now) }
         requires inside { state.now.era ≤ self.now.history.now.known.eras }
-        ensures { IfOk result (λ _. Grows states.old.items states.new.items × HasCounts self.now.history.now.known self.now.marks.items states.new.items state.now n call.now counts) }
+        ensures fits { FitsWork self.now.history.now.known work.new }
+        ensures counts { IfOk result (λ _. Grows states.old.items states.new.items × HasCounts self.now.history.now.known self.now.marks.items states.new.items state.now n call.now counts) }
     {
         for count in 0..counts {
             let outcome = Outcome::Taken(Some(count));
-            self.place_as(states, state, Place::Taken(n, Some(count)), call, &outcome)?;
+            self.place_as(
+                work,
+                states,
+                state,
+                Place::Taken(n, Some(count)),
+                call,
+                &outcome,
+            )?;
         }
         Ok(())
     }
@@ -75,14 +87,17 @@ impl<'h> HistoryMachine<'h> {
     /// Puts the states there to which a call may lead that is taken without a reply.
     fn place_taken(
         &self,
+        work: &mut WalkWork,
         states: &mut Vec<WayState>,
         state: &WayState,
         n: u64,
         call: &NfsCall,
     ) -> Result<(), Stop<Why>>
+        requires fits { FitsWork self.now.history.now.known work.old }
         requires stands { (recorded : RecordedCall) × (call_at self.now.history.now.known.calls n ≡ Some recorded) × (recorded.meaning ≡ meanings.Judged call.now) }
         requires inside { state.now.era ≤ self.now.history.now.known.eras }
-        ensures { IfOk result (λ _. Grows states.old.items states.new.items × HasTaken self.now.history.now.known self.now.marks.items states.new.items state.now n call.now) }
+        ensures fits { FitsWork self.now.history.now.known work.new }
+        ensures taken { IfOk result (λ _. Grows states.old.items states.new.items × HasTaken self.now.history.now.known self.now.marks.items states.new.items state.now n call.now) }
     {
         if !may_change(call) {
             return Ok(());
@@ -92,11 +107,11 @@ impl<'h> HistoryMachine<'h> {
                 if brought > MOST_BYTES {
                     return Err(Stop::NotCovered(Why::LongWrite(n)));
                 }
-                self.place_counts(states, state, n, call, brought as u32 + 1)
+                self.place_counts(work, states, state, n, call, brought as u32 + 1)
             }
             None => {
                 let outcome = Outcome::Taken(None);
-                self.place_as(states, state, Place::Taken(n, None), call, &outcome)
+                self.place_as(work, states, state, Place::Taken(n, None), call, &outcome)
             }
         }
     }
@@ -104,20 +119,23 @@ impl<'h> HistoryMachine<'h> {
     /// Puts the states there to which a call may lead by its reply, where it has one.
     fn place_answered(
         &self,
+        work: &mut WalkWork,
         states: &mut Vec<WayState>,
         state: &WayState,
         n: u64,
         recorded: &RecordedCall,
         call: &NfsCall,
     ) -> Result<(), Stop<Why>>
+        requires fits { FitsWork self.now.history.now.known work.old }
         requires stands { call_at self.now.history.now.known.calls n ≡ Some recorded.now }
         requires judged { recorded.now.meaning ≡ meanings.Judged call.now }
         requires inside { state.now.era ≤ self.now.history.now.known.eras }
-        ensures { IfOk result (λ _. Grows states.old.items states.new.items
+        ensures fits { FitsWork self.now.history.now.known work.new }
+        ensures answered { IfOk result (λ _. Grows states.old.items states.new.items
             × ((outcome : Outcome) → recorded.now.outcome ≡ Some outcome → HasPlaced self.now.history.now.known self.now.marks.items states.new.items state.now n call.now outcome)) }
     {
         match &recorded.outcome {
-            Some(outcome) => self.place_as(states, state, Place::Answered(n), call, outcome),
+            Some(outcome) => self.place_as(work, states, state, Place::Answered(n), call, outcome),
             None => Ok(()),
         }
     }
@@ -125,29 +143,39 @@ impl<'h> HistoryMachine<'h> {
     /// Puts all states there to which a call may lead, however it came out.
     fn place_recorded(
         &self,
+        work: &mut WalkWork,
         states: &mut Vec<WayState>,
         state: &WayState,
         n: u64,
         recorded: &RecordedCall,
     ) -> Result<(), Stop<Why>>
+        requires fits { FitsWork self.now.history.now.known work.old }
         requires stands { call_at self.now.history.now.known.calls n ≡ Some recorded.now }
         requires inside { state.now.era ≤ self.now.history.now.known.eras }
-        ensures { IfOk result (λ _. HasAllOf self.now.history.now.known self.now.marks.items states.new.items state.now n recorded.now) }
+        ensures fits { FitsWork self.now.history.now.known work.new }
+        ensures recorded { IfOk result (λ _. HasAllOf self.now.history.now.known self.now.marks.items states.new.items state.now n recorded.now) }
     {
         let Meaning::Judged(call) = &recorded.meaning else {
             return Ok(());
         };
-        self.place_answered(states, state, n, recorded, call)?;
+        self.place_answered(work, states, state, n, recorded, call)?;
         if recorded.end.is_some() {
             return Ok(());
         }
-        self.place_taken(states, state, n, call)
+        self.place_taken(work, states, state, n, call)
     }
 
     /// The states to which a call may lead.
-    pub(crate) fn step_call(&self, state: &WayState, n: u64) -> Result<Vec<WayState>, Stop<Why>>
-        requires { n ≤ length self.now.history.now.known.calls }
-        ensures { IfOk result (λ states. HasStepOf self.now.history.now.known self.now.marks.items states.items n state.now) }
+    pub(crate) fn step_call(
+        &self,
+        work: &mut WalkWork,
+        state: &WayState,
+        n: u64,
+    ) -> Result<Vec<WayState>, Stop<Why>>
+        requires fits { FitsWork self.now.history.now.known work.old }
+        requires inside { n ≤ length self.now.history.now.known.calls }
+        ensures fits { FitsWork self.now.history.now.known work.new }
+        ensures step { IfOk result (λ states. HasStepOf self.now.history.now.known self.now.marks.items states.items n state.now) }
     {
         if state.era == 0 || self.history.eras() < state.era {
             return Err(way_lost());
@@ -159,7 +187,7 @@ impl<'h> HistoryMachine<'h> {
         if recorded.era != state.era {
             return Ok(states);
         }
-        self.place_recorded(&mut states, state, n, recorded)?;
+        self.place_recorded(work, &mut states, state, n, recorded)?;
         Ok(states)
     }
 

@@ -29,13 +29,15 @@ loop-call-preserved g c =
           let p : Grows c.loop-call.states.items.items w.put_all.new.states.items.items
           × ((s : g.row.M-State.Denot) → Contains w.in_ok-after.after.items s → HasFor (g.M.Machine.StandsFor c.args.machine.now) w.put_all.new.states.items.items s) = search rules in
           let given : HasStep (g.M.Machine.StandsFor c.args.machine.now) (g.M.Machine.placed c.args.machine.now) (g.M.Machine.Next c.args.machine.now) w.in_ok-after.after.items (get_or c.args.calls.now c.loop-call.call-index 0) c.args.state.now = search rules in
-          more_as (g.M.Machine.StandsFor c.args.machine.now) (g.M.Machine.placed c.args.machine.now) (g.M.Machine.Next c.args.machine.now) c.args.states.now.items.items c.loop-call.states.items.items w.put_all.new.states.items.items c.if-not-is_placed.states.items.items c.args.calls.now c.loop-call.call-index
+          let m = more_as (g.M.Machine.StandsFor c.args.machine.now) (g.M.Machine.placed c.args.machine.now) (g.M.Machine.Next c.args.machine.now) c.args.states.now.items.items c.loop-call.states.items.items w.put_all.new.states.items.items c.if-not-is_placed.states.items.items c.args.calls.now c.loop-call.call-index
           c.args.state.now c.loop-call-test.true (ap (λ v. v.items.items) (sym w.states-is)) p.0
-          (step_put (g.M.Machine.StandsFor c.args.machine.now) (g.M.Machine.placed c.args.machine.now) (g.M.Machine.Next c.args.machine.now) w.in_ok-after.after.items w.put_all.new.states.items.items (get_or c.args.calls.now c.loop-call.call-index 0) c.args.state.now given p.1) c.loop-call.invariant
+          (step_put (g.M.Machine.StandsFor c.args.machine.now) (g.M.Machine.placed c.args.machine.now) (g.M.Machine.Next c.args.machine.now) w.in_ok-after.after.items w.put_all.new.states.items.items (get_or c.args.calls.now c.loop-call.call-index 0) c.args.state.now given p.1) (c.loop-call.invariant.0, c.loop-call.invariant.1) in
+          (m.0, m.1, subst (g.M.Machine.Fits c.args.machine.now) (sym w.work-is) w.put_all.ensures.fits)
       | else-not-is_placed w ↦
           let tells : TellsPlaced (g.M.Machine.StandsFor c.args.machine.now) (g.M.Machine.placed c.args.machine.now) c.args.state.now (get_or c.args.calls.now c.loop-call.call-index 0) c.is_placed.result = search rules in
           let is : c.is_placed.result ≡ true = search rules in
-          more_as (g.M.Machine.StandsFor c.args.machine.now) (g.M.Machine.placed c.args.machine.now) (g.M.Machine.Next c.args.machine.now) c.args.states.now.items.items c.loop-call.states.items.items c.loop-call.states.items.items c.if-not-is_placed.states.items.items c.args.calls.now c.loop-call.call-index
+          let m = more_as (g.M.Machine.StandsFor c.args.machine.now) (g.M.Machine.placed c.args.machine.now) (g.M.Machine.Next c.args.machine.now) c.args.states.now.items.items c.loop-call.states.items.items c.loop-call.states.items.items c.if-not-is_placed.states.items.items c.args.calls.now c.loop-call.call-index
           c.args.state.now c.loop-call-test.true (ap (λ v. v.items.items) (sym w.states-is)) (λ s there. there)
-          (step_of_placed (g.M.Machine.StandsFor c.args.machine.now) (g.M.Machine.placed c.args.machine.now) (g.M.Machine.Next c.args.machine.now) c.loop-call.states.items.items (get_or c.args.calls.now c.loop-call.call-index 0) c.args.state.now c.is_placed.result tells is) c.loop-call.invariant
+          (step_of_placed (g.M.Machine.StandsFor c.args.machine.now) (g.M.Machine.placed c.args.machine.now) (g.M.Machine.Next c.args.machine.now) c.loop-call.states.items.items (get_or c.args.calls.now c.loop-call.call-index 0) c.args.state.now c.is_placed.result tells is) (c.loop-call.invariant.0, c.loop-call.invariant.1) in
+          (m.0, m.1, subst (g.M.Machine.Fits c.args.machine.now) (sym w.work-is) c.loop-call.invariant.2)
     ]

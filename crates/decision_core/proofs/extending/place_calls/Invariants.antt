@@ -4,4 +4,4 @@ use Rattle.decision_core.proofs.extending.place_calls.Given as goal
 
 abbrev pub invariant-loop-call : goal.invariant-loop-call
 invariant-loop-call g l = Grows l.fn.states.items.items l.states.items.items
-    × HasPlacings (g.M.Machine.StandsFor l.machine) (g.M.Machine.placed l.machine) (g.M.Machine.Next l.machine) l.states.items.items (take l.call-index l.calls) l.state
+    × HasPlacings (g.M.Machine.StandsFor l.machine) (g.M.Machine.placed l.machine) (g.M.Machine.Next l.machine) l.states.items.items (take l.call-index l.calls) l.state × g.M.Machine.Fits l.machine l.work

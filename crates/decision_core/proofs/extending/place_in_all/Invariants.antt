@@ -4,4 +4,4 @@ use Rattle.decision_core.proofs.extending.place_in_all.Given as goal
 
 abbrev pub invariant-loop-state : goal.invariant-loop-state
 invariant-loop-state g l = Grows l.fn.states.items.items l.states.items.items
-    × HasAllPlacings (g.M.Machine.StandsFor l.machine) (g.M.Machine.placed l.machine) (g.M.Machine.Next l.machine) l.states.items.items l.calls (take l.state-index l.each)
+    × HasAllPlacings (g.M.Machine.StandsFor l.machine) (g.M.Machine.placed l.machine) (g.M.Machine.Next l.machine) l.states.items.items l.calls (take l.state-index l.each) × g.M.Machine.Fits l.machine l.work

@@ -14,10 +14,11 @@ loop-state-preserved g c =
       done_step (HasFor (g.M.Machine.StandsFor c.args.machine.now) c.loop-state.states.items.items) (HasFor (g.M.Machine.StandsFor c.args.machine.now) c.put.new.states.items.items)
           c.args.more.items c.in-Some.state c.next.new.self.rest.items c.loop-state.state-iterator.rest.items left
           (λ s has. for_grows (g.M.Machine.StandsFor c.args.machine.now) c.loop-state.states.items.items c.put.new.states.items.items s p.0 has) p.1 inv.1,
+      c.put.ensures.fits,
     )
 
-pub returns : goal.returns
-returns g c =
+pub returns-clause-there : goal.returns-clause-there
+returns-clause-there g c =
     let inv = c.loop-state.invariant in
     let left : c.loop-state.state-iterator.rest.items ≡ [] = nil_from_length _ (omega (arith, c.in-None.ensures.steps.0, c.loop-state.state-iterator.rest.ok)) in
     (inv.0, done_all (HasFor (g.M.Machine.StandsFor c.args.machine.now) c.loop-state.states.items.items) c.args.more.items c.loop-state.state-iterator.rest.items left inv.1)

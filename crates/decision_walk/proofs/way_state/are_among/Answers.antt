@@ -1,6 +1,5 @@
-use Rattle.std.proofs.Common.{◌≡◌, true, [], drop, rules, arith}
+use Rattle.std.proofs.Common.{drop, rules, arith}
 use Rattle.std.proofs.lemmas.List.{drop_all}
-use Rattle.decision_walk.specs.Standing.{has_call}
 use Rattle.decision_walk.proofs.SameCalls.{next_less, at_first, at_last}
 use Rattle.decision_walk.proofs.way_state.are_among.Goals as goal
 

@@ -1,5 +1,4 @@
-use Rattle.std.proofs.Common.{◌≡◌, ℕ, true, IsTrue, drop}
-use Rattle.decision_walk.specs.Standing.{has_call}
+use Rattle.std.proofs.Common.{ℕ, drop}
 use Rattle.decision_walk.proofs.SameCalls.{IsThereOr}
 use Rattle.decision_walk.proofs.way_state.are_among.Given as goal
 

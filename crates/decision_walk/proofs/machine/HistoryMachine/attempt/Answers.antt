@@ -1,36 +1,30 @@
-use Rattle.std.proofs.Common.{◌≡◌, ◌++◌, false, true, Ok, Err, refl, ap, ◌∙◌, subst, rules}
-use Rattle.tree_starts.specs.Start.{object_made}
-use Rattle.std.specs.Prelude.{length}
-use Rattle.certificate.specs.Plan.{call_of}
+use Rattle.std.proofs.Common.{◌∙◌, sym, ap, subst}
 use Rattle.witness_check.specs.Run.{base_of}
-use Rattle.decision_steps.specs.declared.state.Step.{Step}
-use Rattle.decision_steps.specs.Bound.{bound_behind}
-use Rattle.decision_steps.specs.Placing.{Covers}
+use Rattle.decision_steps.specs.declared.state.State.{State}
 use Rattle.decision_steps.specs.Listed.{bound_pairs}
-use Rattle.decision_walk.specs.Way.{WayLeads}
+use Rattle.decision_walk.specs.Way.{bound_in, WayLeads}
 use Rattle.decision_walk.specs.Standing.{binds_in}
-use Rattle.decision_walk.proofs.Attempted.{belongs_of, not_legal_covers_by, placed_covers_by}
+use Rattle.decision_walk.specs.Placings.{CoversPlans}
+use Rattle.decision_walk.proofs.Trails.{same_is_live}
 use Rattle.decision_walk.proofs.machine.HistoryMachine.attempt.Goals as goal
 
-pub returns-in-Ok : goal.returns-in-Ok
-returns-in-Ok c =
+pub try_call-requires-clause-binds : goal.try_call-requires-clause-binds
+try_call-requires-clause-binds c =
     let known = c.args.self.now.history.now.known in
-    let live = c.in_ok-live.live in
-    let made : c.in-Some.object ≡ object_made (length known.head.start) (call_of c.args.place) = search rules in
-    let binds : live.binds ≡ binds_in known c.args.state.now = search rules in
-    let leads : WayLeads known (binds_in known c.args.state.now) (base_of known) c.args.state.now.way.items live.tree = search rules in
-    let adds : c.place.new.self.binds ≡ bound_behind live.binds (bound_pairs c.in-Ok.step.bound.items) = c.in-Ok.ensures.step.adds.is in
-    placed_covers_by known c.args.state.now c.args.place c.args.call.now c.args.outcome.now c.in-Some.object live made binds leads c.profile.result c.profile.ensures c.requires c.place.new.self
-    c.in-Ok.step.bound.items _ (belongs_of live.binds c.args.call.now c.args.outcome.now c.in_ok-grows.grows
-    (λ e. c.belongs.ensures.keeps (c.in_ok-grows.was ∙ ap Ok e)) (λ e. c.belongs.ensures.knows (c.in_ok-grows.was ∙ ap Ok e)))
-    c.in-Ok.ensures.next adds c.into_parts-undo.ensures.bound c.in-Ok.ensures.covers
+    ap (λ (s : State). s.binds) c.into_parts-stands.ensures.state ∙ c.in_ok-live.ensures.binds ∙ ap (λ l. bound_in known (bound_pairs l)) c.as_slice.ensures.value
 
-pub returns-in-Err-NotLegal : goal.returns-in-Err-NotLegal
-returns-in-Err-NotLegal c =
+pub try_call-requires-clause-leads : goal.try_call-requires-clause-leads
+try_call-requires-clause-leads c =
     let known = c.args.self.now.history.now.known in
-    let live = c.in_ok-live.live in
-    let made : c.in-Some.object ≡ object_made (length known.head.start) (call_of c.args.place) = search rules in
-    let binds : live.binds ≡ binds_in known c.args.state.now = search rules in
-    let leads : WayLeads known (binds_in known c.args.state.now) (base_of known) c.args.state.now.way.items live.tree = search rules in
-    not_legal_covers_by known c.args.state.now c.args.place c.args.call.now c.args.outcome.now c.in-Some.object live made binds leads c.profile.result c.profile.ensures
-    (λ plan after agrees goes. subst (λ f. Covers {S = Step} (Err f) live c.args.call.now c.place.new.self plan after) c.in-Err-NotLegal.field-0-is (c.in-Err-NotLegal.ensures.covers plan after agrees goes))
+    subst (λ (s : State). WayLeads known (binds_in known c.args.state.now) (base_of known) c.args.state.now.way.items s.tree) (sym c.into_parts-stands.ensures.state)
+    (subst (λ w. WayLeads known (binds_in known c.args.state.now) (base_of known) w c.in_ok-live.live.state.tree) c.as_slice-2.ensures.value
+    (subst (λ l. WayLeads known (bound_in known (bound_pairs l)) (base_of known) c.as_slice-2.result.now c.in_ok-live.live.state.tree) c.as_slice.ensures.value c.in_ok-live.ensures.leads))
+
+pub returns-clause-fits : goal.returns-clause-fits
+returns-clause-fits c =
+    same_is_live c.args.self.now.history.now.known c.in_ok-live.live _ (c.into_parts-state.ensures.stands ∙ c.in_ok-tried.ensures.stands ∙ c.into_parts-stands.ensures.state)
+    c.into_parts-stands.ensures.bound c.into_parts-stands.ensures.trail c.in_ok-live.ensures.live
+
+pub returns-clause-found : goal.returns-clause-found
+returns-clause-found c =
+    subst (CoversPlans c.args.self.now.history.now.known c.args.state.now c.args.place c.args.call.now c.args.outcome.now) (sym c.into_parts-state.ensures.found) c.in_ok-tried.ensures.found

@@ -1,21 +1,21 @@
-use Rattle.std.proofs.Common.{◌≡◌, true, Some, sym, ap, ◌∙◌, is_some, rules}
+use Rattle.std.proofs.Common.{◌≡◌, true, sym, ap, ◌∙◌, is_some, rules}
 use Rattle.std.proofs.lemmas.Bool.{true≢false}
-use Rattle.nfs_history.specs.declared.history.Meaning.TheVariants as meanings
+use Rattle.nfs_history.specs.declared.recorded.Meaning.TheVariants as meanings
 use Rattle.decision_core.specs.Layers.{Grows}
 use Rattle.decision_walk.specs.Placings.{HasTaken, HasAllOf}
 use Rattle.decision_walk.proofs.StepLaws.{if_ok, placed_kept, all_parts}
 use Rattle.decision_walk.proofs.machine.HistoryMachine.place_recorded.Goals as goal
 
-pub returns-then-is_some : goal.returns-then-is_some
-returns-then-is_some c =
+pub returns-then-is_some-clause-recorded : goal.returns-then-is_some-clause-recorded
+returns-then-is_some-clause-recorded c =
     let recorded = c.args.recorded.now in
     let judged : recorded.meaning ≡ meanings.Judged c.in-Judged.call = search rules in
     let ended : is_some recorded.«end» ≡ true = search rules in
-    all_parts c.args.self.now.history.now.known c.args.self.now.marks.items c.place_answered.new.states.items c.args.state.now c.args.n recorded c.in-Judged.call judged c.in_ok-place_answered.ensures.1
+    all_parts c.args.self.now.history.now.known c.args.self.now.marks.items c.place_answered.new.states.items c.args.state.now c.args.n recorded c.in-Judged.call judged c.in_ok-place_answered.ensures.answered.1
     (λ none. absurd (true≢false (sym ended ∙ ap is_some none)))
 
-pub returns : goal.returns
-returns c =
+pub returns-clause-recorded : goal.returns-clause-recorded
+returns-clause-recorded c =
     let known = c.args.self.now.history.now.known in
     let marks = c.args.self.now.marks.items in
     let recorded = c.args.recorded.now in
@@ -26,5 +26,5 @@ returns c =
     let judged : recorded.meaning ≡ meanings.Judged call = search rules in
     if_ok c.place_taken.result (λ _. Grows middle new × HasTaken known marks new state c.args.n call) (λ _. HasAllOf known marks new state c.args.n recorded)
     (λ _ found. all_parts known marks new state c.args.n recorded call judged
-    (λ outcome is. placed_kept known marks middle new state c.args.n call outcome found.0 (c.in_ok-place_answered.ensures.1 outcome is)) (λ _. found.1))
-    c.place_taken.ensures
+    (λ outcome is. placed_kept known marks middle new state c.args.n call outcome found.0 (c.in_ok-place_answered.ensures.answered.1 outcome is)) (λ _. found.1))
+    c.place_taken.ensures.taken

@@ -6,21 +6,21 @@ use Rattle.decision_walk.proofs.StepLaws.{if_ok}
 use Rattle.decision_walk.proofs.Taking.{whole_taken, counts_taken}
 use Rattle.decision_walk.proofs.machine.HistoryMachine.place_taken.Goals as goal
 
-pub returns-else-brought-gt-MOST_BYTES : goal.returns-else-brought-gt-MOST_BYTES
-returns-else-brought-gt-MOST_BYTES c =
+pub returns-else-brought-gt-MOST_BYTES-clause-taken : goal.returns-else-brought-gt-MOST_BYTES-clause-taken
+returns-else-brought-gt-MOST_BYTES-clause-taken c =
     let known = c.args.self.now.history.now.known in
     let marks = c.args.self.now.marks.items in
     let old = c.args.states.now.items in
     let new = c.place_counts.new.states.items in
     let state = c.args.state.now in
     let is : bytes_brought c.args.call.now ≡ Some c.in-Some.brought = search rules in
-    let counted : IfOk c.place_counts.result (λ _. Grows old new × HasCounts known marks new state c.args.n c.args.call.now (c.in-Some.brought + 1)) = c.place_counts.ensures in
+    let counted : IfOk c.place_counts.result (λ _. Grows old new × HasCounts known marks new state c.args.n c.args.call.now (c.in-Some.brought + 1)) = c.place_counts.ensures.counts in
     if_ok c.place_counts.result (λ _. Grows old new × HasCounts known marks new state c.args.n c.args.call.now (c.in-Some.brought + 1))
     (λ _. Grows old new × HasTaken known marks new state c.args.n c.args.call.now)
     (λ _ found. (found.0, counts_taken known marks new state c.args.n c.args.call.now c.in-Some.brought is found.1)) counted
 
-pub returns-in-None : goal.returns-in-None
-returns-in-None c =
+pub returns-in-None-clause-taken : goal.returns-in-None-clause-taken
+returns-in-None-clause-taken c =
     let known = c.args.self.now.history.now.known in
     let marks = c.args.self.now.marks.items in
     let old = c.args.states.now.items in
@@ -29,4 +29,4 @@ returns-in-None c =
     let is : bytes_brought c.args.call.now ≡ None = search rules in
     if_ok c.place_as.result (λ _. Grows old new × HasPlaced known marks new state c.args.n c.args.call.now (Taken None))
     (λ _. Grows old new × HasTaken known marks new state c.args.n c.args.call.now)
-    (λ _ found. (found.0, whole_taken known marks new state c.args.n c.args.call.now is found.1)) c.place_as.ensures
+    (λ _ found. (found.0, whole_taken known marks new state c.args.n c.args.call.now is found.1)) c.place_as.ensures.placed

@@ -10,7 +10,7 @@ returns-then-not-may_lose c =
     let known = c.args.self.now.history.now.known in
     let marks = c.args.self.now.marks.items in
     let no : c.may_lose.result ≡ false = search rules in
-    let stays : MayNotLose known marks c.args.state.now (call_of c.args.place) = subst (λ n. MayNotLose known marks c.args.state.now n) c.number_at.ensures (c.may_lose.ensures no) in
+    let stays : MayNotLose known marks c.args.state.now (call_of c.args.place) = subst (λ n. MayNotLose known marks c.args.state.now n) c.number.ensures (c.may_lose.ensures no) in
     (c.in_ok-put_child.ensures.0, never_lost known marks c.put_child.new.states.items c.args.state.now c.args.place c.args.attempt.now stays c.in_ok-put_child.ensures.1)
 
 pub returns : goal.returns

@@ -1,5 +1,5 @@
-use Rattle.std.proofs.Common.{◌≡◌, ◌++◌, ◌∷◌, [], length, ◌-◌, ℕ, rules, arith}
-use Rattle.decision_walk.proofs.Crashes.{crash_steps, no_crash_steps}
+use Rattle.std.proofs.Common.{◌≡◌, ◌++◌, ◌∷◌, [], rules}
+use Rattle.decision_walk.proofs.Crashes.{crash_steps}
 use Rattle.decision_walk.proofs.StepLaws.{pushed}
 use Rattle.decision_walk.proofs.machine.HistoryMachine.step_crash.Goals as goal
 

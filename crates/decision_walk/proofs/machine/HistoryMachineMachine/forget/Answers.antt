@@ -1,4 +1,4 @@
-use Rattle.std.proofs.Common.{◌≡◌, false, sym, ◌∙◌, rules}
+use Rattle.std.proofs.Common.{◌≡◌, false, rules}
 use Rattle.decision_walk.specs.Standing.{is_marked}
 use Rattle.decision_walk.proofs.MachineLaws.{forgets, forgets_nothing}
 use Rattle.decision_walk.proofs.machine.HistoryMachineMachine.forget.Goals as goal
