@@ -1,7 +1,7 @@
 -- two verifiers in one era
 use Rattle.std.proofs.Common.{◌≡◌, ◌≢◌, ℕ, Bool, List, Option, Some, None, IfOk, Ok, Err, sym, ◌∙◌, ap, refl}
 use Rattle.std.specs.Prelude.{IfSome}
-use Rattle.nfs_history.specs.declared.history.RecordedCall.{RecordedCall}
+use Rattle.nfs_history.specs.declared.recorded.RecordedCall.{RecordedCall}
 use Rattle.nfs_history.specs.declared.knowing.KnownCalls.{KnownCalls}
 use Rattle.nfs_history.specs.Precedence.{call_at}
 use Rattle.decision_law.specs.Laws.{ShowsTwoVerifiers}

@@ -27,7 +27,7 @@ use Rattle.decision_law.proofs.Orders.{is_order}
 use Rattle.decision_law.proofs.Starts.{are_timed}
 use Rattle.decision_walk.specs.Standing.{hints_of}
 use Rattle.decide.specs.Decision.{HasNoWitness, Walks, TellsOf}
-use Rattle.decide.specs.Marking.{AreLasting}
+use Rattle.decide.specs.Marking.{AreNeverLost}
 use Rattle.decide.proofs.Lasting.{are_right}
 
 -- that no order is a witness under any plan
@@ -35,23 +35,23 @@ abbrev pub NoOrders : KnownCalls → List Bool → List Event → Type 0
 NoOrders known marks events = (plan : Certificate) (times : Times) → Tells times events
     → (order : List ℕ) → ¬ IsWitness is_placed (Next known (hints_of marks) (binds_of known plan)) times (first_point known) order
 
-none_left : (history : HistoryValue) (marks : List Bool) (events : List Event) → AreLasting history.known marks → TellsOf history events → NoOrders history.known marks events → HasNoWitness history.known
-none_left history marks events lasting tells none plan witness =
+none_left : (history : HistoryValue) (marks : List Bool) (events : List Event) → AreNeverLost history.known marks → TellsOf history events → NoOrders history.known marks events → HasNoWitness history.known
+none_left history marks events kept tells none plan witness =
     none plan (times_of history.known (era_start (recording_of history).events)) tells.tells (order_of (numbering_of history.known (hints_of marks)) 1 (eras_of_plan plan.eras))
-    (is_order history.known (hints_of marks) (era_start (recording_of history).events) plan tells.timed (are_right history.known marks lasting) witness)
+    (is_order history.known (hints_of marks) (era_start (recording_of history).events) plan tells.timed (are_right history.known marks kept) witness)
 
-walks : {State : Type 0} (history : HistoryValue) (marks : List Bool) (events : List Event) → AreLasting history.known marks → TellsOf history events
+walks : {State : Type 0} (history : HistoryValue) (marks : List Bool) (events : List Event) → AreNeverLost history.known marks → TellsOf history events
     → (walked : Walked State) → NamesAnswer events walked → IfNoWitness (NoOrders history.known marks events) walked → Walks history.known walked
-walks history marks events lasting tells (NoWitness event call) named none = (none_left history marks events lasting tells none, named_at history events event call tells named.0 named.1)
-walks history marks events lasting tells (Left states) named none = tt
+walks history marks events kept tells (NoWitness event call) named none = (none_left history marks events kept tells none, named_at history events event call tells named.0 named.1)
+walks history marks events kept tells (Left states) named none = tt
 
 -- so does a walk's answer, of a machine with the same history and marks
-pub answer_walks : {State E : Type 0} (history machines : HistoryValue) (marks machine_marks : List Bool) (events : List Event) → machines ≡ history → machine_marks ≡ marks → AreLasting history.known marks
+pub answer_walks : {State E : Type 0} (history machines : HistoryValue) (marks machine_marks : List Bool) (events : List Event) → machines ≡ history → machine_marks ≡ marks → AreNeverLost history.known marks
     → TellsOf history events → (r : Result (Walked State) E) → IfOk r (NamesAnswer events) → IfOk r (IfNoWitness (NoOrders machines.known machine_marks events)) → IfOk r (Walks history.known)
-answer_walks history machines marks machine_marks events same same_marks lasting tells (Ok walked) named none =
-    walks history marks events lasting tells walked named
+answer_walks history machines marks machine_marks events same same_marks kept tells (Ok walked) named none =
+    walks history marks events kept tells walked named
     (subst (λ m. IfNoWitness (NoOrders history.known m events) walked) same_marks (subst (λ (h : HistoryValue). IfNoWitness (NoOrders h.known machine_marks events) walked) same none))
-answer_walks history machines marks machine_marks events same same_marks lasting tells (Err stop) named none = none
+answer_walks history machines marks machine_marks events same same_marks kept tells (Err stop) named none = none
 
 -- events that are made of the spans of a history tell its times
 pub events_tell : {V E : Type 0} (items : V → List Event) (history : HistoryValue) (marks : List ℕ) (spans : List Span) → IsHistory (recording_of history) history

@@ -1,9 +1,9 @@
 //! A certificate out of the way of a state. It is judged by who makes it, and nothing rests on it.
 
-use certificate::{Bind, BindList, Certificate, EraPlan, EraPlanList, Place, PlaceList};
+use certificate::{Bind, Certificate, EraPlan, Place};
 use decision_steps::BoundHandle;
 use decision_walk::{Deed, WayState};
-use nfs3_types::FileHandle;
+use nfs3_types::{FileHandle, ItemList};
 use std::alloc::{AllocError, Global};
 use std::collections::BTreeMap;
 
@@ -14,7 +14,7 @@ fn bind_of(alloc: Global, handle: &FileHandle, object: u64) -> Result<Bind, Allo
 }
 
 /// The binds in the order of their handles.
-fn binds_of(alloc: Global, bound: &[BoundHandle]) -> Result<BindList, AllocError> {
+fn binds_of(alloc: Global, bound: &[BoundHandle]) -> Result<ItemList<Bind>, AllocError> {
     let mut places = BTreeMap::new(alloc);
     for (place, one) in bound.iter().enumerate() {
         let key = Vec::from_slice(alloc, one.handle.as_slice())?;
@@ -26,19 +26,19 @@ fn binds_of(alloc: Global, bound: &[BoundHandle]) -> Result<BindList, AllocError
             binds.push(bind_of(alloc, &one.handle, one.object)?)?;
         }
     }
-    Ok(BindList::new(binds))
+    Ok(ItemList::new(binds))
 }
 
 /// The plan of an era, in which so many places are kept.
 fn era_of(places: Vec<Place>, cut: Option<u64>) -> EraPlan {
     EraPlan {
-        places: PlaceList::new(places),
+        places: ItemList::new(places),
         cut,
     }
 }
 
 /// The plans of the eras, the last of which has no cut.
-fn eras_of(alloc: Global, deeds: &[Deed], count: u64) -> Result<EraPlanList, AllocError> {
+fn eras_of(alloc: Global, deeds: &[Deed], count: u64) -> Result<ItemList<EraPlan>, AllocError> {
     let mut eras = Vec::new(alloc);
     let mut places = Vec::new(alloc);
     let mut kept = None;
@@ -61,7 +61,7 @@ fn eras_of(alloc: Global, deeds: &[Deed], count: u64) -> Result<EraPlanList, All
             }
         }
     }
-    Ok(EraPlanList::new(eras))
+    Ok(ItemList::new(eras))
 }
 
 /// The certificate of a way over so many eras.

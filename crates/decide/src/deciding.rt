@@ -7,10 +7,11 @@ ghost use Rattle.nfs_history.specs.declared.knowing.KnownCalls.{KnownCalls};
 ghost use Rattle.nfs_history.specs.History.{recording_of};
 ghost use Rattle.decision_law.specs.Times.{AreTimed, era_start};
 ghost use Rattle.decide.specs.Decision.{Says, Walks, TellsOf};
-ghost use Rattle.decide.specs.Marking.{AreLasting};
+ghost use Rattle.decide.specs.Marking.{AreNeverLost};
 
 use crate::certifying::certificate_of;
 use crate::decision::{Decision, Refusal, Undecided};
+use crate::leaving_out::LeavingOut;
 use crate::marking::marks_of;
 use crate::spans::{crash_marks, spans_of};
 use crate::verifiers::second_verifier;
@@ -109,20 +110,20 @@ fn refusal_of(
     Ok(Refusal { event, call, open })
 }
 
-/// Walks a history, of which these calls are marked and these are the events.
+/// Walks a history by its machine, where these are the events.
 fn walk(
     alloc: Global,
     history: &History,
-    marks: Vec<bool>,
+    machine: &HistoryMachine<'_>,
     events: &[Event],
     limits: Limits,
 ) -> Result<Walked<WayState>, Stop<Why>>
-    requires marks { AreLasting history.now.known marks.items }
+    requires history { machine.now.history.now ≡ history.now }
+    requires marks { AreNeverLost history.now.known machine.now.marks.items }
     requires tells { TellsOf history.now events.now }
     ensures { IfOk result (Walks history.now.known) }
 {
-    let machine = HistoryMachine::new(alloc, history, marks);
-    decision_core::decide(alloc, &machine, events, limits)
+    decision_core::decide(alloc, machine, events, limits)
 }
 
 /// What is decided where states are left and none gives a witness: no, where an era shows two write verifiers.
@@ -157,6 +158,30 @@ fn told(alloc: Global, history: &History, walked: Walked<WayState>) -> Result<De
     }
 }
 
+/// What is decided where a walk came to a step that it doesn't decide: a yes where a walk that leaves such steps out, or guesses what a
+/// handle names, comes to a witness.
+fn decided_by_guesses(
+    alloc: Global,
+    history: &History,
+    machine: &HistoryMachine<'_>,
+    events: &[Event],
+    limits: Limits,
+    why: Why,
+) -> Result<Decision, AllocError>
+    ensures { IfOk result (Says history.now.known) }
+{
+    let leaving = LeavingOut::new(alloc, machine);
+    let undecided = Decision::Undecided(Undecided::NotCovered(why));
+    match decision_core::decide(alloc, &leaving, events, limits) {
+        Ok(Walked::Left(states)) => match first_accepted(alloc, history, states.as_slice())? {
+            Some(certificate) => Ok(Decision::Yes(certificate)),
+            None => Ok(undecided),
+        },
+        Err(Stop::NoMemory) => Ok(Decision::NoMemory),
+        Ok(Walked::NoWitness { event: _, call: _ }) | Err(_) => Ok(undecided),
+    }
+}
+
 /// What is decided, with memory.
 fn decided(alloc: Global, history: &History, limits: Limits) -> Result<Decision, AllocError>
     ensures { IfOk result (Says history.now.known) }
@@ -165,8 +190,13 @@ fn decided(alloc: Global, history: &History, limits: Limits) -> Result<Decision,
         return Ok(Decision::Undecided(Undecided::NoEvents));
     };
     let marks = marks_of(alloc, history)?;
-    match walk(alloc, history, marks, events.as_slice(), limits) {
+    let machine = HistoryMachine::new(alloc, history, marks);
+    let events = events.as_slice();
+    match walk(alloc, history, &machine, events, limits) {
         Ok(walked) => told(alloc, history, walked),
+        Err(Stop::NotCovered(why)) => {
+            decided_by_guesses(alloc, history, &machine, events, limits, why)
+        }
         Err(stop) => Ok(decision_of(stop)),
     }
 }

@@ -4,7 +4,9 @@
 mod certifying;
 mod deciding;
 mod decision;
+mod leaving_out;
 mod marking;
+mod saving;
 mod spans;
 mod verifiers;
 

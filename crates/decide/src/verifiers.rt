@@ -1,12 +1,11 @@
 //! Two write verifiers in one era.
 
 ghost use Rattle.std.specs.Prelude.{◌≡◌, IfSome, IsTrue};
-ghost use Rattle.cut_check.specs.Verifier.{verifier_of};
 ghost use Rattle.decision_law.specs.Laws.{ShowsTwoVerifiers};
 ghost use Rattle.decide.specs.Verifiers.{IsShown, IsShownIn};
 
-use nfs_history::{History, Meaning, RecordedCall, commit_success, write_success};
-use nfs3_types::{NfsCall, Outcome};
+use cut_check::shown_verifier;
+use nfs_history::{History, Meaning, RecordedCall};
 
 /// A call whose reply shows a write verifier.
 #[derive(Clone, Copy)]
@@ -21,25 +20,8 @@ pub(crate) struct Shown {
     pub(crate) verifier: u64,
 }
 
-/// The write verifier that the reply to a call shows.
-fn verifier_of(call: &NfsCall, outcome: &Outcome) -> Option<u64>
-    ensures { result ≡ verifier_of call.now outcome.now }
-{
-    match call {
-        NfsCall::Write(_write) => match write_success(outcome) {
-            Some(success) => Some(success.verifier.value),
-            None => None,
-        },
-        NfsCall::Commit(_commit) => match commit_success(outcome) {
-            Some(success) => Some(success.verifier.value),
-            None => None,
-        },
-        _ => None,
-    }
-}
-
 /// What a call shows.
-fn shown_by(recorded: &RecordedCall, number: u64) -> Option<Shown>
+pub(crate) fn shown_by(recorded: &RecordedCall, number: u64) -> Option<Shown>
     ensures { IfSome result (IsShown recorded.now number) }
 {
     let Meaning::Judged(call) = &recorded.meaning else {
@@ -51,7 +33,7 @@ fn shown_by(recorded: &RecordedCall, number: u64) -> Option<Shown>
     let Some(at) = recorded.end else {
         return None;
     };
-    let Some(verifier) = verifier_of(call, outcome) else {
+    let Some(verifier) = shown_verifier(call, outcome) else {
         return None;
     };
     let era = recorded.era;

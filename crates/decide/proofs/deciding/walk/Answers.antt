@@ -1,7 +1,7 @@
-use Rattle.std.proofs.Common.{rules}
+use Rattle.std.proofs.Common.{refl}
 use Rattle.decide.proofs.Walking.{answer_walks}
 use Rattle.decide.proofs.deciding.walk.Goals as goal
 
 pub returns : goal.returns
-returns c = answer_walks c.args.history.now c.new-machine.result.history.now c.args.marks.items c.new-machine.result.marks.items c.args.events.now c.new-machine.ensures.history c.new-machine.ensures.marks
-    c.requires.marks c.requires.tells c.decide.result c.decide.ensures.answer c.decide.ensures.none
+returns c = answer_walks c.args.history.now c.args.machine.now.history.now c.args.machine.now.marks.items c.args.machine.now.marks.items c.args.events.now c.requires.history refl c.requires.marks
+    c.requires.tells c.decide.result c.decide.ensures.answer c.decide.ensures.none
