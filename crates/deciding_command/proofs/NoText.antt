@@ -1,5 +1,5 @@
 -- where a history has no witness its file is accepted with no text
-use Rattle.std.proofs.Common.{◌≡◌, ℕ, List, Option, subst}
+use Rattle.std.proofs.Common.{ℕ, List, subst}
 use Rattle.nfs_history.specs.HistoryValue.{HistoryValue}
 use Rattle.nfs_history.specs.History.{IsHistoryFile}
 use Rattle.nfs_history.proofs.FirstFaultLaws.{calls_in}

@@ -1,1 +1,2 @@
 pub mod FileDecision
+pub mod Written

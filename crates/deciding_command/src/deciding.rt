@@ -1,6 +1,6 @@
 //! The command `decide`.
 
-ghost use Rattle.std.specs.Prelude.{◌≡◌, ◌⊎◌, ◌<◌, ℕ, List, IfOk};
+ghost use Rattle.std.specs.Prelude.{◌≡◌, ◌⊎◌, ◌<◌, ℕ, List, IfOk, IfSome};
 ghost use Rattle.std.specs.Io.KnownBytes.{Appends};
 ghost use Rattle.program_streams.specs.Told.{Tells, memory_line};
 ghost use Rattle.nfs_history.specs.declared.fault.HistoryFault.{HistoryFault};
@@ -9,58 +9,40 @@ ghost use Rattle.witness_check.specs.Witness.{AreAccepted};
 ghost use Rattle.deciding_command.specs.FileDecision.{Decides, IsWithoutWitness, IsNeverAccepted, IsRefused, IsYes, IsNo};
 
 use crate::file_decision::{FileDecision, decide_file};
+use crate::hints::{Named, tell_hints};
+use crate::rounds::{ROUNDS, Rounds};
 use crate::telling::report_of;
 use crate::words::DecideRequest;
-use decide::{Limits, Undecided};
+use decide::Undecided;
 use program_streams::{Output, tell, tell_answer, tell_want_of_memory};
 use std::alloc::AllocError;
 use std::fs;
 use std::rt::Files;
-use std::time::{Clock, Instant};
-
-/// How many steps the first round may take. Each further one may take twice as many.
-const FIRST_STEPS: u64 = 200_000;
-
-/// How many rounds there are at most, ahead of a last one.
-const ROUNDS: u32 = 40;
+use std::time::Clock;
 
 /// Whether a decision may come out otherwise with more steps.
 fn wants_steps(decision: &FileDecision) -> bool {
     matches!(decision, FileDecision::Undecided(Undecided::TooManySteps))
 }
 
-/// Whether a round that takes twice as long as those before it would end after so many seconds. Without a clock it would.
-fn is_late<R: Clock>(rt: &R, start: Option<Instant>, seconds: u32) -> bool {
-    match (start, Instant::now(rt)) {
-        (Some(start), Ok(now)) => {
-            let gone = now.duration_since(start).as_secs();
-            gone.saturating_mul(3) >= u64::from(seconds)
-        }
-        _ => true,
-    }
-}
-
 /// Decides of the bytes of a history file, in rounds of more and more steps, as long as the next round is likely to end in time.
 fn decide_within<R: Clock + AllocGlobal>(
     rt: &R,
+    request: &DecideRequest<'_>,
     bytes: &[u8],
-    states: usize,
-    seconds: u32,
 ) -> Result<FileDecision, AllocError>
     ensures decided { IfOk result (Decides bytes.now) }
     ensures refused { (fault : HistoryFault) → FirstFault bytes.now fault → IfOk result IsRefused }
 {
     let alloc = rt.alloc();
-    let start = Instant::now(rt).ok();
-    let mut steps = FIRST_STEPS;
+    let mut rounds = Rounds::begin(rt, request);
     for _ in 0..ROUNDS {
-        let decision = decide_file(alloc, bytes, Limits { states, steps })?;
-        if !wants_steps(&decision) || is_late(rt, start, seconds) {
+        let decision = decide_file(alloc, bytes, rounds.limits())?;
+        if !wants_steps(&decision) || !rounds.grow(rt) {
             return Ok(decision);
         }
-        steps = steps.saturating_mul(2);
     }
-    decide_file(alloc, bytes, Limits { states, steps })
+    decide_file(alloc, bytes, rounds.limits())
 }
 
 /// Writes the certificate of a yes to a path, if one is wanted. Whether it is there now, or wasn't wanted.
@@ -92,11 +74,50 @@ fn tell_decision<R: Files + AllocGlobal, O: Output>(
     }
 }
 
+/// The call that a no names, if the request goes on behind one that was told.
+fn named_by(request: &DecideRequest<'_>, decision: &FileDecision, status: u8) -> Option<Named>
+    ensures { IfSome result (λ _. status ≡ 1) }
+{
+    if status != 1 || request.go_on == 0 {
+        return None;
+    }
+    match decision {
+        FileDecision::NoWitness { event, call } => Some(Named {
+            event: *event,
+            call: *call,
+        }),
+        _ => None,
+    }
+}
+
+/// Says what was decided, and behind a no goes on as the request says.
+fn tell_all<R: Files + Clock + AllocGlobal, O: Output>(
+    rt: &R,
+    request: &DecideRequest<'_>,
+    bytes: &[u8],
+    decision: &FileDecision,
+    output: &mut O,
+) -> u8
+    ensures yes { result ≡ 0 → IsYes decision.now }
+    ensures no { result ≡ 1 → IsNo decision.now }
+    ensures refused { IsRefused decision.now → (result ≡ 2)
+        ⊎ Tells result (O.contents output.old) (O.contents output.new) 3 memory_line }
+    ensures memory_line { result ≡ 3 → Appends (O.contents output.old) (O.contents output.new) memory_line }
+    ensures known { result < 4 }
+{
+    let status = tell_decision(rt, request.certificate, decision, output);
+    match named_by(request, decision, status) {
+        Some(named) => tell_hints(rt, request, bytes, named, output),
+        None => status,
+    }
+}
+
 /// Decides whether the bytes of a history file have any certificate, says so in a line, and returns the exit status: 0 after `yes`, 1
 /// after `no witness: ..`, 2 after `undecided: ..`, a refusal of the bytes or a failed write, 3 if memory ran out.
 ///
 /// The certificate of a yes is written to the file that the request names. It stops where more states would stand at once than the
-/// request allows, and about when its seconds are over.
+/// request allows, and about when its seconds are over. Behind a no it goes on as often as the request says, without the calls that
+/// were named, and tells what it decides then in further lines. These are hints: the status is that of the no.
 pub fn decide_history<R: Files + Clock + AllocGlobal, O: Output>(
     rt: &R,
     request: &DecideRequest<'_>,
@@ -113,8 +134,8 @@ pub fn decide_history<R: Files + Clock + AllocGlobal, O: Output>(
     ensures memory_line { result ≡ 3 → Appends (O.contents output.old) (O.contents output.new) memory_line }
     ensures known { result < 4 }
 {
-    match decide_within(rt, history, request.states as usize, request.seconds) {
-        Ok(decision) => tell_decision(rt, request.certificate, &decision, output),
+    match decide_within(rt, request, history) {
+        Ok(decision) => tell_all(rt, request, history, &decision, output),
         Err(AllocError) => tell_want_of_memory(output),
     }
 }

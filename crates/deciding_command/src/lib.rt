@@ -1,11 +1,17 @@
-//! The command `nfsbench decide`: whether a history has any certificate at all.
+//! The commands `nfsbench decide`, whether a history has any certificate at all, and `nfsbench prefix`, a history cut behind an event.
 #![tactic(auto)]
 
 mod deciding;
 mod file_decision;
+mod hints;
+mod prefix_words;
+mod prefixing;
+mod rounds;
 mod telling;
 mod words;
 
 pub use deciding::decide_history;
 pub use file_decision::{FileDecision, decide_file};
+pub use prefix_words::{PrefixRequest, prefix_command, prefix_request};
+pub use prefixing::prefix_history;
 pub use words::{DecideRequest, decide_command, decide_request};

@@ -4,6 +4,7 @@ ghost use Rattle.std.specs.Prelude.{◌≡◌, ◌<◌, IfOk};
 ghost use Rattle.deciding_command.specs.FileDecision.{IsYes, IsNo, IsRefused};
 
 use crate::file_decision::FileDecision;
+use crate::hints::Hint;
 use decide::Undecided;
 use decision_walk::Why;
 use program_streams::{Report, line_of};
@@ -46,5 +47,21 @@ pub(crate) fn report_of(alloc: Global, decision: &FileDecision) -> Result<Report
         )),
         FileDecision::Undecided(reason) => Ok(Report::new(2, reason_line(alloc, *reason)?)),
         FileDecision::BadHistory(fault) => Ok(Report::new(2, line_of(alloc, "refused: ", fault)?)),
+    }
+}
+
+/// The line of a hint.
+pub(crate) fn hint_line(alloc: Global, hint: Hint) -> Result<String, AllocError> {
+    match hint {
+        Hint::Reply(named) => {
+            format!(in alloc; "then: event {} call {}\n", named.event, named.call)
+        }
+        Hint::Crash(event) => format!(in alloc; "then: event {event} is a crash\n"),
+        Hint::Explained => String::from_str(alloc, "then: none\n"),
+        Hint::Undecided(reason) => {
+            let line = reason_line(alloc, reason)?;
+            format!(in alloc; "then: {line}")
+        }
+        Hint::NoHistory(fault) => line_of(alloc, "then: undecided: ", &fault),
     }
 }

@@ -15,10 +15,15 @@ pub struct DecideRequest<'a> {
     pub states: u32,
     /// After how many seconds it gives up, from 1 to 1,000,000.
     pub seconds: u32,
+    /// How often it goes on behind a no, without the calls that were named: at most 1,000 times.
+    pub go_on: u32,
 }
 
 /// The most of both bounds.
 const MOST: u64 = 1_000_000;
+
+/// The most times that it goes on.
+const MOST_HINTS: u64 = 1_000;
 
 /// The bounds where the words don't say.
 const STATES: u32 = 10_000;
@@ -52,6 +57,14 @@ fn seconds_option<'a>(alloc: Global) -> Arg<'a> {
         .help("After how many seconds it gives up, 60 if not said")
 }
 
+fn go_on_option<'a>(alloc: Global) -> Arg<'a> {
+    Arg::new(alloc, "go-on")
+        .long("go-on")
+        .value_name("N")
+        .value_parser(ValueParser::unsigned(1, MOST_HINTS))
+        .help("Leaves out the call of a no, and decides again, up to N times")
+}
+
 /// The grammar of the words behind `decide`.
 pub fn decide_command<'a>(alloc: Global) -> Result<Command<'a>, AllocError> {
     Command::new(alloc, "decide")
@@ -59,6 +72,7 @@ pub fn decide_command<'a>(alloc: Global) -> Result<Command<'a>, AllocError> {
         .arg(certificate_option(alloc))?
         .arg(states_option(alloc))?
         .arg(seconds_option(alloc))?
+        .arg(go_on_option(alloc))?
         .arg(history_path(alloc))
 }
 
@@ -70,5 +84,6 @@ pub fn decide_request<'a>(decide: &ArgMatches<'a>) -> DecideRequest<'a> {
         certificate: decide.get_str("certificate"),
         states: decide.get_one("states").unwrap_or(STATES),
         seconds: decide.get_one("seconds").unwrap_or(SECONDS),
+        go_on: decide.get_one("go-on").unwrap_or(0),
     }
 }

@@ -12,10 +12,17 @@ use crate::teller::Teller;
 use crate::words::{MOST_WORKERS, SearchRequest};
 use cert_search::{OpenSearch, SearchEnd, SearchGate, SearchRuntime, search_calls};
 use certificate::{Certificate, write_certificate};
-use nfs_history::{HistoryFault, read_calls};
+use decide::{Decision, Limits, decide};
+use nfs_history::{HistoryFault, read_calls, read_history};
 use program_streams::{Output, Report, line_of, tell, tell_answer, tell_want_of_memory};
 use std::alloc::{AllocError, Global};
 use witness_check::{FileVerdict, check_files};
+
+/// How many states stand at once at most, where a decision is asked after a search found nothing.
+const MOST_STATES: usize = 1_000;
+
+/// How many steps such a decision takes at most.
+const MOST_STEPS: u64 = 200_000;
 
 /// Why no certificate is printed.
 #[derive(Drop)]
@@ -43,6 +50,23 @@ fn accepted_text(alloc: Global, history: &[u8], certificate: &Certificate) -> Re
     }
 }
 
+/// The text of a certificate that a decision comes to where a search found none; else why the search found none.
+fn decided_text(alloc: Global, history: &[u8], turns: u64, miss: Miss) -> Result<Vec<u8>, Miss>
+    ensures { IfOk result (λ text. AreAccepted history.now text.items) }
+{
+    let Ok(known) = read_history(alloc, history) else {
+        return Err(miss);
+    };
+    let limits = Limits {
+        states: MOST_STATES,
+        steps: turns.min(MOST_STEPS),
+    };
+    match decide(alloc, &known, limits) {
+        Decision::Yes(certificate) => accepted_text(alloc, history, &certificate),
+        Decision::No(_) | Decision::Undecided(_) | Decision::NoMemory => Err(miss),
+    }
+}
+
 /// The text of a certificate of a history file.
 fn certificate_of<R: SearchRuntime, G: SearchGate + Sync>(
     rt: &R,
@@ -63,8 +87,8 @@ fn certificate_of<R: SearchRuntime, G: SearchGate + Sync>(
     };
     match search_calls(rt, &known, workers, turns, gate) {
         SearchEnd::Found(certificate) => accepted_text(alloc, history, &certificate),
-        SearchEnd::NotFound => Err(Miss::NotFound),
-        SearchEnd::OutOfTurns => Err(Miss::OutOfTurns),
+        SearchEnd::NotFound => decided_text(alloc, history, turns, Miss::NotFound),
+        SearchEnd::OutOfTurns => decided_text(alloc, history, turns, Miss::OutOfTurns),
         SearchEnd::NoMemory => Err(Miss::NoMemory),
     }
 }

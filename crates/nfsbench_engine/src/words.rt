@@ -14,7 +14,10 @@ use crate::show_words::{ShowRequest, show_command, show_request};
 use crate::showing::show_bytes;
 use clap::error::ErrorKind;
 use clap::{Arg, Command};
-use deciding_command::{DecideRequest, decide_command, decide_history, decide_request};
+use deciding_command::{
+    DecideRequest, PrefixRequest, decide_command, decide_history, decide_request, prefix_command,
+    prefix_history, prefix_request,
+};
 use judging_commands::{SearchRequest, run_bundle, search_command, search_history, search_request};
 use program_streams::{Input, Output, tell, tell_answer, tell_want_of_memory};
 use recording_command::{RecordingRuntime, TapRequest, run_tap, tap_command, tap_request};
@@ -46,6 +49,8 @@ enum Request<'a> {
     Search(SearchRequest<'a>),
     /// Whether there is a certificate.
     Decide(DecideRequest<'a>),
+    /// The first events of a history, in a file.
+    Prefix(PrefixRequest<'a>),
     /// A recording.
     Tap(TapRequest<'a>),
     /// A run of a plan.
@@ -111,6 +116,7 @@ fn command<'a>(alloc: Global) -> Result<Command<'a>, AllocError> {
         .subcommand(show_command(alloc)?)?
         .subcommand(search_command(alloc)?)?
         .subcommand(decide_command(alloc)?)?
+        .subcommand(prefix_command(alloc)?)?
         .subcommand(run_command(alloc)?)?
         .subcommand(serve_command(alloc)?)?
         .subcommand(tap_command(alloc)?)
@@ -130,6 +136,7 @@ fn read_words<'a, S: AsStr>(alloc: Global, words: &'a [S]) -> Result<Request<'a>
         Some(("show", show)) => Ok(Request::Show(show_request(show))),
         Some(("search", search)) => Ok(Request::Search(search_request(search))),
         Some(("decide", decide)) => Ok(Request::Decide(decide_request(decide))),
+        Some(("prefix", prefix)) => Ok(Request::Prefix(prefix_request(prefix))),
         Some(("run", run)) => Ok(Request::Run(run_request(run))),
         Some(("serve", serve)) => Ok(Request::Serve(serve_request(serve))),
         // The parser asks for both words of these two.
@@ -175,6 +182,23 @@ fn show_path<R: Files + AllocGlobal, O: Output>(
 {
     match read_history_file(rt, request.history) {
         Ok(Some(bytes)) => show_bytes(rt.alloc(), bytes.as_slice(), request.selection, output),
+        Ok(None) => tell(output, b"refused: unreadable history\n", 2),
+        Err(AllocError) => tell_want_of_memory(output),
+    }
+}
+
+/// Writes the first events of the history at a path, as [`prefix_history`].
+fn prefix_path<R: Files + AllocGlobal, O: Output>(
+    rt: &R,
+    request: &PrefixRequest<'_>,
+    output: &mut O,
+) -> u8
+    ensures memory_line { result ≡ 3
+        → Appends (O.contents output.old) (O.contents output.new) memory_line }
+    ensures known { result < 4 }
+{
+    match read_history_file(rt, request.history) {
+        Ok(Some(bytes)) => prefix_history(rt, request, bytes.as_slice(), output),
         Ok(None) => tell(output, b"refused: unreadable history\n", 2),
         Err(AllocError) => tell_want_of_memory(output),
     }
@@ -264,6 +288,7 @@ pub(crate) fn judge_words<'a, R: Files + AllocGlobal, S: AsStr, I: Input, O: Out
             },
         ) => Ok(tell_answer(output, report_paths(rt, history, certificate))),
         Ok(Request::Show(request)) => Ok(show_path(rt, &request, output)),
+        Ok(Request::Prefix(request)) => Ok(prefix_path(rt, &request, output)),
         Ok(Request::Search(request)) => Err(Waiting::Search(request)),
         Ok(Request::Decide(request)) => Err(Waiting::Decide(request)),
         Ok(Request::Tap(request)) => Err(Waiting::Tap(request)),
@@ -280,8 +305,9 @@ pub(crate) fn judge_words<'a, R: Files + AllocGlobal, S: AsStr, I: Input, O: Out
 ///
 /// Without further words it is `run_bundle`. With `check` and two paths both files are read, in this order, before
 /// anything is judged, and what is said is what `judge_read` gives; with `report` and two paths it is what `report_read`
-/// gives; with `show` and a path a line for each event, and the first fault of the history; which words ask for that, which files are opened
-/// and what the parser's texts are no clause says. With `search` and a path it is what `search_history` gives, with `decide` and a path what
+/// gives; with `show` and a path a line for each event, and the first fault of the history; with `prefix`, a path, a number of events and
+/// a path to write what `prefix_history` gives; which words ask for that, which files are opened and what the parser's texts are no clause
+/// says. With `search` and a path it is what `search_history` gives, with `decide` and a path what
 /// `decide_history` gives; with `run`, a path and two
 /// paths to write it runs a text, with `serve` it serves connections, and with `tap` it records: these five may wait or take long,
 /// the last two for as long as they are let.

@@ -2,7 +2,7 @@ use Rattle.deciding_command.proofs.NoText.{never_of_no}
 use Rattle.deciding_command.proofs.deciding.decide_history.Goals as goal
 
 pub returns-in-Ok-clause-no : goal.returns-in-Ok-clause-no
-returns-in-Ok-clause-no g c = λ one. never_of_no c.args.history.now c.in-Ok.decision c.in-Ok.ensures.decided (c.tell_decision.ensures.no one)
+returns-in-Ok-clause-no g c = λ one. never_of_no c.args.history.now c.in-Ok.decision c.in-Ok.ensures.decided (c.tell_all.ensures.no one)
 
 pub returns-in-Ok-clause-refused : goal.returns-in-Ok-clause-refused
-returns-in-Ok-clause-refused g c = λ fault first. c.tell_decision.ensures.refused (c.in-Ok.ensures.refused fault first)
+returns-in-Ok-clause-refused g c = λ fault first. c.tell_all.ensures.refused (c.in-Ok.ensures.refused fault first)
