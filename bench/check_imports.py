@@ -95,7 +95,8 @@ def look(where, crate, kind, words, group):
             wrong.append(f"{where}: {crate}/{kind}/{words[0]}.antt has no {word}")
     for name in names(group or ""):
         plain = name.replace("◌", "")
-        if not (has(text, name) or name in text or (plain and plain in text)):
+        own = "\n".join(line for line in text.split("\n") if not line.startswith("use "))
+        if not (has(own, name) or name in own or (plain and plain in own)):
             wrong.append(f"{where}: {crate}/{kind}/{words[0]}.antt has no {name}")
 
 

@@ -27,9 +27,9 @@ ROOTS = {
     "decision_core": "",
     "decision_steps": "",
     "decision_law": "",
-    "decision_walk": "",
+    "decision_walk": "new deeds bound",
     "decide": "",
-    "deciding_command": "",
+    "deciding_command": "decide_file decide_history",
 }
 
 BELIEVED, PROVER, CALLERS = "-- Believed.", "-- For the prover.", "-- For the prover, and for callers."

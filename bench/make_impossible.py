@@ -1,0 +1,250 @@
+#!/usr/bin/env python3
+"""Makes histories that no order of their calls explains, each with one fault, by hand: make_impossible.py FOLDER
+
+Each is named after its fault; the comment beside it says which event is the first that no order explains, and why. A file NAME.history is written for
+each, and `expected` with a line for each: NAME, the event, the number of its call. `nfsbench decide FOLDER/NAME.history` has to say `no witness: event E call N`.
+"""
+import pathlib
+import struct
+import sys
+
+ROOT = b"\0"
+FILE, OTHER = b"\x0a", b"\x0b"
+OK, NOENT = 0, 2
+UNSTABLE, FILE_SYNC = 0, 2
+FIRST, SECOND = bytes(7) + b"\1", bytes(7) + b"\2"
+
+
+def word(number):
+    return struct.pack(">I", number)
+
+
+def hyper(number):
+    return struct.pack(">Q", number)
+
+
+def opaque(data):
+    return word(len(data)) + data + b"\0" * (-len(data) % 4)
+
+
+UNSET = word(0) * 6
+NO_WCC, NO_ATTRIBUTES = word(0) + word(0), word(0)
+
+
+# ---- calls, as a procedure's number with its arguments
+
+def lookup(directory, name):
+    return 3, opaque(directory) + opaque(name)
+
+
+def read(file, count=16):
+    return 6, opaque(file) + hyper(0) + word(count)
+
+
+def write(file, data, level=FILE_SYNC):
+    return 7, opaque(file) + hyper(0) + word(len(data)) + word(level) + opaque(data)
+
+
+def create(directory, name, mode=1):
+    return 8, opaque(directory) + opaque(name) + word(mode) + UNSET
+
+
+def mkdir(directory, name):
+    return 9, opaque(directory) + opaque(name) + UNSET
+
+
+def remove(directory, name):
+    return 12, opaque(directory) + opaque(name)
+
+
+def rename(source, name, target, new_name):
+    return 14, opaque(source) + opaque(name) + opaque(target) + opaque(new_name)
+
+
+def list_names(directory):
+    return 16, opaque(directory) + hyper(0) + bytes(8) + word(4096)
+
+
+def commit(file):
+    return 21, opaque(file) + hyper(0) + word(0)
+
+
+def get_attributes(file):
+    return 1, opaque(file)
+
+
+# ---- results
+
+def made(handle):
+    return word(OK) + word(1) + opaque(handle) + NO_ATTRIBUTES + NO_WCC
+
+
+def found(handle):
+    return word(OK) + opaque(handle) + NO_ATTRIBUTES + NO_ATTRIBUTES
+
+
+def bytes_read(data, is_end=1):
+    return word(OK) + NO_ATTRIBUTES + word(len(data)) + word(is_end) + opaque(data)
+
+
+def written(count, level=FILE_SYNC, verifier=FIRST):
+    return word(OK) + NO_WCC + word(count) + word(level) + verifier
+
+
+def committed(verifier=FIRST):
+    return word(OK) + NO_WCC + verifier
+
+
+def changed():
+    return word(OK) + NO_WCC
+
+
+def renamed():
+    return word(OK) + NO_WCC + NO_WCC
+
+
+def listed(*names):
+    entries = b"".join(word(1) + hyper(number + 1) + opaque(name) + hyper(number + 1) for number, name in enumerate(names))
+    return word(OK) + NO_ATTRIBUTES + bytes(8) + entries + word(0) + word(1)
+
+
+def size_of_file(size):
+    return word(OK) + word(1) + word(0o644) + word(1) + word(0) * 2 + hyper(size) + hyper(size) + word(0) * 2 + hyper(0) * 2 + word(0) * 6
+
+
+class History:
+    """Events, in order. Calls are numbered from 1; each has a lane of its own in an era."""
+
+    def __init__(self):
+        self.events, self.calls, self.first_lane = [], 0, 1
+
+    def call(self, asked):
+        procedure, arguments = asked
+        self.calls += 1
+        header = word(self.calls) + word(0) + word(2) + word(100003) + word(3) + word(procedure) + word(0) * 4
+        self.events.append(word(0) + word(self.calls) + opaque(header + arguments))
+        return self.calls
+
+    def reply(self, number, result):
+        self.events.append(word(1) + word(number) + opaque(word(number) + word(1) + word(0) * 4 + result))
+
+    def exchange(self, asked, result):
+        number = self.call(asked)
+        self.reply(number, result)
+        return number
+
+    def crash(self):
+        self.events.append(word(3))
+
+    def file(self):
+        return b"NFSHIST1" + opaque(ROOT) + word(len(self.events)) + b"".join(self.events)
+
+
+def torn_read():
+    """A READ beside a WRITE gives half of it. Its reply, event 7, comes before that of the WRITE: no order has the half."""
+    it = History()
+    it.exchange(create(ROOT, b"a"), made(FILE))
+    it.exchange(write(FILE, b"aaaa"), written(4))
+    writing = it.call(write(FILE, b"bbbb"))
+    reading = it.call(read(FILE))
+    it.reply(reading, bytes_read(b"bbaa"))
+    it.reply(writing, written(4))
+    return it, 7, reading
+
+
+def stale_size():
+    """A GETATTR after a WRITE's reply gives the size from before it: event 6."""
+    it = History()
+    it.exchange(create(ROOT, b"a"), made(FILE))
+    it.exchange(write(FILE, b"aa"), written(2))
+    asked = it.exchange(get_attributes(FILE), size_of_file(0))
+    return it, 6, asked
+
+
+def found_after_a_removal():
+    """A LOOKUP after a REMOVE's reply finds what was removed: event 6."""
+    it = History()
+    it.exchange(create(ROOT, b"a"), made(FILE))
+    it.exchange(remove(ROOT, b"a"), changed())
+    asked = it.exchange(lookup(ROOT, b"a"), found(FILE))
+    return it, 6, asked
+
+
+def synced_write_lost():
+    """A WRITE was answered as FILE_SYNC; after a crash a READ gives an empty file: event 9."""
+    it = History()
+    it.exchange(create(ROOT, b"a"), made(FILE))
+    it.exchange(write(FILE, b"x"), written(1))
+    it.crash()
+    it.exchange(lookup(ROOT, b"a"), found(FILE))
+    asked = it.exchange(read(FILE), bytes_read(b""))
+    return it, 9, asked
+
+
+def committed_write_lost():
+    """An UNSTABLE WRITE and a COMMIT after it were answered; after a crash a READ gives an empty file: event 11."""
+    it = History()
+    it.exchange(create(ROOT, b"a"), made(FILE))
+    it.exchange(write(FILE, b"x", UNSTABLE), written(1, UNSTABLE))
+    it.exchange(commit(FILE), committed())
+    it.crash()
+    it.exchange(lookup(ROOT, b"a"), found(FILE))
+    asked = it.exchange(read(FILE), bytes_read(b""))
+    return it, 11, asked
+
+
+def verifier_kept_over_a_loss():
+    """An UNSTABLE WRITE is lost in a crash, and a later WRITE shows the same verifier. The READ that shows the loss, event 9, fits nowhere: since event 11
+    shows the verifier again, the WRITE can't be lost."""
+    it = History()
+    it.exchange(create(ROOT, b"a"), made(FILE))
+    it.exchange(write(FILE, b"x", UNSTABLE), written(1, UNSTABLE))
+    it.crash()
+    it.exchange(lookup(ROOT, b"a"), found(FILE))
+    asked = it.exchange(read(FILE), bytes_read(b""))
+    it.exchange(write(FILE, b"y", UNSTABLE), written(1, UNSTABLE))
+    return it, 9, asked
+
+
+def two_makers():
+    """Two GUARDED CREATEs of one name both succeed, and nothing removes it: whichever is answered second, event 4."""
+    it = History()
+    first = it.call(create(ROOT, b"a"))
+    second = it.call(create(ROOT, b"a"))
+    it.reply(first, made(FILE))
+    it.reply(second, made(OTHER))
+    return it, 4, second
+
+
+def directory_below_itself():
+    """A directory is renamed to a name below itself: event 4."""
+    it = History()
+    it.exchange(mkdir(ROOT, b"a"), made(FILE))
+    asked = it.exchange(rename(ROOT, b"a", FILE, b"b"), renamed())
+    return it, 4, asked
+
+
+def listed_twice():
+    """A list from cookie 0 on has a name twice: event 4."""
+    it = History()
+    it.exchange(create(ROOT, b"a"), made(FILE))
+    asked = it.exchange(list_names(ROOT), listed(b".", b"..", b"a", b"a"))
+    return it, 4, asked
+
+
+MADE = [torn_read, stale_size, found_after_a_removal, synced_write_lost, committed_write_lost, verifier_kept_over_a_loss, two_makers, directory_below_itself, listed_twice]
+
+
+def main():
+    folder = pathlib.Path(sys.argv[1])
+    folder.mkdir(parents=True, exist_ok=True)
+    lines = []
+    for make in MADE:
+        history, event, call = make()
+        (folder / f"{make.__name__}.history").write_bytes(history.file())
+        lines.append(f"{make.__name__} {event} {call}\n")
+    (folder / "expected").write_text("".join(lines))
+
+
+if __name__ == "__main__":
+    main()
