@@ -5,26 +5,15 @@ Each is named after its fault; the comment beside it says which event is the fir
 each, and `expected` with a line for each: NAME, the event, the number of its call. `nfsbench decide FOLDER/NAME.history` has to say `no witness: event E call N`.
 """
 import pathlib
-import struct
 import sys
+
+from try_decisions import hyper, opaque, word
 
 ROOT = b"\0"
 FILE, OTHER = b"\x0a", b"\x0b"
 OK, NOENT = 0, 2
 UNSTABLE, FILE_SYNC = 0, 2
 FIRST, SECOND = bytes(7) + b"\1", bytes(7) + b"\2"
-
-
-def word(number):
-    return struct.pack(">I", number)
-
-
-def hyper(number):
-    return struct.pack(">Q", number)
-
-
-def opaque(data):
-    return word(len(data)) + data + b"\0" * (-len(data) % 4)
 
 
 UNSET = word(0) * 6

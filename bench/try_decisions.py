@@ -212,6 +212,14 @@ def kind_of(line):
     return kinds.get(line.split(":")[0], line)
 
 
+def tell(by, tally, whys):
+    """How often each pair of answers came up, and why the program didn't decide."""
+    for (wanted, got), many in sorted(tally.items()):
+        print(f"{wanted} by {by}, {got} by the program: {many}")
+    for why, many in whys.most_common():
+        print(f"undecided {why}: {many}")
+
+
 def main():
     program, count, seed, most = sys.argv[1], *(int(it) for it in (sys.argv[2:] + ["1000", "1", "5"][len(sys.argv) - 2:])[:3])
     tally, whys, differ = collections.Counter(), collections.Counter(), 0
@@ -229,10 +237,7 @@ def main():
             elif got != wanted:
                 differ += 1
                 print(f"{number}: every plan says {wanted}, the program {line}")
-    for (wanted, got), many in sorted(tally.items()):
-        print(f"{wanted} by every plan, {got} by the program: {many}")
-    for why, many in whys.most_common():
-        print(f"undecided {why}: {many}")
+    tell("every plan", tally, whys)
     return 1 if differ else 0
 
 

@@ -22,7 +22,7 @@ from differ.plans import is_stable, next_tree, shown_verifiers
 from differ.refusals import Refused
 from differ.success import found
 from differ.trees import Binds, entries_of, path_of
-from try_decisions import kind_of, told_by
+from try_decisions import kind_of, tell, told_by
 
 MOST_STATES = 20_000
 
@@ -215,10 +215,7 @@ def main():
             if {wanted, got} == {"yes", "no"}:
                 differ += 1
                 print(f"{number}: the plain walk says {wanted}, the program {line}")
-    for (wanted, got), many in sorted(tally.items()):
-        print(f"{wanted} by the plain walk, {got} by the program: {many}")
-    for why, many in whys.most_common():
-        print(f"undecided {why}: {many}")
+    tell("the plain walk", tally, whys)
     print("calls:", ", ".join(f"{size} to {size + 9}: {many}" for size, many in sorted(sizes.items())))
     return 1 if differ else 0
 
