@@ -92,6 +92,15 @@ impl<'m, 'h> Machine for LeavingOut<'m, 'h> {
         }
     }
 
+    fn settle(
+        &self,
+        work: &mut WalkWork,
+        state: WayState,
+        calls: &[u64],
+    ) -> Result<WayState, Stop<Why>> {
+        self.machine.settle(work, state, calls)
+    }
+
     fn forget(&self, state: WayState, n: u64) -> WayState {
         self.machine.forget(state, n)
     }

@@ -160,7 +160,7 @@ behind_has (x ∷ xs) calls n (inr among) = behind_has xs (x ∷ calls) n among
 
 module _ {Tree : Type 0} (Change : Tree → ℕ → Tree → Type 0) (by : Numbering) where
   -- a step puts its call ahead of what is placed
-  calls_of : (state after : EraState Tree) (n : ℕ) → EraNext Change by state n after → after.calls ≡ n ∷ state.calls
+  pub calls_of : (state after : EraState Tree) (n : ℕ) → EraNext Change by state n after → after.calls ≡ n ∷ state.calls
   calls_of state after n (inl (real, era, (tree, changes, inl ahead))) = ap (λ s. s.calls) ahead.1
   calls_of state after n (inl (real, era, (tree, changes, inr (inl first)))) = ap (λ s. s.calls) first.3
   calls_of state after n (inl (real, era, (tree, changes, inr (inr behind)))) = ap (λ s. s.calls) behind.3

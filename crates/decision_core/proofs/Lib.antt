@@ -6,4 +6,5 @@ pub mod Waiting
 pub mod OneEvent
 pub mod SpanLaws
 pub mod ErasWalk
+pub mod Skipping
 mod ErasExample

@@ -6,12 +6,12 @@ use Rattle.std.proofs.lemmas.List.{get_or_default}
 use Rattle.decision_core.specs.declared.deciding.Event.{Event}
 use Rattle.decision_core.specs.declared.deciding.Event.TheVariants.{Called, Answered, AtOnce, Passed}
 use Rattle.decision_core.specs.Times.{Times, IsAmong, IsUnanswered, IsOpen}
-use Rattle.decision_core.specs.Decide.{IsTold, Extends, HasServing, Covers, IsWitness}
+use Rattle.decision_core.specs.Decide.{IsTold, IsCompletion, Covers, IsWitness}
 use Rattle.decision_core.specs.States.{also, Holds}
-use Rattle.decision_core.specs.Layers.{AreKept, ExtendsAll, ForgetsAll}
+use Rattle.decision_core.specs.Layers.{IsAnswering, Completes, ExtendsAll, ForgetsAll, SettlesAll}
 use Rattle.decision_core.specs.Events.{StandsAt, Tells, answered_by, AreWaiting, IsWithout, IsAnswerStep, IsEventStep, HasStateBehind}
 use Rattle.decision_core.proofs.Orders.{all_of_each}
-use Rattle.decision_core.proofs.Walk.{among_ahead, among_last, covers_first, covers_passed, covers_answered, none_left}
+use Rattle.decision_core.proofs.Walk.{among_ahead, among_last, completion_passes, covers_first, covers_passed, none_left}
 use Rattle.decision_core.proofs.Waiting.{or_last}
 
 -- one event stands at one place
@@ -179,31 +179,15 @@ module _ (times : Times) (events : List Event) (tells : Tells times events) wher
     Held plan k states = Holds StandsFor plan (answered_by times k) states
 
     module _ (plan : Plan) where
-      -- a point that is there serves
-      there_serves : (event : ℕ) (After : Point → Type 0) (point : Point) → After point → HasServing placed (Next plan) times event After point
-      there_serves event After point there = (point, there, (λ order c. (order, c)))
-
-      extends_by : (k n : ℕ) (left : List ℕ) (before middle after : List State) → IsAnswerAt k n → AreKept StandsFor placed Next (answered_by times k) left
-          → ExtendsAll StandsFor placed Next left n before middle → ForgetsAll StandsFor placed Next n middle after
-          → Extends placed (Next plan) times k left n (Held plan k before) (Held plan (k + 1) after)
-      extends_by k n left before middle after at kept extends forgets =
-          let n_kept = unanswered_kept times k n (λ e ends. later_than k e (sym (ends_here k n at) ∙ ends)) in
-          let is = extends plan (answered_by times k) n_kept kept in
-          let moved : (point : Point) → Held plan k middle point → Held plan (k + 1) after point =
-          (λ point held. subst (λ gone. Holds StandsFor plan gone after point) (sym (answered_one_more times k n (ends_here k n at) (alone k n at))) (forgets plan (answered_by times k) point held)) in
-          record {
-            stays = λ point held placed_now. there_serves (k + 1) (Held plan (k + 1) after) point (moved point (is.stays point held placed_now));
-            extended = λ point last order held not_placed tried leads. there_serves (k + 1) (Held plan (k + 1) after) last (moved last (is.extended last (record {
-              point = point;
-              order = order;
-              there = held;
-              not_placed = not_placed;
-              tried = tried;
-              leads = leads;
-            })));
-          } where
-            later_than : (k e : ℕ) → Some (k + 1) ≡ Some e → k < e
-            later_than k e same = let is : k + 1 ≡ e = cc in omega (arith, is)
+      extended_by : (k n : ℕ) (left : List ℕ) (before middle after : List State) → IsAnswerAt k n → IsAnswering times (answered_by times k) k n (left ++ n ∷ [])
+          → ExtendsAll StandsFor placed Next (left ++ n ∷ []) n before middle → ForgetsAll StandsFor placed Next n middle after
+          → Completes StandsFor placed Next plan (answered_by times k) times k before → (point : Point) × Held plan (k + 1) after point × ((o : List ℕ) × IsCompletion placed (Next plan) times (k + 1) point o)
+      extended_by k n left before middle after at answering extends forgets has =
+          let w = extends plan (answered_by times k) times k answering has in (
+            w.0,
+            subst (λ gone. Holds StandsFor plan gone after w.0) (sym (answered_one_more times k n (ends_here k n at) (alone k n at))) (forgets plan (answered_by times k) w.0 w.1),
+            w.2,
+          )
 
       still_held : (k : ℕ) (before after : List State) → ((m : ℕ) → times.end_of m ≢ Some (k + 1)) → after ≡ before → (point : Point) → Held plan k before point → Held plan (k + 1) after point
       still_held k before after silent is point held =
@@ -214,23 +198,46 @@ module _ (times : Times) (events : List Event) (tells : Tells times events) wher
       abbrev pub Keeps : ℕ → List ℕ → List State → Type 0
       Keeps k waiting states = ((plan : Plan) → Covers placed (Next plan) times (first plan) k (Held plan k states)) × AreWaiting times k waiting
 
+      -- what the walk knows of the answer of n
+      answering_at : (k n : ℕ) (waiting left : List ℕ) → IsAnswerAt k n → IsWithout n waiting left → AreWaiting times k waiting → IsAnswering times (answered_by times k) k n (left ++ n ∷ [])
+      answering_at k n waiting left at without are = record {
+        answer = record { ends = ends_here k n at; alone = alone k n at };
+        there = among_last left n;
+        all = λ m is_open other. among_ahead left (n ∷ []) m (open_waits k n waiting left at without are m is_open other);
+        kept = all_of_each (λ m. answered_by times k m ≡ false) (left ++ n ∷ []) (λ m among. elim (or_last left n m among) [
+          | inl ahead ↦ unanswered_kept times k m (are.only m (without.only m ahead).0)
+          | inr same ↦ subst (λ i. answered_by times k i ≡ false) same (unanswered_kept times k n (λ e ends. later_than k e (sym (ends_here k n at) ∙ ends)))
+        ]);
+      } where
+        later_than : (k e : ℕ) → Some (k + 1) ≡ Some e → k < e
+        later_than k e same = let is : k + 1 ≡ e = cc in omega (arith, is)
+
       answer_taken : (k n : ℕ) (waiting left : List ℕ) (before after : List State) → IsAnswerAt k n
           → IsAnswerStep StandsFor placed Next n waiting left before after → Keeps k waiting before → Keeps (k + 1) left after
       answer_taken k n waiting left before after at step kept = (
-        (λ plan. covers_answered placed (Next plan) (told plan) times (first plan) k n left (Held plan k before) (Held plan (k + 1) after)
-            (record { ends = ends_here k n at; alone = alone k n at }) (open_waits k n waiting left at step.0 kept.1)
-            (extends_by plan k n left before step.1.0 after at
-            (all_of_each (λ m. answered_by times k m ≡ false) left (λ m among. unanswered_kept times k m (kept.1.only m (step.0.only m among).0)))
-            step.1.1 step.1.2) (kept.0 plan)),
+        (λ plan order witness. extended_by plan k n left before step.1.0 after at (answering_at k n waiting left at step.0 kept.1) step.1.1 step.1.2 (kept.0 plan order witness)),
         waiting_answered k n waiting left at step.0 kept.1,
       )
+
+      -- a call that is sent may be placed at once
+      settled_by : (plan : Plan) (k n : ℕ) (before after : List State) → StandsAt events k (Called n) → SettlesAll StandsFor placed Next (n ∷ []) before after
+          → Covers placed (Next plan) times (first plan) k (Held plan k before) → Covers placed (Next plan) times (first plan) (k + 1) (Held plan (k + 1) after)
+      settled_by plan k n before after at settles covers order witness =
+          let w = covers order witness in
+          let other = settles w.1.0 w.1.1 in
+          let still : IsUnanswered times k n = earlier_too k n (tells.unanswered k n at) in
+          let moved = other.2 plan (answered_by times k) w.0 w.1.2 (unanswered_kept times k n still, tt) in
+          let c = moved.2.serves times (k + 1) w.2.0 (completion_passes placed (Next plan) (told plan) times k w.0 w.2.0 (silent_called k n at) w.2.1) in (
+            moved.0,
+            (other.0, other.1, subst (λ gone. StandsFor plan gone moved.0 other.0) (sym (answered_silent times k (silent_called k n at))) moved.1),
+            c,
+          )
 
       -- an event of the list is a step of the walk
       pub take_one : (k : ℕ) (event : Event) (waiting left : List ℕ) (before after : List State) → StandsAt events k event
           → IsEventStep StandsFor placed Next event waiting left before after → Keeps k waiting before → Keeps (k + 1) left after
       take_one k (Called n) waiting left before after at is kept = (
-        (λ plan. covers_passed placed (Next plan) (told plan) times (first plan) k (Held plan k before) (Held plan (k + 1) after) (silent_called k n at)
-            (still_held plan k before after (silent_called k n at) is.0) (kept.0 plan)),
+        (λ plan. settled_by plan k n before after at is.0 (kept.0 plan)),
         subst (AreWaiting times (k + 1)) (sym is.1) (waiting_called k n waiting at kept.1),
       )
       take_one k (Answered n) waiting left before after at is kept = answer_taken k n waiting left before after (inl at) is kept
@@ -241,10 +248,16 @@ module _ (times : Times) (events : List Event) (tells : Tells times events) wher
         subst (AreWaiting times (k + 1)) (sym is.1) (waiting_passed k waiting at kept.1),
       )
 
+-- a state is left where one settles each of some
+some_settled : {Plan Point State : Type 0} (StandsFor : Plan → (ℕ → Bool) → Point → State → Type 0) (placed : Point → ℕ → Bool) (Next : Plan → Point → ℕ → Point → Type 0) (n : ℕ)
+    (before after : List State) → 0 < length before → SettlesAll StandsFor placed Next (n ∷ []) before after → 0 < length after
+some_settled StandsFor placed Next n [] after some settles = absurd (omega (arith, some))
+some_settled StandsFor placed Next n (s ∷ states) after some settles = let other = settles s (0, some, refl) in omega (arith, other.1.1)
+
 -- a state is left behind each event at which the walk goes on
 pub still_left : {Plan Point State : Type 0} (StandsFor : Plan → (ℕ → Bool) → Point → State → Type 0) (placed : Point → ℕ → Bool) (Next : Plan → Point → ℕ → Point → Type 0) (event : Event)
     (waiting left : List ℕ) (before after : List State) → IsEventStep StandsFor placed Next event waiting left before after → 0 < length before → HasStateBehind event after → 0 < length after
-still_left StandsFor placed Next (Called n) waiting left before after step some behind = subst (λ l. 0 < length l) (sym step.0) some
+still_left StandsFor placed Next (Called n) waiting left before after step some behind = some_settled StandsFor placed Next n before after some step.0
 still_left StandsFor placed Next (Answered n) waiting left before after step some behind = behind
 still_left StandsFor placed Next (AtOnce n) waiting left before after step some behind = behind
 still_left StandsFor placed Next Passed waiting left before after step some behind = subst (λ l. 0 < length l) (sym step.0) some

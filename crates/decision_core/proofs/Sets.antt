@@ -1,10 +1,10 @@
 -- What loops over states and calls keep.
-use Rattle.std.proofs.Common.{◌≡◌, ◌⊎◌, inl, inr, ℕ, zero, suc, ◌+◌, ◌<◌, ◌≤◌, Bool, true, List, [], ◌∷◌, ◌++◌, length, take, get_or, Contains, sym, subst, ◌∙◌, arith}
+use Rattle.std.proofs.Common.{◌≡◌, ◌⊎◌, inl, inr, ℕ, zero, suc, ◌+◌, ◌<◌, ◌≤◌, Bool, true, false, List, [], ◌∷◌, ◌++◌, length, take, get_or, Contains, refl, sym, subst, ◌∙◌, arith}
 use Rattle.std.specs.List.{AllByRecursion}
 use Rattle.std.proofs.lemmas.Bool.{true≢false}
 use Rattle.std.proofs.lemmas.List.{take_more, take_all}
-use Rattle.decision_core.specs.States.{also, HasFor, Holds, Forgets, TellsPlaced, HasStep}
-use Rattle.decision_core.specs.Layers.{Grows, HasPlacings, IsSortedInto, ForgetsAll}
+use Rattle.decision_core.specs.States.{also, HasFor, Holds, Forgets, TellsPlaced, HasStep, Settles}
+use Rattle.decision_core.specs.Layers.{Grows, HasEither, IsPutInto, HasPlacing, HasPlacings, IsSortedInto, ForgetsAll}
 
 -- of each of these it holds, or it is among what is left
 abbrev pub DoneOrLeft : {State : Type 0} → (State → Type 0) → List State → List State → Type 0
@@ -87,20 +87,74 @@ module _ {Plan Point State : Type 0} (StandsFor : Plan → (ℕ → Bool) → Po
             (λ is. held_grows out_old out_new plan gone point grows_out (s.1 is)),
           )
 
-      -- a greater list has the step and the placings too
-      pub step_grows : (old new : List State) (n : ℕ) (state : State) → Grows old new → HasStep StandsFor placed Next old n state → HasStep StandsFor placed Next new n state
-      step_grows old new n state grows has plan gone point after stands kept not_placed next = held_grows old new plan gone after grows (has plan gone point after stands kept not_placed next)
+      -- what is put into greater lists too
+      pub either_grows : (n : ℕ) (with_old with_new out_old out_new : List State) (plan : Plan) (gone : ℕ → Bool) (point : Point) → Grows with_old with_new → Grows out_old out_new
+          → HasEither StandsFor placed Next plan gone n with_old out_old point → HasEither StandsFor placed Next plan gone n with_new out_new point
+      either_grows n with_old with_new out_old out_new plan gone point grows_with grows_out has = (
+        has.0,
+        has.1,
+        elim has.2 [
+          | inl there ↦ inl (there.0, held_grows with_old with_new plan gone has.0 grows_with there.1)
+          | inr there ↦ inr (there.0, held_grows out_old out_new plan gone has.0 grows_out there.1)
+        ],
+      )
 
-      pub placings_grow : (old new : List State) (calls : List ℕ) (state : State) → Grows old new → HasPlacings StandsFor placed Next old calls state → HasPlacings StandsFor placed Next new calls state
-      placings_grow old new calls state grows has =
-          all_weaker (λ n. HasStep StandsFor placed Next old n state) (λ n. HasStep StandsFor placed Next new n state) (λ n p. step_grows old new n state grows p) calls has
+      pub put_grows : (calls : List ℕ) (n : ℕ) (with_old with_new out_old out_new : List State) (state : State) → Grows with_old with_new → Grows out_old out_new
+          → IsPutInto StandsFor placed Next calls n with_old out_old state → IsPutInto StandsFor placed Next calls n with_new out_new state
+      put_grows calls n with_old with_new out_old out_new state grows_with grows_out has plan gone point stands kept n_kept =
+          either_grows n with_old with_new out_old out_new plan gone point grows_with grows_out (has plan gone point stands kept n_kept)
 
-      -- the states that a step gives, where others stand for each of them
-      pub step_put : (given new : List State) (n : ℕ) (state : State) → HasStep StandsFor placed Next given n state → ((s : State) → Contains given s → HasFor StandsFor new s) → HasStep StandsFor placed Next new n state
-      step_put given new n state has each plan gone point after stands kept not_placed next =
-          let held = has plan gone point after stands kept not_placed next in
-          held_by new held.0 plan gone after (each held.0 held.1) held.2
+      pub placing_grows : (calls : List ℕ) (n : ℕ) (with_old with_new out_old out_new : List State) (state : State) (x : ℕ) → Grows with_old with_new → Grows out_old out_new
+          → HasPlacing StandsFor placed Next calls n with_old out_old state x → HasPlacing StandsFor placed Next calls n with_new out_new state x
+      placing_grows calls n with_old with_new out_old out_new state x grows_with grows_out has plan gone point after stands kept n_kept x_kept not_placed next =
+          either_grows n with_old with_new out_old out_new plan gone after grows_with grows_out (has plan gone point after stands kept n_kept x_kept not_placed next)
+
+      pub placings_grow : (calls : List ℕ) (n : ℕ) (with_old with_new out_old out_new : List State) (each : List ℕ) (state : State) → Grows with_old with_new → Grows out_old out_new
+          → HasPlacings StandsFor placed Next calls n with_old out_old each state → HasPlacings StandsFor placed Next calls n with_new out_new each state
+      placings_grow calls n with_old with_new out_old out_new each state grows_with grows_out has =
+          all_weaker (HasPlacing StandsFor placed Next calls n with_old out_old state) (HasPlacing StandsFor placed Next calls n with_new out_new state)
+          (λ x p. placing_grows calls n with_old with_new out_old out_new state x grows_with grows_out p) each has
+
+      -- the state that settles another, sorted
+      either : (b : Bool) → (b ≡ true) ⊎ (b ≡ false)
+      either true = inl refl
+      either false = inr refl
+
+      pub settled_sorted : (calls : List ℕ) (n : ℕ) (with_n without : List State) (state settled : State) → Settles StandsFor placed Next calls state settled
+          → IsSortedInto StandsFor placed Next n with_n without settled → IsPutInto StandsFor placed Next calls n with_n without state
+      settled_sorted calls n with_n without state settled settles sorted plan gone point stands kept n_kept =
+          let s = settles plan gone point stands kept in
+          let there = sorted plan gone s.0 s.1 n_kept in (
+            s.0,
+            s.2,
+            elim (either (placed s.0 n)) [ inl is ↦ inl (is, there.0 is) | inr is ↦ inr (is, there.1 is) ],
+          )
+
+      -- the states that a step gives, each of which is put there
+      pub step_put : (calls : List ℕ) (n : ℕ) (given with_n without : List State) (x : ℕ) (state : State) → HasStep StandsFor placed Next given x state
+          → ((s : State) → Contains given s → IsPutInto StandsFor placed Next calls n with_n without s) → HasPlacing StandsFor placed Next calls n with_n without state x
+      step_put calls n given with_n without x state has each plan gone point after stands kept n_kept x_kept not_placed next =
+          let held = has plan gone point after stands x_kept not_placed next in
+          each held.0 held.1 plan gone after held.2 kept n_kept
 
       -- a placed call has no step
-      pub step_of_placed : (states : List State) (n : ℕ) (state : State) (answer : Bool) → TellsPlaced StandsFor placed state n answer → answer ≡ true → HasStep StandsFor placed Next states n state
-      step_of_placed states n state answer tells is plan gone point after stands kept not_placed next = absurd (true≢false (sym is ∙ (tells plan gone point stands kept ∙ not_placed)))
+      pub step_of_placed : (calls : List ℕ) (n : ℕ) (with_n without : List State) (x : ℕ) (state : State) (answer : Bool) → TellsPlaced StandsFor placed state x answer → answer ≡ true
+          → HasPlacing StandsFor placed Next calls n with_n without state x
+      step_of_placed calls n with_n without x state answer tells is plan gone point after stands kept n_kept x_kept not_placed next =
+          absurd (true≢false (sym is ∙ (tells plan gone point stands x_kept ∙ not_placed)))
+
+      -- one of the states settles another
+      abbrev pub HasSettled : List ℕ → List State → State → Type 0
+      HasSettled calls states state = (other : State) × Contains states other × Settles StandsFor placed Next calls state other
+
+      pub settled_grows : (calls : List ℕ) (old new : List State) (state : State) → Grows old new → HasSettled calls old state → HasSettled calls new state
+      settled_grows calls old new state grows has = (has.0, grows has.0 has.1, has.2)
+
+      -- so does a third that stands for it
+      pub settled_held : (calls : List ℕ) (states : List State) (state settled : State) → Settles StandsFor placed Next calls state settled → HasFor StandsFor states settled
+          → HasSettled calls states state
+      settled_held calls states state settled settles has = (
+        has.0,
+        has.1,
+        (λ plan gone point stands kept. let s = settles plan gone point stands kept in (s.0, has.2 plan gone s.0 s.1, s.2)),
+      )

@@ -1,10 +1,9 @@
--- The claim by induction over events: where what is held covers before an event, what is held covers after it.
-use Rattle.std.proofs.Common.{◌≡◌, ◌≢◌, ◌⊎◌, inl, inr, ℕ, zero, suc, ◌+◌, ◌<◌, Bool, true, false, IsTrue, List, [], ◌∷◌, ◌++◌, Some, refl, sym, ap, subst, ◌∙◌, arith}
-use Rattle.std.specs.List.{AllByRecursion}
+-- The claim by induction over events: what a completion becomes at an event, and what is covered at first.
+use Rattle.std.proofs.Common.{◌≡◌, ◌≢◌, inl, inr, ℕ, ◌+◌, ◌<◌, Bool, true, false, List, [], ◌∷◌, ◌++◌, Some, refl, sym, ap, subst, ◌∙◌, arith}
 use Rattle.std.proofs.lemmas.Bool.{true≢false, cases_eq, cases_lt}
-use Rattle.decision_core.specs.Times.{Times, IsAmong, IsUnanswered, IsOpen}
-use Rattle.decision_core.specs.Decide.{Leads, IsTold, IsTriedAhead, IsWitness, IsCompletion, HasServing, Extends, IsAnswerOf, HasOpen, Covers, IsStep, IsWalk}
-use Rattle.decision_core.proofs.Orders.{all_ahead, all_behind, all_at, all_of_each, Parts, parted, which_part, once_ahead, once_behind, others_ahead, apart, respects_behind, open_suffices}
+use Rattle.decision_core.specs.Times.{Times, Precedes, IsAmong, IsUnanswered, IsOpen, IsAnswerOf}
+use Rattle.decision_core.specs.Decide.{Leads, IsTold, IsWitness, IsCompletion, MayStandFor, Covers}
+use Rattle.decision_core.proofs.Orders.{all_at, all_of_each, began_by}
 
 -- among the parts of a list
 pub among_ahead : (xs ys : List ℕ) (m : ℕ) → IsAmong xs m → IsAmong (xs ++ ys) m
@@ -16,19 +15,7 @@ pub among_last : (xs : List ℕ) (n : ℕ) → IsAmong (xs ++ n ∷ []) n
 among_last [] n = inl refl
 among_last (x ∷ xs) n = inr (among_last xs n)
 
-all_last : (P : ℕ → Type 0) (xs : List ℕ) (n : ℕ) → AllByRecursion P xs → P n → AllByRecursion P (xs ++ n ∷ [])
-all_last P [] n all here = (here, tt)
-all_last P (x ∷ xs) n all here = (all.0, all_last P xs n all.1 here)
-
 module _ {Point : Type 0} (placed : Point → ℕ → Bool) (Next : Point → ℕ → Point → Type 0) where
-  -- a run is parted behind each of its calls
-  pub leads_parted : (point : Point) (xs : List ℕ) (n : ℕ) (ys : List ℕ) (last : Point) → Leads placed Next point (xs ++ n ∷ ys) last
-      → (mid : Point) × Leads placed Next point (xs ++ n ∷ []) mid × Leads placed Next mid ys last
-  leads_parted point [] n ys last run = (run.0, (run.0, run.1, refl), run.2)
-  leads_parted point (x ∷ xs) n ys last run =
-      let p = leads_parted run.0 xs n ys last run.2 in
-      (p.0, (run.0, run.1, p.1), p.2)
-
   -- two runs one after the other
   pub leads_joined : (point : Point) (xs ys : List ℕ) (mid last : Point) → Leads placed Next point xs mid → Leads placed Next mid ys last → Leads placed Next point (xs ++ ys) last
   leads_joined point [] ys mid last first second = subst (λ p. Leads placed Next p ys last) (sym first) second
@@ -40,25 +27,9 @@ module _ {Point : Type 0} (placed : Point → ℕ → Bool) (Next : Point → �
     still_placed point after n m next is =
         elim (cases_eq m n) [ inl same ↦ subst (λ k. placed after k ≡ true) (sym same) (told.adds point after n next) | inr other ↦ told.keeps point after n m next other ∙ is ]
 
-    -- and by a run
-    pub stays_placed : (point : Point) (order : List ℕ) (last : Point) (m : ℕ) → Leads placed Next point order last → placed point m ≡ true → placed last m ≡ true
-    stays_placed point [] last m run is = subst (λ s. placed s m ≡ true) run is
-    stays_placed point (x ∷ order) last m run is = stays_placed run.0 order last m run.2 (still_placed point run.0 x m run.1 is)
-
-    -- what a run placed is placed
-    pub among_placed : (point : Point) (order : List ℕ) (last : Point) (m : ℕ) → Leads placed Next point order last → IsAmong order m → placed last m ≡ true
-    among_placed point [] last m run among = absurd among
-    among_placed point (x ∷ order) last m run (inl same) = stays_placed run.0 order last m run.2 (subst (λ k. placed run.0 k ≡ true) same (told.adds point run.0 x run.1))
-    among_placed point (x ∷ order) last m run (inr among) = among_placed run.0 order last m run.2 among
-
-    -- and nothing else is
-    pub others_same : (point : Point) (order : List ℕ) (last : Point) (m : ℕ) → Leads placed Next point order last → AllByRecursion (λ k. m ≢ k) order → placed last m ≡ placed point m
-    others_same point [] last m run others = ap (λ s. placed s m) (sym run)
-    others_same point (x ∷ order) last m run others = others_same run.0 order last m run.2 others.1 ∙ told.keeps point run.0 x m run.1 others.0
-
     module _ (times : Times) where
       -- a call that isn't answered by an event, nor at the next one, isn't by the next one
-      one_later : (event n m : ℕ) → IsAnswerOf placed Next times (event + 1) n → m ≢ n → IsUnanswered times event m → IsUnanswered times (event + 1) m
+      one_later : (event n m : ℕ) → IsAnswerOf times (event + 1) n → m ≢ n → IsUnanswered times event m → IsUnanswered times (event + 1) m
       one_later event n m answer other unanswered at ends =
           let by = unanswered at ends in
           elim (cases_lt (event + 1) at) [
@@ -67,7 +38,7 @@ module _ {Point : Type 0} (placed : Point → ℕ → Bool) (Next : Point → �
           ]
 
       -- at the answer of a placed call a completion stays one
-      pub completion_stays : (event n : ℕ) (point : Point) (order : List ℕ) → IsAnswerOf placed Next times (event + 1) n → placed point n ≡ true
+      pub completion_stays : (event n : ℕ) (point : Point) (order : List ℕ) → IsAnswerOf times (event + 1) n → placed point n ≡ true
           → IsCompletion placed Next times event point order → IsCompletion placed Next times (event + 1) point order
       completion_stays event n point order answer is c = record {
         calls = c.calls;
@@ -102,74 +73,45 @@ module _ {Point : Type 0} (placed : Point → ℕ → Bool) (Next : Point → �
         runs = c.runs;
       }
 
-      -- what stands behind an answered call in a completion completes the point behind it
-      pub completion_behind : (event n : ℕ) (point : Point) (xs ys : List ℕ) (mid last : Point) → IsAnswerOf placed Next times (event + 1) n
-          → IsCompletion placed Next times event point (xs ++ n ∷ ys) → Leads placed Next point (xs ++ n ∷ []) mid → Leads placed Next mid ys last
-          → IsCompletion placed Next times (event + 1) mid ys
-      completion_behind event n point xs ys mid last answer c first second =
-          let not_n : (m : ℕ) → IsAmong ys m → m ≢ n = λ m among. all_at (λ k. k ≢ n) ys m (once_behind xs (n ∷ ys) c.once).0 among in
-          record {
-            calls = (all_behind (λ k. IsTrue (times.is_call k)) xs (n ∷ ys) c.calls).1;
-            once = (once_behind xs (n ∷ ys) c.once).1;
-            respects = (respects_behind times xs (n ∷ ys) c.respects).1;
-            unplaced = all_of_each (λ m. placed mid m ≡ false) ys (λ m among.
-                others_same point (xs ++ n ∷ []) mid m first
-                (all_last (λ k. m ≢ k) xs n (all_of_each (λ k. m ≢ k) xs (λ k there. apart xs n ys m k c.once there among)) (not_n m among))
-                ∙ all_at (λ k. placed point k ≡ false) ys m (all_behind (λ k. placed point k ≡ false) xs (n ∷ ys) c.unplaced).1 among);
-            unanswered = all_of_each (IsUnanswered times (event + 1)) ys (λ m among.
-                one_later event n m answer (not_n m among)
-                (all_at (IsUnanswered times event) ys m (all_behind (IsUnanswered times event) xs (n ∷ ys) c.unanswered).1 among));
-            complete = λ m at ends later. elim (c.complete m at ends (omega (arith, later))) [
-              | inl is ↦ inl (stays_placed point (xs ++ n ∷ []) mid m first is)
-              | inr among ↦ elim (which_part xs n ys m among) [
-                | inl ahead ↦ inl (among_placed point (xs ++ n ∷ []) mid m first (among_ahead xs (n ∷ []) m ahead))
-                | inr it ↦ elim it [
-                  | inl same ↦ inl (among_placed point (xs ++ n ∷ []) mid m first (subst (IsAmong (xs ++ n ∷ [])) same (among_last xs n)))
-                  | inr behind ↦ inr behind
-                ]
-              ]
-            ];
-            last = last;
-            runs = second;
-          }
+      -- what comes behind the first call of a completion completes the point behind that call
+      pub completion_on : (event : ℕ) (point : Point) (x : ℕ) (order : List ℕ) → (c : IsCompletion placed Next times event point (x ∷ order))
+          → IsCompletion placed Next times event c.runs.0 order
+      completion_on event point x order c = record {
+        calls = c.calls.1;
+        once = c.once.1;
+        respects = c.respects.1;
+        unplaced = all_of_each (λ m. placed c.runs.0 m ≡ false) order (λ m among.
+            told.keeps point c.runs.0 x m c.runs.1 (all_at (λ k. k ≢ x) order m c.once.0 among) ∙ all_at (λ k. placed point k ≡ false) order m c.unplaced.1 among);
+        unanswered = c.unanswered.1;
+        complete = λ m at ends later. elim (c.complete m at ends later) [
+          | inl is ↦ inl (still_placed point c.runs.0 x m c.runs.1 is)
+          | inr among ↦ elim among [
+            | inl same ↦ inl (subst (λ k. placed c.runs.0 k ≡ true) same (told.adds point c.runs.0 x c.runs.1))
+            | inr behind ↦ inr behind
+          ]
+        ];
+        last = c.last;
+        runs = c.runs.2;
+      }
 
-      -- what stands ahead of an answered call in a completion is one of the lists that are tried
-      pub tried_ahead : (event n : ℕ) (open_calls : List ℕ) (point : Point) (xs ys : List ℕ) → IsAnswerOf placed Next times (event + 1) n → HasOpen placed Next times event n open_calls
-          → IsCompletion placed Next times event point (xs ++ n ∷ ys) → IsTriedAhead placed Next open_calls n point xs
-      tried_ahead event n open_calls point xs ys answer has c =
-          let are_open = open_suffices times event xs n ys answer.ends c.calls c.respects c.unanswered in
-          record {
-            are_open = all_of_each (IsAmong open_calls) xs (λ m among. has m (all_at (IsOpen times event) xs m are_open among) (all_at (λ k. k ≢ n) xs m (others_ahead xs n ys c.once) among));
-            unplaced = all_ahead (λ m. placed point m ≡ false) xs (n ∷ ys) c.unplaced;
-            others = others_ahead xs n ys c.once;
-            once = once_ahead xs (n ∷ ys) c.once;
-          }
-
-      -- what serves has a completion
-      served : (event : ℕ) (Held : Point → Type 0) (point : Point) (order : List ℕ) → HasServing placed Next times event Held point → IsCompletion placed Next times event point order
-          → (p : Point) × Held p × ((o : List ℕ) × IsCompletion placed Next times event p o)
-      served event Held point order serving c = (serving.0, serving.1, serving.2 order c)
-
-      -- the answer of n, where it isn't placed: a completion goes on behind one of the points that come of it
-      answered : (event n : ℕ) (open_calls : List ℕ) (Before After : Point → Type 0) (point : Point) (order : List ℕ)
-          → IsAnswerOf placed Next times (event + 1) n → HasOpen placed Next times event n open_calls → Extends placed Next times event open_calls n Before After
-          → Before point → placed point n ≡ false → IsCompletion placed Next times event point order → Parts order n
-          → (p : Point) × After p × ((o : List ℕ) × IsCompletion placed Next times (event + 1) p o)
-      answered event n open_calls Before After point order answer has extends there not_placed c parts =
-          let whole = subst (IsCompletion placed Next times event point) parts.stands c in
-          let run = leads_parted point parts.ahead n parts.behind whole.last whole.runs in
-          let tried = tried_ahead event n open_calls point parts.ahead parts.behind answer has whole in
-          let goes_on = completion_behind event n point parts.ahead parts.behind run.0 whole.last answer whole run.1 run.2 in
-          served (event + 1) After run.0 parts.behind (extends.extended point run.0 parts.ahead there not_placed tried run.1) goes_on
-
-      must_stand : (event n : ℕ) (point : Point) (order : List ℕ) → IsAnswerOf placed Next times (event + 1) n → placed point n ≡ false
-          → IsCompletion placed Next times event point order → Parts order n
+      -- a call that isn't placed stands in a completion ahead of its answer
+      pub must_stand : (event n : ℕ) (point : Point) (order : List ℕ) → IsAnswerOf times (event + 1) n → placed point n ≡ false
+          → IsCompletion placed Next times event point order → IsAmong order n
       must_stand event n point order answer not_placed c =
-          elim (c.complete n (event + 1) answer.ends (omega arith)) [ inl is ↦ absurd (true≢false (sym is ∙ not_placed)) | inr among ↦ parted order n among ]
+          elim (c.complete n (event + 1) answer.ends (omega arith)) [ inl is ↦ absurd (true≢false (sym is ∙ not_placed)) | inr among ↦ among ]
 
-      either : (b : Bool) → (b ≡ true) ⊎ (b ≡ false)
-      either true = inl refl
-      either false = inr refl
+      -- the first call of a completion is open, where it isn't the one that is answered
+      pub first_open : (event n : ℕ) (point : Point) (x : ℕ) (order : List ℕ) → IsAnswerOf times (event + 1) n → placed point n ≡ false
+          → IsCompletion placed Next times event point (x ∷ order) → x ≢ n → IsOpen times event x
+      first_open event n point x order answer not_placed c other =
+          elim (must_stand event n point (x ∷ order) answer not_placed c) [
+            | inl same ↦ absurd (other same)
+            | inr among ↦ record {
+              known = c.calls.0;
+              began = began_by times (event + 1) n x answer.ends (all_at (λ m. ¬ Precedes times m x) order n c.respects.0 among);
+              unanswered = c.unanswered.0;
+            }
+          ]
 
       module _ (opening : Point) where
         -- the opening point is held at the beginning
@@ -199,45 +141,18 @@ module _ {Point : Type 0} (placed : Point → ℕ → Bool) (Next : Point → �
             let w = covers order witness in
             (w.0, still w.0 w.1, (w.2.0, completion_passes event w.0 w.2.0 silent w.2.1))
 
-        -- an answer extends it
-        pub covers_answered : (event n : ℕ) (open_calls : List ℕ) (Before After : Point → Type 0) → IsAnswerOf placed Next times (event + 1) n → HasOpen placed Next times event n open_calls
-            → Extends placed Next times event open_calls n Before After → Covers placed Next times opening event Before → Covers placed Next times opening (event + 1) After
-        covers_answered event n open_calls Before After answer has extends covers order witness =
-            let w = covers order witness in
-            elim (either (placed w.0 n)) [
-              | inl is ↦ served (event + 1) After w.0 w.2.0 (extends.stays w.0 w.1 is) (completion_stays event n w.0 w.2.0 answer is w.2.1)
-              | inr not_placed ↦ answered event n open_calls Before After w.0 w.2.0 answer has extends w.1 not_placed w.2.1 (must_stand event n w.0 w.2.0 answer not_placed w.2.1)
-            ]
-
         -- nothing is held: no order is a witness
         pub none_left : (event : ℕ) (Held : Point → Type 0) → ((point : Point) → ¬ Held point) → Covers placed Next times opening event Held
             → (order : List ℕ) → ¬ IsWitness placed Next times opening order
         none_left event Held none covers order witness = let w = covers order witness in none w.0 w.1
 
-        -- a smaller set covers, where for each point left out one that stays serves: merging, neutral calls first, and what else is cut short
-        pub covers_pruned : (event : ℕ) (Held Fewer : Point → Type 0) → ((point : Point) → Held point → HasServing placed Next times event Fewer point)
-            → Covers placed Next times opening event Held → Covers placed Next times opening event Fewer
-        covers_pruned event Held Fewer serving covers order witness =
-            let w = covers order witness in
-            let other = serving w.0 w.1 in
-            (other.0, other.1, other.2 w.2.0 w.2.1)
+-- a point may stand for itself, and for what one that may stand for it may stand for
+module _ {Point : Type 0} (placed : Point → ℕ → Bool) (Next : Point → ℕ → Point → Type 0) where
+  pub for_itself : (point : Point) → MayStandFor placed Next point point
+  for_itself point = record { keeps = λ n is. is; serves = λ times event order c. (order, c) }
 
-        -- a step of the walk keeps what it covers
-        covers_step : (event : ℕ) (Before After : Point → Type 0) → IsStep placed Next times event Before After
-            → Covers placed Next times opening event Before → Covers placed Next times opening (event + 1) After
-        covers_step event Before After (inl silent) covers = covers_passed event Before After silent.0 silent.1 covers
-        covers_step event Before After (inr answer) covers =
-            covers_answered event answer.0 answer.1 Before After answer.2 answer.3 answer.4 covers
-
-        -- so what a walk holds covers
-        covers_walk : (Held : ℕ → Point → Type 0) → IsWalk placed Next times opening Held → (event : ℕ) → Covers placed Next times opening event (Held event)
-        covers_walk Held walk zero = covers_first (Held 0) walk.begins walk.fresh walk.later
-        covers_walk Held walk (suc event) =
-            let one_more : event + 1 ≡ suc event = omega arith in
-            subst (λ e. Covers placed Next times opening e (Held e)) one_more
-            (covers_step event (Held event) (Held (event + 1)) (walk.steps event) (covers_walk Held walk event))
-
-        -- the theorem: where nothing is held behind an event no order is a witness
-        pub decides : (Held : ℕ → Point → Type 0) → IsWalk placed Next times opening Held → (event : ℕ) → ((point : Point) → ¬ Held event point)
-            → (order : List ℕ) → ¬ IsWitness placed Next times opening order
-        decides Held walk event none = none_left event (Held event) none (covers_walk Held walk event)
+  pub for_another : (point other third : Point) → MayStandFor placed Next point other → MayStandFor placed Next other third → MayStandFor placed Next point third
+  for_another point other third first second = record {
+    keeps = λ n is. second.keeps n (first.keeps n is);
+    serves = λ times event order c. let o = first.serves times event order c in second.serves times event o.0 o.1;
+  }

@@ -6,7 +6,7 @@ use Rattle.std.specs.List.{slice_index_or}
 use Rattle.decision_core.specs.declared.deciding.Event.{Event}
 use Rattle.decision_core.specs.declared.deciding.Event.TheVariants.{Called, Answered, AtOnce, Passed}
 use Rattle.decision_core.specs.Times.{Times, IsAmong, IsUnanswered}
-use Rattle.decision_core.specs.Layers.{ExtendsAll, ForgetsAll}
+use Rattle.decision_core.specs.Layers.{ExtendsAll, ForgetsAll, SettlesAll}
 
 -- this event is event `k + 1` of the list
 abbrev pub StandsAt : List Event → ℕ → Event → Type 0
@@ -44,11 +44,11 @@ module _ {Plan Point State : Type 0} (StandsFor : Plan → (ℕ → Bool) → Po
   -- what the answer of n makes of the open calls and of the states
   abbrev pub IsAnswerStep : ℕ → List ℕ → List ℕ → List State → List State → Type 0
   IsAnswerStep n waiting left before after =
-      IsWithout n waiting left × ((middle : List State) × ExtendsAll StandsFor placed Next left n before middle × ForgetsAll StandsFor placed Next n middle after)
+      IsWithout n waiting left × ((middle : List State) × ExtendsAll StandsFor placed Next (left ++ n ∷ []) n before middle × ForgetsAll StandsFor placed Next n middle after)
 
   -- what an event makes of them
   abbrev pub IsEventStep : Event → List ℕ → List ℕ → List State → List State → Type 0
-  IsEventStep (Called n) waiting left before after = (after ≡ before) × (left ≡ waiting ++ n ∷ [])
+  IsEventStep (Called n) waiting left before after = SettlesAll StandsFor placed Next (n ∷ []) before after × (left ≡ waiting ++ n ∷ [])
   IsEventStep (Answered n) waiting left before after = IsAnswerStep n waiting left before after
   IsEventStep (AtOnce n) waiting left before after = IsAnswerStep n waiting left before after
   IsEventStep Passed waiting left before after = (after ≡ before) × (left ≡ waiting)

@@ -2,6 +2,8 @@
 -- The states of a walk: each stands for points of plans, and may have forgotten of some calls whether they are placed there (a form
 -- of this project's own).
 use Rattle.std.specs.Prelude.{◌≡◌, ◌==◌, ◌||◌, ℕ, Bool, false, List, Contains}
+use Rattle.std.specs.List.{AllByRecursion}
+use Rattle.decision_core.specs.Decide.{MayStandFor}
 
 -- the calls that may be forgotten, and this one
 abbrev pub also : (ℕ → Bool) → ℕ → ℕ → Bool
@@ -34,3 +36,8 @@ module _ {Plan Point State : Type 0} (StandsFor : Plan → (ℕ → Bool) → Po
       abbrev pub HasStep : List State → ℕ → State → Type 0
       HasStep states n state = (plan : Plan) (gone : ℕ → Bool) (point after : Point) → StandsFor plan gone point state → gone n ≡ false → placed point n ≡ false
           → Next plan point n after → Holds plan gone states after
+
+      -- for each point that the first state stands for the second one stands for one that may stand for it, where these calls aren't forgotten
+      abbrev pub Settles : List ℕ → State → State → Type 0
+      Settles calls state after = (plan : Plan) (gone : ℕ → Bool) (point : Point) → StandsFor plan gone point state → AllByRecursion (λ n. gone n ≡ false) calls
+          → (other : Point) × StandsFor plan gone other after × MayStandFor placed (Next plan) point other

@@ -1,12 +1,12 @@
 //! The walk over the events of a history.
 
-ghost use Rattle.std.specs.Prelude.{◌≡◌, ℕ, List, [], None, IfOk, IfSome};
+ghost use Rattle.std.specs.Prelude.{◌≡◌, ◌++◌, ◌∷◌, ℕ, List, [], None, IfOk, IfSome};
 ghost use Rattle.decision_core.specs.Times.{Times};
 ghost use Rattle.decision_core.specs.Decide.{IsWitness};
 ghost use Rattle.decision_core.specs.Events.{Tells, IsAdded, IsWithout, IsAnswerStep, IsEventStep, IsAnswer, HasStateBehind};
 ghost use Rattle.decision_core.specs.Walked.{NamesAnswer, IfNoWitness, HasState};
 
-use crate::extending::{extend, forget_in_all};
+use crate::extending::{extend, forget_in_all, settle_all};
 use crate::machine::{Limits, Machine, Stop};
 use std::alloc::Global;
 
@@ -61,6 +61,17 @@ fn others<R: Drop>(alloc: Global, waiting: &[u64], n: u64) -> Result<Vec<u64>, S
     Ok(left)
 }
 
+/// These calls, and one more.
+fn and_call<R: Drop>(alloc: Global, calls: &[u64], n: u64) -> Result<Vec<u64>, Stop<R>>
+    ensures { IfOk result (λ more. more.items ≡ calls.now ++ n ∷ []) }
+{
+    let mut more = Vec::from_slice(alloc, calls)?;
+    if more.push(n).is_err() {
+        return Err(Stop::NoMemory);
+    }
+    Ok(more)
+}
+
 /// What the answer of a call makes of the states and of the open calls.
 fn take_answer<M: Machine>(
     alloc: Global,
@@ -76,7 +87,8 @@ fn take_answer<M: Machine>(
     ensures answer { IfOk result (λ pair. IsAnswerStep (M.StandsFor machine.now) (M.placed machine.now) (M.Next machine.now) n waiting.items pair.1.items states.items pair.0.items) }
 {
     let left = others(alloc, waiting.as_slice(), n)?;
-    let extended = extend(alloc, machine, work, states, left.as_slice(), n, limits)?;
+    let calls = and_call(alloc, left.as_slice(), n)?;
+    let extended = extend(alloc, machine, work, states, calls.as_slice(), n, limits)?;
     let after = forget_in_all(alloc, machine, work, extended, n, limits)?;
     Ok((after, left))
 }
@@ -101,7 +113,8 @@ fn take_event<M: Machine>(
             if waiting.push(n).is_err() {
                 return Err(Stop::NoMemory);
             }
-            Ok((states, waiting))
+            let settled = settle_all(alloc, machine, work, states, n, limits)?;
+            Ok((settled, waiting))
         }
         Event::Answered(n) => take_answer(alloc, machine, work, states, waiting, n, limits),
         Event::AtOnce(n) => take_answer(alloc, machine, work, states, waiting, n, limits),

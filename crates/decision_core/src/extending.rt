@@ -1,93 +1,12 @@
 //! One step of the walk: at the answer of a call its states become all that come of a list of open calls that ends in it.
 
-ghost use Rattle.std.specs.Prelude.{◌≡◌, Contains, IfOk};
-ghost use Rattle.decision_core.specs.States.{HasFor, HasStep};
-ghost use Rattle.decision_core.specs.Layers.{Grows, HasPlacings, HasAllPlacings, IsSortedInto, IsSortedOut, ExtendsAll, ForgetsAll};
+ghost use Rattle.std.specs.Prelude.{◌≡◌, ◌∷◌, [], Contains, IfOk};
+ghost use Rattle.decision_core.specs.States.{HasStep};
+ghost use Rattle.decision_core.specs.Layers.{Grows, IsPutInto, HasPlacings, HasAllPlacings, IsSortedInto, IsSortedOut, ExtendsAll, ForgetsAll, SettlesAll};
 
 use crate::machine::{Limits, Machine, Stop};
 use crate::states::{States, no_states, put};
 use std::alloc::Global;
-
-/// Puts all of these states there.
-fn put_all<M: Machine>(
-    machine: &M,
-    work: &mut M::Work,
-    states: &mut States<M::State>,
-    more: Vec<M::State>,
-    limits: &Limits,
-) -> Result<(), Stop<M::Reason>>
-    requires { M.Fits machine.now work.old }
-    ensures fits { M.Fits machine.now work.new }
-    ensures there { IfOk result (λ _. Grows states.old.items.items states.new.items.items
-        × ((s : M.State) → Contains more.items s → HasFor (M.StandsFor machine.now) states.new.items.items s)) }
-{
-    for state in more {
-        put(machine, work, states, state, limits)?;
-    }
-    Ok(())
-}
-
-/// All states that placing the call may lead to, which is a step.
-fn step_within<M: Machine>(
-    machine: &M,
-    work: &mut M::Work,
-    state: &M::State,
-    call: u64,
-    limits: &mut Limits,
-) -> Result<Vec<M::State>, Stop<M::Reason>>
-    requires { M.Fits machine.now work.old }
-    ensures fits { M.Fits machine.now work.new }
-    ensures step { IfOk result (λ after. HasStep (M.StandsFor machine.now) (M.placed machine.now) (M.Next machine.now) after.items call state.now) }
-{
-    if limits.steps == 0 {
-        return Err(Stop::TooManySteps);
-    }
-    limits.steps -= 1;
-    machine.step(work, state, call)
-}
-
-/// Puts all that come of placing one of these calls in a state there.
-fn place_calls<M: Machine>(
-    machine: &M,
-    work: &mut M::Work,
-    states: &mut States<M::State>,
-    state: &M::State,
-    calls: &[u64],
-    limits: &mut Limits,
-) -> Result<(), Stop<M::Reason>>
-    requires { M.Fits machine.now work.old }
-    ensures fits { M.Fits machine.now work.new }
-    ensures placings { IfOk result (λ _. Grows states.old.items.items states.new.items.items
-        × HasPlacings (M.StandsFor machine.now) (M.placed machine.now) (M.Next machine.now) states.new.items.items calls.now state.now) }
-{
-    for call in calls {
-        if !machine.is_placed(state, *call) {
-            let after = step_within(machine, work, state, *call, limits)?;
-            put_all(machine, work, states, after, limits)?;
-        }
-    }
-    Ok(())
-}
-
-/// The same for each of these states.
-fn place_in_all<M: Machine>(
-    machine: &M,
-    work: &mut M::Work,
-    states: &mut States<M::State>,
-    each: &[M::State],
-    calls: &[u64],
-    limits: &mut Limits,
-) -> Result<(), Stop<M::Reason>>
-    requires { M.Fits machine.now work.old }
-    ensures fits { M.Fits machine.now work.new }
-    ensures placings { IfOk result (λ _. Grows states.old.items.items states.new.items.items
-        × HasAllPlacings (M.StandsFor machine.now) (M.placed machine.now) (M.Next machine.now) states.new.items.items calls.now each.now) }
-{
-    for state in each {
-        place_calls(machine, work, states, state, calls, limits)?;
-    }
-    Ok(())
-}
 
 /// Puts a state to the first ones where the call is placed, else to the second.
 fn sort_into<M: Machine>(
@@ -131,45 +50,146 @@ fn sort_out<M: Machine>(
     Ok(())
 }
 
+/// Settles a state, and puts it to the first ones where call n is placed, else to the second.
+fn put_settled<M: Machine>(
+    machine: &M,
+    work: &mut M::Work,
+    state: M::State,
+    calls: &[u64],
+    n: u64,
+    with: &mut States<M::State>,
+    without: &mut States<M::State>,
+    limits: &Limits,
+) -> Result<(), Stop<M::Reason>>
+    requires { M.Fits machine.now work.old }
+    ensures fits { M.Fits machine.now work.new }
+    ensures there { IfOk result (λ _. (Grows with.old.items.items with.new.items.items × Grows without.old.items.items without.new.items.items)
+        × IsPutInto (M.StandsFor machine.now) (M.placed machine.now) (M.Next machine.now) calls.now n with.new.items.items without.new.items.items state) }
+{
+    let settled = machine.settle(work, state, calls)?;
+    sort_into(machine, work, settled, n, with, without, limits)?;
+    Ok(())
+}
+
+/// The same for each of these states.
+fn put_all<M: Machine>(
+    machine: &M,
+    work: &mut M::Work,
+    states: Vec<M::State>,
+    calls: &[u64],
+    n: u64,
+    with: &mut States<M::State>,
+    without: &mut States<M::State>,
+    limits: &Limits,
+) -> Result<(), Stop<M::Reason>>
+    requires { M.Fits machine.now work.old }
+    ensures fits { M.Fits machine.now work.new }
+    ensures there { IfOk result (λ _. (Grows with.old.items.items with.new.items.items × Grows without.old.items.items without.new.items.items)
+        × ((s : M.State) → Contains states.items s → IsPutInto (M.StandsFor machine.now) (M.placed machine.now) (M.Next machine.now) calls.now n with.new.items.items without.new.items.items s)) }
+{
+    for state in states {
+        put_settled(machine, work, state, calls, n, with, without, limits)?;
+    }
+    Ok(())
+}
+
+/// All states that placing the call may lead to, which is a step.
+fn step_within<M: Machine>(
+    machine: &M,
+    work: &mut M::Work,
+    state: &M::State,
+    call: u64,
+    limits: &mut Limits,
+) -> Result<Vec<M::State>, Stop<M::Reason>>
+    requires { M.Fits machine.now work.old }
+    ensures fits { M.Fits machine.now work.new }
+    ensures step { IfOk result (λ after. HasStep (M.StandsFor machine.now) (M.placed machine.now) (M.Next machine.now) after.items call state.now) }
+{
+    if limits.steps == 0 {
+        return Err(Stop::TooManySteps);
+    }
+    limits.steps -= 1;
+    machine.step(work, state, call)
+}
+
+/// Puts all that come of placing one of these calls in a state there.
+fn place_calls<M: Machine>(
+    machine: &M,
+    work: &mut M::Work,
+    state: &M::State,
+    calls: &[u64],
+    n: u64,
+    with: &mut States<M::State>,
+    without: &mut States<M::State>,
+    limits: &mut Limits,
+) -> Result<(), Stop<M::Reason>>
+    requires { M.Fits machine.now work.old }
+    ensures fits { M.Fits machine.now work.new }
+    ensures placings { IfOk result (λ _. (Grows with.old.items.items with.new.items.items × Grows without.old.items.items without.new.items.items)
+        × HasPlacings (M.StandsFor machine.now) (M.placed machine.now) (M.Next machine.now) calls.now n with.new.items.items without.new.items.items calls.now state.now) }
+{
+    for call in calls {
+        if !machine.is_placed(state, *call) {
+            let after = step_within(machine, work, state, *call, limits)?;
+            put_all(machine, work, after, calls, n, with, without, limits)?;
+        }
+    }
+    Ok(())
+}
+
+/// The same for each of these states.
+fn place_in_all<M: Machine>(
+    machine: &M,
+    work: &mut M::Work,
+    each: &[M::State],
+    calls: &[u64],
+    n: u64,
+    with: &mut States<M::State>,
+    without: &mut States<M::State>,
+    limits: &mut Limits,
+) -> Result<(), Stop<M::Reason>>
+    requires { M.Fits machine.now work.old }
+    ensures fits { M.Fits machine.now work.new }
+    ensures placings { IfOk result (λ _. (Grows with.old.items.items with.new.items.items × Grows without.old.items.items without.new.items.items)
+        × HasAllPlacings (M.StandsFor machine.now) (M.placed machine.now) (M.Next machine.now) calls.now n with.new.items.items without.new.items.items each.now) }
+{
+    for state in each {
+        place_calls(machine, work, state, calls, n, with, without, limits)?;
+    }
+    Ok(())
+}
+
 /// What the states become at the answer of call n: each in which it is placed, and all that come of a list of open calls that ends
-/// in it. Open calls but n are passed.
+/// in it. Open calls are passed, and n.
 pub(crate) fn extend<M: Machine>(
     alloc: Global,
     machine: &M,
     work: &mut M::Work,
     states: Vec<M::State>,
-    waiting: &[u64],
+    calls: &[u64],
     n: u64,
     limits: &mut Limits,
 ) -> Result<Vec<M::State>, Stop<M::Reason>>
     requires { M.Fits machine.now work.old }
     ensures fits { M.Fits machine.now work.new }
-    ensures extended { IfOk result (λ after. ExtendsAll (M.StandsFor machine.now) (M.placed machine.now) (M.Next machine.now) waiting.now n states.items after.items) }
+    ensures extended { IfOk result (λ after. ExtendsAll (M.StandsFor machine.now) (M.placed machine.now) (M.Next machine.now) calls.now n states.items after.items) }
 {
     let mut found = no_states(alloc);
     let mut layer = no_states(alloc);
     sort_out(machine, work, states, n, &mut found, &mut layer, limits)?;
-    let last = [n];
-    let rounds = waiting.len().saturating_add(1);
-    for _round in 0..rounds {
+    for _round in 0..calls.len() {
         if layer.items.is_empty() {
             return Ok(found.items);
         }
-        place_in_all(
-            machine,
-            work,
-            &mut found,
-            layer.items.as_slice(),
-            &last,
-            limits,
-        )?;
         let mut next = no_states(alloc);
         place_in_all(
             machine,
             work,
-            &mut next,
             layer.items.as_slice(),
-            waiting,
+            calls,
+            n,
+            &mut found,
+            &mut next,
             limits,
         )?;
         layer = next;
@@ -199,4 +219,26 @@ pub(crate) fn forget_in_all<M: Machine>(
         put(machine, work, &mut left, machine.forget(state, n), limits)?;
     }
     Ok(left.items)
+}
+
+/// The states, in each of which a call that is sent is placed where it may as well be placed at once.
+pub(crate) fn settle_all<M: Machine>(
+    alloc: Global,
+    machine: &M,
+    work: &mut M::Work,
+    states: Vec<M::State>,
+    n: u64,
+    limits: &Limits,
+) -> Result<Vec<M::State>, Stop<M::Reason>>
+    requires { M.Fits machine.now work.old }
+    ensures fits { M.Fits machine.now work.new }
+    ensures settled { IfOk result (λ after. SettlesAll (M.StandsFor machine.now) (M.placed machine.now) (M.Next machine.now) (n ∷ []) states.items after.items) }
+{
+    let calls = [n];
+    let mut settled = no_states(alloc);
+    for state in states {
+        let after = machine.settle(work, state, &calls)?;
+        put(machine, work, &mut settled, after, limits)?;
+    }
+    Ok(settled.items)
 }

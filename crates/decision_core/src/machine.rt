@@ -2,7 +2,7 @@
 
 ghost use Rattle.std.specs.Prelude.{◌≡◌, ℕ, Bool, false, IfOk, IsTrue};
 ghost use Rattle.decision_core.specs.Decide.{IsTold};
-ghost use Rattle.decision_core.specs.States.{Replaces, Forgets, TellsPlaced, HasStep};
+ghost use Rattle.decision_core.specs.States.{Replaces, Forgets, TellsPlaced, HasStep, Settles};
 
 use std::alloc::AllocError;
 
@@ -93,6 +93,18 @@ pub trait Machine {
         requires { Fits self.now work.old }
         ensures fits { Fits self.now work.new }
         ensures states { IfOk result (λ states. HasStep (StandsFor self.now) (placed self.now) (Next self.now) states.items n state.now) };
+
+    /// The state, in which those of these calls are placed that may as well be placed at once: whatever a plan goes on with, it goes on
+    /// with after them.
+    fn settle(
+        &self,
+        work: &mut Self::Work,
+        state: Self::State,
+        calls: &[u64],
+    ) -> Result<Self::State, Stop<Self::Reason>>
+        requires { Fits self.now work.old }
+        ensures fits { Fits self.now work.new }
+        ensures settled { IfOk result (Settles (StandsFor self.now) (placed self.now) (Next self.now) calls.now state) };
 
     /// The state, which need not know of this call any more whether it is placed. It isn't asked again.
     fn forget(&self, state: Self::State, n: u64) -> Self::State

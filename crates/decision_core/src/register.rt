@@ -116,6 +116,15 @@ impl Machine for RegisterMachine {
         Ok(states)
     }
 
+    fn settle(
+        &self,
+        _work: &mut (),
+        state: Register,
+        _calls: &[u64],
+    ) -> Result<Register, Stop<()>> {
+        Ok(state)
+    }
+
     fn forget(&self, state: Register, _n: u64) -> Register {
         state
     }

@@ -1,5 +1,5 @@
 -- a call that is placed, however it came out
-use Rattle.std.proofs.Common.{◌≡◌, inl, inr, ℕ, ◌-◌, ◌<◌, ◌≤◌, Bool, true, List, [], ◌∷◌, length, Some, None, sym, ap, ◌∙◌, subst, arith}
+use Rattle.std.proofs.Common.{◌≡◌, inl, inr, ℕ, ◌-◌, ◌<◌, ◌≤◌, Bool, true, false, List, [], ◌∷◌, length, Some, None, refl, sym, ap, ◌∙◌, subst, arith}
 use Rattle.std.specs.Prelude.{◌==◌, ◌||◌, cond}
 use Rattle.std.specs.Option.{option_map_or}
 use Rattle.std.specs.List.{list_any}
@@ -59,5 +59,9 @@ module _ (known : KnownCalls) where
 
     pub missing_stays : (state : WayState) (n : ℕ) → IsMissing known marks state → MayNotLose known marks state n
     missing_stays state n missing plan gone point at lost =
+        let kept : gone missing.number ≡ false = of_later (gone missing.number) refl in
         true≢false (sym (among_any point.calls missing.number (lost.1 missing.number missing.marked (missing.era ∙ at.era)))
-        ∙ sym (at.placed missing.number (inr missing.marked)) ∙ missing.unplaced)
+        ∙ sym (at.placed missing.number kept) ∙ missing.unplaced) where
+          of_later : (b : Bool) → gone missing.number ≡ b → b ≡ false
+          of_later true is = let by = at.answered missing.number is missing.later.recorded missing.later.at missing.later.stands missing.later.ended in absurd (omega (arith, by, missing.later.later))
+          of_later false is = refl

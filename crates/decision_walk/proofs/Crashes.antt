@@ -15,7 +15,7 @@ use Rattle.decision_law.specs.Laws.{binds_of}
 use Rattle.decision_law.specs.Machine.{Point, Changes}
 use Rattle.decision_walk.specs.declared.way_state.WayState.{WayState}
 use Rattle.decision_walk.specs.Way.{bound_in, WayLeads}
-use Rattle.decision_walk.specs.Standing.{numbers_of, has_call, HasBase, binds_in, IsAt}
+use Rattle.decision_walk.specs.Standing.{numbers_of, has_call, HasBase, EndsBy, binds_in, IsAt}
 use Rattle.decision_walk.specs.Placings.{kept_way, IsCrashed, HasStepOf}
 use Rattle.decision_walk.proofs.PlacedLaws.{has_more}
 
@@ -40,6 +40,7 @@ module _ (known : KnownCalls) where
               (subst (λ t. WayLeads known (binds_in known state) (base_of known) (kept_way state.cut state.way.items) t) (sym (ap (λ p. p.tree) crash.1))
               (kept_leads (binds_in known state) state.way.items state.cut point.tree point.base (at.base (omega (arith, inside, era))) (at.tree (omega (arith, inside, era))))));
           base = λ inside. subst (λ c. HasBase known (binds_in known child) child.way.items c after.base) (sym is.cut_is) (ap (λ p. p.base) crash.1);
+          answered = λ m kept. subst (EndsBy known m) (sym is.answered) (at.answered m kept);
           placed = λ m kept. ap (λ l. has_call l m) is.placed ∙ has_more state.placed.items point.calls n m (at.placed m kept) ∙ ap (λ p. list_any (λ k. k == m) p.calls) (sym crash.1);
         }
 

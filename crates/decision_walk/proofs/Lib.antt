@@ -11,3 +11,4 @@ mod Calls
 mod Sameness
 mod Taking
 mod StepLaws
+mod SettleLaws

@@ -1,7 +1,7 @@
 -- where a walk begins, and what a state forgets
-use Rattle.std.proofs.Common.{◌≡◌, ◌≢◌, ◌⊎◌, inl, inr, ℕ, Bool, true, false, cond, List, [], ◌∷◌, None, refl, sym, ap, ◌∙◌, subst, eq-eqb}
+use Rattle.std.proofs.Common.{◌≡◌, ◌≢◌, inl, inr, ℕ, ◌≤◌, Bool, true, false, cond, List, [], ◌∷◌, None, refl, sym, ap, ◌∙◌, subst, eq-eqb, arith}
 use Rattle.std.specs.Prelude.{◌==◌, ◌||◌, not, filter}
-use Rattle.std.proofs.lemmas.Bool.{eqb-true, ne_eqb, or_parts, true≢false}
+use Rattle.std.proofs.lemmas.Bool.{eqb-true, ne_eqb, or_parts, or_cases, true≢false}
 use Rattle.nfs_history.specs.declared.knowing.KnownCalls.{KnownCalls}
 use Rattle.certificate.specs.declared.plan.Certificate.{Certificate}
 use Rattle.witness_check.specs.Run.{base_of}
@@ -14,7 +14,7 @@ use Rattle.decision_law.specs.Laws.{binds_of}
 use Rattle.decision_law.specs.Machine.{Point, first_point}
 use Rattle.decision_walk.specs.declared.way_state.WayState.{WayState}
 use Rattle.decision_walk.specs.Way.{bound_in, WayLeads}
-use Rattle.decision_walk.specs.Standing.{is_marked, has_call, HasBase, binds_in, IsAt}
+use Rattle.decision_walk.specs.Standing.{has_call, HasBase, EndsBy, binds_in, IsAt}
 
 module _ (known : KnownCalls) (marks : List Bool) where
   pub opens : (state : WayState) → state.bound.items ≡ [] → state.way.items ≡ [] → state.cut ≡ None → state.era ≡ 1 → state.placed.items ≡ [] → (plan : Certificate)
@@ -25,6 +25,7 @@ module _ (known : KnownCalls) (marks : List Bool) where
     tree = λ inside. subst (λ w. WayLeads known (binds_in known state) (base_of known) w (base_of known)) (sym way) refl;
     base = λ inside. subst (λ c. HasBase known (binds_in known state) state.way.items c None) (sym cut) refl;
     placed = λ n kept. ap (λ l. has_call l n) placed;
+    answered = λ n kept. absurd (true≢false (sym kept));
   }
 
   -- a call that is looked for stays, where another one is left out
@@ -36,10 +37,10 @@ module _ (known : KnownCalls) (marks : List Bool) where
     go true same rest = rest ∙ ap (λ b. b || has_call calls m) (sym (ne_eqb k m (λ it. other (sym it ∙ eqb-true k n same))))
     go false apart rest = ap (λ b. (k == m) || b) rest
 
-  pub forgets : (plan : Certificate) (gone : ℕ → Bool) (point : Point known) (state after : WayState) (n : ℕ) → is_marked marks n ≡ false → after.bound.items ≡ state.bound.items
+  pub forgets : (plan : Certificate) (gone : ℕ → Bool) (point : Point known) (state after : WayState) (n : ℕ) → after.bound.items ≡ state.bound.items
       → after.way.items ≡ state.way.items → after.cut ≡ state.cut → after.era ≡ state.era → after.placed.items ≡ filter (λ m. not (m == n)) state.placed.items
-      → IsAt known marks plan gone point state → IsAt known marks plan (also gone n) point after
-  forgets plan gone point state after n unmarked bound way cut era placed at =
+      → state.answered_to ≤ after.answered_to → EndsBy known n after.answered_to → IsAt known marks plan gone point state → IsAt known marks plan (also gone n) point after
+  forgets plan gone point state after n bound way cut era placed later ends at =
       let binds : binds_in known state ≡ binds_in known after = ap (λ l. bound_in known (bound_pairs l)) (sym bound) in
       record {
         binds = subst (λ b. AgreesWith b (binds_of known plan)) binds at.binds;
@@ -48,21 +49,11 @@ module _ (known : KnownCalls) (marks : List Bool) where
         base = λ inside. subst (λ c. HasBase known (binds_in known after) after.way.items c point.base) (sym cut)
             (subst (λ b. HasBase known b after.way.items state.cut point.base) binds (subst (λ w. HasBase known (binds_in known state) w state.cut point.base) (sym way) (at.base inside)));
         placed = λ m kept. ap (λ l. has_call l m) placed ∙ of_kept m kept;
+        answered = λ m kept. elim (or_cases (gone m) (m == n) kept) [
+          | inl earlier ↦ (λ recorded event stands ended. let by = at.answered m earlier recorded event stands ended in omega (arith, by, later))
+          | inr now ↦ subst (λ k. EndsBy known k after.answered_to) (sym (eqb-true m n now)) ends
+        ];
       } where
-        apart : (m : ℕ) → (also gone n m ≡ false) ⊎ (is_marked marks m ≡ true) → m ≢ n
-        apart m (inl kept) same = true≢false (sym (eq-eqb m n same) ∙ (or_parts (gone m) (m == n) kept).1)
-        apart m (inr marked) same = true≢false (sym marked ∙ ap (is_marked marks) same ∙ unmarked)
-
-        was : (m : ℕ) → (also gone n m ≡ false) ⊎ (is_marked marks m ≡ true) → (gone m ≡ false) ⊎ (is_marked marks m ≡ true)
-        was m (inl kept) = inl (or_parts (gone m) (m == n) kept).0
-        was m (inr marked) = inr marked
-
-        of_kept : (m : ℕ) → (also gone n m ≡ false) ⊎ (is_marked marks m ≡ true) → has_call (filter (λ k. not (k == n)) state.placed.items) m ≡ is_placed point m
-        of_kept m kept = has_other state.placed.items n m (apart m kept) ∙ at.placed m (was m kept)
-
-  -- a marked call is kept
-  pub forgets_nothing : (plan : Certificate) (gone : ℕ → Bool) (point : Point known) (state : WayState) (n : ℕ) → IsAt known marks plan gone point state → IsAt known marks plan (also gone n) point state
-  forgets_nothing plan gone point state n at = record { binds = at.binds; era = at.era; tree = at.tree; base = at.base; placed = λ m kept. at.placed m (was m kept) } where
-    was : (m : ℕ) → (also gone n m ≡ false) ⊎ (is_marked marks m ≡ true) → (gone m ≡ false) ⊎ (is_marked marks m ≡ true)
-    was m (inl kept) = inl (or_parts (gone m) (m == n) kept).0
-    was m (inr marked) = inr marked
+        of_kept : (m : ℕ) → also gone n m ≡ false → has_call (filter (λ k. not (k == n)) state.placed.items) m ≡ is_placed point m
+        of_kept m kept = let parts = or_parts (gone m) (m == n) kept in
+            has_other state.placed.items n m (λ same. true≢false (sym (eq-eqb m n same) ∙ parts.1)) ∙ at.placed m parts.0

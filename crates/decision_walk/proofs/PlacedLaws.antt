@@ -19,7 +19,7 @@ use Rattle.decision_law.specs.Machine.{Point, Changes}
 use Rattle.decision_walk.specs.declared.attempt.Attempt.{Attempt}
 use Rattle.decision_walk.specs.declared.way_state.WayState.{WayState}
 use Rattle.decision_walk.specs.Way.{bound_in, WayLeads, longer}
-use Rattle.decision_walk.specs.Standing.{numbers_of, has_call, HasBase, binds_in, IsAt}
+use Rattle.decision_walk.specs.Standing.{numbers_of, has_call, HasBase, EndsBy, binds_in, IsAt}
 use Rattle.decision_walk.specs.Placings.{binds_after, Covered, CoversPlans, IsChild, HasChildren, HasPlaced, HoldsAt, MayNotLose}
 use Rattle.decision_walk.proofs.Fronts.{take_ahead, take_whole}
 use Rattle.decision_walk.proofs.Later.{way_later}
@@ -111,6 +111,7 @@ module _ (known : KnownCalls) where
           tree = λ inside. subst (λ b. WayLeads known b (base_of known) child.way.items after.tree) binds (subst (λ w. WayLeads known (binds_after known state attempt) (base_of known) w after.tree) way covers.leads);
           base = λ inside. subst (λ c. HasBase known (binds_in known child) child.way.items c after.base) (sym is.cut_is)
               (subst (λ b. HasBase known b child.way.items cut after.base) binds (subst (λ w. HasBase known (binds_after known state attempt) w cut after.base) way (base inside)));
+          answered = λ n kept. subst (EndsBy known n) (sym is.answered) (at.answered n kept);
           placed = λ n kept. ap (λ l. has_call l n) is.placed ∙ has_more state.placed.items point.calls (call_of place) n (at.placed n kept) ∙ ap (list_any (λ k. k == n)) (sym calls);
         }
 

@@ -13,7 +13,7 @@ use Rattle.decision_steps.proofs.Placed.{bound_agree}
 use Rattle.decision_law.specs.Laws.{binds_of}
 use Rattle.decision_walk.specs.declared.way_state.WayState.{WayState}
 use Rattle.decision_walk.specs.Way.{WayLeads}
-use Rattle.decision_walk.specs.Standing.{has_call, HasBase, binds_in, IsAt}
+use Rattle.decision_walk.specs.Standing.{has_call, HasBase, EndsBy, binds_in, IsAt}
 use Rattle.decision_walk.specs.Placings.{PrintsAs, SameWay, SameCut, SameBase}
 use Rattle.decision_walk.proofs.Later.{agrees_on, way_once}
 
@@ -36,13 +36,14 @@ module _ (known : KnownCalls) where
   same_base state other (Some kept) (Some other_kept) base same has =
       (same.0, (has.1.0, has.1.1, same_tree state other (take kept state.way.items) (take other_kept other.way.items) has.1.0 same.1 has.1.2))
 
-  pub same_stands : (marks : List Bool) (state other : WayState) → state.era ≡ other.era → ((n : ℕ) → has_call state.placed.items n ≡ has_call other.placed.items n) → SameBase known state other
+  pub same_stands : (marks : List Bool) (state other : WayState) → state.era ≡ other.era → state.answered_to ≡ other.answered_to → ((n : ℕ) → has_call state.placed.items n ≡ has_call other.placed.items n) → SameBase known state other
       → SameWay known state state.way.items other other.way.items → Replaces (IsAt known marks) state other
-  same_stands marks state other era calls base way plan gone point at = record {
+  same_stands marks state other era answered calls base way plan gone point at = record {
     binds = agrees_on (binds_in known other) (binds_in known state) (binds_of known plan) way.agrees at.binds;
     era = sym era ∙ at.era;
     tree = λ inside. same_tree state other state.way.items other.way.items point.tree way (at.tree inside);
     base = λ inside. same_base state other state.cut other.cut point.base base (at.base inside);
+    answered = λ n kept. subst (EndsBy known n) answered (at.answered n kept);
     placed = λ n kept. sym (calls n) ∙ at.placed n kept;
   }
 

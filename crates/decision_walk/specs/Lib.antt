@@ -2,3 +2,4 @@ pub mod Way
 pub mod Live
 pub mod Standing
 pub mod Placings
+pub mod Settling

@@ -1,4 +1,4 @@
--- For the prover.
+-- For the prover, and for callers.
 -- A state that stands, and the places that led to it, each of which can be taken back (a form of this project's own).
 use Rattle.std.specs.Prelude.{◌≡◌, ℕ, ◌≤◌, List, [], ◌∷◌, length, take, map, IfSome}
 use Rattle.std.specs.List.{AllByRecursion}

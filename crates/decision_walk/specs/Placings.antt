@@ -28,7 +28,7 @@ use Rattle.decision_law.specs.Times.{era_of_number}
 use Rattle.decision_walk.specs.declared.attempt.Attempt.{Attempt}
 use Rattle.decision_walk.specs.declared.way_state.WayState.{WayState}
 use Rattle.decision_walk.specs.Way.{bound_in, WayLeads, longer}
-use Rattle.decision_walk.specs.Standing.{hints_of, numbers_of, is_marked, binds_in, has_call, IsAt}
+use Rattle.decision_walk.specs.Standing.{hints_of, numbers_of, is_marked, binds_in, has_call, EndsAfter, IsAt}
 
 -- how many bytes a WRITE brought
 abbrev pub bytes_brought : NfsCall → Option ℕ
@@ -71,6 +71,7 @@ module _ (known : KnownCalls) where
     pub cut_is : child.cut ≡ cut
     pub era : child.era ≡ state.era
     pub placed : child.placed.items ≡ state.placed.items ++ call_of place ∷ []
+    pub answered : child.answered_to ≡ state.answered_to
 
   -- such a state is among these
   abbrev pub HasChild : List WayState → WayState → Place → Attempt → Option ℕ → Type 0
@@ -83,14 +84,16 @@ module _ (known : KnownCalls) where
     pub cut_is : child.cut ≡ None
     pub era : child.era ≡ state.era + 1
     pub placed : child.placed.items ≡ state.placed.items ++ n ∷ []
+    pub answered : child.answered_to ≡ state.answered_to
 
   module _ (marks : List Bool) where
-    -- a marked call of the state's era isn't placed
+    -- a marked call of the state's era isn't placed, and can't be forgotten yet
     pub record IsMissing (state : WayState) : Type 0 where
       pub number : ℕ
       pub marked : is_marked marks number ≡ true
       pub unplaced : has_call state.placed.items number ≡ false
       pub era : era_of_number known number ≡ state.era
+      pub later : EndsAfter known number state.answered_to
 
     -- one of the states stands for the point
     abbrev pub HoldsAt : List WayState → Certificate → (ℕ → Bool) → Point known → Type 0

@@ -1,8 +1,10 @@
 -- For the prover.
 -- Which points of a plan a state of the walk stands for (a form of this project's own; points are those of a plan of eras).
-use Rattle.std.specs.Prelude.{◌≡◌, ◌⊎◌, ◌==◌, ℕ, zero, suc, ◌<◌, ◌≤◌, Bool, true, false, List, length, take, Option, Some, None}
+use Rattle.std.specs.Prelude.{◌≡◌, ◌==◌, ℕ, zero, suc, ◌<◌, ◌≤◌, Bool, true, false, List, length, take, Option, Some, None}
 use Rattle.std.specs.List.{list_any, slice_index_or}
+use Rattle.nfs_history.specs.declared.recorded.RecordedCall.{RecordedCall}
 use Rattle.nfs_history.specs.declared.knowing.KnownCalls.{KnownCalls}
+use Rattle.nfs_history.specs.Precedence.{call_at}
 use Rattle.certificate.specs.declared.plan.Certificate.{Certificate}
 use Rattle.certificate.specs.declared.plan.Place.{Place}
 use Rattle.tree_nodes.specs.Tree.{Tree}
@@ -43,6 +45,17 @@ HasBase known binds way (Some kept) base = (kept ≤ length way) × ((tree : Tre
 abbrev pub binds_in : KnownCalls → WayState → Bindings
 binds_in known state = bound_in known (bound_pairs state.bound.items)
 
+-- call n was answered by this event, or later
+abbrev pub EndsBy : KnownCalls → ℕ → ℕ → Type 0
+EndsBy known n event = (recorded : RecordedCall) (at : ℕ) → call_at known.calls n ≡ Some recorded → recorded.«end» ≡ Some at → at ≤ event
+
+pub record EndsAfter (known : KnownCalls) (n event : ℕ) : Type 0 where
+  pub recorded : RecordedCall
+  pub at : ℕ
+  pub stands : call_at known.calls n ≡ Some recorded
+  pub ended : recorded.«end» ≡ Some at
+  pub later : event < at
+
 -- the state stands for the plan's point, where it may have forgotten of these calls whether they are placed. In the last era no cut is
 -- asked for, since no call comes behind the crash that ends it; behind the last one no tree
 pub record IsAt (known : KnownCalls) (marks : List Bool) (plan : Certificate) (gone : ℕ → Bool) (point : Point known) (state : WayState) : Type 0 where
@@ -50,4 +63,5 @@ pub record IsAt (known : KnownCalls) (marks : List Bool) (plan : Certificate) (g
   pub era : state.era ≡ point.era
   pub tree : point.era ≤ known.eras → WayLeads known (binds_in known state) (base_of known) state.way.items point.tree
   pub base : point.era < known.eras → HasBase known (binds_in known state) state.way.items state.cut point.base
-  pub placed : (n : ℕ) → (gone n ≡ false) ⊎ (is_marked marks n ≡ true) → has_call state.placed.items n ≡ is_placed point n
+  pub placed : (n : ℕ) → gone n ≡ false → has_call state.placed.items n ≡ is_placed point n
+  pub answered : (n : ℕ) → gone n ≡ true → EndsBy known n state.answered_to

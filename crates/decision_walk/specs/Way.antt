@@ -1,4 +1,4 @@
--- For the prover.
+-- For the prover, and for callers.
 -- Ways of a walk: calls that are placed one behind the other, from what stood at first to a tree, where so many handles are bound
 -- (RFC 1813, section 2.5: what a handle names a client learns by the reply that gives it; a form of this project's own).
 use Rattle.std.specs.Prelude.{◌≡◌, ◌++◌, ℕ, Bool, true, false, List, [], ◌∷◌, length, Some}

@@ -4,7 +4,7 @@ ghost use Rattle.std.specs.Prelude.{◌≡◌, ◌++◌, ◌∷◌, [], ◌≤�
 ghost use Rattle.certificate.specs.Plan.{call_of};
 ghost use Rattle.witness_check.specs.Run.{step_at};
 ghost use Rattle.decision_core.specs.Layers.{Grows};
-ghost use Rattle.decision_walk.specs.Standing.{is_marked};
+ghost use Rattle.decision_walk.specs.Standing.{is_marked, EndsBy, EndsAfter};
 ghost use Rattle.decision_law.specs.Times.{era_of_number};
 ghost use Rattle.decision_walk.specs.Way.{longer};
 ghost use Rattle.decision_walk.specs.Live.{FitsWork};
@@ -13,7 +13,7 @@ ghost use Rattle.decision_walk.specs.Placings.{IsChild, HasChild, HasChildren, H
 use crate::attempt::Attempt;
 use crate::live::WalkWork;
 use crate::machine::HistoryMachine;
-use crate::way_state::{Deed, WayState, copy_bound, has_call};
+use crate::way_state::{Deed, Sums, WayState, copy_bound, has_call};
 use crate::why::Why;
 use certificate::Place;
 use decision_core::Stop;
@@ -70,6 +70,17 @@ fn longer_deeds(
     Ok(deeds)
 }
 
+/// The numbers of the way with a place, where it belongs to it, which is the first that is lost where the state had no cut and has one
+/// now.
+fn longer_sums(state: &WayState, grows: bool, place: Place, cut: Option<usize>) -> Sums {
+    let sums = if state.cut.is_none() && cut.is_some() {
+        state.sums.cut()
+    } else {
+        state.sums
+    };
+    if grows { sums.and_place(place) } else { sums }
+}
+
 impl<'h> HistoryMachine<'h> {
     /// The era of a call.
     pub(crate) fn era_of(&self, n: u64) -> Option<u64>
@@ -81,7 +92,34 @@ impl<'h> HistoryMachine<'h> {
         }
     }
 
-    /// Whether a call is marked, one of this era, and not placed.
+    /// The later of an event and of the reply to a call.
+    pub(crate) fn answered_with(&self, event: u64, n: u64) -> u64
+        ensures later { event ≤ result }
+        ensures ends { EndsBy self.now.history.now.known n result }
+    {
+        let Some(recorded) = self.history.find_call(n) else {
+            return event;
+        };
+        match recorded.end {
+            Some(end) => event.max(end),
+            None => event,
+        }
+    }
+
+    /// Whether a call was answered after an event.
+    fn is_answered_after(&self, event: u64, n: u64) -> bool
+        ensures { IsTrue result → EndsAfter self.now.history.now.known n event }
+    {
+        let Some(recorded) = self.history.find_call(n) else {
+            return false;
+        };
+        match recorded.end {
+            Some(end) => event < end,
+            None => false,
+        }
+    }
+
+    /// Whether a call is marked, one of this era, not placed, and not forgotten.
     fn is_missing(&self, state: &WayState, n: u64) -> bool
         ensures { IsTrue result → IsMissing self.now.history.now.known self.now.marks.items state.now }
     {
@@ -91,19 +129,44 @@ impl<'h> HistoryMachine<'h> {
         if has_call(state.placed.as_slice(), n) {
             return false;
         }
+        if !self.is_answered_after(state.answered_to, n) {
+            return false;
+        }
         match self.era_of(n) {
             Some(era) => era == state.era,
             None => false,
         }
     }
 
+    /// How many calls there are up to the end of an era.
+    fn calls_up_to(&self, era: u64) -> u64 {
+        let mut low = 0;
+        let mut high = self.history.calls();
+        for _ in 0..u64::BITS {
+            if low >= high {
+                return low;
+            }
+            let middle = low + (high - low) / 2;
+            match self.era_of(middle + 1) {
+                Some(other) if era < other => high = middle,
+                _ => low = middle + 1,
+            }
+        }
+        low
+    }
+
     /// Whether some marked call of this era isn't placed.
     fn misses_one(&self, state: &WayState) -> bool
         ensures { IsTrue result → IsMissing self.now.history.now.known self.now.marks.items state.now }
     {
-        for index in 0..self.marks.len() {
-            if self.is_missing(state, index as u64 + 1) {
+        let last = self.calls_up_to(state.era);
+        for back in 0..last {
+            let n = last - back;
+            if self.is_missing(state, n) {
                 return true;
+            }
+            if self.era_of(n).is_none_or(|era| era < state.era) {
+                return false;
             }
         }
         false
@@ -136,13 +199,14 @@ impl<'h> HistoryMachine<'h> {
         let way = longer(state.way.as_slice(), attempt.grows, place, alloc)?;
         let placed = and_call(alloc, state.placed.as_slice(), place.number())?;
         let deeds = longer_deeds(alloc, state, place, cut)?;
-        let era = state.era;
         Ok(WayState {
             bound,
             way,
             cut,
-            era,
+            era: state.era,
             placed,
+            answered_to: state.answered_to,
+            sums: longer_sums(state, attempt.grows, place, cut),
             deeds,
         })
     }

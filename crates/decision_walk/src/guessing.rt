@@ -105,6 +105,8 @@ impl<'h> HistoryMachine<'h> {
             cut: state.cut,
             era: state.era,
             placed: Vec::from_slice(alloc, state.placed.as_slice())?,
+            answered_to: state.answered_to,
+            sums: state.sums,
             deeds: Vec::from_slice(alloc, state.deeds.as_slice())?,
         })
     }

@@ -3,12 +3,14 @@
 
 mod attempt;
 mod children;
+mod digest;
 mod follow;
 mod going;
 mod guessing;
 mod live;
 mod machine;
 mod same;
+mod settling;
 mod stepping;
 mod way_state;
 mod why;

@@ -10,9 +10,8 @@ ghost use Rattle.decision_law.specs.Machine.{Changes, Next, first_point};
 ghost use Rattle.decision_walk.specs.Live.{FitsWork};
 ghost use Rattle.decision_walk.specs.Standing.{IsAt, hints_of, numbers_of};
 
-use crate::children::is_marked;
 use crate::live::WalkWork;
-use crate::way_state::{WayState, has_call};
+use crate::way_state::{Sums, WayState, has_call};
 use crate::why::Why;
 use decision_core::{Machine, Stop};
 use nfs_history::History;
@@ -81,6 +80,8 @@ impl<'h> Machine for HistoryMachine<'h> {
             cut: None,
             era: 1,
             placed: Vec::new(alloc),
+            answered_to: 0,
+            sums: Sums::none(),
             deeds: Vec::new(alloc),
         })
     }
@@ -106,11 +107,18 @@ impl<'h> Machine for HistoryMachine<'h> {
         }
     }
 
+    fn settle(
+        &self,
+        work: &mut WalkWork,
+        state: WayState,
+        calls: &[u64],
+    ) -> Result<WayState, Stop<Why>> {
+        self.settle_state(work, state, calls)
+    }
+
     fn forget(&self, state: WayState, n: u64) -> WayState {
-        if is_marked(self.marks.as_slice(), n) {
-            return state;
-        }
-        state.without_call(n)
+        let answered_to = self.answered_with(state.answered_to, n);
+        state.without_call(n, answered_to)
     }
 
     fn is_same(&self, work: &mut WalkWork, state: &WayState, other: &WayState) -> bool {

@@ -129,6 +129,9 @@ impl<'h> HistoryMachine<'h> {
         if state.era != other.era {
             return false;
         }
+        if state.answered_to != other.answered_to || !state.sums.fit(other.sums) {
+            return false;
+        }
         if !same_calls(state.placed.as_slice(), other.placed.as_slice()) {
             return false;
         }

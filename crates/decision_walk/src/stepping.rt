@@ -202,12 +202,19 @@ impl<'h> HistoryMachine<'h> {
         let way = kept_way(alloc, state.cut, state.way.as_slice())?;
         let placed = and_call(alloc, state.placed.as_slice(), n)?;
         let deeds = ended_deeds(alloc, state.deeds.as_slice())?;
+        let sums = if state.cut.is_some() {
+            state.sums.back()
+        } else {
+            state.sums
+        };
         Ok(WayState {
             bound,
             way,
             cut: None,
             era,
             placed,
+            answered_to: state.answered_to,
+            sums,
             deeds,
         })
     }

@@ -2,6 +2,7 @@
 
 ghost use Rattle.std.specs.Prelude.{◌≡◌, ◌==◌, ◌++◌, [], ◌∷◌, ℕ, not, filter, IfOk, IsTrue};
 ghost use Rattle.decision_steps.specs.Listed.{bound_pairs};
+ghost use Rattle.decision_walk.specs.Settling.{IsSettled, IsAlike};
 ghost use Rattle.decision_walk.specs.Standing.{has_call};
 
 use certificate::Place;
@@ -20,6 +21,63 @@ pub enum Deed {
     Ended,
 }
 
+/// Numbers that are the same of states that are the same: of the places of the whole way and of its front up to the cut, in whichever
+/// order, and of the tree, once that was looked at.
+#[derive(Clone, Copy)]
+pub(crate) struct Sums {
+    way: u64,
+    kept: u64,
+    tree: Option<u64>,
+}
+
+impl Sums {
+    /// Those of a way without a place.
+    pub(crate) fn none() -> Sums {
+        Sums {
+            way: 0,
+            kept: 0,
+            tree: None,
+        }
+    }
+
+    /// Those of a way with a place more.
+    pub(crate) fn and_place(self, place: Place) -> Sums {
+        Sums {
+            way: self.way.wrapping_add(mixed(place)),
+            kept: self.kept,
+            tree: None,
+        }
+    }
+
+    /// Those of a way that is cut behind all its places.
+    pub(crate) fn cut(self) -> Sums {
+        Sums {
+            way: self.way,
+            kept: self.way,
+            tree: self.tree,
+        }
+    }
+
+    /// Those of the front up to the cut.
+    pub(crate) fn back(self) -> Sums {
+        Sums {
+            way: self.kept,
+            kept: 0,
+            tree: None,
+        }
+    }
+
+    /// Whether the tree was looked at.
+    pub(crate) fn knows_tree(self) -> bool {
+        self.tree.is_some()
+    }
+
+    /// Whether the states may be the same.
+    pub(crate) fn fit(self, other: Sums) -> bool {
+        self.way == other.way && self.kept == other.kept && self.tree == other.tree
+    }
+}
+
 /// A state: which handles are bound, which places changed the tree, and what of them a crash would keep.
 pub struct WayState {
     /// The handles that are bound behind the root's.
@@ -32,6 +90,10 @@ pub struct WayState {
     pub(crate) era: u64,
     /// The calls that are placed, as far as they may be asked for.
     pub(crate) placed: Vec<u64>,
+    /// The latest reply by which a call was forgotten: by its event. Each call that was is placed.
+    pub(crate) answered_to: u64,
+    /// A number of the places of the way, and one of those that the era's crash keeps.
+    pub(crate) sums: Sums,
     /// All that happened, which only a certificate is made of.
     pub(crate) deeds: Vec<Deed>,
 }
@@ -44,6 +106,8 @@ impl Drop for WayState {
             cut: _,
             era: _,
             placed,
+            answered_to: _,
+            sums: _,
             deeds,
         } = self;
         drop(bound);
@@ -64,13 +128,14 @@ impl WayState {
         self.bound.as_slice()
     }
 
-    /// The state, which doesn't know of this call any more.
-    pub(crate) fn without_call(self, n: u64) -> WayState
+    /// The state, which doesn't know of this call any more, and of none that was answered by this event.
+    pub(crate) fn without_call(self, n: u64, answered_to: u64) -> WayState
         ensures bound { result.bound.items ≡ self.bound.items }
         ensures way { result.way.items ≡ self.way.items }
         ensures cut { result.cut ≡ self.cut }
         ensures era { result.era ≡ self.era }
         ensures placed { result.placed.items ≡ filter (λ m. not (m == n)) self.placed.items }
+        ensures answered { result.answered_to ≡ answered_to }
     {
         let WayState {
             bound,
@@ -78,6 +143,8 @@ impl WayState {
             cut,
             era,
             placed,
+            answered_to: _,
+            sums,
             deeds,
         } = self;
         let placed = without(placed, n);
@@ -87,31 +154,84 @@ impl WayState {
             cut,
             era,
             placed,
+            answered_to,
+            sums,
+            deeds,
+        }
+    }
+
+    /// The state, in which an answered call is placed besides that left the tree as it was.
+    pub(crate) fn with_settled(self, n: u64) -> Result<WayState, AllocError>
+        ensures { IfOk result (IsSettled self n) }
+    {
+        let WayState {
+            bound,
+            way,
+            cut,
+            era,
+            mut placed,
+            answered_to,
+            sums,
+            mut deeds,
+        } = self;
+        placed.reserve(1)?;
+        placed.push(n).unwrap();
+        deeds.push(Deed::Placed(Place::Answered(n)))?;
+        Ok(WayState {
+            bound,
+            way,
+            cut,
+            era,
+            placed,
+            answered_to,
+            sums,
+            deeds,
+        })
+    }
+
+    /// The state, whose tree has this number.
+    pub(crate) fn with_tree(self, number: u64) -> WayState
+        ensures { IsAlike self result }
+    {
+        let WayState {
+            bound,
+            way,
+            cut,
+            era,
+            placed,
+            answered_to,
+            mut sums,
+            deeds,
+        } = self;
+        sums.tree = Some(number);
+        WayState {
+            bound,
+            way,
+            cut,
+            era,
+            placed,
+            answered_to,
+            sums,
             deeds,
         }
     }
 
     /// A number that doesn't depend on the order of the places.
     pub(crate) fn digest(&self) -> u64 {
-        let mut digest = self.era;
-        for place in &self.way {
-            digest = digest.wrapping_add(mixed(*place));
-        }
+        let mut digest = self.era.wrapping_add(self.sums.way);
+        digest = digest.wrapping_add(self.sums.tree.unwrap_or(0));
         for call in &self.placed {
             digest = digest.wrapping_add(spread(call.wrapping_mul(2)));
         }
-        let Some(kept) = self.cut else {
-            return digest;
-        };
-        for place in self.way.iter().take(kept) {
-            digest = digest.wrapping_add(spread(mixed(*place)));
+        if self.cut.is_some() {
+            digest = digest.wrapping_add(spread(self.sums.kept).wrapping_add(1));
         }
-        digest.wrapping_add(1)
+        digest
     }
 }
 
 /// Spreads a number's bits.
-fn spread(number: u64) -> u64 {
+pub(crate) fn spread(number: u64) -> u64 {
     let number = (number ^ (number >> 31)).wrapping_mul(0x7fb5_d329_728e_a185);
     (number ^ (number >> 27)).wrapping_mul(0x81da_def4_bc2d_d44d)
 }
