@@ -5,7 +5,7 @@ use Rattle.nfs_history.specs.declared.knowing.KnownCalls.{KnownCalls}
 use Rattle.nfs_history.specs.FirstFault.{FirstFault}
 use Rattle.nfs_history.specs.History.{IsCallsFile}
 use Rattle.witness_check.specs.Witness.{AreAccepted}
-use Rattle.decide.specs.Decision.{HasNoWitness}
+use Rattle.decide.specs.Decision.{HasNoWitness, IsAnsweredAt}
 use Rattle.deciding_command.specs.declared.file_decision.FileDecision.{FileDecision}
 use Rattle.deciding_command.specs.declared.file_decision.FileDecision.TheVariants.{Yes, NoWitness, Undecided, BadHistory}
 
@@ -13,14 +13,19 @@ use Rattle.deciding_command.specs.declared.file_decision.FileDecision.TheVariant
 abbrev pub IsWithoutWitness : List ℕ → Type 0
 IsWithoutWitness bytes = (history : KnownCalls) × IsCallsFile bytes history × HasNoWitness history
 
+-- they are so, and this call of that history, where it is one and no crash, was answered at this event
+abbrev pub IsWithoutWitnessAt : List ℕ → ℕ → ℕ → Type 0
+IsWithoutWitnessAt bytes event call = (history : KnownCalls) × IsCallsFile bytes history × HasNoWitness history × IsAnsweredAt history call event
+
 -- so no certificate's text is accepted with them
 abbrev pub IsNeverAccepted : List ℕ → Type 0
 IsNeverAccepted bytes = (text : List ℕ) → ¬ AreAccepted bytes text
 
--- a yes has a certificate's text; where the answer is that there is no witness, none is one; undecided claims nothing
+-- a yes has a certificate's text; where the answer is that there is no witness, none is one, and the call that is named was answered at the
+-- event that is named; undecided claims nothing
 abbrev pub Decides : List ℕ → FileDecision → Type 0
 Decides bytes (Yes text) = AreAccepted bytes text.items
-Decides bytes (NoWitness event call) = IsWithoutWitness bytes × IsNeverAccepted bytes
+Decides bytes (NoWitness event call) = IsWithoutWitnessAt bytes event call × IsNeverAccepted bytes
 Decides bytes (Undecided reason) = Unit {0}
 Decides bytes (BadHistory fault) = FirstFault bytes fault
 

@@ -1,2 +1,3 @@
 pub mod FileDecision
+pub mod Told
 pub mod Written

@@ -6,7 +6,8 @@ ghost use Rattle.program_streams.specs.Told.{Tells, memory_line};
 ghost use Rattle.nfs_history.specs.declared.fault.HistoryFault.{HistoryFault};
 ghost use Rattle.nfs_history.specs.FirstFault.{FirstFault};
 ghost use Rattle.witness_check.specs.Witness.{AreAccepted};
-ghost use Rattle.deciding_command.specs.FileDecision.{Decides, IsWithoutWitness, IsNeverAccepted, IsRefused, IsYes, IsNo};
+ghost use Rattle.deciding_command.specs.FileDecision.{Decides, IsWithoutWitness, IsWithoutWitnessAt, IsNeverAccepted, IsRefused, IsYes, IsNo};
+ghost use Rattle.deciding_command.specs.Told.{IsToldWithHints, line_of_no, no_line};
 
 use crate::file_decision::{FileDecision, decide_file};
 use crate::hints::{Named, tell_hints};
@@ -62,6 +63,7 @@ fn tell_decision<R: Files + AllocGlobal, O: Output>(
 ) -> u8
     ensures yes { result ≡ 0 → IsYes decision.now }
     ensures no { result ≡ 1 → IsNo decision.now }
+    ensures told { result ≡ 1 → Appends (O.contents output.old) (O.contents output.new) (line_of_no decision.now) }
     ensures refused { IsRefused decision.now → (result ≡ 2)
         ⊎ Tells result (O.contents output.old) (O.contents output.new) 3 memory_line }
     ensures memory_line { result ≡ 3 → Appends (O.contents output.old) (O.contents output.new) memory_line }
@@ -76,7 +78,7 @@ fn tell_decision<R: Files + AllocGlobal, O: Output>(
 
 /// The call that a no names, if the request goes on behind one that was told.
 fn named_by(request: &DecideRequest<'_>, decision: &FileDecision, status: u8) -> Option<Named>
-    ensures { IfSome result (λ _. status ≡ 1) }
+    ensures { IfSome result (λ _. (status ≡ 1) × (0 < request.now.go_on)) }
 {
     if status != 1 || request.go_on == 0 {
         return None;
@@ -100,6 +102,8 @@ fn tell_all<R: Files + Clock + AllocGlobal, O: Output>(
 ) -> u8
     ensures yes { result ≡ 0 → IsYes decision.now }
     ensures no { result ≡ 1 → IsNo decision.now }
+    ensures told { result ≡ 1
+        → IsToldWithHints (O.contents output.old) (O.contents output.new) (line_of_no decision.now) request.now.go_on }
     ensures refused { IsRefused decision.now → (result ≡ 2)
         ⊎ Tells result (O.contents output.old) (O.contents output.new) 3 memory_line }
     ensures memory_line { result ≡ 3 → Appends (O.contents output.old) (O.contents output.new) memory_line }
@@ -128,6 +132,10 @@ pub fn decide_history<R: Files + Clock + AllocGlobal, O: Output>(
     ensures yes { result ≡ 0 → (text : List ℕ) × AreAccepted history.now text }
     // With status 1 they are the file of a history, no certificate is a witness of it, and so with no text they are accepted.
     ensures no { result ≡ 1 → IsWithoutWitness history.now × IsNeverAccepted history.now }
+    // The first line that is written then names an event and a call: such a history is without a witness, and that call of it, where it
+    // is one and no crash, was answered at that event. Only hints stand behind the line, and none where the request asks for none.
+    ensures told { result ≡ 1 → (event : ℕ) × (call : ℕ) × IsWithoutWitnessAt history.now event call
+        × IsToldWithHints (O.contents output.old) (O.contents output.new) (no_line event call) request.now.go_on }
     // Bytes that are no history file are refused, memory aside.
     ensures refused { (fault : HistoryFault) → FirstFault history.now fault → (result ≡ 2)
         ⊎ Tells result (O.contents output.old) (O.contents output.new) 3 memory_line }

@@ -1,6 +1,7 @@
 //! Hints: what is decided of a history without the calls that were named. No theorem speaks of them.
 
 ghost use Rattle.std.specs.Prelude.{◌≡◌, ◌⊎◌};
+ghost use Rattle.deciding_command.specs.Told.{Grows};
 
 use crate::rounds::{ROUNDS, Rounds};
 use crate::telling::hint_line;
@@ -125,7 +126,8 @@ fn hint_without<R: Clock + AllocGlobal>(
 
 /// Tells a hint, and gives the status of a no.
 fn tell_hint<O: Output>(alloc: Global, output: &mut O, hint: Hint) -> u8
-    ensures { (result ≡ 1) ⊎ (result ≡ 2) }
+    ensures known { (result ≡ 1) ⊎ (result ≡ 2) }
+    ensures grows { Grows (O.contents output.old) (O.contents output.new) }
 {
     match hint_line(alloc, hint) {
         Ok(line) => tell(output, line.as_bytes(), 1),
@@ -141,7 +143,8 @@ fn tell_rests<R: Clock + AllocGlobal, O: Output>(
     first: Named,
     output: &mut O,
 ) -> u8
-    ensures { (result ≡ 1) ⊎ (result ≡ 2) }
+    ensures known { (result ≡ 1) ⊎ (result ≡ 2) }
+    ensures grows { Grows (O.contents output.old) (O.contents output.new) }
 {
     let alloc = rt.alloc();
     if first.call > whole.calls() {
@@ -172,7 +175,8 @@ pub(crate) fn tell_hints<R: Clock + AllocGlobal, O: Output>(
     first: Named,
     output: &mut O,
 ) -> u8
-    ensures { (result ≡ 1) ⊎ (result ≡ 2) }
+    ensures known { (result ≡ 1) ⊎ (result ≡ 2) }
+    ensures grows { Grows (O.contents output.old) (O.contents output.new) }
 {
     match read_history(rt.alloc(), bytes) {
         Ok(whole) => tell_rests(rt, request, &whole, first, output),
