@@ -203,7 +203,7 @@ def has_witness(history):
 
 
 def told_by(program, file):
-    ran = subprocess.run([program, "decide", file], stdout=subprocess.PIPE, stderr=subprocess.DEVNULL, timeout=120)
+    ran = subprocess.run([program, "decide", file, "--seconds", "10"], stdout=subprocess.PIPE, stderr=subprocess.DEVNULL, timeout=120)
     return ran.stdout.decode().strip()
 
 
