@@ -203,7 +203,11 @@ def has_witness(history):
 
 
 def told_by(program, file):
-    ran = subprocess.run([program, "decide", file, "--seconds", "10"], stdout=subprocess.PIPE, stderr=subprocess.DEVNULL, timeout=120)
+    """The line of a decision; one that takes two minutes is given up."""
+    try:
+        ran = subprocess.run([program, "decide", file, "--seconds", "10"], stdout=subprocess.PIPE, stderr=subprocess.DEVNULL, timeout=120)
+    except subprocess.TimeoutExpired:
+        return "undecided: not in two minutes"
     return ran.stdout.decode().strip()
 
 
