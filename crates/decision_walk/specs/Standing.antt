@@ -45,10 +45,11 @@ HasBase known binds way (Some kept) base = (kept ≤ length way) × ((tree : Tre
 abbrev pub binds_in : KnownCalls → WayState → Bindings
 binds_in known state = bound_in known (bound_pairs state.bound.items)
 
--- call n was answered by this event, or later
+-- the reply to call n, if one came, came by this event
 abbrev pub EndsBy : KnownCalls → ℕ → ℕ → Type 0
 EndsBy known n event = (recorded : RecordedCall) (at : ℕ) → call_at known.calls n ≡ Some recorded → recorded.«end» ≡ Some at → at ≤ event
 
+-- the reply to call n came after this event
 pub record EndsAfter (known : KnownCalls) (n event : ℕ) : Type 0 where
   pub recorded : RecordedCall
   pub at : ℕ
