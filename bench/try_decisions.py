@@ -216,6 +216,15 @@ def kind_of(line):
     return kinds.get(line.split(":")[0], line)
 
 
+def noted(tally, whys, wanted, line):
+    """The kind of a line, which is counted beside the answer that is wanted."""
+    got = kind_of(line)
+    tally[wanted, got] += 1
+    if got == "undecided":
+        whys[line.partition(": ")[2].rstrip("0123456789 ")] += 1
+    return got
+
+
 def tell(by, tally, whys):
     """How often each pair of answers came up, and why the program didn't decide."""
     for (wanted, got), many in sorted(tally.items()):
@@ -234,11 +243,7 @@ def main():
             wanted = "yes" if has_witness(read_history(data)) else "no"
             file.write_bytes(data)
             line = told_by(program, file)
-            got = kind_of(line)
-            tally[wanted, got] += 1
-            if got == "undecided":
-                whys[line.partition(": ")[2].rstrip("0123456789 ")] += 1
-            elif got != wanted:
+            if noted(tally, whys, wanted, line) not in (wanted, "undecided"):
                 differ += 1
                 print(f"{number}: every plan says {wanted}, the program {line}")
     tell("every plan", tally, whys)

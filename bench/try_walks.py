@@ -22,7 +22,7 @@ from differ.plans import is_stable, next_tree, shown_verifiers
 from differ.refusals import Refused
 from differ.success import found
 from differ.trees import Binds, entries_of, path_of
-from try_decisions import kind_of, tell, told_by
+from try_decisions import noted, tell, told_by
 
 MOST_STATES = 20_000
 
@@ -208,11 +208,7 @@ def main():
                 wanted = "undecided"
             file.write_bytes(data)
             line = told_by(program, file)
-            got = kind_of(line)
-            tally[wanted, got] += 1
-            if got == "undecided":
-                whys[line.partition(": ")[2].rstrip("0123456789 ")] += 1
-            if {wanted, got} == {"yes", "no"}:
+            if {wanted, noted(tally, whys, wanted, line)} == {"yes", "no"}:
                 differ += 1
                 print(f"{number}: the plain walk says {wanted}, the program {line}")
     tell("the plain walk", tally, whys)
