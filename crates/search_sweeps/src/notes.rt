@@ -15,6 +15,8 @@ pub(crate) struct Notes {
     pub(crate) marks: Marks,
     /// The calls that couldn't be placed, and the decisions that didn't go together.
     pub(crate) conflicts: u64,
+    /// Whether the sweep is to end.
+    pub(crate) is_stopped: bool,
     /// The calls that are placed and may change the tree, by the names in them.
     pub(crate) changes: CallsByName,
     /// The unanswered calls that weren't kept, by the names in them.
@@ -46,6 +48,7 @@ impl Notes {
             files: Files::new(alloc),
             marks: Marks::new(alloc, eras)?,
             conflicts: 0,
+            is_stopped: false,
             changes: CallsByName::new(alloc),
             left_out: CallsByName::new(alloc),
             makers: BTreeMap::new(alloc),
@@ -60,6 +63,7 @@ impl Notes {
             files,
             marks,
             conflicts: _,
+            is_stopped: _,
             changes,
             left_out,
             makers,
@@ -76,6 +80,11 @@ impl Notes {
     /// Notes that a conflict was met.
     pub(crate) fn count_conflict(&mut self) {
         self.conflicts = self.conflicts.saturating_add(1);
+    }
+
+    /// Has the sweep end.
+    pub(crate) fn stop(&mut self) {
+        self.is_stopped = true;
     }
 
     /// Takes back what was noted past so many moves.

@@ -230,10 +230,10 @@ impl<'p, 's, 'a> Sweep<'p, 's, 'a> {
         self.look()
     }
 
-    /// Whether more calls couldn't be placed than sweeps are likely to explain.
+    /// Whether it is to end, or more calls couldn't be placed than sweeps are likely to explain.
     pub(crate) fn is_hopeless(&self) -> bool {
         let calls = self.problem.known().count() as u64;
-        self.notes.conflicts > FEWEST_CONFLICTS.saturating_add(calls / 8)
+        self.notes.is_stopped || self.notes.conflicts > FEWEST_CONFLICTS.saturating_add(calls / 8)
     }
 
     /// Places the calls of the era, unless it is hopeless.
@@ -248,6 +248,9 @@ impl<'p, 's, 'a> Sweep<'p, 's, 'a> {
             }
             self.place_due(number)?;
             watch.at(self.state.depth());
+            if watch.is_over() {
+                self.notes.stop();
+            }
         }
         Ok(())
     }

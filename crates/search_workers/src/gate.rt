@@ -21,6 +21,12 @@ pub trait SearchGate {
     /// How far the search is, about once a second; the first time when it has taken a second. Nothing is done with it, unless a
     /// gate says otherwise.
     fn tell(&self, _progress: Progress) {}
+
+    /// Whether the search is to end without a certificate. It is asked before each branch, and after each step of a sweep. It isn't,
+    /// unless a gate says otherwise.
+    fn is_over(&self) -> bool {
+        false
+    }
 }
 
 /// A gate that is always open.

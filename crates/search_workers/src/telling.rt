@@ -38,4 +38,8 @@ impl<'t, R: Clock, G: SearchGate> SweepWatch for PassTeller<'t, R, G> {
             });
         }
     }
+
+    fn is_over(&self) -> bool {
+        self.gate.is_over()
+    }
 }

@@ -353,7 +353,7 @@ fn tell_progress<R: Clock, G: SearchGate>(
     team.gate.tell(team.board.progress(calls));
 }
 
-/// Takes branches until a certificate is found, none is left, or as many are taken as may be.
+/// Takes branches until a certificate is found, none is left, as many are taken as may be, or the gate says that it is over.
 fn take_branches<R: Wait + Clock, G: SearchGate>(
     rt: &R,
     team: &Team<'_, '_, G>,
@@ -370,7 +370,7 @@ fn take_branches<R: Wait + Clock, G: SearchGate>(
     let mut watch = Watch::new(rt);
     for _ in rt.forever() {
         tell_progress(rt, team, seat.number, &mut watch);
-        if left == 0 || team.board.is_over() {
+        if left == 0 || team.board.is_over() || team.gate.is_over() {
             break;
         }
         let Some(next) = find_next(team, seat) else {
