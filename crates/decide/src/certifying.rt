@@ -71,6 +71,7 @@ pub(crate) fn certificate_of(
     eras: u64,
 ) -> Result<Certificate, AllocError> {
     let binds = binds_of(alloc, state.bound())?;
-    let eras = eras_of(alloc, state.deeds(), eras)?;
+    let deeds = state.deeds()?;
+    let eras = eras_of(alloc, deeds.as_slice(), eras)?;
     Ok(Certificate { binds, eras })
 }

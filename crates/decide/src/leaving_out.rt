@@ -27,6 +27,7 @@ impl<'m, 'h> LeavingOut<'m, 'h> {
         work: &mut WalkWork,
         state: &WayState,
         n: u64,
+        open: &[u64],
     ) -> Result<Vec<WayState>, Stop<Why>>
         requires { FitsWork self.now.machine.now.history.now.known work.old }
         ensures { FitsWork self.now.machine.now.history.now.known work.new }
@@ -34,13 +35,36 @@ impl<'m, 'h> LeavingOut<'m, 'h> {
         let mut states = Vec::new(self.alloc);
         let guesses = self.machine.guesses(work, state, n)?;
         for index in 0..guesses.len() {
-            match self.machine.step(work, &guesses[index], n) {
+            match self.machine.step_calls(work, &guesses[index], &[n], open) {
                 Ok(more) => states.extend(more)?,
                 Err(Stop::NotCovered(_)) => {}
                 Err(stop) => return Err(stop),
             }
         }
         Ok(states)
+    }
+
+    /// The states in which a call is placed.
+    fn step_one(
+        &self,
+        work: &mut WalkWork,
+        state: &WayState,
+        n: u64,
+        open: &[u64],
+    ) -> Result<Vec<WayState>, Stop<Why>>
+        requires { FitsWork self.now.machine.now.history.now.known work.old }
+        ensures { FitsWork self.now.machine.now.history.now.known work.new }
+    {
+        match self.machine.step_calls(work, state, &[n], open) {
+            Err(Stop::NotCovered(Why::LongWrite(_))) => {
+                self.machine.step_whole(work, state, n, open)
+            }
+            Err(Stop::NotCovered(Why::HandleNotGiven(_))) => {
+                self.step_guessed(work, state, n, open)
+            }
+            Err(Stop::NotCovered(Why::WayLost)) => Ok(Vec::new(self.alloc)),
+            other => other,
+        }
     }
 }
 
@@ -78,18 +102,17 @@ impl<'m, 'h> Machine for LeavingOut<'m, 'h> {
         self.machine.is_placed(state, n)
     }
 
-    fn step(
+    fn step_each(
         &self,
         work: &mut WalkWork,
         state: &WayState,
-        n: u64,
+        calls: &[u64],
     ) -> Result<Vec<WayState>, Stop<Why>> {
-        match self.machine.step(work, state, n) {
-            Err(Stop::NotCovered(Why::LongWrite(_))) => self.machine.step_whole(work, state, n),
-            Err(Stop::NotCovered(Why::HandleNotGiven(_))) => self.step_guessed(work, state, n),
-            Err(Stop::NotCovered(Why::WayLost)) => Ok(Vec::new(self.alloc)),
-            other => other,
+        let mut states = Vec::new(self.alloc);
+        for call in calls {
+            states.extend(self.step_one(work, state, *call, calls)?)?;
         }
+        Ok(states)
     }
 
     fn settle(

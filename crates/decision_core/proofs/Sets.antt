@@ -1,9 +1,8 @@
 -- What loops over states and calls keep.
 use Rattle.std.proofs.Common.{◌≡◌, ◌⊎◌, inl, inr, ℕ, zero, suc, ◌+◌, ◌<◌, ◌≤◌, Bool, true, false, List, [], ◌∷◌, ◌++◌, length, take, get_or, Contains, refl, sym, subst, ◌∙◌, arith}
 use Rattle.std.specs.List.{AllByRecursion}
-use Rattle.std.proofs.lemmas.Bool.{true≢false}
 use Rattle.std.proofs.lemmas.List.{take_more, take_all}
-use Rattle.decision_core.specs.States.{also, HasFor, Holds, Forgets, TellsPlaced, HasStep, Settles}
+use Rattle.decision_core.specs.States.{also, HasFor, Holds, Forgets, HasStep, HasSteps, Settles}
 use Rattle.decision_core.specs.Layers.{Grows, HasEither, IsPutInto, HasPlacing, HasPlacings, IsSortedInto, ForgetsAll}
 
 -- of each of these it holds, or it is among what is left
@@ -137,11 +136,11 @@ module _ {Plan Point State : Type 0} (StandsFor : Plan → (ℕ → Bool) → Po
           let held = has plan gone point after stands x_kept not_placed next in
           each held.0 held.1 plan gone after held.2 kept n_kept
 
-      -- a placed call has no step
-      pub step_of_placed : (calls : List ℕ) (n : ℕ) (with_n without : List State) (x : ℕ) (state : State) (answer : Bool) → TellsPlaced StandsFor placed state x answer → answer ≡ true
-          → HasPlacing StandsFor placed Next calls n with_n without state x
-      step_of_placed calls n with_n without x state answer tells is plan gone point after stands kept n_kept x_kept not_placed next =
-          absurd (true≢false (sym is ∙ (tells plan gone point stands x_kept ∙ not_placed)))
+      -- so it is of the states that the steps of more calls give
+      pub steps_put : (calls : List ℕ) (n : ℕ) (given with_n without : List State) (each : List ℕ) (state : State) → HasSteps StandsFor placed Next given each state
+          → ((s : State) → Contains given s → IsPutInto StandsFor placed Next calls n with_n without s) → HasPlacings StandsFor placed Next calls n with_n without each state
+      steps_put calls n given with_n without each state has all_put =
+          all_weaker (λ x. HasStep StandsFor placed Next given x state) (HasPlacing StandsFor placed Next calls n with_n without state) (λ x step. step_put calls n given with_n without x state step all_put) each has
 
       -- one of the states settles another
       abbrev pub HasSettled : List ℕ → List State → State → Type 0

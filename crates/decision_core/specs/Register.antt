@@ -1,6 +1,6 @@
 -- For the prover.
 -- A register as a machine: a call below 100 writes its number, another one reads and answers its number less 100.
-use Rattle.std.proofs.Common.{◌≡◌, ◌==◌, ◌||◌, ℕ, ◌-◌, Bool, true, false, cond, nat_lt, List, [], ◌∷◌, ◌++◌, Option, Some, None, refl, sym, ap, ◌∙◌}
+use Rattle.std.proofs.Common.{◌≡◌, ◌==◌, ◌||◌, ℕ, ◌-◌, Bool, true, false, cond, nat_lt, List, [], ◌∷◌, ◌++◌, Option, Some, None, Contains, refl, sym, ap, ◌∙◌}
 use Rattle.std.specs.List.{list_any}
 use Rattle.std.proofs.lemmas.Bool.{eq-eqb, ne_eqb}
 use Rattle.decision_core.specs.Decide.{IsTold}
@@ -27,6 +27,10 @@ register_placed state n = list_any (λ m. m == n) state.calls
 -- each state stands for itself
 abbrev pub StandsForItself : RegisterState → RegisterState → Type 0
 StandsForItself point state = point ≡ state
+
+-- one of the registers is the one behind the call, where it isn't placed and may be
+abbrev pub HasRegisterStep : List RegisterState → ℕ → RegisterState → Type 0
+HasRegisterStep states n register = (after : RegisterState) → register_placed register n ≡ false → register_next register n after → Contains states after
 
 -- ---- a register tells what is placed
 

@@ -37,6 +37,10 @@ module _ {Plan Point State : Type 0} (StandsFor : Plan → (ℕ → Bool) → Po
       HasStep states n state = (plan : Plan) (gone : ℕ → Bool) (point after : Point) → StandsFor plan gone point state → gone n ≡ false → placed point n ≡ false
           → Next plan point n after → Holds plan gone states after
 
+      -- so it is of each of these calls
+      abbrev pub HasSteps : List State → List ℕ → State → Type 0
+      HasSteps states calls state = AllByRecursion (λ n. HasStep states n state) calls
+
       -- for each point that the first state stands for the second one stands for one that may stand for it, where these calls aren't forgotten
       abbrev pub Settles : List ℕ → State → State → Type 0
       Settles calls state after = (plan : Plan) (gone : ℕ → Bool) (point : Point) → StandsFor plan gone point state → AllByRecursion (λ n. gone n ≡ false) calls

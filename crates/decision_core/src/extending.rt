@@ -1,7 +1,7 @@
 //! One step of the walk: at the answer of a call its states become all that come of a list of open calls that ends in it.
 
 ghost use Rattle.std.specs.Prelude.{◌≡◌, ◌∷◌, [], Contains, IfOk};
-ghost use Rattle.decision_core.specs.States.{HasStep};
+ghost use Rattle.decision_core.specs.States.{HasSteps};
 ghost use Rattle.decision_core.specs.Layers.{Grows, IsPutInto, HasPlacings, HasAllPlacings, IsSortedInto, IsSortedOut, ExtendsAll, ForgetsAll, SettlesAll};
 
 use crate::machine::{Limits, Machine, Stop};
@@ -93,23 +93,37 @@ fn put_all<M: Machine>(
     Ok(())
 }
 
-/// All states that placing the call may lead to, which is a step.
+/// How many of these calls aren't placed in a state.
+fn count_unplaced<M: Machine>(machine: &M, state: &M::State, calls: &[u64]) -> u64 {
+    let mut count = 0u64;
+    for call in calls {
+        if !machine.is_placed(state, *call) {
+            count = count.saturating_add(1);
+        }
+    }
+    count
+}
+
+/// All states that placing one of these calls in a state may lead to. Each such call is a step.
 fn step_within<M: Machine>(
     machine: &M,
     work: &mut M::Work,
     state: &M::State,
-    call: u64,
+    calls: &[u64],
     limits: &mut Limits,
 ) -> Result<Vec<M::State>, Stop<M::Reason>>
     requires { M.Fits machine.now work.old }
     ensures fits { M.Fits machine.now work.new }
-    ensures step { IfOk result (λ after. HasStep (M.StandsFor machine.now) (M.placed machine.now) (M.Next machine.now) after.items call state.now) }
+    ensures steps { IfOk result (λ after. HasSteps (M.StandsFor machine.now) (M.placed machine.now) (M.Next machine.now) after.items calls.now state.now) }
 {
-    if limits.steps == 0 {
+    let Some(left) = limits
+        .steps
+        .checked_sub(count_unplaced(machine, state, calls))
+    else {
         return Err(Stop::TooManySteps);
-    }
-    limits.steps -= 1;
-    machine.step(work, state, call)
+    };
+    limits.steps = left;
+    machine.step_each(work, state, calls)
 }
 
 /// Puts all that come of placing one of these calls in a state there.
@@ -128,12 +142,8 @@ fn place_calls<M: Machine>(
     ensures placings { IfOk result (λ _. (Grows with.old.items.items with.new.items.items × Grows without.old.items.items without.new.items.items)
         × HasPlacings (M.StandsFor machine.now) (M.placed machine.now) (M.Next machine.now) calls.now n with.new.items.items without.new.items.items calls.now state.now) }
 {
-    for call in calls {
-        if !machine.is_placed(state, *call) {
-            let after = step_within(machine, work, state, *call, limits)?;
-            put_all(machine, work, after, calls, n, with, without, limits)?;
-        }
-    }
+    let after = step_within(machine, work, state, calls, limits)?;
+    put_all(machine, work, after, calls, n, with, without, limits)?;
     Ok(())
 }
 

@@ -2,7 +2,7 @@
 
 ghost use Rattle.std.specs.Prelude.{◌≡◌, ℕ, Bool, false, IfOk, IsTrue};
 ghost use Rattle.decision_core.specs.Decide.{IsTold};
-ghost use Rattle.decision_core.specs.States.{Replaces, Forgets, TellsPlaced, HasStep, Settles};
+ghost use Rattle.decision_core.specs.States.{Replaces, Forgets, TellsPlaced, HasSteps, Settles};
 
 use std::alloc::AllocError;
 
@@ -83,16 +83,16 @@ pub trait Machine {
     fn is_placed(&self, state: &Self::State, n: u64) -> bool
         ensures { TellsPlaced (StandsFor self.now) (placed self.now) state.now n result };
 
-    /// States for all that placing the call may lead to.
-    fn step(
+    /// States for all that placing one of these calls may lead to, where it isn't placed yet.
+    fn step_each(
         &self,
         work: &mut Self::Work,
         state: &Self::State,
-        n: u64,
+        calls: &[u64],
     ) -> Result<Vec<Self::State>, Stop<Self::Reason>>
         requires { Fits self.now work.old }
         ensures fits { Fits self.now work.new }
-        ensures states { IfOk result (λ states. HasStep (StandsFor self.now) (placed self.now) (Next self.now) states.items n state.now) };
+        ensures states { IfOk result (λ states. HasSteps (StandsFor self.now) (placed self.now) (Next self.now) states.items calls.now state.now) };
 
     /// The state, in which those of these calls are placed that may as well be placed at once: whatever a plan goes on with, it goes on
     /// with after them.

@@ -1,7 +1,8 @@
 //! A register, as an example of a machine.
 
 ghost use Rattle.std.specs.Prelude.{◌≡◌, [], IfOk, refl};
-ghost use Rattle.decision_core.specs.Register.{RegisterState, register_first, register_next, register_placed, register_told, StandsForItself};
+ghost use Rattle.decision_core.specs.Layers.{Grows};
+ghost use Rattle.decision_core.specs.Register.{RegisterState, register_first, register_next, register_placed, register_told, StandsForItself, HasRegisterStep};
 
 use crate::machine::{Machine, Stop};
 use std::alloc::{AllocError, Global};
@@ -56,6 +57,27 @@ impl Register {
     }
 }
 
+/// Puts the register behind a call there, if it isn't placed and may be.
+fn put_step(states: &mut Vec<Register>, register: &Register, n: u64) -> Result<(), Stop<()>>
+    ensures { IfOk result (λ _. Grows states.old.items states.new.items × HasRegisterStep states.new.items n register.now) }
+{
+    if register.has(n) {
+        return Ok(());
+    }
+    let value = if n < 100 {
+        n
+    } else if n - 100 == register.value {
+        register.value
+    } else {
+        return Ok(());
+    };
+    let after = register.moved(value, n)?;
+    if states.push(after).is_err() {
+        return Err(Stop::NoMemory);
+    }
+    Ok(())
+}
+
 /// The machine of registers. A call below 100 writes its number, another one reads and answers its number less 100.
 #[derive(Drop)]
 pub struct RegisterMachine {
@@ -100,18 +122,15 @@ impl Machine for RegisterMachine {
         state.has(n)
     }
 
-    fn step(&self, _work: &mut (), state: &Register, n: u64) -> Result<Vec<Register>, Stop<()>> {
+    fn step_each(
+        &self,
+        _work: &mut (),
+        state: &Register,
+        calls: &[u64],
+    ) -> Result<Vec<Register>, Stop<()>> {
         let mut states = Vec::new(self.alloc);
-        let value = if n < 100 {
-            n
-        } else if n - 100 == state.value {
-            state.value
-        } else {
-            return Ok(states);
-        };
-        let after = state.moved(value, n)?;
-        if states.push(after).is_err() {
-            return Err(Stop::NoMemory);
+        for call in calls {
+            put_step(&mut states, state, *call)?;
         }
         Ok(states)
     }

@@ -1,5 +1,5 @@
 -- a call that is placed, however it came out
-use Rattle.std.proofs.Common.{◌≡◌, inl, inr, ℕ, ◌-◌, ◌<◌, ◌≤◌, Bool, true, false, List, [], ◌∷◌, length, Some, None, refl, sym, ap, ◌∙◌, subst, arith}
+use Rattle.std.proofs.Common.{◌≡◌, inl, inr, ℕ, ◌+◌, ◌-◌, ◌<◌, ◌≤◌, Bool, true, false, List, [], ◌∷◌, length, take, get_or, Some, None, refl, sym, ap, ◌∙◌, subst, arith}
 use Rattle.std.specs.Prelude.{◌==◌, ◌||◌, cond}
 use Rattle.std.specs.Option.{option_map_or}
 use Rattle.std.specs.List.{list_any}
@@ -10,9 +10,11 @@ use Rattle.nfs_history.specs.Precedence.{call_at}
 use Rattle.decision_law.specs.Times.{era_of_number}
 use Rattle.decision_law.proofs.Placed.{is_call_number}
 use Rattle.decision_core.specs.Times.{IsAmong}
+use Rattle.decision_core.specs.Layers.{Grows}
+use Rattle.decision_core.proofs.Sets.{one_more, all_gone_over}
 use Rattle.decision_walk.specs.declared.way_state.WayState.{WayState}
-use Rattle.decision_walk.specs.Standing.{is_marked}
-use Rattle.decision_walk.specs.Placings.{HasAllOf, HasStepOf, IsMissing, MayNotLose}
+use Rattle.decision_walk.specs.Standing.{is_marked, has_call}
+use Rattle.decision_walk.specs.Placings.{HasAllOf, HasStepOf, HasStepsOf, IsMissing, MayNotLose}
 
 some_is : {X : Type 0} (a b : X) → Some a ≡ Some b → a ≡ b
 some_is a b e = cc
@@ -46,6 +48,23 @@ module _ (known : KnownCalls) where
         → (recorded.era ≡ state.era → ⊥) → HasStepOf known marks states n state
     other_era_steps states state n recorded late inside stands other plan gone point after at kept unplaced (inl real) = absurd (other (sym (era_is n recorded stands) ∙ real.1 ∙ sym at.era))
     other_era_steps states state n recorded late inside stands other plan gone point after at kept unplaced (inr crash) = absurd (omega (arith, crash.0, at.era, late, inside))
+
+    -- nothing comes of a call that is placed
+    pub placed_steps : (states : List WayState) (state : WayState) (n : ℕ) → has_call state.placed.items n ≡ true → HasStepOf known marks states n state
+    placed_steps states state n is plan gone point after at kept unplaced next = absurd (true≢false (sym is ∙ at.placed n kept ∙ unplaced))
+
+    -- what a greater list has
+    pub step_kept : (old new : List WayState) (state : WayState) (n : ℕ) → Grows old new → HasStepOf known marks old n state → HasStepOf known marks new n state
+    step_kept old new state n grows has plan gone point after at kept unplaced next = let held = has plan gone point after at kept unplaced next in (held.0, grows held.0 held.1, held.2)
+
+    -- one call more
+    pub steps_next : (old new : List WayState) (calls : List ℕ) (i : ℕ) (state : WayState) → i < length calls → Grows old new → HasStepOf known marks new (get_or calls i 0) state
+        → HasStepsOf known marks old (take i calls) state → HasStepsOf known marks new (take (i + 1) calls) state
+    steps_next old new calls i state inside grows here so_far =
+        one_more (λ n. HasStepOf known marks old n state) (λ n. HasStepOf known marks new n state) calls i 0 inside (λ n has. step_kept old new state n grows has) so_far here
+
+    pub steps_all : (states : List WayState) (calls : List ℕ) (i : ℕ) (state : WayState) → length calls ≤ i → HasStepsOf known marks states (take i calls) state → HasStepsOf known marks states calls state
+    steps_all states calls i state past all = all_gone_over (λ n. HasStepOf known marks states n state) calls i past all
 
     -- ---- calls that can't be lost
 

@@ -114,6 +114,9 @@ module _ (known : KnownCalls) where
         let s = settles plan gone point at kept in
         (s.0, at_alike plan gone s.0 state after alike s.1, s.2)
 
+    pub settles_from : (calls : List ℕ) (first second after : WayState) → IsAlike first second → SettlesAt known marks calls second after → SettlesAt known marks calls first after
+    settles_from calls first second after alike settles plan gone point at kept = settles plan gone point (at_alike plan gone point first second alike at) kept
+
     -- one call more
     settles_more : (calls : List ℕ) (n : ℕ) (first second third : WayState) → SettlesAt known marks calls first second → SettlesAt known marks (n ∷ []) second third
         → SettlesAt known marks (calls ++ n ∷ []) first third

@@ -1,6 +1,7 @@
--- For the prover.
+-- For the prover, and for callers.
 -- What placing a call in a state comes to (a form of this project's own).
 use Rattle.std.specs.Prelude.{◌≡◌, ◌⊎◌, ◌++◌, ℕ, ◌+◌, ◌<◌, ◌≤◌, Bool, true, false, List, [], ◌∷◌, length, take, Option, Some, None, Contains, IsTrue}
+use Rattle.std.specs.List.{AllByRecursion}
 use Rattle.nfs3_types.specs.declared.calls.NfsCall.{NfsCall}
 use Rattle.nfs3_types.specs.declared.calls.NfsCall.TheVariants as calls
 use Rattle.nfs3_types.specs.declared.replies.Outcome.{Outcome}
@@ -137,6 +138,10 @@ module _ (known : KnownCalls) where
     -- and all to which a call or a crash may lead
     abbrev pub HasStepOf : List WayState → ℕ → WayState → Type 0
     HasStepOf states n state = HasStep (IsAt known marks) is_placed (λ plan. Next known (hints_of marks) (binds_of known plan)) states n state
+
+    -- and all to which each of these may lead
+    abbrev pub HasStepsOf : List WayState → List ℕ → WayState → Type 0
+    HasStepsOf states calls state = AllByRecursion (λ n. HasStepOf states n state) calls
 
 -- what was found by a step has the handles that it bound
 abbrev pub IsFound : Bool → Step → Option Attempt → Type 0

@@ -1,4 +1,4 @@
--- For the prover.
+-- For the prover, and for callers.
 -- Which points of a plan a state of the walk stands for (a form of this project's own; points are those of a plan of eras).
 use Rattle.std.specs.Prelude.{◌≡◌, ◌==◌, ℕ, zero, suc, ◌<◌, ◌≤◌, Bool, true, false, List, length, take, Option, Some, None}
 use Rattle.std.specs.List.{list_any, slice_index_or}
@@ -11,6 +11,7 @@ use Rattle.tree_nodes.specs.Tree.{Tree}
 use Rattle.tree_handles.specs.Binding.{Bindings}
 use Rattle.witness_check.specs.Run.{base_of}
 use Rattle.decision_core.specs.Eras.{Numbering, is_placed}
+use Rattle.decision_steps.specs.declared.state.State.{State}
 use Rattle.decision_steps.specs.Known.{AgreesWith}
 use Rattle.decision_steps.specs.Listed.{bound_pairs}
 use Rattle.decision_law.specs.Laws.{binds_of}
@@ -44,6 +45,11 @@ HasBase known binds way (Some kept) base = (kept ≤ length way) × ((tree : Tre
 -- the handles that are bound in a state
 abbrev pub binds_in : KnownCalls → WayState → Bindings
 binds_in known state = bound_in known (bound_pairs state.bound.items)
+
+-- a tree stands with the handles that are bound in a state, and the state's way leads to it
+pub record StandsIn (known : KnownCalls) (state : WayState) (stands : State) : Type 0 where
+  pub binds : stands.binds ≡ binds_in known state
+  pub leads : WayLeads known (binds_in known state) (base_of known) state.way.items stands.tree
 
 -- the reply to call n, if one came, came by this event
 abbrev pub EndsBy : KnownCalls → ℕ → ℕ → Type 0

@@ -2,16 +2,15 @@
 
 ghost use Rattle.std.specs.Prelude.{◌≡◌, ◌⊎◌, true, false, IfOk, Some, Ok};
 ghost use Rattle.certificate.specs.Plan.{call_of};
-ghost use Rattle.witness_check.specs.Run.{base_of, step_at};
+ghost use Rattle.witness_check.specs.Run.{step_at};
 ghost use Rattle.decision_steps.specs.Known.{is_failure, knows_handles};
-ghost use Rattle.decision_walk.specs.Way.{WayLeads, may_change};
-ghost use Rattle.decision_walk.specs.Standing.{binds_in};
-ghost use Rattle.decision_walk.specs.Live.{FitsWork};
+ghost use Rattle.decision_walk.specs.Way.{may_change};
+ghost use Rattle.decision_walk.specs.Standing.{StandsIn};
 ghost use Rattle.decision_steps.specs.declared.state.State.{State};
 ghost use Rattle.decision_steps.specs.Placing.{StepsFrom};
 ghost use Rattle.decision_walk.specs.Placings.{CoversPlans, IsFound};
 
-use crate::live::{Live, WalkWork};
+use crate::digest::tree_number;
 use crate::machine::HistoryMachine;
 use crate::way_state::{WayState, copy_bound};
 use crate::why::Why;
@@ -20,11 +19,14 @@ use decision_core::Stop;
 use decision_steps::{BoundHandle, PlaceFault, State, Step, is_failure, knows_handles};
 use nfs3_types::{NfsCall, Outcome};
 
-/// A call that could be placed: the handles that it bound, and whether it belongs to the way.
+/// A call that could be placed: the handles that it bound, and whether it belongs to the way. Of what stood behind it is known which of
+/// the open calls fitted there and left the tree as it was, and the number of the tree.
 #[derive(Drop)]
 pub(crate) struct Attempt {
     pub(crate) bound: Vec<BoundHandle>,
     pub(crate) grows: bool,
+    pub(crate) ready: Vec<u64>,
+    pub(crate) tree: u64,
 }
 
 /// Whether a call is one of a procedure that changes the tree where it succeeds.
@@ -64,7 +66,7 @@ impl Drop for Tried {
 
 impl Tried {
     /// The state, and what was found.
-    fn into_parts(self) -> (State, Option<Attempt>)
+    pub(crate) fn into_parts(self) -> (State, Option<Attempt>)
         ensures stands { result.0 ≡ self.stands }
         ensures found { result.1 ≡ self.found }
     {
@@ -74,33 +76,47 @@ impl Tried {
 }
 
 impl<'h> HistoryMachine<'h> {
-    /// Takes a step back, and tells what was found by it.
-    fn found_step(&self, stands: State, step: Step, grows: bool) -> Result<Tried, Stop<Why>>
+    /// Takes a step back, and tells what was found by it, and where it led.
+    fn found_step(
+        &self,
+        stands: State,
+        step: Step,
+        grows: bool,
+        state: &WayState,
+        open: &[u64],
+    ) -> Result<Tried, Stop<Why>>
         requires { (before : State) × StepsFrom before step stands }
         ensures found { IfOk result (λ tried. IsFound grows step tried.found) }
         ensures stands { IfOk result (λ tried. (before : State) → StepsFrom before step stands → tried.stands ≡ before) }
     {
         let mut bound = Vec::new(self.alloc);
-        copy_bound(self.alloc, &mut bound, step.bound.as_slice())?;
+        copy_bound(&mut bound, step.bound.as_slice())?;
+        let tree = tree_number(&stands, state.bound.as_slice(), bound.as_slice());
+        let (stands, ready) = self.ready_calls(stands, state, open)?;
         let stands = stands.take_back(step)?;
-        let found = Some(Attempt { bound, grows });
+        let found = Some(Attempt {
+            bound,
+            grows,
+            ready,
+            tree,
+        });
         Ok(Tried { stands, found })
     }
 
     /// Tries a call, which came out so, where the state stands, and takes it back. Nothing is found where no plan lets it come out so
-    /// there.
-    fn try_call(
+    /// there. Of the open calls it tells which fit behind it.
+    pub(crate) fn try_call(
         &self,
         stands: State,
-        _state: &WayState,
+        state: &WayState,
         place: Place,
         call: &NfsCall,
         outcome: &Outcome,
+        open: &[u64],
     ) -> Result<Tried, Stop<Why>>
         requires step { step_at self.now.history.now.known.calls place ≡ Some (record { number = call_of place; call = call.now; outcome = outcome.now }) }
-        requires binds { stands.binds ≡ binds_in self.now.history.now.known _state.now }
-        requires leads { WayLeads self.now.history.now.known (binds_in self.now.history.now.known _state.now) (base_of self.now.history.now.known) _state.now.way.items stands.tree }
-        ensures found { IfOk result (λ tried. CoversPlans self.now.history.now.known _state.now place call.now outcome.now tried.found) }
+        requires stands { StandsIn self.now.history.now.known state.now stands }
+        ensures found { IfOk result (λ tried. CoversPlans self.now.history.now.known state.now place call.now outcome.now tried.found) }
         ensures stands { IfOk result (λ tried. tried.stands ≡ stands) }
     {
         let number = place.number();
@@ -110,7 +126,7 @@ impl<'h> HistoryMachine<'h> {
         };
         let mut stands = stands;
         match stands.place(self.alloc, self.history.profile(), object, call, outcome) {
-            Ok(step) => self.found_step(stands, step, grows),
+            Ok(step) => self.found_step(stands, step, grows, state, open),
             Err(PlaceFault::NotLegal) => {
                 let found = None;
                 Ok(Tried { stands, found })
@@ -118,32 +134,5 @@ impl<'h> HistoryMachine<'h> {
             Err(PlaceFault::HandleNotGiven) => Err(Stop::NotCovered(Why::HandleNotGiven(number))),
             Err(PlaceFault::NoMemory) => Err(Stop::NoMemory),
         }
-    }
-
-    /// Tries a call, which came out so, in a state. Nothing is found where no plan lets it come out so there.
-    pub(crate) fn attempt(
-        &self,
-        work: &mut WalkWork,
-        state: &WayState,
-        place: Place,
-        call: &NfsCall,
-        outcome: &Outcome,
-    ) -> Result<Option<Attempt>, Stop<Why>>
-        requires fits { FitsWork self.now.history.now.known work.old }
-        requires step { step_at self.now.history.now.known.calls place ≡ Some (record { number = call_of place; call = call.now; outcome = outcome.now }) }
-        ensures fits { FitsWork self.now.history.now.known work.new }
-        ensures found { IfOk result (CoversPlans self.now.history.now.known state.now place call.now outcome.now) }
-    {
-        let stood = self.taken_out(work)?;
-        let live = self.go_to(stood, state.bound.as_slice(), state.way.as_slice())?;
-        let (stands, bound, trail) = live.into_parts();
-        let tried = self.try_call(stands, state, place, call, outcome)?;
-        let (state, found) = tried.into_parts();
-        work.live = Some(Live {
-            state,
-            bound,
-            trail,
-        });
-        Ok(found)
     }
 }

@@ -4,19 +4,19 @@ ghost use Rattle.std.specs.Prelude.{◌≡◌, ◌++◌, ◌∷◌, [], ◌≤�
 ghost use Rattle.certificate.specs.Plan.{call_of};
 ghost use Rattle.witness_check.specs.Run.{step_at};
 ghost use Rattle.decision_core.specs.Layers.{Grows};
-ghost use Rattle.decision_walk.specs.Standing.{is_marked, EndsBy, EndsAfter};
+ghost use Rattle.decision_walk.specs.Standing.{is_marked, EndsBy, EndsAfter, StandsIn};
 ghost use Rattle.decision_law.specs.Times.{era_of_number};
 ghost use Rattle.decision_walk.specs.Way.{longer};
-ghost use Rattle.decision_walk.specs.Live.{FitsWork};
 ghost use Rattle.decision_walk.specs.Placings.{IsChild, HasChild, HasChildren, HasPlaced, IsMissing, MayNotLose};
 
 use crate::attempt::Attempt;
-use crate::live::WalkWork;
+use crate::deeds::{Deed, Deeds};
 use crate::machine::HistoryMachine;
-use crate::way_state::{Deed, Sums, WayState, copy_bound, has_call};
+use crate::way_state::{Sums, WayState, copy_bound, has_call};
 use crate::why::Why;
 use certificate::Place;
 use decision_core::Stop;
+use decision_steps::State;
 use nfs3_types::{NfsCall, Outcome};
 use std::alloc::{AllocError, Global};
 
@@ -56,13 +56,8 @@ pub(crate) fn and_call(alloc: Global, calls: &[u64], n: u64) -> Result<Vec<u64>,
 }
 
 /// What happened, with a place behind it, which is the first that is lost where the state had no cut and has one now.
-fn longer_deeds(
-    alloc: Global,
-    state: &WayState,
-    place: Place,
-    cut: Option<usize>,
-) -> Result<Vec<Deed>, AllocError> {
-    let mut deeds = Vec::from_slice(alloc, state.deeds.as_slice())?;
+fn longer_deeds(state: &WayState, place: Place, cut: Option<usize>) -> Result<Deeds, AllocError> {
+    let mut deeds = state.deeds.copy()?;
     if state.cut.is_none() && cut.is_some() {
         deeds.push(Deed::Cut)?;
     }
@@ -194,11 +189,12 @@ impl<'h> HistoryMachine<'h> {
     {
         let alloc = self.alloc;
         let mut bound = Vec::new(alloc);
-        copy_bound(alloc, &mut bound, state.bound.as_slice())?;
-        copy_bound(alloc, &mut bound, attempt.bound.as_slice())?;
+        copy_bound(&mut bound, state.bound.as_slice())?;
+        copy_bound(&mut bound, attempt.bound.as_slice())?;
         let way = longer(state.way.as_slice(), attempt.grows, place, alloc)?;
         let placed = and_call(alloc, state.placed.as_slice(), place.number())?;
-        let deeds = longer_deeds(alloc, state, place, cut)?;
+        let deeds = longer_deeds(state, place, cut)?;
+        let ready = Vec::from_slice(alloc, attempt.ready.as_slice())?;
         Ok(WayState {
             bound,
             way,
@@ -206,8 +202,9 @@ impl<'h> HistoryMachine<'h> {
             era: state.era,
             placed,
             answered_to: state.answered_to,
-            sums: longer_sums(state, attempt.grows, place, cut),
+            sums: longer_sums(state, attempt.grows, place, cut).with_tree(attempt.tree),
             deeds,
+            ready: Some(ready),
         })
     }
 
@@ -230,7 +227,7 @@ impl<'h> HistoryMachine<'h> {
     }
 
     /// Puts the states there in which the call is placed: as it stands to the cut, and as the first that is lost, where it may be.
-    fn put_children(
+    pub(crate) fn put_children(
         &self,
         states: &mut Vec<WayState>,
         state: &WayState,
@@ -252,25 +249,29 @@ impl<'h> HistoryMachine<'h> {
         self.put_child(states, state, place, attempt, Some(state.way.len()))
     }
 
-    /// Puts all states there to which placing the call, which came out so, may lead.
+    /// Puts all states there to which placing the call, which came out so, may lead. What stands is tried in, and stands as it did.
     pub(crate) fn place_as(
         &self,
-        work: &mut WalkWork,
+        stands: State,
         states: &mut Vec<WayState>,
         state: &WayState,
         place: Place,
         call: &NfsCall,
         outcome: &Outcome,
-    ) -> Result<(), Stop<Why>>
-        requires fits { FitsWork self.now.history.now.known work.old }
+        open: &[u64],
+    ) -> Result<State, Stop<Why>>
+        requires stands { StandsIn self.now.history.now.known state.now stands }
         requires step { step_at self.now.history.now.known.calls place ≡ Some (record { number = call_of place; call = call.now; outcome = outcome.now }) }
         requires inside { state.now.era ≤ self.now.history.now.known.eras }
-        ensures fits { FitsWork self.now.history.now.known work.new }
+        ensures stands { IfOk result (λ same. same ≡ stands) }
         ensures placed { IfOk result (λ _. Grows states.old.items states.new.items × HasPlaced self.now.history.now.known self.now.marks.items states.new.items state.now (call_of place) call.now outcome.now) }
     {
-        match self.attempt(work, state, place, call, outcome)? {
-            Some(attempt) => self.put_children(states, state, place, &attempt),
-            None => Ok(()),
-        }
+        let tried = self.try_call(stands, state, place, call, outcome, open)?;
+        let (stands, found) = tried.into_parts();
+        let Some(attempt) = found else {
+            return Ok(stands);
+        };
+        self.put_children(states, state, place, &attempt)?;
+        Ok(stands)
     }
 }

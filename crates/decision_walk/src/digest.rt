@@ -28,15 +28,22 @@ fn names_number(nodes: &Nodes, directory: u64) -> u64 {
     sum
 }
 
-/// A number of the names in the root and in the directories of which handles are bound.
-pub(crate) fn tree_number(state: &State, bound: &[BoundHandle]) -> u64 {
-    let nodes = state.tree.nodes();
-    if nodes.count() > MOST_NODES {
-        return 0;
-    }
-    let mut number = names_number(nodes, 0);
+/// A number of the names in the directories of which handles are bound.
+fn bound_number(nodes: &Nodes, bound: &[BoundHandle]) -> u64 {
+    let mut number = 0u64;
     for one in bound {
         number = number.wrapping_add(names_number(nodes, one.object));
     }
     number
+}
+
+/// A number of the names in the root and in the directories of which handles are bound, in two lists.
+pub(crate) fn tree_number(state: &State, bound: &[BoundHandle], more: &[BoundHandle]) -> u64 {
+    let nodes = state.tree.nodes();
+    if nodes.count() > MOST_NODES {
+        return 0;
+    }
+    names_number(nodes, 0)
+        .wrapping_add(bound_number(nodes, bound))
+        .wrapping_add(bound_number(nodes, more))
 }

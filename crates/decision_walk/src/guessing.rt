@@ -31,6 +31,7 @@ impl<'h> HistoryMachine<'h> {
         work: &mut WalkWork,
         state: &WayState,
         n: u64,
+        open: &[u64],
     ) -> Result<Vec<WayState>, Stop<Why>>
         requires { FitsWork self.now.history.now.known work.old }
         ensures { FitsWork self.now.history.now.known work.new }
@@ -52,14 +53,20 @@ impl<'h> HistoryMachine<'h> {
             return Ok(states);
         };
         let outcome = Outcome::Taken(Some(count));
-        self.place_as(
-            work,
-            &mut states,
-            state,
-            Place::Taken(n, Some(count)),
-            call,
-            &outcome,
-        )?;
+        let place = Place::Taken(n, Some(count));
+        let stood = self.taken_out(work)?;
+        let live = self.go_to(stood, state.bound.as_slice(), state.way.as_slice())?;
+        let (stands, bound, trail) = live.into_parts();
+        let tried = self.try_call(stands, state, place, call, &outcome, open)?;
+        let (stands, found) = tried.into_parts();
+        work.live = Some(Live {
+            state: stands,
+            bound,
+            trail,
+        });
+        if let Some(attempt) = found {
+            self.put_children(&mut states, state, place, &attempt)?;
+        }
         Ok(states)
     }
 
@@ -96,7 +103,7 @@ impl<'h> HistoryMachine<'h> {
     ) -> Result<WayState, AllocError> {
         let alloc = self.alloc;
         let mut bound = Vec::new(alloc);
-        copy_bound(alloc, &mut bound, state.bound.as_slice())?;
+        copy_bound(&mut bound, state.bound.as_slice())?;
         let handle = FileHandle::from_slice(alloc, handle.as_slice())?;
         bound.push(BoundHandle { handle, object })?;
         Ok(WayState {
@@ -107,7 +114,8 @@ impl<'h> HistoryMachine<'h> {
             placed: Vec::from_slice(alloc, state.placed.as_slice())?,
             answered_to: state.answered_to,
             sums: state.sums,
-            deeds: Vec::from_slice(alloc, state.deeds.as_slice())?,
+            deeds: state.deeds.copy()?,
+            ready: None,
         })
     }
 

@@ -3,6 +3,7 @@
 
 mod attempt;
 mod children;
+mod deeds;
 mod digest;
 mod follow;
 mod going;
@@ -15,7 +16,8 @@ mod stepping;
 mod way_state;
 mod why;
 
+pub use deeds::Deed;
 pub use live::WalkWork;
 pub use machine::HistoryMachine;
-pub use way_state::{Deed, WayState};
+pub use way_state::WayState;
 pub use why::Why;

@@ -10,6 +10,7 @@ ghost use Rattle.decision_law.specs.Machine.{Changes, Next, first_point};
 ghost use Rattle.decision_walk.specs.Live.{FitsWork};
 ghost use Rattle.decision_walk.specs.Standing.{IsAt, hints_of, numbers_of};
 
+use crate::deeds::Deeds;
 use crate::live::WalkWork;
 use crate::way_state::{Sums, WayState, has_call};
 use crate::why::Why;
@@ -82,7 +83,8 @@ impl<'h> Machine for HistoryMachine<'h> {
             placed: Vec::new(alloc),
             answered_to: 0,
             sums: Sums::none(),
-            deeds: Vec::new(alloc),
+            deeds: Deeds::none(alloc),
+            ready: None,
         })
     }
 
@@ -94,17 +96,13 @@ impl<'h> Machine for HistoryMachine<'h> {
         has_call(state.placed.as_slice(), n)
     }
 
-    fn step(
+    fn step_each(
         &self,
         work: &mut WalkWork,
         state: &WayState,
-        n: u64,
+        calls: &[u64],
     ) -> Result<Vec<WayState>, Stop<Why>> {
-        if n <= self.history.calls() {
-            self.step_call(work, state, n)
-        } else {
-            self.step_crash(state, n)
-        }
+        self.step_calls(work, state, calls, calls)
     }
 
     fn settle(

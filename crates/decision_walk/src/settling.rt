@@ -78,6 +78,74 @@ impl<'h> HistoryMachine<'h> {
         }
     }
 
+    /// Whether a call that leaves the tree as it is fits where a state stands; this isn't asked of a call that is placed.
+    fn is_ready(&self, stands: State, state: &WayState, n: u64) -> Result<(State, bool), Stop<Why>>
+        ensures stands { IfOk result (λ tried. tried.0 ≡ stands) }
+    {
+        let Some(recorded) = self.settling(state, n) else {
+            return Ok((stands, false));
+        };
+        let Meaning::Judged(call) = &recorded.meaning else {
+            return Ok((stands, false));
+        };
+        match &recorded.outcome {
+            Some(outcome) => self.fits_now(stands, n, call, outcome),
+            None => Ok((stands, false)),
+        }
+    }
+
+    /// Which of these calls leave the tree as it is and fit where what comes of a state stands.
+    pub(crate) fn ready_calls(
+        &self,
+        stands: State,
+        state: &WayState,
+        calls: &[u64],
+    ) -> Result<(State, Vec<u64>), Stop<Why>>
+        ensures stands { IfOk result (λ pair. pair.0 ≡ stands) }
+    {
+        let mut stands = stands;
+        let mut ready = Vec::new(self.alloc);
+        for call in calls {
+            let (same, is_ready) = self.is_ready(stands, state, *call)?;
+            stands = same;
+            if is_ready {
+                ready.reserve(1)?;
+                ready.push(*call).unwrap();
+            }
+        }
+        Ok((stands, ready))
+    }
+
+    /// Places a call that fits in a state, where it leaves the tree as it is.
+    fn settle_noted(&self, state: WayState, n: u64, fits: bool) -> Result<WayState, Stop<Why>>
+        ensures { IfOk result (SettlesAt self.now.history.now.known self.now.marks.items (n ∷ []) state) }
+    {
+        if !fits {
+            return Ok(state);
+        }
+        let Some(_recorded) = self.settling(&state, n) else {
+            return Ok(state);
+        };
+        let settled = state.with_settled(n)?;
+        Ok(settled)
+    }
+
+    /// The state, in which those of these calls are placed that are noted to fit there.
+    fn settle_ready(
+        &self,
+        state: WayState,
+        calls: &[u64],
+        ready: &[u64],
+    ) -> Result<WayState, Stop<Why>>
+        ensures { IfOk result (SettlesAt self.now.history.now.known self.now.marks.items calls.now state) }
+    {
+        let mut state = state;
+        for call in calls {
+            state = self.settle_noted(state, *call, has_call(ready, *call))?;
+        }
+        Ok(state)
+    }
+
     /// Places a call in a state, where it leaves the tree as it is and fits now.
     fn settle_one(
         &self,
@@ -88,20 +156,8 @@ impl<'h> HistoryMachine<'h> {
         ensures stands { IfOk result (λ pair. pair.0 ≡ stands) }
         ensures settled { IfOk result (λ pair. SettlesAt self.now.history.now.known self.now.marks.items (n ∷ []) state pair.1) }
     {
-        let Some(recorded) = self.settling(&state, n) else {
-            return Ok((stands, state));
-        };
-        let Meaning::Judged(call) = &recorded.meaning else {
-            return Ok((stands, state));
-        };
-        let Some(outcome) = &recorded.outcome else {
-            return Ok((stands, state));
-        };
-        let (stands, fits) = self.fits_now(stands, n, call, outcome)?;
-        if !fits {
-            return Ok((stands, state));
-        }
-        let settled = state.with_settled(n)?;
+        let (stands, fits) = self.is_ready(stands, &state, n)?;
+        let settled = self.settle_noted(state, n, fits)?;
         Ok((stands, settled))
     }
 
@@ -136,6 +192,10 @@ impl<'h> HistoryMachine<'h> {
         ensures fits { FitsWork self.now.history.now.known work.new }
         ensures settled { IfOk result (SettlesAt self.now.history.now.known self.now.marks.items calls.now state) }
     {
+        let (state, ready) = state.take_ready();
+        if let Some(ready) = ready {
+            return self.settle_ready(state, calls, ready.as_slice());
+        }
         if state.sums.knows_tree() && !self.settles_some(&state, calls) {
             return Ok(state);
         }
@@ -143,7 +203,7 @@ impl<'h> HistoryMachine<'h> {
         let live = self.go_to(stood, state.bound.as_slice(), state.way.as_slice())?;
         let (stands, bound, trail) = live.into_parts();
         let (stands, settled) = self.settle_each(stands, state, calls)?;
-        let number = tree_number(&stands, bound.as_slice());
+        let number = tree_number(&stands, bound.as_slice(), &[]);
         work.live = Some(Live {
             state: stands,
             bound,

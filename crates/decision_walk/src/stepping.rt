@@ -7,17 +7,20 @@ ghost use Rattle.nfs3_types.specs.declared.replies.Outcome.{Outcome};
 ghost use Rattle.nfs_history.specs.declared.recorded.RecordedCall.{RecordedCall};
 ghost use Rattle.decision_core.specs.Layers.{Grows};
 ghost use Rattle.decision_walk.specs.Live.{FitsWork};
-ghost use Rattle.decision_walk.specs.Placings.{IsCrashed, bytes_brought, kept_way, HasPlaced, HasCounts, HasTaken, HasAllOf, HasStepOf};
+ghost use Rattle.decision_walk.specs.Standing.{StandsIn};
+ghost use Rattle.decision_walk.specs.Placings.{IsCrashed, bytes_brought, kept_way, HasPlaced, HasCounts, HasTaken, HasAllOf, HasStepOf, HasStepsOf};
 
 use crate::attempt::may_change;
 use crate::children::and_call;
+use crate::deeds::{Deed, Deeds};
 use crate::follow::way_lost;
-use crate::live::WalkWork;
+use crate::live::{Live, WalkWork};
 use crate::machine::HistoryMachine;
-use crate::way_state::{Deed, WayState, copy_bound};
+use crate::way_state::{WayState, copy_bound, has_call};
 use crate::why::Why;
 use certificate::Place;
 use decision_core::Stop;
+use decision_steps::State;
 use nfs_history::{Meaning, RecordedCall};
 use nfs3_types::{NfsCall, Outcome};
 use std::alloc::{AllocError, Global};
@@ -47,8 +50,8 @@ fn kept_way(alloc: Global, cut: Option<usize>, way: &[Place]) -> Result<Vec<Plac
 }
 
 /// What happened, with the end of an era behind it.
-fn ended_deeds(alloc: Global, deeds: &[Deed]) -> Result<Vec<Deed>, AllocError> {
-    let mut deeds = Vec::from_slice(alloc, deeds)?;
+fn ended_deeds(deeds: &Deeds) -> Result<Deeds, AllocError> {
+    let mut deeds = deeds.copy()?;
     deeds.push(Deed::Ended)?;
     Ok(deeds)
 }
@@ -57,61 +60,59 @@ impl<'h> HistoryMachine<'h> {
     /// Puts the states there to which a WRITE may lead that wrote fewer bytes than this.
     fn place_counts(
         &self,
-        work: &mut WalkWork,
+        stands: State,
         states: &mut Vec<WayState>,
         state: &WayState,
         n: u64,
         call: &NfsCall,
         counts: u32,
-    ) -> Result<(), Stop<Why>>
-        requires fits { FitsWork self.now.history.now.known work.old }
-        requires stands { (recorded : RecordedCall) × (call_at self.now.history.now.known.calls n ≡ Some recorded) × (recorded.meaning ≡ meanings.Judged call.now) }
+        open: &[u64],
+    ) -> Result<State, Stop<Why>>
+        requires stands { StandsIn self.now.history.now.known state.now stands }
+        requires judged { (recorded : RecordedCall) × (call_at self.now.history.now.known.calls n ≡ Some recorded) × (recorded.meaning ≡ meanings.Judged call.now) }
         requires inside { state.now.era ≤ self.now.history.now.known.eras }
-        ensures fits { FitsWork self.now.history.now.known work.new }
+        ensures stands { IfOk result (λ same. same ≡ stands) }
         ensures counts { IfOk result (λ _. Grows states.old.items states.new.items × HasCounts self.now.history.now.known self.now.marks.items states.new.items state.now n call.now counts) }
     {
+        let mut stands = stands;
         for count in 0..counts {
             let outcome = Outcome::Taken(Some(count));
-            self.place_as(
-                work,
-                states,
-                state,
-                Place::Taken(n, Some(count)),
-                call,
-                &outcome,
-            )?;
+            let place = Place::Taken(n, Some(count));
+            stands = self.place_as(stands, states, state, place, call, &outcome, open)?;
         }
-        Ok(())
+        Ok(stands)
     }
 
     /// Puts the states there to which a call may lead that is taken without a reply.
     fn place_taken(
         &self,
-        work: &mut WalkWork,
+        stands: State,
         states: &mut Vec<WayState>,
         state: &WayState,
         n: u64,
         call: &NfsCall,
-    ) -> Result<(), Stop<Why>>
-        requires fits { FitsWork self.now.history.now.known work.old }
-        requires stands { (recorded : RecordedCall) × (call_at self.now.history.now.known.calls n ≡ Some recorded) × (recorded.meaning ≡ meanings.Judged call.now) }
+        open: &[u64],
+    ) -> Result<State, Stop<Why>>
+        requires stands { StandsIn self.now.history.now.known state.now stands }
+        requires judged { (recorded : RecordedCall) × (call_at self.now.history.now.known.calls n ≡ Some recorded) × (recorded.meaning ≡ meanings.Judged call.now) }
         requires inside { state.now.era ≤ self.now.history.now.known.eras }
-        ensures fits { FitsWork self.now.history.now.known work.new }
+        ensures stands { IfOk result (λ same. same ≡ stands) }
         ensures taken { IfOk result (λ _. Grows states.old.items states.new.items × HasTaken self.now.history.now.known self.now.marks.items states.new.items state.now n call.now) }
     {
         if !may_change(call) {
-            return Ok(());
+            return Ok(stands);
         }
         match bytes_brought(call) {
             Some(brought) => {
                 if brought > MOST_BYTES {
                     return Err(Stop::NotCovered(Why::LongWrite(n)));
                 }
-                self.place_counts(work, states, state, n, call, brought as u32 + 1)
+                self.place_counts(stands, states, state, n, call, brought as u32 + 1, open)
             }
             None => {
                 let outcome = Outcome::Taken(None);
-                self.place_as(work, states, state, Place::Taken(n, None), call, &outcome)
+                let place = Place::Taken(n, None);
+                self.place_as(stands, states, state, place, call, &outcome, open)
             }
         }
     }
@@ -119,75 +120,153 @@ impl<'h> HistoryMachine<'h> {
     /// Puts the states there to which a call may lead by its reply, where it has one.
     fn place_answered(
         &self,
-        work: &mut WalkWork,
+        stands: State,
         states: &mut Vec<WayState>,
         state: &WayState,
         n: u64,
         recorded: &RecordedCall,
         call: &NfsCall,
-    ) -> Result<(), Stop<Why>>
-        requires fits { FitsWork self.now.history.now.known work.old }
-        requires stands { call_at self.now.history.now.known.calls n ≡ Some recorded.now }
+        open: &[u64],
+    ) -> Result<State, Stop<Why>>
+        requires stands { StandsIn self.now.history.now.known state.now stands }
+        requires recorded { call_at self.now.history.now.known.calls n ≡ Some recorded.now }
         requires judged { recorded.now.meaning ≡ meanings.Judged call.now }
         requires inside { state.now.era ≤ self.now.history.now.known.eras }
-        ensures fits { FitsWork self.now.history.now.known work.new }
+        ensures stands { IfOk result (λ same. same ≡ stands) }
         ensures answered { IfOk result (λ _. Grows states.old.items states.new.items
             × ((outcome : Outcome) → recorded.now.outcome ≡ Some outcome → HasPlaced self.now.history.now.known self.now.marks.items states.new.items state.now n call.now outcome)) }
     {
         match &recorded.outcome {
-            Some(outcome) => self.place_as(work, states, state, Place::Answered(n), call, outcome),
-            None => Ok(()),
+            Some(outcome) => {
+                let place = Place::Answered(n);
+                self.place_as(stands, states, state, place, call, outcome, open)
+            }
+            None => Ok(stands),
         }
     }
 
     /// Puts all states there to which a call may lead, however it came out.
     fn place_recorded(
         &self,
-        work: &mut WalkWork,
+        stands: State,
         states: &mut Vec<WayState>,
         state: &WayState,
         n: u64,
         recorded: &RecordedCall,
-    ) -> Result<(), Stop<Why>>
-        requires fits { FitsWork self.now.history.now.known work.old }
-        requires stands { call_at self.now.history.now.known.calls n ≡ Some recorded.now }
+        open: &[u64],
+    ) -> Result<State, Stop<Why>>
+        requires stands { StandsIn self.now.history.now.known state.now stands }
+        requires recorded { call_at self.now.history.now.known.calls n ≡ Some recorded.now }
         requires inside { state.now.era ≤ self.now.history.now.known.eras }
-        ensures fits { FitsWork self.now.history.now.known work.new }
-        ensures recorded { IfOk result (λ _. HasAllOf self.now.history.now.known self.now.marks.items states.new.items state.now n recorded.now) }
+        ensures stands { IfOk result (λ same. same ≡ stands) }
+        ensures recorded { IfOk result (λ _. Grows states.old.items states.new.items × HasAllOf self.now.history.now.known self.now.marks.items states.new.items state.now n recorded.now) }
     {
         let Meaning::Judged(call) = &recorded.meaning else {
-            return Ok(());
+            return Ok(stands);
         };
-        self.place_answered(work, states, state, n, recorded, call)?;
+        let stands = self.place_answered(stands, states, state, n, recorded, call, open)?;
         if recorded.end.is_some() {
-            return Ok(());
+            return Ok(stands);
         }
-        self.place_taken(work, states, state, n, call)
+        self.place_taken(stands, states, state, n, call, open)
     }
 
-    /// The states to which a call may lead.
-    pub(crate) fn step_call(
+    /// Puts the states there to which a call may lead.
+    fn step_call(
+        &self,
+        stands: State,
+        states: &mut Vec<WayState>,
+        state: &WayState,
+        n: u64,
+        open: &[u64],
+    ) -> Result<State, Stop<Why>>
+        requires stands { StandsIn self.now.history.now.known state.now stands }
+        requires late { 0 < state.now.era }
+        requires inside { state.now.era ≤ self.now.history.now.known.eras }
+        requires call { n ≤ length self.now.history.now.known.calls }
+        ensures stands { IfOk result (λ same. same ≡ stands) }
+        ensures step { IfOk result (λ _. Grows states.old.items states.new.items × HasStepOf self.now.history.now.known self.now.marks.items states.new.items n state.now) }
+    {
+        let Some(recorded) = self.history.find_call(n) else {
+            return Ok(stands);
+        };
+        if recorded.era != state.era {
+            return Ok(stands);
+        }
+        self.place_recorded(stands, states, state, n, recorded, open)
+    }
+
+    /// The same of a call or a crash, where it isn't placed.
+    fn step_one(
+        &self,
+        stands: State,
+        states: &mut Vec<WayState>,
+        state: &WayState,
+        n: u64,
+        open: &[u64],
+    ) -> Result<State, Stop<Why>>
+        requires stands { StandsIn self.now.history.now.known state.now stands }
+        requires late { 0 < state.now.era }
+        requires inside { state.now.era ≤ self.now.history.now.known.eras }
+        ensures stands { IfOk result (λ same. same ≡ stands) }
+        ensures step { IfOk result (λ _. Grows states.old.items states.new.items × HasStepOf self.now.history.now.known self.now.marks.items states.new.items n state.now) }
+    {
+        if has_call(state.placed.as_slice(), n) {
+            return Ok(stands);
+        }
+        if n <= self.history.calls() {
+            return self.step_call(stands, states, state, n, open);
+        }
+        self.step_crash(states, state, n)?;
+        Ok(stands)
+    }
+
+    /// The states to which each of these calls and crashes may lead that isn't placed, where the state stands.
+    fn step_here(
+        &self,
+        stands: State,
+        state: &WayState,
+        calls: &[u64],
+        open: &[u64],
+    ) -> Result<(State, Vec<WayState>), Stop<Why>>
+        requires stands { StandsIn self.now.history.now.known state.now stands }
+        requires late { 0 < state.now.era }
+        requires inside { state.now.era ≤ self.now.history.now.known.eras }
+        ensures stands { IfOk result (λ pair. pair.0 ≡ stands) }
+        ensures steps { IfOk result (λ pair. HasStepsOf self.now.history.now.known self.now.marks.items pair.1.items calls.now state.now) }
+    {
+        let mut stands = stands;
+        let mut states = Vec::new(self.alloc);
+        for call in calls {
+            stands = self.step_one(stands, &mut states, state, *call, open)?;
+        }
+        Ok((stands, states))
+    }
+
+    /// The states to which each of these calls and crashes may lead that isn't placed. Of the open calls it is noted which fit there.
+    pub fn step_calls(
         &self,
         work: &mut WalkWork,
         state: &WayState,
-        n: u64,
+        calls: &[u64],
+        open: &[u64],
     ) -> Result<Vec<WayState>, Stop<Why>>
         requires fits { FitsWork self.now.history.now.known work.old }
-        requires inside { n ≤ length self.now.history.now.known.calls }
         ensures fits { FitsWork self.now.history.now.known work.new }
-        ensures step { IfOk result (λ states. HasStepOf self.now.history.now.known self.now.marks.items states.items n state.now) }
+        ensures steps { IfOk result (λ states. HasStepsOf self.now.history.now.known self.now.marks.items states.items calls.now state.now) }
     {
         if state.era == 0 || self.history.eras() < state.era {
             return Err(way_lost());
         }
-        let mut states = Vec::new(self.alloc);
-        let Some(recorded) = self.history.find_call(n) else {
-            return Ok(states);
-        };
-        if recorded.era != state.era {
-            return Ok(states);
-        }
-        self.place_recorded(work, &mut states, state, n, recorded)?;
+        let stood = self.taken_out(work)?;
+        let live = self.go_to(stood, state.bound.as_slice(), state.way.as_slice())?;
+        let (stands, bound, trail) = live.into_parts();
+        let (stands, states) = self.step_here(stands, state, calls, open)?;
+        work.live = Some(Live {
+            state: stands,
+            bound,
+            trail,
+        });
         Ok(states)
     }
 
@@ -198,10 +277,10 @@ impl<'h> HistoryMachine<'h> {
     {
         let alloc = self.alloc;
         let mut bound = Vec::new(alloc);
-        copy_bound(alloc, &mut bound, state.bound.as_slice())?;
+        copy_bound(&mut bound, state.bound.as_slice())?;
         let way = kept_way(alloc, state.cut, state.way.as_slice())?;
         let placed = and_call(alloc, state.placed.as_slice(), n)?;
-        let deeds = ended_deeds(alloc, state.deeds.as_slice())?;
+        let deeds = ended_deeds(&state.deeds)?;
         let sums = if state.cut.is_some() {
             state.sums.back()
         } else {
@@ -216,17 +295,22 @@ impl<'h> HistoryMachine<'h> {
             answered_to: state.answered_to,
             sums,
             deeds,
+            ready: None,
         })
     }
 
-    /// The states to which the crash with this number may lead.
-    pub(crate) fn step_crash(&self, state: &WayState, n: u64) -> Result<Vec<WayState>, Stop<Why>>
+    /// Puts the state there to which the crash with this number may lead.
+    fn step_crash(
+        &self,
+        states: &mut Vec<WayState>,
+        state: &WayState,
+        n: u64,
+    ) -> Result<(), Stop<Why>>
         requires { length self.now.history.now.known.calls < n }
-        ensures { IfOk result (λ states. HasStepOf self.now.history.now.known self.now.marks.items states.items n state.now) }
+        ensures { IfOk result (λ _. Grows states.old.items states.new.items × HasStepOf self.now.history.now.known self.now.marks.items states.new.items n state.now) }
     {
-        let mut states = Vec::new(self.alloc);
         if n - self.history.calls() != state.era {
-            return Ok(states);
+            return Ok(());
         }
         let Some(era) = state.era.checked_add(1) else {
             return Err(way_lost());
@@ -235,6 +319,6 @@ impl<'h> HistoryMachine<'h> {
         if states.push(child).is_err() {
             return Err(Stop::NoMemory);
         }
-        Ok(states)
+        Ok(())
     }
 }

@@ -5,21 +5,10 @@ ghost use Rattle.decision_steps.specs.Listed.{bound_pairs};
 ghost use Rattle.decision_walk.specs.Settling.{IsSettled, IsAlike};
 ghost use Rattle.decision_walk.specs.Standing.{has_call};
 
+use crate::deeds::{Deed, Deeds};
 use certificate::Place;
 use decision_steps::BoundHandle;
-use nfs3_types::FileHandle;
-use std::alloc::{AllocError, Global};
-
-/// What happened on a way, for a certificate.
-#[derive(Clone, Copy)]
-pub enum Deed {
-    /// A call was placed.
-    Placed(Place),
-    /// What comes behind it in its era is lost.
-    Cut,
-    /// The era ended.
-    Ended,
-}
+use std::alloc::AllocError;
 
 /// Numbers that are the same of states that are the same: of the places of the whole way and of its front up to the cut, in whichever
 /// order, and of the tree, once that was looked at.
@@ -67,6 +56,15 @@ impl Sums {
         }
     }
 
+    /// The same, where the tree has this number.
+    pub(crate) fn with_tree(self, number: u64) -> Sums {
+        Sums {
+            way: self.way,
+            kept: self.kept,
+            tree: Some(number),
+        }
+    }
+
     /// Whether the tree was looked at.
     pub(crate) fn knows_tree(self) -> bool {
         self.tree.is_some()
@@ -95,7 +93,9 @@ pub struct WayState {
     /// A number of the places of the way, and one of those that the era's crash keeps.
     pub(crate) sums: Sums,
     /// All that happened, which only a certificate is made of.
-    pub(crate) deeds: Vec<Deed>,
+    pub(crate) deeds: Deeds,
+    /// Where the state was just made: the open calls that fit there and leave the tree as it is. Nothing is said of them.
+    pub(crate) ready: Option<Vec<u64>>,
 }
 
 impl Drop for WayState {
@@ -109,18 +109,20 @@ impl Drop for WayState {
             answered_to: _,
             sums: _,
             deeds,
+            ready,
         } = self;
         drop(bound);
         drop(way);
         drop(placed);
         drop(deeds);
+        drop(ready);
     }
 }
 
 impl WayState {
     /// All that happened on the way.
-    pub fn deeds(&self) -> &[Deed] {
-        self.deeds.as_slice()
+    pub fn deeds(&self) -> Result<Vec<Deed>, AllocError> {
+        self.deeds.list()
     }
 
     /// The handles that are bound behind the root's.
@@ -146,6 +148,7 @@ impl WayState {
             answered_to: _,
             sums,
             deeds,
+            ready,
         } = self;
         let placed = without(placed, n);
         WayState {
@@ -157,6 +160,7 @@ impl WayState {
             answered_to,
             sums,
             deeds,
+            ready,
         }
     }
 
@@ -173,6 +177,7 @@ impl WayState {
             answered_to,
             sums,
             mut deeds,
+            ready,
         } = self;
         placed.reserve(1)?;
         placed.push(n).unwrap();
@@ -186,7 +191,37 @@ impl WayState {
             answered_to,
             sums,
             deeds,
+            ready,
         })
+    }
+
+    /// The state, and the calls that are noted to fit there, which are taken out.
+    pub(crate) fn take_ready(self) -> (WayState, Option<Vec<u64>>)
+        ensures { IsAlike self result.0 }
+    {
+        let WayState {
+            bound,
+            way,
+            cut,
+            era,
+            placed,
+            answered_to,
+            sums,
+            deeds,
+            ready,
+        } = self;
+        let state = WayState {
+            bound,
+            way,
+            cut,
+            era,
+            placed,
+            answered_to,
+            sums,
+            deeds,
+            ready: None,
+        };
+        (state, ready)
     }
 
     /// The state, whose tree has this number.
@@ -200,10 +235,11 @@ impl WayState {
             era,
             placed,
             answered_to,
-            mut sums,
+            sums,
             deeds,
+            ready,
         } = self;
-        sums.tree = Some(number);
+        let sums = sums.with_tree(number);
         WayState {
             bound,
             way,
@@ -213,6 +249,7 @@ impl WayState {
             answered_to,
             sums,
             deeds,
+            ready,
         }
     }
 
@@ -255,10 +292,10 @@ pub(crate) fn has_call(calls: &[u64], n: u64) -> bool
 }
 
 /// Copies a handle with its object behind others.
-fn copy_one(alloc: Global, list: &mut Vec<BoundHandle>, one: &BoundHandle) -> Result<(), AllocError>
+fn copy_one(list: &mut Vec<BoundHandle>, one: &BoundHandle) -> Result<(), AllocError>
     ensures { IfOk result (λ _. bound_pairs list.new.items ≡ bound_pairs list.old.items ++ (one.now.handle, one.now.object) ∷ []) }
 {
-    let handle = FileHandle::from_slice(alloc, one.handle.as_slice())?;
+    let handle = one.handle.clone()?;
     let object = one.object;
     list.reserve(1)?;
     list.push(BoundHandle { handle, object }).unwrap();
@@ -267,14 +304,13 @@ fn copy_one(alloc: Global, list: &mut Vec<BoundHandle>, one: &BoundHandle) -> Re
 
 /// Copies handles with their objects behind others.
 pub(crate) fn copy_bound(
-    alloc: Global,
     list: &mut Vec<BoundHandle>,
     bound: &[BoundHandle],
 ) -> Result<(), AllocError>
     ensures { IfOk result (λ _. bound_pairs list.new.items ≡ bound_pairs list.old.items ++ bound_pairs bound.now) }
 {
     for one in bound {
-        copy_one(alloc, list, one)?;
+        copy_one(list, one)?;
     }
     Ok(())
 }

@@ -1,9 +1,10 @@
-use Rattle.std.proofs.Common.{◌≡◌, ◌+◌, Some, None, IfOk, rules}
+use Rattle.std.proofs.Common.{◌≡◌, ◌+◌, false, Some, None, IfOk, rules}
 use Rattle.nfs3_types.specs.declared.replies.Outcome.TheVariants.{Taken}
 use Rattle.decision_core.specs.Layers.{Grows}
+use Rattle.decision_walk.specs.Way.{may_change}
 use Rattle.decision_walk.specs.Placings.{bytes_brought, HasPlaced, HasCounts, HasTaken}
-use Rattle.decision_walk.proofs.StepLaws.{if_ok}
-use Rattle.decision_walk.proofs.Taking.{whole_taken, counts_taken}
+use Rattle.decision_walk.proofs.StepLaws.{grows_self, if_ok}
+use Rattle.decision_walk.proofs.Taking.{none_taken, whole_taken, counts_taken}
 use Rattle.decision_walk.proofs.machine.HistoryMachine.place_taken.Goals as goal
 
 pub returns-else-brought-gt-MOST_BYTES-clause-taken : goal.returns-else-brought-gt-MOST_BYTES-clause-taken
@@ -30,3 +31,8 @@ returns-in-None-clause-taken c =
     if_ok c.place_as.result (λ _. Grows old new × HasPlaced known marks new state c.args.n c.args.call.now (Taken None))
     (λ _. Grows old new × HasTaken known marks new state c.args.n c.args.call.now)
     (λ _ found. (found.0, whole_taken known marks new state c.args.n c.args.call.now is found.1)) c.place_as.ensures.placed
+
+pub returns-then-not-may_change-clause-taken : goal.returns-then-not-may_change-clause-taken
+returns-then-not-may_change-clause-taken c =
+    let no : may_change c.args.call.now ≡ false = search rules in
+    (grows_self c.args.states.now.items, none_taken c.args.self.now.history.now.known c.args.self.now.marks.items c.args.states.now.items c.args.state.now c.args.n c.args.call.now no)

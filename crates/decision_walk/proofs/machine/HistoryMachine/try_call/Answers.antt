@@ -18,8 +18,8 @@ returns-in-Ok-clause-found c =
     let known = c.args.self.now.history.now.known in
     let live = c.args.stands in
     let made : c.in-Some.object ≡ object_made (length known.head.start) (call_of c.args.place) = search rules in
-    if_ok c.found_step.result (λ tried. IsFound c.in_ok-grows.grows c.in-Ok.step tried.found) (λ tried. CoversPlans known c.args._state.now c.args.place c.args.call.now c.args.outcome.now tried.found)
-    (λ tried is. found_covers known c.args._state.now c.args.place c.args.call.now c.args.outcome.now c.in-Some.object live made c.requires.binds c.requires.leads c.profile.result c.profile.ensures c.requires.step
+    if_ok c.found_step.result (λ tried. IsFound c.in_ok-grows.grows c.in-Ok.step tried.found) (λ tried. CoversPlans known c.args.state.now c.args.place c.args.call.now c.args.outcome.now tried.found)
+    (λ tried is. found_covers known c.args.state.now c.args.place c.args.call.now c.args.outcome.now c.in-Some.object live made c.requires.stands.binds c.requires.stands.leads c.profile.result c.profile.ensures c.requires.step
     c.place.new.self c.in-Ok.step c.in_ok-grows.grows tried.found is (belongs_of live.binds c.args.call.now c.args.outcome.now c.in_ok-grows.grows
     (λ e. c.belongs.ensures.keeps (c.in_ok-grows.was ∙ ap Ok e)) (λ e. c.belongs.ensures.knows (c.in_ok-grows.was ∙ ap Ok e)))
     c.in-Ok.ensures.next c.in-Ok.ensures.step.adds.is c.in-Ok.ensures.covers) c.found_step.ensures.found
@@ -34,5 +34,5 @@ returns-in-Err-NotLegal-clause-found c =
     let known = c.args.self.now.history.now.known in
     let live = c.args.stands in
     let made : c.in-Some.object ≡ object_made (length known.head.start) (call_of c.args.place) = search rules in
-    not_legal_covers_by known c.args._state.now c.args.place c.args.call.now c.args.outcome.now c.in-Some.object live made c.requires.binds c.requires.leads c.profile.result c.profile.ensures
+    not_legal_covers_by known c.args.state.now c.args.place c.args.call.now c.args.outcome.now c.in-Some.object live made c.requires.stands.binds c.requires.stands.leads c.profile.result c.profile.ensures
     (λ plan after agrees goes. subst (λ f. Covers {S = Step} (Err f) live c.args.call.now c.place.new.self plan after) c.in-Err-NotLegal.field-0-is (c.in-Err-NotLegal.ensures.covers plan after agrees goes))

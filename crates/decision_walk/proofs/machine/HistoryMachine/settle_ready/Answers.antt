@@ -1,0 +1,11 @@
+use Rattle.std.proofs.Common.{arith}
+use Rattle.decision_walk.proofs.SettleLaws.{settles_next, settles_all}
+use Rattle.decision_walk.proofs.machine.HistoryMachine.settle_ready.Goals as goal
+
+pub loop-call-preserved : goal.loop-call-preserved
+loop-call-preserved c =
+    settles_next c.args.self.now.history.now.known c.args.self.now.marks.items c.args.calls.now c.loop-call.call-index 0 c.args.state c.loop-call.state _ c.loop-call-test.true c.loop-call.invariant c.in_ok-state.ensures
+
+pub returns : goal.returns
+returns c =
+    settles_all c.args.self.now.history.now.known c.args.self.now.marks.items c.args.calls.now c.loop-call.call-index c.args.state c.loop-call.state (omega (arith, c.loop-call-test.false)) c.loop-call.invariant
