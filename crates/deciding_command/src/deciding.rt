@@ -1,50 +1,23 @@
 //! The command `decide`.
 
-ghost use Rattle.std.specs.Prelude.{◌≡◌, ◌⊎◌, ◌<◌, ℕ, List, IfOk, IfSome};
+ghost use Rattle.std.specs.Prelude.{◌≡◌, ◌⊎◌, ◌<◌, ℕ, List, IfSome};
 ghost use Rattle.std.specs.Io.KnownBytes.{Appends};
 ghost use Rattle.program_streams.specs.Told.{Tells, memory_line};
 ghost use Rattle.nfs_history.specs.declared.fault.HistoryFault.{HistoryFault};
 ghost use Rattle.nfs_history.specs.FirstFault.{FirstFault};
 ghost use Rattle.witness_check.specs.Witness.{AreAccepted};
-ghost use Rattle.deciding_command.specs.FileDecision.{Decides, IsWithoutWitness, IsWithoutWitnessAt, IsNeverAccepted, IsRefused, IsYes, IsNo};
+ghost use Rattle.deciding_command.specs.FileDecision.{IsWithoutWitness, IsWithoutWitnessAt, IsNeverAccepted, IsRefused, IsYes, IsNo};
 ghost use Rattle.deciding_command.specs.Told.{IsToldWithHints, line_of_no, no_line};
 
 use crate::file_decision::{FileDecision, decide_file};
 use crate::hints::{Named, tell_hints};
-use crate::rounds::{ROUNDS, Rounds};
 use crate::telling::report_of;
 use crate::words::DecideRequest;
-use decide::Undecided;
 use program_streams::{Output, tell, tell_answer, tell_want_of_memory};
 use std::alloc::AllocError;
 use std::fs;
 use std::rt::Files;
 use std::time::Clock;
-
-/// Whether a decision may come out otherwise with more steps.
-fn wants_steps(decision: &FileDecision) -> bool {
-    matches!(decision, FileDecision::Undecided(Undecided::TooManySteps))
-}
-
-/// Decides of the bytes of a history file, in rounds of more and more steps, as long as the next round is likely to end in time.
-fn decide_within<R: Clock + AllocGlobal>(
-    rt: &R,
-    request: &DecideRequest<'_>,
-    bytes: &[u8],
-) -> Result<FileDecision, AllocError>
-    ensures decided { IfOk result (Decides bytes.now) }
-    ensures refused { (fault : HistoryFault) → FirstFault bytes.now fault → IfOk result IsRefused }
-{
-    let alloc = rt.alloc();
-    let mut rounds = Rounds::begin(rt, request);
-    for _ in 0..ROUNDS {
-        let decision = decide_file(alloc, bytes, rounds.limits())?;
-        if !wants_steps(&decision) || !rounds.grow(rt) {
-            return Ok(decision);
-        }
-    }
-    decide_file(alloc, bytes, rounds.limits())
-}
 
 /// Writes the certificate of a yes to a path, if one is wanted. Whether it is there now, or wasn't wanted.
 fn is_saved<R: Files>(rt: &R, path: Option<&str>, decision: &FileDecision) -> bool {
@@ -142,7 +115,7 @@ pub fn decide_history<R: Files + Clock + AllocGlobal, O: Output>(
     ensures memory_line { result ≡ 3 → Appends (O.contents output.old) (O.contents output.new) memory_line }
     ensures known { result < 4 }
 {
-    match decide_within(rt, request, history) {
+    match decide_file(rt, history, request.effort) {
         Ok(decision) => tell_all(rt, request, history, &decision, output),
         Err(AllocError) => tell_want_of_memory(output),
     }

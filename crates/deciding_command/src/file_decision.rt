@@ -6,10 +6,12 @@ ghost use Rattle.nfs_history.specs.FirstFault.{FirstFault};
 ghost use Rattle.nfs_history.specs.History.{IsHistoryFile};
 ghost use Rattle.deciding_command.specs.FileDecision.{Decides, IsRefused};
 
+use crate::rounds::{Effort, decide_in_rounds};
 use certificate::{Certificate, write_certificate};
-use decide::{Decision, Limits, Undecided, decide};
+use decide::{Decision, Undecided};
 use nfs_history::{History, HistoryFault, read_history};
 use std::alloc::{AllocError, Global};
+use std::time::Clock;
 use witness_check::{FileVerdict, check_files};
 
 /// What is decided of the bytes of a history file.
@@ -48,17 +50,17 @@ fn accepted_text(
 }
 
 /// What is decided of the history of which these are the bytes.
-fn decide_read(
-    alloc: Global,
+fn decide_read<R: Clock + AllocGlobal>(
+    rt: &R,
     bytes: &[u8],
     history: &History,
-    limits: Limits,
+    effort: Effort,
 ) -> Result<FileDecision, AllocError>
     requires { IsHistoryFile bytes.now history.now }
     ensures { IfOk result (Decides bytes.now) }
 {
-    match decide(alloc, history, limits) {
-        Decision::Yes(certificate) => accepted_text(alloc, bytes, &certificate),
+    match decide_in_rounds(rt, history, effort) {
+        Decision::Yes(certificate) => accepted_text(rt.alloc(), bytes, &certificate),
         Decision::No(refusal) => Ok(FileDecision::NoWitness {
             event: refusal.event,
             call: refusal.call,
@@ -68,16 +70,21 @@ fn decide_read(
     }
 }
 
-/// Decides whether the bytes of a history file are accepted with any certificate.
+/// Decides whether the bytes of a history file are accepted with any certificate: by a walk of few steps, by sweeps of a search, and by
+/// walks of more and more steps, as long as the next is likely to end in time.
 ///
 /// An `Err` means that memory ran out. It says nothing of the bytes.
-pub fn decide_file(alloc: Global, bytes: &[u8], limits: Limits) -> Result<FileDecision, AllocError>
+pub fn decide_file<R: Clock + AllocGlobal>(
+    rt: &R,
+    bytes: &[u8],
+    effort: Effort,
+) -> Result<FileDecision, AllocError>
     ensures decided { IfOk result (Decides bytes.now) }
     // Bytes that are no history file are refused, memory aside.
     ensures refused { (fault : HistoryFault) → FirstFault bytes.now fault → IfOk result IsRefused }
 {
-    match read_history(alloc, bytes) {
-        Ok(history) => decide_read(alloc, bytes, &history, limits),
+    match read_history(rt.alloc(), bytes) {
+        Ok(history) => decide_read(rt, bytes, &history, effort),
         Err(HistoryFault::NoMemory) => Err(AllocError),
         Err(fault) => Ok(FileDecision::BadHistory(fault)),
     }

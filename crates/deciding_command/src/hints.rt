@@ -3,10 +3,10 @@
 ghost use Rattle.std.specs.Prelude.{◌≡◌, ◌⊎◌};
 ghost use Rattle.deciding_command.specs.Told.{Grows};
 
-use crate::rounds::{ROUNDS, Rounds};
+use crate::rounds::decide_in_rounds;
 use crate::telling::hint_line;
 use crate::words::DecideRequest;
-use decide::{Decision, Undecided, decide};
+use decide::{Decision, Undecided};
 use decision_walk::Why;
 use history_prefix::{calls_without, kept_history, marks_without, number_of};
 use nfs_history::{History, HistoryFault, read_history};
@@ -88,23 +88,6 @@ impl Rest {
     }
 }
 
-/// Decides of a history, in rounds of more and more steps.
-fn decide_rest<R: Clock + AllocGlobal>(
-    rt: &R,
-    request: &DecideRequest<'_>,
-    history: &History,
-) -> Decision {
-    let mut rounds = Rounds::begin(rt, request);
-    for _ in 0..ROUNDS {
-        let decision = decide(rt.alloc(), history, rounds.limits());
-        let wants_steps = matches!(decision, Decision::Undecided(Undecided::TooManySteps));
-        if !wants_steps || !rounds.grow(rt) {
-            return decision;
-        }
-    }
-    decide(rt.alloc(), history, rounds.limits())
-}
-
 /// What is decided of a history without these calls.
 fn hint_without<R: Clock + AllocGlobal>(
     rt: &R,
@@ -116,7 +99,7 @@ fn hint_without<R: Clock + AllocGlobal>(
         Ok(rest) => rest,
         Err(fault) => return Hint::NoHistory(fault),
     };
-    match decide_rest(rt, request, &rest.history) {
+    match decide_in_rounds(rt, &rest.history, request.effort) {
         Decision::Yes(_certificate) => Hint::Explained,
         Decision::No(refusal) => rest.refused(refusal.event, refusal.call),
         Decision::Undecided(reason) => rest.undecided(reason),

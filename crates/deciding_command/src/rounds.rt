@@ -1,57 +1,166 @@
-//! The rounds of a decision: each may take twice as many steps as the one before, as long as it is likely to end in time.
+//! The rounds of a decision: each may take four times as many steps as the one before, as long as it is likely to end in time. Sweeps
+//! for a certificate come after the first.
 
-use crate::words::DecideRequest;
-use decide::Limits;
+ghost use Rattle.std.specs.Prelude.{IfOk, IfSome};
+ghost use Rattle.witness_check.specs.Witness.{IsWitness};
+ghost use Rattle.decide.specs.Decision.{Says};
+
+use certificate::Certificate;
+use decide::{Decision, Limits, Undecided, decide};
+use nfs_history::History;
+use search_problem::Problem;
+use search_sweeps::{SweepWatch, plan_of};
+use std::alloc::AllocError;
 use std::time::{Clock, Instant};
+use witness_check::{Verdict, check_calls};
 
 /// How many steps the first round may take.
-const FIRST_STEPS: u64 = 200_000;
+const FIRST_STEPS: u64 = 16_000;
 
-/// How many rounds there are at most, ahead of a last one.
-pub(crate) const ROUNDS: u32 = 40;
+/// How many rounds there are at most.
+const ROUNDS: u32 = 30;
+
+/// How many sweeps are made at most.
+const SWEEPS: u64 = 16;
+
+/// How much a decision may cost.
+#[derive(Clone, Copy)]
+pub struct Effort {
+    /// How many states may stand at once.
+    pub states: u32,
+    /// After how many seconds it gives up.
+    pub seconds: u32,
+}
 
 /// How much the next round may take, and when the first one began.
 #[derive(Clone, Copy)]
-pub(crate) struct Rounds {
+struct Rounds {
     start: Option<Instant>,
-    seconds: u32,
-    states: usize,
+    effort: Effort,
     steps: u64,
 }
 
 impl Rounds {
     /// Ahead of the first round.
-    pub(crate) fn begin<R: Clock>(rt: &R, request: &DecideRequest<'_>) -> Rounds {
+    fn begin<R: Clock>(rt: &R, effort: Effort) -> Rounds {
         Rounds {
             start: Instant::now(rt).ok(),
-            seconds: request.seconds,
-            states: request.states as usize,
+            effort,
             steps: FIRST_STEPS,
         }
     }
 
     /// How much the next round may take.
-    pub(crate) fn limits(&self) -> Limits {
+    fn limits(&self) -> Limits {
         Limits {
-            states: self.states,
+            states: self.effort.states as usize,
             steps: self.steps,
         }
     }
 
-    /// Whether a round that takes twice as long as those before it would end too late. Without a clock it would.
-    fn is_late<R: Clock>(&self, rt: &R) -> bool {
+    /// Whether so many parts of the time are over, each as long as what has gone by. Without a clock they are.
+    fn is_over<R: Clock>(&self, rt: &R, parts: u32) -> bool {
         match (self.start, Instant::now(rt)) {
             (Some(start), Ok(now)) => {
-                let gone = now.duration_since(start).as_secs();
-                gone.saturating_mul(3) >= u64::from(self.seconds)
+                let gone = now.duration_since(start).as_millis();
+                let given = u128::from(self.effort.seconds).saturating_mul(1_000);
+                gone.saturating_mul(u128::from(parts)) >= given
             }
             _ => true,
         }
     }
 
-    /// Lets the next round take twice as many steps, and says whether it is likely to end in time.
-    pub(crate) fn grow<R: Clock>(&mut self, rt: &R) -> bool {
-        self.steps = self.steps.saturating_mul(2);
-        !self.is_late(rt)
+    /// Lets the next round take four times as many steps, and says whether it is likely to end in time.
+    fn grow<R: Clock>(&mut self, rt: &R) -> bool {
+        self.steps = self.steps.saturating_mul(4);
+        !self.is_over(rt, 4)
+    }
+}
+
+/// Ends sweeps when half the time of a decision is over.
+#[derive(Drop)]
+struct HalfTime<'r, R> {
+    rt: &'r R,
+    rounds: Rounds,
+}
+
+impl<'r, R: Clock> SweepWatch for HalfTime<'r, R> {
+    fn at(&mut self, _depth: usize) {}
+
+    fn is_over(&self) -> bool {
+        self.rounds.is_over(self.rt, 2)
+    }
+}
+
+/// The certificate that sweeps come to, if it is a witness.
+fn swept<R: Clock + AllocGlobal>(
+    rt: &R,
+    history: &History,
+    rounds: Rounds,
+) -> Result<Option<Certificate>, AllocError>
+    ensures { IfOk result (λ found. IfSome found (IsWitness history.now.known)) }
+{
+    let alloc = rt.alloc();
+    let known = history.lend_calls(alloc)?;
+    let problem = Problem::new(alloc, &known)?;
+    let mut watch = HalfTime { rt, rounds };
+    let Some(plan) = plan_of(alloc, &problem, SWEEPS, &mut watch)? else {
+        return Ok(None);
+    };
+    match check_calls(alloc, &known, &plan)? {
+        Verdict::Yes => Ok(Some(plan)),
+        Verdict::No(_fault) => Ok(None),
+    }
+}
+
+/// Whether a decision may come out otherwise with more steps.
+fn wants_steps(decision: &Decision) -> bool {
+    matches!(decision, Decision::Undecided(Undecided::TooManySteps))
+}
+
+/// Whether nothing is said, though memory didn't run out.
+fn is_undecided(decision: &Decision) -> bool {
+    matches!(decision, Decision::Undecided(_))
+}
+
+/// Goes on with a decision that isn't one yet, in rounds of more and more steps.
+fn decide_on<R: Clock + AllocGlobal>(
+    rt: &R,
+    history: &History,
+    rounds: Rounds,
+    first: Decision,
+) -> Decision
+    requires { Says history.now.known first }
+    ensures { Says history.now.known result }
+{
+    let mut rounds = rounds;
+    let mut decision = first;
+    for _ in 0..ROUNDS {
+        if !wants_steps(&decision) || !rounds.grow(rt) {
+            return decision;
+        }
+        decision = decide(rt.alloc(), history, rounds.limits());
+    }
+    decision
+}
+
+/// Decides of a history: by a round of few steps, by sweeps for a certificate where that comes to nothing, and then by rounds of more and
+/// more steps.
+pub(crate) fn decide_in_rounds<R: Clock + AllocGlobal>(
+    rt: &R,
+    history: &History,
+    effort: Effort,
+) -> Decision
+    ensures { Says history.now.known result }
+{
+    let rounds = Rounds::begin(rt, effort);
+    let first = decide(rt.alloc(), history, rounds.limits());
+    if !is_undecided(&first) {
+        return first;
+    }
+    match swept(rt, history, rounds) {
+        Ok(Some(certificate)) => Decision::Yes(certificate),
+        Ok(None) => decide_on(rt, history, rounds, first),
+        Err(AllocError) => Decision::NoMemory,
     }
 }

@@ -1,5 +1,6 @@
 //! The words that ask for a decision.
 
+use crate::rounds::Effort;
 use clap::builder::ValueParser;
 use clap::{Arg, ArgMatches, Command};
 use std::alloc::{AllocError, Global};
@@ -11,10 +12,8 @@ pub struct DecideRequest<'a> {
     pub history: &'a str,
     /// The path that the certificate of a yes is written to, if one is wanted.
     pub certificate: Option<&'a str>,
-    /// How many states may stand at once, from 1 to 1,000,000.
-    pub states: u32,
-    /// After how many seconds it gives up, from 1 to 1,000,000.
-    pub seconds: u32,
+    /// What it may cost: from 1 to 1,000,000 states, and as many seconds.
+    pub effort: Effort,
     /// How often it goes on behind a no, without the calls that were named: at most 1,000 times.
     pub go_on: u32,
 }
@@ -82,8 +81,10 @@ pub fn decide_request<'a>(decide: &ArgMatches<'a>) -> DecideRequest<'a> {
         // The parser asks for it.
         history: decide.get_str("HISTORY").unwrap_or(""),
         certificate: decide.get_str("certificate"),
-        states: decide.get_one("states").unwrap_or(STATES),
-        seconds: decide.get_one("seconds").unwrap_or(SECONDS),
+        effort: Effort {
+            states: decide.get_one("states").unwrap_or(STATES),
+            seconds: decide.get_one("seconds").unwrap_or(SECONDS),
+        },
         go_on: decide.get_one("go-on").unwrap_or(0),
     }
 }
