@@ -13,13 +13,13 @@ LATE_CHANGES = 8
 class FileFault(Faulty):
     """A crash takes single WRITEs back, though they have to survive. Only a file's last change is taken."""
 
-    def crash(self) -> str:
-        words = super().crash()
+    def crash(self) -> list[Change]:
+        lost = super().crash()
         files = [node for node in self.tree.nodes.values() if self.is_shown_by(node.last_write)]
         for node in self.chosen(files):
             self.happens(f"file {node.number} over a crash")
             node.data, node.last_write = node.last_write.content_before(), None
-        return words
+        return lost
 
     def is_shown_by(self, write) -> bool:
         return write is not None and write.old != write.data and self.fits(write)

@@ -60,4 +60,5 @@ class Host:
         self.mount.shut()
         for step in (self.perform, self.reply):
             self.loop.forget_moments(step)
-        return self.server.crash()
+        possible = len(self.server.journal.changes)
+        return f"lost {len(self.server.crash())} of {possible} changes that a crash may lose"

@@ -88,12 +88,11 @@ class Server:
             change.is_committed = True
             self.journal.keep_through(change.number)
 
-    def crash(self) -> str:
-        """Takes back a random suffix of what may be lost; the words say how much."""
-        possible = len(self.journal.changes)
+    def crash(self) -> list[Change]:
+        """Takes a random suffix of what may be lost back, and gives it."""
         lost = self.journal.lose_behind(self.kept_number())
         self.verifier = self.next_verifier(lost)
-        return f"lost {len(lost)} of {possible} changes"
+        return lost
 
     def outgoing(self, call: Call) -> tuple[bytes, bool]:
         """What is sent for a call's reply, and whether the connection ends then."""
