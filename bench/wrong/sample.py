@@ -16,6 +16,12 @@ from .tree import Change
 FILES, DIRECTORIES, LINKS = [b"f0", b"f1", b"f2"], [b"d0", b"d1"], [b"l0"]
 WEIGHTS = {nfs.GETATTR: 5, nfs.SETATTR: 4, nfs.LOOKUP: 9, nfs.READLINK: 2, nfs.READ: 12, nfs.WRITE: 12, nfs.CREATE: 8, nfs.MKDIR: 3, nfs.SYMLINK: 2,
            nfs.REMOVE: 4, nfs.RMDIR: 3, nfs.RENAME: 5, nfs.READDIR: 4, nfs.READDIRPLUS: 4, nfs.COMMIT: 4}
+WRITING = {**WEIGHTS, nfs.WRITE: 40, nfs.READ: 20, nfs.CREATE: 4, nfs.REMOVE: 1, nfs.RENAME: 1, nfs.SETATTR: 1, nfs.MKDIR: 1}
+COMMITTING = {nfs.CREATE: 2, nfs.LOOKUP: 2, nfs.WRITE: 20, nfs.READ: 20, nfs.COMMIT: 15}
+NESTING = {nfs.MKDIR: 20, nfs.RENAME: 20, nfs.RMDIR: 15, nfs.CREATE: 8, nfs.LOOKUP: 10, nfs.READDIR: 3}
+NAMING = {nfs.CREATE: 10, nfs.REMOVE: 10, nfs.RENAME: 10, nfs.LOOKUP: 20, nfs.READDIR: 5}
+# Which procedures clients call how often; each mix shows some faults well.
+MIXES = [WEIGHTS, WRITING, COMMITTING, NESTING, NAMING]
 NOTHING = {"mode": None, "uid": None, "gid": None, "size": None, "atime": (0, None), "mtime": (0, None)}
 CALL, REPLY = 0, 1
 STRICT_HEAD = b"NFSHIST2"
