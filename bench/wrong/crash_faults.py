@@ -4,41 +4,40 @@ from differ.layouts import FILE_SYNC, UNSTABLE
 from .calls import Call
 from .faults import Faulty
 from .journal import Journal
-from .tree import Change, Node, Write
+from .tree import Change, Write
 
 PRETENDED_SHARE = 0.25
 LATE_CHANGES = 8
 
 
-class FileFault(Faulty):
-    """A crash takes single WRITEs back, though they have to survive. Only a file's last change is taken."""
+class WriteFault(Faulty):
+    """A crash takes single WRITEs back, though they have to survive: those of which each byte still stands."""
 
     def crash(self) -> list[Change]:
         lost = super().crash()
-        files = [node for node in self.tree.nodes.values() if self.is_shown_by(node.last_write)]
-        for node in self.chosen(files):
-            self.happens(f"file {node.number} over a crash")
-            node.data, node.last_write = node.last_write.content_before(), None
+        writes = [write for node in self.tree.nodes.values() for write in node.writes if write.lost != write.data and self.fits(write)]
+        for write in self.chosen(writes):
+            self.happens(f"a WRITE of file {write.node.number} over a crash")
+            write.node.data[write.offset:write.end] = write.lost
+            write.node.writes.remove(write)
+            write.node.last_write = None
         return lost
-
-    def is_shown_by(self, write) -> bool:
-        return write is not None and write.old != write.data and self.fits(write)
 
     def fits(self, write: Write) -> bool:
         raise NotImplementedError
 
-    def chosen(self, files: list[Node]) -> list[Node]:
-        return self.dice.sample(files, min(1, len(files)))
+    def chosen(self, writes: list[Write]) -> list[Write]:
+        return self.dice.sample(writes, min(1, len(writes)))
 
 
-class LoseSyncedWrite(FileFault):
+class LoseSyncedWrite(WriteFault):
     """A crash loses a WRITE that was answered DATA_SYNC or FILE_SYNC."""
 
     def fits(self, write: Write) -> bool:
         return write.level != UNSTABLE and write.change.answered is not None
 
 
-class LoseCommittedWrite(FileFault):
+class LoseCommittedWrite(WriteFault):
     """A crash loses an UNSTABLE WRITE of which a byte was committed."""
 
     def fits(self, write: Write) -> bool:
@@ -46,13 +45,16 @@ class LoseCommittedWrite(FileFault):
 
 
 class CommitNotDone(LoseCommittedWrite):
-    """A COMMIT is answered and does nothing, and a crash loses the WRITEs of all files that were committed so."""
+    """A COMMIT is answered and makes nothing safe, and a crash loses the WRITEs."""
 
-    def chosen(self, files: list[Node]) -> list[Node]:
-        return files
+    def make_safe(self, change: Change) -> None:
+        pass
+
+    def chosen(self, writes: list[Write]) -> list[Write]:
+        return writes
 
 
-class UnstableAsSynced(FileFault):
+class UnstableAsSynced(WriteFault):
     """An UNSTABLE WRITE is answered FILE_SYNC and not made safe, and a crash loses it."""
 
     def __init__(self, *words, **named):
@@ -69,8 +71,8 @@ class UnstableAsSynced(FileFault):
     def fits(self, write: Write) -> bool:
         return write.change.number in self.pretended and write.change.answered is not None
 
-    def chosen(self, files: list[Node]) -> list[Node]:
-        return files
+    def chosen(self, writes: list[Write]) -> list[Write]:
+        return writes
 
 
 class LateJournal(Journal):

@@ -86,7 +86,11 @@ class Server:
             self.journal.keep_through(call.change.number)
         for change in call.commits:
             change.is_committed = True
-            self.journal.keep_through(change.number)
+            self.make_safe(change)
+
+    def make_safe(self, change: Change) -> None:
+        """A COMMIT of an UNSTABLE WRITE."""
+        self.journal.keep_through(change.number)
 
     def crash(self) -> list[Change]:
         """Takes a random suffix of what may be lost back, and gives it."""
@@ -274,10 +278,8 @@ class Server:
 
     def commit(self, call: Call) -> bytes:
         node, offset, count = self.file(call), call.arguments["offset"], call.arguments["count"]
-        call.commits = self.journal.committed_by(node, offset, count)
-        last = node.last_write
-        if last is not None and is_committed(last.change, node, offset, count):
-            call.commits.append(last.change)
+        standing = [write.change for write in node.writes if is_committed(write.change, node, offset, count)]
+        call.commits = self.journal.committed_by(node, offset, count) + standing
         return self.weak(call, "object") + self.shown_verifier(call)
 
     # Making

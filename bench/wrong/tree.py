@@ -8,6 +8,10 @@ from differ.layouts import DIRECTORY, LINK_TYPE, REGULAR
 ROOT_NUMBER = 1
 # The cookies of `.` and `..` in a list. Those of entries are above.
 SELF_COOKIE, PARENT_COOKIE = 1, 2
+# How many WRITEs of a file are kept in mind.
+MOST_WRITES = 8
+# What a change of a file's bytes changes beside them.
+FILE_FIELDS = "last_write", "writes", "last_resizing", "hole"
 
 
 class Change:
@@ -44,6 +48,11 @@ class Write(NamedTuple):
     def end(self) -> int:
         return self.offset + len(self.data)
 
+    @property
+    def lost(self) -> bytes:
+        """What stands in its place if a crash takes it alone: what was there, and zeros behind the file's end of before."""
+        return self.old + bytes(len(self.data) - len(self.old))
+
     def content_before(self) -> bytearray:
         """The file's bytes without the WRITE, which has to be the file's last change."""
         content = bytearray(self.node.data)
@@ -75,7 +84,7 @@ class Node:
     """A file with its bytes, a link with its text, or a directory with its entries."""
 
     __slots__ = ("number", "kind", "data", "entries", "order", "parent", "links", "verifier", "mode", "uid", "gid",
-                 "atime", "mtime", "ctime", "last_write", "last_resizing", "hole")
+                 "atime", "mtime", "ctime", "last_write", "writes", "last_resizing", "hole")
 
     def __init__(self, number: int, kind: int, data=b"", verifier=None):
         self.number, self.kind, self.data, self.verifier = number, kind, data, verifier
@@ -84,7 +93,8 @@ class Node:
         self.parent, self.links = self, 0
         self.mode, self.uid, self.gid = (0o755 if kind == DIRECTORY else 0o644), 0, 0
         self.atime = self.mtime = self.ctime = 0
-        self.last_write: Optional[Write] = None
+        self.last_write: Optional[Write] = None           # where a WRITE was the file's last change
+        self.writes: list[Write] = []                     # the last ones of which each byte still stands
         self.last_resizing: Optional[Resizing] = None
         self.hole = range(0)                              # the last bytes that became zeros without a WRITE of them
 
@@ -206,7 +216,7 @@ class Tree:
 
     def resize(self, node: Node, size: int) -> None:
         old_size, cut = len(node.data), bytes(node.data[size:])
-        self.keep_fields(node, "last_write", "last_resizing", "hole")
+        self.keep_fields(node, *FILE_FIELDS)
 
         def set_back():
             del node.data[old_size:]
@@ -215,6 +225,7 @@ class Tree:
         del node.data[size:]
         node.data.extend(bytes(size - len(node.data)))
         node.last_write, node.hole = None, range(old_size, size)
+        node.writes = [write for write in node.writes if write.end <= size]
         if size != old_size:
             node.last_resizing = Resizing(self.change, old_size)
         self.touch(node)
@@ -223,7 +234,7 @@ class Tree:
         """Writes some bytes, at least one."""
         old_size = len(node.data)
         write = Write(self.change, node, offset, data, bytes(node.data[offset:offset + len(data)]), old_size, level)
-        self.keep_fields(node, "last_write", "last_resizing", "hole")
+        self.keep_fields(node, *FILE_FIELDS)
 
         def set_back():
             node.data[offset:offset + len(write.old)] = write.old
@@ -231,6 +242,8 @@ class Tree:
         self.undo(set_back)
         put(node.data, offset, data)
         node.last_write = self.change.write = write
+        standing = [other for other in node.writes if other.end <= offset or other.offset >= write.end]
+        node.writes = [*standing[1 - MOST_WRITES:], write]
         if offset > old_size:
             node.hole = range(old_size, offset)
         if len(node.data) != old_size:
