@@ -1,9 +1,10 @@
 #!/usr/bin/env python3
 """Tries `wrong_server.py` through `nfsbench tap` and `nfsbench decide`: try_wrong_server.py NFSBENCH [--right N] [--tries N] [--port N] [NAME..]
 
-The right server is recorded N times with clients at once, half of the times over crashes; `decide` has to say `yes`, also under the strict profile. With each
-fault, or those that are named, the server is recorded until the fault is found, at most --tries times: by `no witness`, by the recorder's complaint, or by a
-client that gets no answer. It prints a line for each, and ends with status 1 where the right server was blamed, or a fault that can be found wasn't.
+The right server is recorded N times with clients at once, half of the times over crashes, and half of the times taking its freedoms; `decide` has to say
+`yes`, also under the strict profile. With each fault, or those that are named, the server is recorded until the fault is found, at most --tries times: by
+`no witness`, by the recorder's complaint, or by a client that gets no answer. It prints a line for each, and ends with status 1 where the right server was
+blamed, or a fault that can be found wasn't.
 """
 import argparse
 import pathlib
@@ -15,6 +16,7 @@ from wrong.sample import MIXES
 from wrong.trial import Trial
 
 CLIENTS, CALLS, OFTEN = 3, 100, 10
+FREEDOMS = [[], ["--free", "10"]]
 
 
 def record(program: str, folder: pathlib.Path, port: int, seed: int, crashes: int, more: list[str]) -> Trial:
@@ -32,7 +34,7 @@ def record(program: str, folder: pathlib.Path, port: int, seed: int, crashes: in
 def is_right_blamed(words, folder: pathlib.Path) -> bool:
     answers = []
     for seed in range(words.right):
-        trial = record(words.program, folder / f"right {seed}", words.port, seed, crashes=seed % 2 * (1 + seed % 3), more=[])
+        trial = record(words.program, folder / f"right {seed}", words.port, seed, seed % 2 * (1 + seed % 3), FREEDOMS[seed // 2 % 2])
         for is_strict in False, True:
             answers.append(trial.decided(is_strict))
             if answers[-1] != "yes":

@@ -8,12 +8,15 @@ listens. It takes orders, a line each, from standard input or from a file or fif
   up      listens again, with the same handles and another write verifier; prints `up`
   end     ends the program
 
-With --fault it is wrong about once in --often calls that the fault fits, or at each crash that it fits, and says so on standard error.
+With --fault it is wrong about once in --often calls that the fault fits, or at each crash that it fits, and says so on standard error. With --free it
+is right, and about once in N calls does what RFC 1813 leaves to a server: a short READ, WRITE or list, a safer WRITE than was asked, NFS3ERR_JUKEBOX, a
+reply without a handle, without attributes.
 """
 import argparse
 import sys
 
 from wrong.faults import OFTEN, all_faults
+from wrong.freedoms import FreeServer
 from wrong.host import Host
 from wrong.loop import Loop
 from wrong.orders import Orders
@@ -28,22 +31,31 @@ def read_words(faults: dict):
     parser.add_argument("--mount", type=int, default=12050)
     parser.add_argument("--export", default="/wrong")
     parser.add_argument("--fault", choices=faults, metavar="NAME")
+    parser.add_argument("--free", type=int, metavar="N", help="the right server takes its freedoms about once in N calls")
     parser.add_argument("--often", type=int, default=OFTEN, metavar="N", help="once in N calls that the fault fits (%(default)s)")
     parser.add_argument("--seed", type=int, default=1)
     parser.add_argument("--orders", metavar="FILE", help="a fifo, or a file that is read as it grows; else standard input")
     parser.add_argument("--delay", type=int, default=DELAY, metavar="MICROSECONDS",
                         help="the most between a call and its effect, and between that and its reply (%(default)s)")
     parser.add_argument("--list", action="store_true", help="prints the faults, where each shows, and what it does")
-    return parser.parse_args()
+    words = parser.parse_args()
+    if words.fault and words.free:
+        parser.error("--free is for the right server")
+    return words
+
+
+def server_for(words, faults: dict) -> Server:
+    if words.fault:
+        return faults[words.fault](words.seed, words.often)
+    return FreeServer(words.seed, words.free) if words.free else Server(words.seed)
 
 
 class Program:
     """Obeys orders."""
 
     def __init__(self, words, faults: dict):
-        server = faults[words.fault](words.seed, words.often) if words.fault else Server(words.seed)
         self.loop = Loop()
-        self.host = Host(self.loop, server, (words.port, words.mount), words.export.encode(), words.seed, words.delay)
+        self.host = Host(self.loop, server_for(words, faults), (words.port, words.mount), words.export.encode(), words.seed, words.delay)
         self.orders = Orders(self.loop, self.obey, words.orders)
 
     def obey(self, order: str) -> None:

@@ -15,10 +15,10 @@ class Orders:
     def __init__(self, loop: Loop, obey, path=None):
         self.loop, self.obey, self.path = loop, obey, path
         self.file, self.rest = None, b""
-        if path is None:
-            self.watch(sys.stdin.fileno())
-        else:
+        if path is not None:
             self.look_for_file()
+        elif sys.stdin is not None:
+            self.watch(sys.stdin.fileno())
 
     def watch(self, file: int) -> None:
         self.file = file

@@ -151,8 +151,9 @@ class Recording:
         self.eras[-1].append(call)
         self.done.append(call)
         if is_success(call) and call.procedure in (nfs.CREATE, nfs.MKDIR, nfs.SYMLINK):
-            _, value = nfs.read_result(call.procedure, call.results)
-            self.binds.setdefault(value["handle"], call.xid)
+            entry = self.server.known(call.arguments["dir"]).entries.get(call.arguments["name"])
+            if entry is not None:
+                self.binds.setdefault(self.server.handle(entry.node), call.xid)
 
     def answer(self, call: Call) -> None:
         self.done.remove(call)

@@ -265,9 +265,14 @@ class Server:
             raise Failed("INVAL")
         if data:
             self.check_size(arguments["offset"] + len(data))
+            data = self.taken(call, data)
             self.tree.write(node, arguments["offset"], data, level)
         call.is_stable = level != UNSTABLE
         return self.weak(call, "object") + words(len(data), level) + self.shown_verifier(call)
+
+    def taken(self, call: Call, data: bytes) -> bytes:
+        """How much of its bytes a WRITE writes."""
+        return data
 
     def level(self, call: Call) -> int:
         """How safe a WRITE is before it is answered."""
@@ -321,7 +326,10 @@ class Server:
         return mode != GUARDED
 
     def made(self, call: Call, node: Node) -> bytes:
-        return PRESENT + opaque(self.handle(node)) + self.post(call, node) + self.weak(call, "dir")
+        return self.made_handle(call, node) + self.post(call, node) + self.weak(call, "dir")
+
+    def made_handle(self, call: Call, node: Node) -> bytes:
+        return PRESENT + opaque(self.handle(node))
 
     def fresh_number(self, call: Call) -> int:
         return self.tree.fresh_number()

@@ -17,6 +17,7 @@ from large.wire import call_message
 
 from . import crash_faults
 from .faults import NEVER, PLAIN, STRICT, all_faults
+from .freedoms import FreeServer
 from .host import Host
 from .loop import Loop
 from .peer import Peer
@@ -32,8 +33,8 @@ def quiet(words: str) -> None:
 class RightServer(unittest.TestCase):
     """Each recording of the right server has its own order as a witness, strict too, and over crashes."""
 
-    def record(self, seed: int, clients: int, depth: int, crashes: int, weights=None) -> Recording:
-        recording = Recording(Server(seed), seed, clients, depth, weights)
+    def record(self, server: Server, seed: int, clients: int, depth: int, crashes: int, weights=None) -> Recording:
+        recording = Recording(server, seed, clients, depth, weights)
         for _ in range(crashes):
             recording.run(60)
             recording.crash()
@@ -43,16 +44,22 @@ class RightServer(unittest.TestCase):
 
     def test_clients_at_once(self):
         for seed in range(20):
-            recording = self.record(seed, clients=1 + seed % 4, depth=1 + seed % 3, crashes=0)
+            recording = self.record(Server(seed), seed, clients=1 + seed % 4, depth=1 + seed % 3, crashes=0)
             self.assertEqual(recording.verdict(is_strict=True), "yes", seed)
 
     def test_over_crashes(self):
         lost = 0
         for seed in range(20):
-            recording = self.record(seed, clients=1 + seed % 4, depth=1 + seed % 2, crashes=3, weights=WRITING)
+            recording = self.record(Server(seed), seed, clients=1 + seed % 4, depth=1 + seed % 2, crashes=3, weights=WRITING)
             self.assertEqual(recording.verdict(is_strict=True), "yes", seed)
             lost += sum(len(recording.placed(era)) - cut for era, cut in enumerate(recording.cuts))
         self.assertGreater(lost, 0, "some crash lost something")
+
+    def test_freedoms(self):
+        for seed in range(20):
+            server = FreeServer(seed, often=4)
+            recording = self.record(server, seed, clients=1 + seed % 3, depth=1, crashes=seed % 3, weights=MIXES[seed % len(MIXES)])
+            self.assertEqual(recording.verdict(is_strict=True), "yes", seed)
 
 
 class EachFault(unittest.TestCase):
