@@ -46,9 +46,10 @@ def is_right_blamed(words, folder: pathlib.Path) -> bool:
 
 def found(trial: Trial, kind) -> str:
     """How the fault was found, or nothing."""
-    if kind.seen == HEALTH:
-        return ", ".join(sorted({*trial.recorder_complaints(), *trial.complaints}))
     answer = trial.decided(kind.seen in (STRICT, NEVER))
+    if kind.seen == HEALTH:
+        refusals = [answer] if answer.startswith("refused") else []
+        return ", ".join([*refusals, *trial.recorder_complaints(), *sorted(set(trial.complaints))])
     return answer if answer.startswith("no witness") else ""
 
 

@@ -7,6 +7,7 @@ import threading
 import time
 
 from differ import layouts as nfs
+from differ.items import Bad
 from differ.rpc import read_reply
 from large.wire import opaque
 
@@ -52,6 +53,8 @@ class Caller(threading.Thread):
             self.complaint = "no reply"
         except OSError:
             self.complaint = "the connection ended"
+        except Bad:
+            self.complaint = "an unreadable reply"
 
     def call(self, peer: Peer, xid: int):
         procedure, arguments = self.client.draw()
