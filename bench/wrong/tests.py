@@ -4,6 +4,7 @@ A recording is judged by `differ`, with the order in which the server did its ca
 """
 import os
 import pathlib
+import socket
 import subprocess
 import sys
 import tempfile
@@ -11,11 +12,12 @@ import threading
 import unittest
 
 from differ import layouts as nfs
-from differ.items import Bad
+from differ.items import Bad, Flag, Hyper, Struct, Word, read_whole
 from differ.rpc import read_reply
 from large.wire import call_message
 
 from . import crash_faults
+from .calls import read
 from .faults import NEVER, PLAIN, STRICT, all_faults
 from .freedoms import FreeServer
 from .host import Host
@@ -60,6 +62,231 @@ class RightServer(unittest.TestCase):
             server = FreeServer(seed, often=4)
             recording = self.record(server, seed, clients=1 + seed % 3, depth=1, crashes=seed % 3, weights=MIXES[seed % len(MIXES)])
             self.assertEqual(recording.verdict(is_strict=True), "yes", seed)
+
+
+class Talk:
+    """One client's calls to a server without sockets, each done and answered at once."""
+
+    def __init__(self, server: Server):
+        self.server, self.xid = server, 0
+        self.root = server.root_handle
+
+    def raw(self, procedure: int, arguments: bytes) -> bytes:
+        """The results of a call."""
+        self.xid += 1
+        call, reply = read(None, call_message(self.xid, procedure, arguments))
+        assert reply is None
+        self.server.arrive(call)
+        self.server.perform(call)
+        self.server.answered(call)
+        return call.results
+
+    def ask(self, procedure: int, **arguments):
+        """The status and the value of a call."""
+        return nfs.read_result(procedure, self.raw(procedure, spelled(procedure, arguments)))
+
+    def make(self, name: bytes, procedure: int = nfs.CREATE, directory=None) -> bytes:
+        """The handle of a new file, directory or link."""
+        more = {nfs.CREATE: {"how": (nfs.GUARDED, NOTHING)}, nfs.MKDIR: {"new": NOTHING}, nfs.SYMLINK: {"new": NOTHING, "text": b"text"}}
+        status, value = self.ask(procedure, dir=directory or self.root, name=name, **more[procedure])
+        assert status == 0
+        return value["handle"]
+
+
+class Answers(unittest.TestCase):
+    """Statuses and values that RFC 1813, section 3.3, has for each procedure, where `docs/PROFILE.md` leaves a choice: this server's."""
+
+    def setUp(self):
+        self.talk = Talk(Server())
+        self.file, self.directory, self.link = (self.talk.make(*words) for words in ((b"f",), (b"d", nfs.MKDIR), (b"l", nfs.SYMLINK)))
+        self.inner = self.talk.make(b"inner", directory=self.directory)
+        gone = self.talk.make(b"gone")
+        self.talk.ask(nfs.REMOVE, dir=self.talk.root, name=b"gone")
+        self.handles = {"root": self.talk.root, "f": self.file, "d": self.directory, "l": self.link, "inner": self.inner, "gone": gone, "odd": b"odd"}
+
+    def answers(self, procedure: int, status: str, **arguments):
+        """A call, and the status that it has to get. `object`, `dir` and `to_dir` are named as in `handles`."""
+        for field in {"object", "dir", "to_dir"} & set(arguments):
+            arguments[field] = self.handles[arguments[field]]
+        got, value = self.talk.ask(procedure, **arguments)
+        self.assertEqual(nfs.STATUS_NAMES[got], status, (nfs.NAMES[procedure], arguments))
+        return value
+
+    def test_handles(self):
+        for name, status in ("gone", "STALE"), ("odd", "BADHANDLE"):
+            self.answers(nfs.GETATTR, status, object=name)
+            self.answers(nfs.LOOKUP, status, dir=name, name=b"f")
+        self.answers(nfs.LOOKUP, "NOTDIR", dir="f", name=b"f")
+        self.answers(nfs.RENAME, "NOTDIR", dir="root", name=b"f", to_dir="f", to_name=b"f")
+
+    def test_looks(self):
+        for name, kind in ("root", nfs.DIRECTORY), ("f", nfs.REGULAR), ("l", nfs.LINK_TYPE):
+            self.assertEqual(self.answers(nfs.GETATTR, "OK", object=name)["attributes"]["type"], kind)
+        for directory, name, handle in ("root", b"f", self.file), ("d", b".", self.directory), ("d", b"..", self.talk.root), ("root", b"..", self.talk.root):
+            self.assertEqual(self.answers(nfs.LOOKUP, "OK", dir=directory, name=name)["handle"], handle)
+        self.answers(nfs.LOOKUP, "NOENT", dir="root", name=b"gone")
+        self.assertEqual(self.answers(nfs.READLINK, "OK", object="l")["text"], b"text")
+        self.answers(nfs.READLINK, "INVAL", object="f")
+
+    def test_data(self):
+        write = {"object": "f", "level": nfs.UNSTABLE}
+        self.assertEqual(self.answers(nfs.WRITE, "OK", offset=4, count=3, data=b"abc", **write)["count"], 3)
+        for offset, count, data, is_end in (0, 100, bytes(4) + b"abc", True), (4, 2, b"ab", False), (5, 2, b"bc", True), (7, 1, b"", True), (9, 0, b"", True):
+            value = self.answers(nfs.READ, "OK", object="f", offset=offset, count=count)
+            self.assertEqual((value["data"], value["count"], value["eof"]), (data, len(data), is_end))
+        self.answers(nfs.SETATTR, "OK", object="f", new={**NOTHING, "size": 5}, guard=None)
+        self.answers(nfs.SETATTR, "OK", object="f", new={**NOTHING, "size": 6}, guard=None)
+        self.assertEqual(self.answers(nfs.READ, "OK", object="f", offset=0, count=9)["data"], bytes(4) + b"a" + bytes(1))
+        self.answers(nfs.WRITE, "FBIG", offset=16_777_216, count=1, data=b"x", **write)
+        self.answers(nfs.WRITE, "INVAL", offset=0, count=2, data=b"x", **write)
+        for name, status in ("d", "ISDIR"), ("l", "INVAL"):
+            self.answers(nfs.READ, status, object=name, offset=0, count=1)
+            self.answers(nfs.COMMIT, status, object=name, offset=0, count=0)
+
+    def test_guard(self):
+        ctime = self.answers(nfs.GETATTR, "OK", object="f")["attributes"]["ctime"]
+        self.answers(nfs.SETATTR, "NOT_SYNC", object="f", new={**NOTHING, "size": 5}, guard={**ctime, "seconds": 1})
+        self.answers(nfs.SETATTR, "OK", object="f", new={**NOTHING, "mode": 0o600}, guard=ctime)
+        self.assertEqual(self.answers(nfs.GETATTR, "OK", object="f")["attributes"]["mode"], 0o600)
+
+    def test_makes(self):
+        at = {"dir": "root", "name": b"f"}
+        self.answers(nfs.CREATE, "EXIST", how=(nfs.GUARDED, NOTHING), **at)
+        self.answers(nfs.CREATE, "EXIST", how=(nfs.EXCLUSIVE, b"verifier"), **at)
+        self.assertEqual(self.answers(nfs.CREATE, "OK", how=(nfs.UNCHECKED, {**NOTHING, "size": 7}), **at)["handle"], self.file)
+        self.assertEqual(self.answers(nfs.GETATTR, "OK", object="f")["attributes"]["size"], 7)
+        first = self.answers(nfs.CREATE, "OK", dir="root", name=b"x", how=(nfs.EXCLUSIVE, b"verifier"))
+        self.assertEqual(self.answers(nfs.CREATE, "OK", dir="root", name=b"x", how=(nfs.EXCLUSIVE, b"verifier"))["handle"], first["handle"])
+        self.answers(nfs.CREATE, "EXIST", dir="root", name=b"d", how=(nfs.UNCHECKED, NOTHING))
+        self.answers(nfs.MKDIR, "EXIST", new=NOTHING, **at)
+        self.answers(nfs.SYMLINK, "EXIST", new=NOTHING, text=b"t", **at)
+        self.answers(nfs.MKDIR, "INVAL", dir="root", name=b"..", new=NOTHING)
+
+    def test_takes_away(self):
+        self.answers(nfs.REMOVE, "NOENT", dir="root", name=b"gone")
+        self.answers(nfs.REMOVE, "ISDIR", dir="root", name=b"d")
+        self.answers(nfs.RMDIR, "NOTDIR", dir="root", name=b"f")
+        self.answers(nfs.RMDIR, "NOTEMPTY", dir="root", name=b"d")
+        self.answers(nfs.REMOVE, "OK", dir="d", name=b"inner")
+        self.answers(nfs.RMDIR, "OK", dir="root", name=b"d")
+        self.answers(nfs.GETATTR, "STALE", object="d")
+
+    def test_renames(self):
+        empty = self.talk.make(b"empty", nfs.MKDIR)
+        cases = [("root", b"gone", "root", b"x", "NOENT"), ("root", b"d", "d", b"x", "INVAL"), ("root", b"d", "root", b"f", "NOTDIR"),
+                 ("root", b"f", "root", b"empty", "ISDIR"), ("root", b"empty", "root", b"d", "NOTEMPTY"), ("root", b"f", "root", b"f", "OK"),
+                 ("root", b"d", "root", b"empty", "OK"), ("root", b"f", "root", b"l", "OK")]
+        for directory, name, to_directory, to_name, status in cases:
+            self.answers(nfs.RENAME, status, dir=directory, name=name, to_dir=to_directory, to_name=to_name)
+        self.assertEqual(self.answers(nfs.LOOKUP, "OK", dir="root", name=b"l")["handle"], self.file)
+        self.assertEqual(self.answers(nfs.LOOKUP, "OK", dir="root", name=b"empty")["handle"], self.directory)
+        self.answers(nfs.LOOKUP, "NOENT", dir="root", name=b"d")
+        self.handles["empty"] = empty
+        for name in "empty", "l":
+            self.answers(nfs.GETATTR, "STALE", object=name)
+
+    def test_what_is_not_judged(self):
+        """The results keep to the grammar of RFC 1813, sections 3.3.4, 3.3.11, 3.3.15 and 3.3.18 to 3.3.20."""
+        root = opaque(self.talk.root)
+        hypers = {f"hyper{number}": Hyper() for number in range(6)}
+        numbers = {f"word{number}": Word() for number in range(7)}
+        shapes = {
+            nfs.ACCESS: (root + words(63), Struct(post=nfs.post, access=Word())),
+            nfs.FSSTAT: (root, Struct(post=nfs.post, **hypers, seconds=Word())),
+            nfs.FSINFO: (root, Struct(post=nfs.post, **numbers, most=Hyper(), time=nfs.time, properties=Word())),
+            nfs.PATHCONF: (root, Struct(post=nfs.post, links=Word(), name=Word(), a=Flag(), b=Flag(), c=Flag(), d=Flag())),
+        }
+        for procedure, (arguments, shape) in shapes.items():
+            results = self.talk.raw(procedure, arguments)
+            self.assertEqual(results[:4], words(0))
+            self.assertEqual(read_whole(shape, results[4:])["post"]["type"], nfs.DIRECTORY)
+        linked = self.talk.raw(nfs.LINK, opaque(self.file) + root + opaque(b"new"))
+        self.assertEqual(linked[:4], words(10004))
+        read_whole(Struct(post=nfs.post, weak=nfs.weak), linked[4:])
+        made = self.talk.raw(nfs.MKNOD, root + opaque(b"new") + words(7) + words(0, 0, 0, 0, 0, 0))
+        self.assertEqual(made[:4], words(10004))
+        read_whole(nfs.changed, made[4:])
+
+
+class Lists(unittest.TestCase):
+    """A list in pages has each name that stays once, whatever comes and goes between two pages."""
+
+    def pages(self, procedure: int, between) -> list[bytes]:
+        talk = Talk(Server())
+        for number in range(40):
+            talk.make(b"name %d" % number)
+        names, cookie, is_end = [], 0, False
+        while not is_end:
+            sizes = {"count": 300} if procedure == nfs.READDIR else {"dircount": 200, "maxcount": 2000}
+            status, value = talk.ask(procedure, dir=talk.root, cookie=cookie, verifier=bytes(8), **sizes)
+            self.assertEqual(status, 0)
+            names += [entry["name"] for entry in value["entries"]]
+            cookie, is_end = value["entries"][-1]["cookie"], value["eof"]
+            between(talk, len(names))
+        return names
+
+    def test_each_name_once(self):
+        for procedure in nfs.READDIR, nfs.READDIRPLUS:
+            names = self.pages(procedure, lambda talk, count: None)
+            self.assertEqual(names, [b".", b"..", *(b"name %d" % number for number in range(40))])
+
+    def test_while_names_come_and_go(self):
+        def between(talk, count):
+            talk.make(b"new %d" % count)
+            talk.ask(nfs.REMOVE, dir=talk.root, name=b"name %d" % (count % 7))
+        names = self.pages(nfs.READDIR, between)
+        self.assertEqual(len(set(names)), len(names))
+        self.assertLessEqual({b"name %d" % number for number in range(7, 40)}, set(names))
+
+    def test_no_room(self):
+        talk = Talk(Server())
+        talk.make(b"n")
+        self.assertEqual(talk.ask(nfs.READDIR, dir=talk.root, cookie=0, verifier=bytes(8), count=100)[0], nfs.STATUSES["TOOSMALL"])
+
+
+class Crashes(unittest.TestCase):
+    """What outlives a crash at least, and what a crash may take."""
+
+    def survivors(self, calls) -> set[bytes]:
+        """The contents of a file, over many seeds, after these calls to it and a crash."""
+        contents = set()
+        for seed in range(40):
+            talk = Talk(Server(seed))
+            file = talk.make(b"f")
+            calls(talk, file)
+            talk.server.crash()
+            contents.add(talk.ask(nfs.READ, object=file, offset=0, count=100)[1]["data"])
+        return contents
+
+    def write(self, talk: Talk, file: bytes, offset: int, data: bytes, level: int) -> None:
+        talk.ask(nfs.WRITE, object=file, offset=offset, count=len(data), level=level, data=data)
+
+    def test_unstable_writes(self):
+        def calls(talk, file):
+            for offset, data in enumerate([b"a", b"b", b"c"]):
+                self.write(talk, file, offset, data, nfs.UNSTABLE)
+        self.assertEqual(self.survivors(calls), {b"", b"a", b"ab", b"abc"})
+
+    def test_synced_write(self):
+        def calls(talk, file):
+            self.write(talk, file, 0, b"a", nfs.UNSTABLE)
+            self.write(talk, file, 1, b"b", nfs.DATA_SYNC)
+            self.write(talk, file, 0, b"c", nfs.UNSTABLE)
+        self.assertEqual(self.survivors(calls), {b"ab", b"cb"})
+
+    def test_commit(self):
+        def calls(talk, file):
+            self.write(talk, file, 0, b"ab", nfs.UNSTABLE)
+            self.write(talk, file, 2, b"cd", nfs.UNSTABLE)
+            self.write(talk, file, 4, b"ef", nfs.UNSTABLE)
+            talk.ask(nfs.COMMIT, object=file, offset=3, count=1)
+        self.assertEqual(self.survivors(calls), {b"abcd", b"abcdef"})
+
+    def test_other_changes(self):
+        def calls(talk, file):
+            self.write(talk, file, 0, b"ab", nfs.UNSTABLE)
+            talk.ask(nfs.SETATTR, object=file, new={**NOTHING, "size": 1}, guard=None)
+        self.assertEqual(self.survivors(calls), {b"a"})
 
 
 class EachFault(unittest.TestCase):
@@ -298,6 +525,16 @@ class Orders(unittest.TestCase):
                     with open(path, "a") as orders:
                         orders.write(line)
                 self.obeys(self.start("--orders", str(path)), say)
+
+    def test_dies(self):
+        with socket.socket() as taken:
+            taken.bind(("127.0.0.1", 0))
+            port = taken.getsockname()[1]
+        process = self.start("--fault", "dies", "--often", "1", "--port", str(port))
+        peer = Peer(port)
+        self.assertIsNone(peer.call(1, nfs.NULL, b""))
+        peer.close()
+        self.assertEqual(process.wait(10), 1)
 
     def test_the_list_names_each_fault(self):
         program = pathlib.Path(__file__).parents[1] / "wrong_server.py"
