@@ -32,7 +32,7 @@ def record(program: str, folder: pathlib.Path, port: int, seed: int, crashes: in
 
 
 def is_right_blamed(words, folder: pathlib.Path) -> bool:
-    answers = []
+    answers, crashes, lost = [], 0, 0
     for seed in range(words.right):
         trial = record(words.program, folder / f"right {seed}", words.port, seed, seed % 2 * (1 + seed % 3), FREEDOMS[seed // 2 % 2])
         for is_strict in False, True:
@@ -40,7 +40,8 @@ def is_right_blamed(words, folder: pathlib.Path) -> bool:
             if answers[-1] != "yes":
                 print(f"the right server, seed {seed}{', strict' * is_strict}: {answers[-1]}", flush=True)
         answers += trial.complaints + trial.recorder_complaints()
-    print(f"the right server: {answers.count('yes')} of {len(answers)} yes", flush=True)
+        crashes, lost = crashes + trial.crashes, lost + trial.lost()
+    print(f"the right server: {answers.count('yes')} of {len(answers)} yes; {crashes} crashes lost {lost} changes", flush=True)
     return any(answer != "yes" and not answer.startswith("undecided") for answer in answers)
 
 

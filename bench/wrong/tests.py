@@ -9,6 +9,7 @@ import subprocess
 import sys
 import tempfile
 import threading
+import time
 import unittest
 
 from differ import layouts as nfs
@@ -17,7 +18,7 @@ from differ.rpc import read_reply
 from large.wire import call_message
 
 from . import crash_faults
-from .calls import read
+from .calls import Call, read
 from .faults import NEVER, PLAIN, STRICT, all_faults
 from .freedoms import FreeServer
 from .host import Host
@@ -71,13 +72,18 @@ class Talk:
         self.server, self.xid = server, 0
         self.root = server.root_handle
 
-    def raw(self, procedure: int, arguments: bytes) -> bytes:
-        """The results of a call."""
+    def done(self, procedure: int, arguments: bytes) -> Call:
+        """A call that has taken effect, without an answer so far."""
         self.xid += 1
         call, reply = read(None, call_message(self.xid, procedure, arguments))
         assert reply is None
         self.server.arrive(call)
         self.server.perform(call)
+        return call
+
+    def raw(self, procedure: int, arguments: bytes) -> bytes:
+        """The results of a call."""
+        call = self.done(procedure, arguments)
         self.server.answered(call)
         return call.results
 
@@ -160,7 +166,8 @@ class Answers(unittest.TestCase):
         self.answers(nfs.CREATE, "EXIST", dir="root", name=b"d", how=(nfs.UNCHECKED, NOTHING))
         self.answers(nfs.MKDIR, "EXIST", new=NOTHING, **at)
         self.answers(nfs.SYMLINK, "EXIST", new=NOTHING, text=b"t", **at)
-        self.answers(nfs.MKDIR, "INVAL", dir="root", name=b"..", new=NOTHING)
+        for name, status in (b"..", "INVAL"), (b"n" * 255, "OK"), (b"n" * 256, "NAMETOOLONG"):
+            self.answers(nfs.MKDIR, status, dir="root", name=name, new=NOTHING)
 
     def test_takes_away(self):
         self.answers(nfs.REMOVE, "NOENT", dir="root", name=b"gone")
@@ -173,9 +180,11 @@ class Answers(unittest.TestCase):
 
     def test_renames(self):
         empty = self.talk.make(b"empty", nfs.MKDIR)
-        cases = [("root", b"gone", "root", b"x", "NOENT"), ("root", b"d", "d", b"x", "INVAL"), ("root", b"d", "root", b"f", "NOTDIR"),
-                 ("root", b"f", "root", b"empty", "ISDIR"), ("root", b"empty", "root", b"d", "NOTEMPTY"), ("root", b"f", "root", b"f", "OK"),
-                 ("root", b"d", "root", b"empty", "OK"), ("root", b"f", "root", b"l", "OK")]
+        self.handles["deep"] = self.talk.make(b"deep", nfs.MKDIR, self.directory)
+        cases = [("root", b"gone", "root", b"x", "NOENT"), ("root", b"d", "d", b"x", "INVAL"), ("root", b"d", "deep", b"x", "INVAL"),
+                 ("root", b"d", "root", b"f", "NOTDIR"), ("root", b"f", "root", b"empty", "ISDIR"),
+                 ("root", b"empty", "root", b"d", "NOTEMPTY"), ("root", b"f", "root", b"f", "OK"), ("root", b"d", "root", b"empty", "OK"),
+                 ("root", b"f", "root", b"l", "OK")]
         for directory, name, to_directory, to_name, status in cases:
             self.answers(nfs.RENAME, status, dir=directory, name=name, to_dir=to_directory, to_name=to_name)
         self.assertEqual(self.answers(nfs.LOOKUP, "OK", dir="root", name=b"l")["handle"], self.file)
@@ -238,6 +247,17 @@ class Lists(unittest.TestCase):
         self.assertEqual(len(set(names)), len(names))
         self.assertLessEqual({b"name %d" % number for number in range(7, 40)}, set(names))
 
+    def test_room(self):
+        """READDIRPLUS keeps to the room for names and to that for all (RFC 1813, section 3.3.17): each `name N` takes 28 bytes of the first."""
+        talk = Talk(Server())
+        for number in range(9):
+            talk.make(b"name %d" % number)
+        asked = {"dir": talk.root, "cookie": 2, "verifier": bytes(8)}
+        whole = talk.raw(nfs.READDIRPLUS, spelled(nfs.READDIRPLUS, {**asked, "dircount": 4096, "maxcount": 4096}))
+        for dircount, maxcount, count in (3 * 28, 4096, 3), (3 * 28 - 1, 4096, 2), (4096, len(whole), 9), (4096, len(whole) - 1, 8):
+            _, value = talk.ask(nfs.READDIRPLUS, dircount=dircount, maxcount=maxcount, **asked)
+            self.assertEqual((len(value["entries"]), value["eof"]), (count, count == 9))
+
     def test_no_room(self):
         talk = Talk(Server())
         talk.make(b"n")
@@ -281,6 +301,34 @@ class Crashes(unittest.TestCase):
             self.write(talk, file, 4, b"ef", nfs.UNSTABLE)
             talk.ask(nfs.COMMIT, object=file, offset=3, count=1)
         self.assertEqual(self.survivors(calls), {b"abcd", b"abcdef"})
+
+    def test_commit_of_no_byte(self):
+        def calls(talk, file):
+            self.write(talk, file, 0, b"ab", nfs.UNSTABLE)
+            self.write(talk, file, 5, b"c", nfs.UNSTABLE)
+            for offset, count in (2, 3), (6, 0):
+                talk.ask(nfs.COMMIT, object=file, offset=offset, count=count)
+        self.assertEqual(self.survivors(calls), {b"", b"ab", b"ab\0\0\0c"})
+
+    def test_change_without_an_answer(self):
+        def calls(talk, file):
+            self.write(talk, file, 0, b"abc", nfs.FILE_SYNC)
+            talk.done(nfs.SETATTR, spelled(nfs.SETATTR, {"object": file, "new": {**NOTHING, "size": 1}, "guard": None}))
+            talk.done(nfs.SETATTR, spelled(nfs.SETATTR, {"object": file, "new": {**NOTHING, "size": 2}, "guard": None}))
+        self.assertEqual(self.survivors(calls), {b"abc", b"a", b"a\0"})
+
+    def test_rename_without_an_answer(self):
+        """All of it is there after the crash, or nothing."""
+        found = set()
+        for seed in range(40):
+            talk = Talk(Server(seed))
+            old, new = talk.make(b"old", nfs.MKDIR), talk.make(b"new", nfs.MKDIR)
+            moved, replaced = talk.make(b"moved", nfs.MKDIR, old), talk.make(b"name", nfs.MKDIR, new)
+            talk.done(nfs.RENAME, spelled(nfs.RENAME, {"dir": old, "name": b"moved", "to_dir": new, "to_name": b"name"}))
+            talk.server.crash()
+            looks = (old, b"moved"), (new, b"name"), (moved, b".."), (replaced, b"..")
+            found.add(tuple(talk.ask(nfs.LOOKUP, dir=directory, name=name)[1].get("handle") for directory, name in looks))
+        self.assertEqual(found, {(moved, replaced, old, new), (None, moved, new, None)})
 
     def test_other_changes(self):
         def calls(talk, file):
@@ -344,11 +392,12 @@ class Running:
     def tick(self) -> None:
         self.loop.after(0.001, self.tick)
 
-    def order(self, step) -> None:
-        """Does a step between two turns of the loop, and waits for it."""
-        done = threading.Event()
-        self.loop.after(0, lambda: (step(), done.set()))
+    def order(self, step):
+        """Does a step between two turns of the loop; what it gives."""
+        done, results = threading.Event(), []
+        self.loop.after(0, lambda: (results.append(step()), done.set()))
         done.wait(10)
+        return results[0]
 
     def peer(self) -> Peer:
         return Peer(self.host.nfs.number)
@@ -442,6 +491,21 @@ class OverTcp(unittest.TestCase):
             self.assertEqual(result(nfs.READ, peer.call(3, nfs.READ, asked))[1]["data"], b"synced")
             again = result(nfs.WRITE, peer.call(4, nfs.WRITE, write(handle, b"", nfs.FILE_SYNC)))[1]["verifier"]
             self.assertNotEqual(first, again)
+            peer.close()
+
+    def test_calls_on_their_way(self):
+        """Some wait for their effect and some for their reply; a crash ends them."""
+        with Running(Server(), delay=100_000) as running:
+            peer, root = running.peer(), running.host.server.root_handle
+            steps = {running.host.perform, running.host.reply}
+            for number in range(50):
+                peer.send(call_message(number, nfs.CREATE, create(b"%d" % number, root)))
+            time.sleep(0.05)
+            self.assertLessEqual(steps, running.order(lambda: {step for _, _, step, _ in running.loop.moments}))
+            running.order(running.host.crash)
+            names = set(running.host.server.tree.root.entries)
+            time.sleep(0.15)
+            self.assertEqual(set(running.host.server.tree.root.entries), names)
             peer.close()
 
     def test_replies_come_in_another_order(self):

@@ -141,6 +141,10 @@ class Trial:
         """How often the fault happened."""
         return sum(line.startswith("fault ") for line in self.text(self.said).splitlines())
 
+    def lost(self) -> int:
+        """How many changes the crashes took back."""
+        return sum(int(line.split()[1]) for line in self.text(self.said).splitlines() if line.startswith("lost "))
+
     def recorder_complaints(self) -> list[str]:
         return sorted({word for line in self.text(self.heard).splitlines() for word in ("NoSuchCall", "BadRpc", "RecordTooLong") if word in line})
 
