@@ -25,7 +25,7 @@ def record(program: str, folder: pathlib.Path, port: int, seed: int, crashes: in
     trial = Trial(program, folder, port, ["--seed", str(seed), *more])
     trial.add_clients(2 + seed % CLIENTS, seed, MIXES[seed % len(MIXES)])
     for crash in range(crashes):
-        trial.run(CALLS, seconds=0.04 + 0.01 * ((seed + crash) % 7))
+        trial.run(CALLS, seconds=0.05 + 0.02 * ((seed + crash) % 7))
     trial.run(CALLS)
     trial.end()
     return trial
@@ -34,7 +34,8 @@ def record(program: str, folder: pathlib.Path, port: int, seed: int, crashes: in
 def is_right_blamed(words, folder: pathlib.Path) -> bool:
     answers, crashes, lost = [], 0, 0
     for seed in range(words.right):
-        trial = record(words.program, folder / f"right {seed}", words.port, seed, seed % 2 * (1 + seed % 3), FREEDOMS[seed // 2 % 2])
+        turn = seed // len(MIXES)
+        trial = record(words.program, folder / f"right {seed}", words.port, seed, turn % 2 * (1 + seed % 3), FREEDOMS[turn // 2 % 2])
         for is_strict in False, True:
             answers.append(trial.decided(is_strict))
             if answers[-1] != "yes":
@@ -72,7 +73,7 @@ def main() -> None:
     faults = all_faults()
     parser = argparse.ArgumentParser(description=__doc__, formatter_class=argparse.RawDescriptionHelpFormatter)
     parser.add_argument("program", metavar="NFSBENCH")
-    parser.add_argument("--right", type=int, default=30)
+    parser.add_argument("--right", type=int, default=48)
     parser.add_argument("--tries", type=int, default=15)
     parser.add_argument("--port", type=int, default=29480, help="the first of three ports")
     parser.add_argument("names", nargs="*", metavar="NAME")

@@ -50,6 +50,13 @@ class CommitNotDone(LoseCommittedWrite):
     def make_safe(self, change: Change) -> None:
         pass
 
+    def crash(self) -> list[Change]:
+        lost = super().crash()
+        for change in lost:
+            if change.is_committed:
+                self.happens(f"a WRITE of file {change.write.node.number} over a crash")
+        return lost
+
     def chosen(self, writes: list[Write]) -> list[Write]:
         return writes
 

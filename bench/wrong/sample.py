@@ -3,6 +3,7 @@
 `differ`, which was written apart from this server, judges such a recording.
 """
 import random
+from typing import NamedTuple
 
 from differ import layouts as nfs
 from differ.items import Sink
@@ -16,12 +17,23 @@ from .tree import Change
 FILES, DIRECTORIES, LINKS = [b"f0", b"f1", b"f2"], [b"d0", b"d1"], [b"l0"]
 WEIGHTS = {nfs.GETATTR: 5, nfs.SETATTR: 4, nfs.LOOKUP: 9, nfs.READLINK: 2, nfs.READ: 12, nfs.WRITE: 12, nfs.CREATE: 8, nfs.MKDIR: 3, nfs.SYMLINK: 2,
            nfs.REMOVE: 4, nfs.RMDIR: 3, nfs.RENAME: 5, nfs.READDIR: 4, nfs.READDIRPLUS: 4, nfs.COMMIT: 4}
-WRITING = {**WEIGHTS, nfs.WRITE: 40, nfs.READ: 20, nfs.CREATE: 4, nfs.REMOVE: 1, nfs.RENAME: 1, nfs.SETATTR: 1, nfs.MKDIR: 1}
-COMMITTING = {nfs.CREATE: 2, nfs.LOOKUP: 2, nfs.WRITE: 20, nfs.READ: 20, nfs.COMMIT: 15}
-NESTING = {nfs.MKDIR: 20, nfs.RENAME: 20, nfs.RMDIR: 15, nfs.CREATE: 8, nfs.LOOKUP: 10, nfs.READDIR: 3}
-NAMING = {nfs.CREATE: 10, nfs.REMOVE: 10, nfs.RENAME: 10, nfs.LOOKUP: 20, nfs.READDIR: 5}
-# Which procedures clients call how often; each mix shows some faults well.
-MIXES = [WEIGHTS, WRITING, COMMITTING, NESTING, NAMING]
+
+
+class Mix(NamedTuple):
+    """Which procedures clients call how often, and how many of their WRITEs are UNSTABLE."""
+    weights: dict[int, int]
+    unstable: float = 0.5
+
+
+ALL = Mix(WEIGHTS)
+WRITING = Mix({**WEIGHTS, nfs.WRITE: 40, nfs.READ: 20, nfs.CREATE: 4, nfs.REMOVE: 1, nfs.RENAME: 1, nfs.SETATTR: 1, nfs.MKDIR: 1})
+COMMITTING = Mix({nfs.CREATE: 2, nfs.LOOKUP: 2, nfs.WRITE: 20, nfs.READ: 20, nfs.COMMIT: 15})
+# A crash loses most where little is made safe.
+LOSING = Mix({nfs.CREATE: 1, nfs.LOOKUP: 4, nfs.WRITE: 20, nfs.READ: 20, nfs.COMMIT: 1}, 0.95)
+NESTING = Mix({nfs.MKDIR: 20, nfs.RENAME: 20, nfs.RMDIR: 15, nfs.CREATE: 8, nfs.LOOKUP: 10, nfs.READDIR: 3})
+NAMING = Mix({nfs.CREATE: 10, nfs.REMOVE: 10, nfs.RENAME: 10, nfs.LOOKUP: 20, nfs.READDIR: 5})
+# Each mix shows some faults well.
+MIXES = [ALL, WRITING, COMMITTING, LOSING, NESTING, NAMING]
 NOTHING = {"mode": None, "uid": None, "gid": None, "size": None, "atime": (0, None), "mtime": (0, None)}
 CALL, REPLY = 0, 1
 STRICT_HEAD = b"NFSHIST2"
@@ -30,8 +42,8 @@ STRICT_HEAD = b"NFSHIST2"
 class Client:
     """Draws calls over a few names, with the handles that replies gave."""
 
-    def __init__(self, dice: random.Random, root: bytes, weights=None):
-        self.dice, self.weights = dice, weights or WEIGHTS
+    def __init__(self, dice: random.Random, root: bytes, mix: Mix = ALL):
+        self.dice, self.mix = dice, mix
         self.handles = {nfs.DIRECTORY: [root], nfs.REGULAR: [], nfs.LINK_TYPE: []}
 
     def handle(self, kind: int) -> bytes:
@@ -47,7 +59,8 @@ class Client:
         return {**NOTHING, "size": self.dice.choice([None, None, 0, 5, 40])}
 
     def draw(self) -> tuple[int, dict]:
-        procedure = self.dice.choices(list(self.weights), list(self.weights.values()))[0]
+        weights = self.mix.weights
+        procedure = self.dice.choices(list(weights), list(weights.values()))[0]
         return procedure, getattr(self, nfs.NAMES[procedure].lower())()
 
     def getattr(self) -> dict:
@@ -68,7 +81,10 @@ class Client:
     def write(self) -> dict:
         data = self.dice.randbytes(self.dice.choice([0, 2, 8, 8, 12]))
         return {"object": self.handle(nfs.REGULAR), "offset": self.dice.choice([0, 0, 4, 10, 50]), "count": len(data),
-                "level": self.dice.choice([nfs.UNSTABLE, nfs.UNSTABLE, nfs.DATA_SYNC, nfs.FILE_SYNC]), "data": data}
+                "level": self.level(), "data": data}
+
+    def level(self) -> int:
+        return nfs.UNSTABLE if self.dice.random() < self.mix.unstable else self.dice.choice([nfs.DATA_SYNC, nfs.FILE_SYNC])
 
     def create(self) -> dict:
         mode = self.dice.choice([nfs.UNCHECKED, nfs.GUARDED, nfs.EXCLUSIVE])
@@ -122,9 +138,9 @@ def spelled(procedure: int, arguments: dict) -> bytes:
 class Recording:
     """Events as a recorder sees them, and the order of effects as the server alone knows it. Lane k is of client k in each era anew."""
 
-    def __init__(self, server: Server, seed: int, clients: int, depth: int, weights=None):
+    def __init__(self, server: Server, seed: int, clients: int, depth: int, mix: Mix = ALL):
         self.server, self.dice, self.depth = server, random.Random(f"{seed} recording"), depth
-        self.clients = [Client(random.Random(f"{seed} client {number}"), server.root_handle, weights) for number in range(clients)]
+        self.clients = [Client(random.Random(f"{seed} client {number}"), server.root_handle, mix) for number in range(clients)]
         self.events: list[bytes] = []
         self.calls, self.waiting, self.done = 0, [], []
         self.numbers: dict[int, int] = {}                   # the number in the history of each call by its xid

@@ -25,7 +25,7 @@ from .host import Host
 from .loop import Loop
 from .peer import Peer
 from .results import opaque, words
-from .sample import MIXES, NOTHING, WRITING, Recording, spelled
+from .sample import ALL, LOSING, MIXES, NOTHING, WRITING, Mix, Recording, spelled
 from .server import Server
 
 
@@ -36,8 +36,8 @@ def quiet(words: str) -> None:
 class RightServer(unittest.TestCase):
     """Each recording of the right server has its own order as a witness, strict too, and over crashes."""
 
-    def record(self, server: Server, seed: int, clients: int, depth: int, crashes: int, weights=None) -> Recording:
-        recording = Recording(server, seed, clients, depth, weights)
+    def record(self, server: Server, seed: int, clients: int, depth: int, crashes: int, mix: Mix = ALL) -> Recording:
+        recording = Recording(server, seed, clients, depth, mix)
         for _ in range(crashes):
             recording.run(60)
             recording.crash()
@@ -53,15 +53,15 @@ class RightServer(unittest.TestCase):
     def test_over_crashes(self):
         lost = 0
         for seed in range(20):
-            recording = self.record(Server(seed), seed, clients=1 + seed % 4, depth=1 + seed % 2, crashes=3, weights=WRITING)
+            recording = self.record(Server(seed), seed, clients=1 + seed % 4, depth=1 + seed % 3, crashes=3, mix=[WRITING, LOSING][seed % 2])
             self.assertEqual(recording.verdict(is_strict=True), "yes", seed)
             lost += sum(len(recording.placed(era)) - cut for era, cut in enumerate(recording.cuts))
-        self.assertGreater(lost, 0, "some crash lost something")
+        self.assertGreater(lost, 20, "crashes lost something")
 
     def test_freedoms(self):
         for seed in range(20):
             server = FreeServer(seed, often=4)
-            recording = self.record(server, seed, clients=1 + seed % 3, depth=1, crashes=seed % 3, weights=MIXES[seed % len(MIXES)])
+            recording = self.record(server, seed, clients=1 + seed % 3, depth=1, crashes=seed % 3, mix=MIXES[seed % len(MIXES)])
             self.assertEqual(recording.verdict(is_strict=True), "yes", seed)
 
 
@@ -344,7 +344,7 @@ class EachFault(unittest.TestCase):
         has_crash = kind in crash_faults.KINDS
         for seed in range(100):
             server = kind(seed, often=3, tell=quiet)
-            recording = Recording(server, seed, clients=1, depth=1, weights=MIXES[seed % len(MIXES)])
+            recording = Recording(server, seed, clients=1, depth=1, mix=MIXES[seed % len(MIXES)])
             recording.run(40 if has_crash else 80)
             recording.finish()
             if has_crash:

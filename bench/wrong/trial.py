@@ -13,7 +13,7 @@ from large.wire import opaque
 
 from .peer import Peer
 from .results import word, words
-from .sample import STRICT_HEAD, Client, spelled
+from .sample import STRICT_HEAD, Client, Mix, spelled
 
 SERVER = pathlib.Path(__file__).parents[1] / "wrong_server.py"
 PATIENCE = 3
@@ -73,16 +73,20 @@ class Trial:
     def __init__(self, program: str, folder: pathlib.Path, port: int, words_of_server: list[str]):
         self.program, self.folder, self.port = program, folder, port
         self.history = folder / "history"
-        self.said, self.heard = open(folder / "server", "w+"), open(folder / "tap", "w+")
+        self.said, self.heard = folder / "server", folder / "tap"
         line = [sys.executable, str(SERVER), "--port", str(port), "--mount", str(port + 1), *words_of_server]
-        self.server = subprocess.Popen(line, stdin=subprocess.PIPE, stdout=subprocess.PIPE, stderr=self.said, text=True)
+        self.server = self.started(line, self.said)
         self.expect("ready")
         self.root = self.mounted()
         line = [program, "tap", "--quiet", "--root", self.root.hex(), "--port", str(port + 2), "--server", str(port), str(self.history)]
-        self.tap = subprocess.Popen(line, stdin=subprocess.PIPE, stdout=subprocess.PIPE, stderr=self.heard, text=True)
+        self.tap = self.started(line, self.heard)
         assert soon(lambda: listens(port + 2)), "the recorder doesn't listen"
         self.clients: list[Client] = []
         self.crashes, self.complaints = 0, []
+
+    def started(self, line: list[str], errors: pathlib.Path) -> subprocess.Popen:
+        with open(errors, "w") as file:
+            return subprocess.Popen(line, stdin=subprocess.PIPE, stdout=subprocess.PIPE, stderr=file, text=True)
 
     def expect(self, line: str) -> None:
         answer = self.server.stdout.readline()
@@ -96,8 +100,8 @@ class Trial:
         peer.close()
         return record[ROOT_AT + 4:ROOT_AT + 4 + int.from_bytes(record[ROOT_AT:ROOT_AT + 4], "big")]
 
-    def add_clients(self, count: int, seed: int, weights: dict) -> None:
-        self.clients = [Client(random.Random(f"{seed} client {number}"), self.root, weights) for number in range(count)]
+    def add_clients(self, count: int, seed: int, mix: Mix) -> None:
+        self.clients = [Client(random.Random(f"{seed} client {number}"), self.root, mix) for number in range(count)]
 
     def run(self, calls: int, seconds=None) -> None:
         """All clients at once make so many calls each, or as many as they come to in so many seconds before a crash."""
@@ -121,13 +125,9 @@ class Trial:
         self.expect("down")
         self.crashes += 1
         self.say(self.tap, "crash")
-        assert soon(lambda: self.text(self.heard).count("the crash is noted") == self.crashes), "the crash isn't noted"
+        assert soon(lambda: self.heard.read_text().count("the crash is noted") == self.crashes), "the crash isn't noted"
         self.say(self.server, "up")
         self.expect("up")
-
-    def text(self, file) -> str:
-        file.seek(0)
-        return file.read()
 
     def end(self) -> None:
         self.tap.communicate()
@@ -139,14 +139,14 @@ class Trial:
 
     def times(self) -> int:
         """How often the fault happened."""
-        return sum(line.startswith("fault ") for line in self.text(self.said).splitlines())
+        return sum(line.startswith("fault ") for line in self.said.read_text().splitlines())
 
     def lost(self) -> int:
         """How many changes the crashes took back."""
-        return sum(int(line.split()[1]) for line in self.text(self.said).splitlines() if line.startswith("lost "))
+        return sum(int(line.split()[1]) for line in self.said.read_text().splitlines() if line.startswith("lost "))
 
     def recorder_complaints(self) -> list[str]:
-        return sorted({word for line in self.text(self.heard).splitlines() for word in ("NoSuchCall", "BadRpc", "RecordTooLong") if word in line})
+        return sorted({word for line in self.heard.read_text().splitlines() for word in ("NoSuchCall", "BadRpc", "RecordTooLong") if word in line})
 
     def decided(self, is_strict: bool) -> str:
         """The line of `decide`: of the history as it is, or of the same under the strict profile."""
