@@ -1,4 +1,5 @@
 """A trial of the server: its clients are recorded by `nfsbench tap`, and the history is decided by `nfsbench decide`."""
+import atexit
 import pathlib
 import random
 import subprocess
@@ -85,8 +86,11 @@ class Trial:
         self.crashes, self.complaints = 0, []
 
     def started(self, line: list[str], errors: pathlib.Path) -> subprocess.Popen:
+        """A process that doesn't outlive this one."""
         with open(errors, "w") as file:
-            return subprocess.Popen(line, stdin=subprocess.PIPE, stdout=subprocess.PIPE, stderr=file, text=True)
+            process = subprocess.Popen(line, stdin=subprocess.PIPE, stdout=subprocess.PIPE, stderr=file, text=True)
+        atexit.register(process.kill)
+        return process
 
     def expect(self, line: str) -> None:
         answer = self.server.stdout.readline()
