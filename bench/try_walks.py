@@ -5,8 +5,9 @@ The histories are those of `try_histories.py`: clients over files, directories a
 change or two. The walk is written apart from the program, over the rules of `differ`, and takes no short cut: at each reply it places every list of open calls
 that ends in the call, each place may be the first that a crash loses, and what is lost behind it is judged place by place. A handle is bound by the first placed
 reply that gives it; a success or a judged failure that names a handle which isn't bound is not decided. States are merged only if nothing that is judged later
-can tell them apart. A history with more than 20,000 states at once isn't decided. COUNT is 1,000 and SEED 1 if they are left out. It prints how many were a yes, a no and undecided,
-and each history that the two decide differently; the status is 1 where there is one.
+can tell them apart. A history with more than 5,000 states at once, or with more memory than the process may have (`ulimit -v`), isn't decided, and the
+program isn't asked. COUNT is 1,000 and SEED 1 if they are left out. It prints how many were a yes, a no and undecided, and each history that the two
+decide differently; the status is 1 where there is one.
 """
 import collections
 import pathlib
@@ -24,7 +25,7 @@ from differ.success import found
 from differ.trees import Binds, entries_of, path_of
 from try_decisions import noted, tell, told_by
 
-MOST_STATES = 20_000
+MOST_STATES = 5_000
 
 
 class Undecided(Exception):
@@ -193,6 +194,7 @@ def walk(history):
 def main():
     program, count, seed = sys.argv[1], *(int(it) for it in (sys.argv[2:] + ["1000", "1"][len(sys.argv) - 2:])[:2])
     tally, whys, sizes, differ = collections.Counter(), collections.Counter(), collections.Counter(), 0
+    left_out = 0
     with tempfile.TemporaryDirectory() as folder:
         file = pathlib.Path(folder) / "some.history"
         for number in range(count):
@@ -204,14 +206,16 @@ def main():
             sizes[len(history.calls) // 10 * 10] += 1
             try:
                 wanted = "yes" if walk(history) else "no"
-            except Undecided:
-                wanted = "undecided"
+            except (Undecided, MemoryError):
+                left_out += 1
+                continue
             file.write_bytes(data)
             line = told_by(program, file)
             if {wanted, noted(tally, whys, wanted, line)} == {"yes", "no"}:
                 differ += 1
                 print(f"{number}: the plain walk says {wanted}, the program {line}")
     tell("the plain walk", tally, whys)
+    print(f"undecided by the plain walk: {left_out}")
     print("calls:", ", ".join(f"{size} to {size + 9}: {many}" for size, many in sorted(sizes.items())))
     return 1 if differ else 0
 
