@@ -1,0 +1,3 @@
+pub mod Strips
+pub mod Parts
+pub mod Explained

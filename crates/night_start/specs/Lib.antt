@@ -1,0 +1,4 @@
+pub mod Exchanges
+pub mod Accounts
+pub mod Walked
+pub mod Stripping
