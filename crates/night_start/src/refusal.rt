@@ -2,6 +2,7 @@
 
 use nfs3_types::{Failure, FileType, Procedure};
 use std::alloc::{AllocError, AllocFailed};
+use thiserror::Error;
 use tree_starts::StartFault;
 
 /// What of an object was told otherwise than before.
@@ -80,7 +81,7 @@ pub struct Refusal {
 }
 
 /// Why a walk ends without a start.
-#[derive(Drop)]
+#[derive(Drop, Error)]
 pub enum WalkFault {
     /// The export is refused.
     Refused(Refusal),

@@ -2,7 +2,6 @@
 
 use crate::refusal::{Cause, Change, Refusal, WalkFault};
 use nfs3_types::{Failure, FileType, Procedure};
-use std::error::Error;
 use std::fmt;
 
 impl Change {
@@ -178,5 +177,3 @@ impl fmt::Debug for WalkFault {
         write!(f, "{self}")
     }
 }
-
-impl Error for WalkFault {}
