@@ -1,6 +1,6 @@
 //! The lists of the server.
 
-use super::tree_server::{Fault, Listed, Plus, TreeServer, failed};
+use super::tree_server::{Fault, Listed, Plus, TreeServer, failed, short};
 use nfs3_types::{
     Answer, DirectoryEntry, DirectoryEntryPlus, Failure, Held, ItemList, Name, NfsReply, Optional,
     Procedure, ReadDirPlusSuccess, ReadDirSuccess, Verifier,
@@ -18,7 +18,7 @@ impl TreeServer {
             if object.parent == directory {
                 names.push(Listed {
                     name: object.name,
-                    number: index + 1,
+                    number: index.saturating_add(1),
                 })?;
             }
         }
@@ -37,7 +37,7 @@ impl TreeServer {
         if self.habits.fault == Fault::EmptyPages && cookie > 0 {
             return Ok((page, false));
         }
-        for listed in &names.as_slice()[from..to] {
+        for listed in names.as_slice().iter().take(to).skip(from) {
             page.push(*listed)?;
         }
         Ok((page, to == names.len()))
@@ -47,13 +47,9 @@ impl TreeServer {
         match self.habits.fault {
             Fault::ListsLong(count) if listed.number == 1 => {
                 let long = vec![in self.alloc; b'n'; count]?;
-                let bytes = long.as_slice();
-                Name::from_slice(self.alloc, &bytes[..bytes.len().min(2_000_000)])
+                Name::from_slice(self.alloc, short(long.as_slice()))
             }
-            _ => {
-                let bytes = listed.name;
-                Name::from_slice(self.alloc, &bytes[..bytes.len().min(2_000_000)])
-            }
+            _ => Name::from_slice(self.alloc, short(listed.name)),
         }
     }
 

@@ -1,5 +1,7 @@
 //! A server that holds a small tree, with habits of several servers and the faults that are refused.
 
+ghost use Rattle.std.specs.Prelude.{◌<◌, ◌^◌, length};
+
 use nfs3_types::{
     Answer, Data, Device, Failure, FileAttributes, FileHandle, FileType, Held, LinkText,
     LookupSuccess, NfsCall, NfsReply, Optional, Procedure, ReadArguments, ReadLinkSuccess,
@@ -122,6 +124,13 @@ fn number_in(handle: &FileHandle) -> usize {
         [a, b] => *a as usize * 256 + *b as usize,
         _ => 0,
     }
+}
+
+/// At most 2,000,000 of the bytes.
+pub(super) fn short(bytes: &[u8]) -> &[u8]
+    ensures { length result.now < 2 ^ 32 }
+{
+    &bytes[..bytes.len().min(2_000_000)]
 }
 
 /// A failure of a procedure.
@@ -275,7 +284,7 @@ impl TreeServer {
         let Some(index) = found else {
             return Ok(failed(Procedure::Lookup, Failure::NoEntry));
         };
-        let number = index + 1;
+        let number = index.saturating_add(1);
         let object = match self.habits.fault {
             Fault::Rehandled(it) if it == number => self.handle(77)?,
             _ => self.handle(number)?,
@@ -294,7 +303,7 @@ impl TreeServer {
         };
         Ok(NfsReply::ReadLink(Answer::Done(ReadLinkSuccess {
             attributes: Optional::none(),
-            target: LinkText::from_slice(self.alloc, text)?,
+            target: LinkText::from_slice(self.alloc, short(text))?,
         })))
     }
 
@@ -322,15 +331,16 @@ impl TreeServer {
         } else {
             is_end
         };
+        let told = short(bytes.as_slice());
         let count = match self.habits.fault {
             Fault::WrongCount => 77,
-            _ => bytes.len() as u32,
+            _ => told.len() as u32,
         };
         Ok(NfsReply::Read(Answer::Done(ReadSuccess {
             attributes: Optional::none(),
             count,
             eof: eof && self.habits.fault != Fault::NoBytes,
-            bytes: Data::from_slice(self.alloc, bytes.as_slice())?,
+            bytes: Data::from_slice(self.alloc, told)?,
         })))
     }
 }
