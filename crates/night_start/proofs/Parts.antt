@@ -1,11 +1,10 @@
 -- The READs of a file and the pages of a list, one after the other.
-use Rattle.std.proofs.Common.{◌≡◌, ℕ, ◌+◌, ◌-◌, ◌==◌, ◌&&◌, ◌<◌, ◌≤◌, nat_eq, Bool, true, false, if◌then◌else◌, List, [], ◌∷◌, length, drop, get_or, refl, sym, ap, ◌∙◌, arith, inl, inr, length-drop}
+use Rattle.std.proofs.Common.{◌≡◌, ℕ, ◌+◌, ◌-◌, ◌==◌, ◌&&◌, ◌<◌, ◌≤◌, nat_eq, Bool, true, false, if◌then◌else◌, List, ◌∷◌, length, drop, get_or, sym, ap, ◌∙◌, arith, inl, inr, length-drop}
 use Rattle.std.proofs.lemmas.Bool.{eq-eqb, ne_eqb, cases_eq}
 use Rattle.std.proofs.lemmas.List.{at_drop_more, at_drop_all}
 use Rattle.night_start.specs.declared.exchange.Cursor.{Cursor}
 use Rattle.night_start.specs.declared.exchange.Exchange.{Exchange}
 use Rattle.night_start.specs.declared.exchange.Page.{Page}
-use Rattle.night_start.specs.declared.exchange.Page.TheVariants.{Other, Last, More}
 use Rattle.night_start.specs.Exchanges.{bytes_in, is_at_end, page_of}
 use Rattle.night_start.specs.Accounts.{is_piece, is_reading, is_listing, behind_page}
 

@@ -1,4 +1,4 @@
-use Rattle.std.proofs.Common.{◌≡◌, ◌+◌, nat_eq, length, arith, sym, ◌∙◌}
+use Rattle.std.proofs.Common.{arith, sym, ◌∙◌}
 use Rattle.night_start.proofs.Parts.{listing_page, listing_past}
 use Rattle.night_start.proofs.judging.is_listing.Goals as goal
 

@@ -1,8 +1,8 @@
-use Rattle.std.proofs.Common.{List, ℕ, IfSome, subst, ap, sym, ◌∙◌}
+use Rattle.std.proofs.Common.{List, IfSome, subst, ap, ◌∙◌}
 use Rattle.std.specs.List.{flat_map}
 use Rattle.nfs3_types.specs.declared.replies.DirectoryEntry.{DirectoryEntry}
 use Rattle.nfs3_types.specs.declared.replies.DirectoryEntryPlus.{DirectoryEntryPlus}
-use Rattle.night_start.specs.Exchanges.{place, places_in}
+use Rattle.night_start.specs.Exchanges.{place}
 use Rattle.night_start.specs.Stripping.{IsStripped}
 use Rattle.night_start.proofs.places.strip_reply.Goals as goal
 
