@@ -241,7 +241,8 @@ impl TreeServer {
     /// The answer to a call.
     pub(super) fn answer(&mut self, call: &NfsCall) -> Result<NfsReply, AllocError> {
         let procedure = call.procedure();
-        match self.habits.fault {
+        let fault = self.habits.fault;
+        match fault {
             Fault::Fails(it, failure) if it == procedure => return Ok(failed(procedure, failure)),
             Fault::Answers(it) if it == procedure => {
                 let other = if it == Procedure::GetAttr {
