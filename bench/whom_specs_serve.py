@@ -30,6 +30,8 @@ ROOTS = {
     "decision_walk": "new deeds bound",
     "decide": "",
     "deciding_command": "decide_file decide_history",
+    # what stood at first
+    "night_start": "finish",
 }
 
 BELIEVED, PROVER, CALLERS = "-- Believed.", "-- For the prover.", "-- For the prover, and for callers."
