@@ -1,0 +1,241 @@
+//! The calls of a client on its connection, and the replies to them.
+
+use crate::hearing::{Heard, hear, note_heard};
+use crate::incoming::{Arrival, receive};
+use crate::lane::{Lane, LaneEnd};
+use crate::night::Night;
+use crate::notes::{Notes, SharedLog};
+use crate::open_calls::OpenCall;
+use crate::runtime::ClientsRuntime;
+use crate::troubles::{Trouble, TroubleKind};
+use night_calls::Client;
+use program_streams::READ_SIZE;
+use std::alloc::{AllocError, Global};
+use std::io::{Read, Write};
+use std::net::TcpStream;
+use std::time::Instant;
+
+/// A buffer of this many bytes.
+fn empty_buffer(alloc: Global, size: usize) -> Result<Vec<u8>, AllocError> {
+    vec![in alloc; 0; size]
+}
+
+/// Draws a client's next call, has it noted, and puts it behind what is to be sent. Where it isn't noted, that is the trouble.
+fn ask<N: Notes>(
+    night: &Night,
+    notes: &mut N,
+    client: &mut Client,
+    lane: &mut Lane,
+    now: Option<Instant>,
+) -> Result<Option<Trouble>, AllocError> {
+    let number = client.stamp().call;
+    let Some(xid) = lane.pending.next_xid()? else {
+        lane.quota.calls = 0;
+        return Ok(None);
+    };
+    let call = client.next()?;
+    if let Err(reason) = lane.put_call(notes, xid, night.settings.credential, &call) {
+        client.give_up(&call)?;
+        return Ok(Some(lane.trouble_with(xid, number, TroubleKind::from(reason))));
+    }
+    lane.quota.calls = lane.quota.calls.saturating_sub(1);
+    lane.counts.count_call(call.procedure());
+    lane.pending.open(OpenCall {
+        xid,
+        number,
+        call,
+        since: now,
+    })?;
+    Ok(None)
+}
+
+/// Takes in what a record is that was noted and told, if that was due.
+fn take_in(client: &mut Client, lane: &mut Lane, heard: Heard) -> Result<(), AllocError> {
+    let Some(place) = heard.noted_at() else {
+        return Ok(());
+    };
+    let Some(open) = lane.pending.close(place) else {
+        return Ok(());
+    };
+    lane.counts.count_reply(open.call.procedure());
+    match heard {
+        Heard::Answer(_, reply) => {
+            lane.counts.count_result(&reply)?;
+            client.learn(&open.call, &reply)
+        }
+        Heard::Refused(_, refusal) => {
+            lane.counts.count_refusal(refusal);
+            client.give_up(&open.call)
+        }
+        _ => client.give_up(&open.call),
+    }
+}
+
+impl Night {
+    /// Says what is wrong with a lane, which is useless then.
+    fn give_up_lane<R: ClientsRuntime>(&self, rt: &R, lane: &Lane, kind: TroubleKind) -> LaneEnd {
+        self.tell(rt, lane.trouble(kind));
+        LaneEnd::Useless
+    }
+
+    /// Has as many calls noted, and put behind what is to be sent, as may be on their way.
+    fn ask_all<R: ClientsRuntime, N: Notes>(
+        &self,
+        rt: &R,
+        notes: &mut N,
+        client: &mut Client,
+        lane: &mut Lane,
+        now: Option<Instant>,
+    ) -> Result<(), LaneEnd> {
+        let depth = self.settings.depth.calls();
+        for _ in 0..depth {
+            if !lane.wants(depth, now) {
+                break;
+            }
+            match ask(self, notes, client, lane, now) {
+                Ok(None) => {}
+                Ok(Some(trouble)) => {
+                    self.tell(rt, trouble);
+                    return Err(LaneEnd::Useless);
+                }
+                Err(AllocError) => {
+                    return Err(self.give_up_lane(rt, lane, TroubleKind::NoMemory));
+                }
+            }
+        }
+        Ok(())
+    }
+
+    /// Has a record noted if it is the reply to an open call, says which trouble it is if it is one, and takes it in.
+    fn take_heard<R: ClientsRuntime, N: Notes>(
+        &self,
+        rt: &R,
+        notes: &mut N,
+        client: &mut Client,
+        lane: &mut Lane,
+        record: &[u8],
+        heard: Heard,
+    ) -> Result<(), LaneEnd> {
+        if let Err(reason) = note_heard(notes, lane.number, &heard, record) {
+            let place = heard.noted_at().unwrap_or(0);
+            self.tell(rt, lane.trouble_of(place, TroubleKind::from(reason)));
+            return Err(LaneEnd::Useless);
+        }
+        if let Some(trouble) = lane.trouble_in(&heard) {
+            self.tell(rt, trouble);
+        }
+        match take_in(client, lane, heard) {
+            Ok(()) => Ok(()),
+            Err(AllocError) => Err(self.give_up_lane(rt, lane, TroubleKind::NoMemory)),
+        }
+    }
+
+    /// Takes in the records that came whole.
+    fn take_records<R: ClientsRuntime, N: Notes>(
+        &self,
+        rt: &R,
+        notes: &mut N,
+        client: &mut Client,
+        lane: &mut Lane,
+    ) -> Result<(), LaneEnd> {
+        for _ in 0..u64::MAX {
+            let Some(record) = lane.feed.take() else {
+                break;
+            };
+            match hear(rt.alloc(), &lane.pending, record.as_slice()) {
+                Ok(heard) => self.take_heard(rt, notes, client, lane, record.as_slice(), heard)?,
+                Err(AllocError) => {
+                    return Err(self.give_up_lane(rt, lane, TroubleKind::NoMemory));
+                }
+            }
+        }
+        Ok(())
+    }
+
+    /// Says of each open call that it has waited too long.
+    fn check_overdue<R: ClientsRuntime>(
+        &self,
+        rt: &R,
+        lane: &Lane,
+        now: Option<Instant>,
+    ) -> Result<(), LaneEnd> {
+        let patience = self.settings.patience();
+        let mut is_overdue = false;
+        for (place, open) in lane.pending.calls().iter().enumerate() {
+            let (Some(now), Some(since)) = (now, open.since) else {
+                break;
+            };
+            if now.duration_since(since) < patience {
+                break;
+            }
+            self.tell(rt, lane.trouble_of(place, TroubleKind::NoReply));
+            is_overdue = true;
+        }
+        if is_overdue {
+            return Err(LaneEnd::Useless);
+        }
+        Ok(())
+    }
+
+    /// Asks, sends, reads once, and takes in what came.
+    fn take_turn<R: ClientsRuntime, N: Notes, I: Read, W: Write>(
+        &self,
+        rt: &R,
+        notes: &mut N,
+        client: &mut Client,
+        lane: &mut Lane,
+        reader: &mut I,
+        writer: &mut W,
+        buffer: &mut [u8],
+    ) -> Result<(), LaneEnd> {
+        let now = Instant::now(rt).ok();
+        self.ask_all(rt, notes, client, lane, now)?;
+        if lane.pending.calls().is_empty() {
+            return Err(LaneEnd::Done);
+        }
+        if lane.outgoing.send(writer).is_err() {
+            return Err(LaneEnd::Ended);
+        }
+        let arrival = receive(reader, buffer, &mut lane.feed);
+        self.take_records(rt, notes, client, lane)?;
+        match arrival {
+            Arrival::Piece | Arrival::Nothing => self.check_overdue(rt, lane, now),
+            Arrival::End | Arrival::ReadFault => Err(LaneEnd::Ended),
+            Arrival::TooLong => Err(self.give_up_lane(rt, lane, TroubleKind::RecordTooLong)),
+            Arrival::NoMemory => Err(self.give_up_lane(rt, lane, TroubleKind::NoMemory)),
+        }
+    }
+
+    /// Calls until the client has made its calls and has their replies, the connection is useless, or the server goes down.
+    pub(crate) fn converse<R: ClientsRuntime>(
+        &self,
+        rt: &R,
+        client: &mut Client,
+        lane: &mut Lane,
+        stream: &TcpStream,
+    ) -> LaneEnd {
+        let Ok(mut buffer) = empty_buffer(rt.alloc(), READ_SIZE) else {
+            return self.give_up_lane(rt, lane, TroubleKind::NoMemory);
+        };
+        let mut notes = SharedLog { rt, log: &self.log };
+        let (mut reader, mut writer) = (stream, stream);
+        for _ in rt.forever() {
+            if !self.runs(lane.era) {
+                return LaneEnd::Crash;
+            }
+            let buffer = buffer.as_mut_slice();
+            if let Err(end) = self.take_turn(
+                rt,
+                &mut notes,
+                client,
+                lane,
+                &mut reader,
+                &mut writer,
+                buffer,
+            ) {
+                return end;
+            }
+        }
+        unreachable!()
+    }
+}
