@@ -1,5 +1,5 @@
-//! The rounds of a decision: each may take four times as many steps as the one before, as long as it is likely to end in time. Sweeps
-//! for a certificate come after the first.
+//! The rounds of a decision: each may take more steps than the one before, as many times as are likely to end in time. Sweeps for a
+//! certificate come after the first.
 
 ghost use Rattle.std.specs.Prelude.{IfOk, IfSome};
 ghost use Rattle.witness_check.specs.Witness.{IsWitness};
@@ -15,7 +15,10 @@ use std::time::{Clock, Instant};
 use witness_check::{Verdict, check_calls};
 
 /// How many steps the first round may take.
-const FIRST_STEPS: u64 = 16_000;
+const FIRST_STEPS: u64 = 2_000;
+
+/// How many times as many steps the next round may take: the first of these with which it is likely to end in time.
+const GROWTHS: [u32; 3] = [32, 8, 3];
 
 /// How many rounds there are at most.
 const ROUNDS: u32 = 30;
@@ -70,10 +73,16 @@ impl Rounds {
         }
     }
 
-    /// Lets the next round take four times as many steps, and says whether it is likely to end in time.
+    /// Lets the next round take more steps, and says whether it is likely to end in time: if it takes as many times as long as all
+    /// that has gone by.
     fn grow<R: Clock>(&mut self, rt: &R) -> bool {
-        self.steps = self.steps.saturating_mul(4);
-        !self.is_over(rt, 4)
+        for growth in GROWTHS {
+            if !self.is_over(rt, growth) {
+                self.steps = self.steps.saturating_mul(u64::from(growth));
+                return true;
+            }
+        }
+        false
     }
 }
 
