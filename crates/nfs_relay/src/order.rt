@@ -8,11 +8,16 @@ use std::marker::Model;
 /// The line that tells of a crash.
 const CRASH: &[u8] = b"crash";
 
+/// The line that tells that the server was started again.
+const UP: &[u8] = b"up";
+
 /// What a line says.
 #[derive(Clone, Copy, PartialEq, Eq)]
 pub enum Order {
     /// The server went down.
     Crash,
+    /// The server was started again. A recorder needs no word of that.
+    Up,
     /// Another line, which isn't empty.
     Unknown,
 }
@@ -46,7 +51,8 @@ impl OrderReader {
     /// Takes a byte, and says what the line is where it ends with it.
     pub fn take(&mut self, byte: u8) -> Result<Option<Order>, AllocError>
         ensures crash { IfOk result (λ order. (order ≡ Some Order.Crash) ↔ ((byte ≡ 10) × (self.old ≡ codes "crash"))) }
-        ensures unknown { IfOk result (λ order. (order ≡ Some Order.Unknown) ↔ ((byte ≡ 10) × (self.old ≢ []) × (self.old ≢ codes "crash"))) }
+        ensures up { IfOk result (λ order. (order ≡ Some Order.Up) ↔ ((byte ≡ 10) × (self.old ≡ codes "up"))) }
+        ensures unknown { IfOk result (λ order. (order ≡ Some Order.Unknown) ↔ ((byte ≡ 10) × (self.old ≢ []) × (self.old ≢ codes "crash") × (self.old ≢ codes "up"))) }
         ensures begun { OnOk result (byte ≡ 10 → self.new ≡ []) }
         ensures line { OnOk result (byte ≢ 10 → self.new ≡ take 6 (self.old ++ byte ∷ [])) }
         ensures kept { OnErr result (self.new ≡ self.old) }
@@ -73,13 +79,17 @@ impl OrderReader {
 /// What a line says, of which this is the front.
 fn order_of(line: &[u8]) -> Option<Order>
     ensures crash { (result ≡ Some Order.Crash) ↔ (line.now ≡ codes "crash") }
-    ensures unknown { (result ≡ Some Order.Unknown) ↔ ((line.now ≢ []) × (line.now ≢ codes "crash")) }
+    ensures up { (result ≡ Some Order.Up) ↔ (line.now ≡ codes "up") }
+    ensures unknown { (result ≡ Some Order.Unknown) ↔ ((line.now ≢ []) × (line.now ≢ codes "crash") × (line.now ≢ codes "up")) }
 {
     if line.is_empty() {
         return None;
     }
     if line == CRASH {
         return Some(Order::Crash);
+    }
+    if line == UP {
+        return Some(Order::Up);
     }
     Some(Order::Unknown)
 }

@@ -1,16 +1,13 @@
 //! A client of a night.
 
 ghost use Rattle.std.specs.Prelude.{◌≡◌, IfOk};
-ghost use Rattle.night_calls.specs.Asked.{IsAsked};
-ghost use Rattle.night_calls.specs.Tag.{first_stamp, next_stamp};
+ghost use Rattle.call_making.specs.Asked.{IsAsked};
+ghost use Rattle.call_making.specs.Tag.{first_stamp, next_stamp};
 
-use crate::drawing::{Draw, Kept};
-use crate::learning::Memory;
-use crate::making::Maker;
-use crate::mix::Mix;
-use crate::random::Random;
-use crate::stamp::Stamp;
-use crate::wish::{Target, Wish};
+use crate::drawing::Draw;
+use crate::mix::{Mix, is_quiet};
+use call_making::{Maker, Stamp, Wish};
+use client_memory::{Memory, Random};
 use nfs3_types::{FileHandle, NfsCall, NfsReply};
 use std::alloc::{AllocError, Global};
 use std::marker::Model;
@@ -25,62 +22,15 @@ pub struct Client {
     mix: Mix,
     random: Random,
     memory: Memory,
+    least_page: u32,
 }
 
 impl Model for Client {
-    ghost use Rattle.night_calls.specs.declared.stamp.Stamp.{Stamp};
+    ghost use Rattle.call_making.specs.declared.stamp.Stamp.{Stamp};
 
     ghost Value = { Stamp };
 
     ghost view = { λ c. c.stamp };
-}
-
-impl Memory {
-    /// The call that a client is going to ask.
-    fn make(&self, maker: &Maker, wish: Wish) -> Result<NfsCall, AllocError>
-        ensures { IfOk result (λ call. IsAsked maker.now.stamp call) }
-    {
-        match wish {
-            Wish::GetAttr(object) => maker.get_attributes(object),
-            Wish::SetAttr(object, attributes, guard) => maker.set_attributes(
-                object, attributes, guard,
-            ),
-            Wish::ReadLink(link) => maker.read_link(link),
-            Wish::Read(file, range) => maker.read(file, range),
-            Wish::Write(file, range, level) => maker.write(file, range, level),
-            Wish::Commit(file, range) => maker.commit(file, range),
-            Wish::List(directory, listing) => maker.list(directory, listing),
-            Wish::ListOn(count) => match &self.page {
-                Some(page) => maker.page(page, count),
-                None => maker.get_attributes(Target::Root),
-            },
-            _ => self.make_named(maker, wish),
-        }
-    }
-
-    /// The call with a name that a client is going to ask.
-    fn make_named(&self, maker: &Maker, wish: Wish) -> Result<NfsCall, AllocError>
-        ensures { IfOk result (λ call. IsAsked maker.now.stamp call) }
-    {
-        match wish {
-            Wish::LookUp(place) => maker.look_up(place),
-            Wish::LookUpUnseen => match &self.unseen {
-                Some(place) => maker.look_up_again(place),
-                None => maker.get_attributes(Target::Root),
-            },
-            Wish::Create(place, mode) => maker.create(place, mode),
-            Wish::CreateAgain => match &self.exclusive {
-                Some(exclusive) => maker.create_again(exclusive),
-                None => maker.get_attributes(Target::Root),
-            },
-            Wish::MkDir(place) => maker.make_directory(place),
-            Wish::SymLink(place, pick) => maker.make_link(place, pick),
-            Wish::Remove(place) => maker.remove(place),
-            Wish::RmDir(place) => maker.remove_directory(place),
-            Wish::Rename(from, to) => maker.rename(from, to),
-            _ => maker.get_attributes(Target::Root),
-        }
-    }
 }
 
 impl Client {
@@ -107,7 +57,16 @@ impl Client {
             mix,
             random: Random::new(seed, number),
             memory: Memory::new(alloc, number, root),
+            least_page: 0,
         }
+    }
+
+    /// Asks for this many bytes at least where it asks for a page of a list: `count` of READDIR, `maxcount` of READDIRPLUS. Some servers
+    /// answer small ones wrongly.
+    pub fn ask_pages_from(&mut self, least: u32)
+        ensures { self.new ≡ self.old }
+    {
+        self.least_page = least;
     }
 
     /// The stamp of the next call.
@@ -118,44 +77,39 @@ impl Client {
     }
 
     /// What is asked next, and the random numbers behind it.
-    fn draw(&self) -> (Wish, Random) {
-        let memory = &self.memory;
+    fn draw(&self) -> (Wish<'_>, Random) {
         let mut draw = Draw {
-            known: &memory.known,
+            memory: &self.memory,
             random: self.random,
             stamp: self.stamp,
             clients: self.clients,
             realm: self.mix.realm(self.stamp.call),
-            kept: Kept {
-                unseen: memory.unseen.is_some(),
-                page: memory.page.is_some(),
-                exclusive: memory.exclusive.is_some(),
-            },
+            is_quiet: is_quiet(self.stamp.seed, self.stamp.call),
+            least_page: self.least_page,
         };
         let wish = draw.wish();
         (wish, draw.random)
     }
 
-    fn make(&self, wish: Wish) -> Result<NfsCall, AllocError>
-        ensures { IfOk result (λ call. IsAsked self.now call) }
+    /// The next call, and the random numbers behind it.
+    fn make(&self) -> (Result<NfsCall, AllocError>, Random)
+        ensures { IfOk result.0 (λ call. IsAsked self.now call) }
     {
-        let memory = &self.memory;
+        let (wish, random) = self.draw();
         let maker = Maker {
             alloc: self.alloc,
             stamp: self.stamp,
-            known: &memory.known,
         };
-        memory.make(&maker, wish)
+        (maker.make(wish), random)
     }
 
-    /// What was owed first is asked for now.
-    fn pay(&mut self)
+    /// A call was drawn.
+    fn note(&mut self, call: &Result<NfsCall, AllocError>)
         ensures { self.new ≡ self.old }
     {
-        if self.memory.unseen.is_some() {
-            self.memory.unseen = None;
-        } else {
-            self.memory.known.pay();
+        self.memory.pay();
+        if let Ok(call) = call {
+            self.memory.note_asked(call);
         }
     }
 
@@ -164,11 +118,10 @@ impl Client {
         ensures asked { IfOk result (λ call. IsAsked self.old call) }
         ensures stamp { self.new ≡ next_stamp self.old }
     {
-        let (wish, random) = self.draw();
-        let call = self.make(wish);
+        let (call, random) = self.make();
         self.random = random;
         self.stamp = self.stamp.next();
-        self.pay();
+        self.note(&call);
         call
     }
 
@@ -193,6 +146,6 @@ impl Client {
     pub fn new_era(&mut self)
         ensures { self.new ≡ self.old }
     {
-        self.memory.known.doubt();
+        self.memory.new_era();
     }
 }

@@ -1,54 +1,36 @@
 //! What a client asks next, by chance and by what it knows. No proof says which: each wish is turned into a call within the limits.
 
-use crate::facts::{Debt, Facts, Kind};
-use crate::known::Known;
-use crate::labels::{Base, LABELS, Label};
-use crate::mix::Realm;
-use crate::random::Random;
-use crate::stamp::Stamp;
-use crate::wish::{Listing, Place, Range, Target, Wish};
+use call_making::{Base, Called, LABELS, Label, Listing, Place, Range, Realm, Stamp, Wish};
+use client_memory::{Debt, Facts, Kind, Memory, Random, Target};
+use nfs3_types::FileHandle;
 
-/// The most bytes that a READ asks for where a file is read as a whole.
-const WHOLE: u64 = 65_536;
-
-/// What a client keeps to ask on by.
-#[derive(Clone, Copy)]
-pub(crate) struct Kept {
-    /// A name whose object isn't known.
-    pub(crate) unseen: bool,
-    /// A list that wasn't at its end.
-    pub(crate) page: bool,
-    /// An exclusive CREATE.
-    pub(crate) exclusive: bool,
-}
+/// The most bytes that a READ asks for where a file is read as a whole. Files stay below it.
+pub(crate) const WHOLE: u64 = 65_536;
 
 /// What is drawn from.
 #[derive(Clone, Copy)]
 pub(crate) struct Draw<'k> {
-    pub(crate) known: &'k Known,
+    pub(crate) memory: &'k Memory,
     pub(crate) random: Random,
     pub(crate) stamp: Stamp,
     /// How many clients there are.
     pub(crate) clients: u32,
     pub(crate) realm: Realm,
-    pub(crate) kept: Kept,
+    /// Nothing is to change but by UNSTABLE WRITEs.
+    pub(crate) is_quiet: bool,
+    /// The least bytes that a page of a list is asked for.
+    pub(crate) least_page: u32,
 }
 
-/// A look at an object: its list, its bytes, its text, or its attributes where its kind isn't known.
-fn look(index: usize, facts: Facts) -> Wish {
-    let target = Target::Known(index);
-    match facts.kind {
-        Kind::Directory => Wish::List(
-            target,
-            Listing {
-                plus: true,
-                count: 8192,
-            },
-        ),
-        Kind::File => Wish::Read(target, last_bytes(facts)),
-        Kind::Link => Wish::ReadLink(target),
-        Kind::Unknown => Wish::GetAttr(target),
-    }
+/// A name in a directory.
+#[derive(Clone, Copy)]
+pub(crate) enum Spot {
+    /// Where the known object of this number is.
+    Of(usize),
+    /// A name in this directory, whatever it names.
+    In(Target, Label),
+    /// The name of this number among those that calls may have given or taken.
+    Past(usize),
 }
 
 /// All bytes of a small file, and what was written last to a large one.
@@ -67,82 +49,144 @@ fn last_bytes(facts: Facts) -> Range {
 
 impl<'k> Draw<'k> {
     /// What is asked next.
-    pub(crate) fn wish(&mut self) -> Wish {
+    pub(crate) fn wish(&mut self) -> Wish<'k> {
         if let Some(wish) = self.owed() {
             return wish;
         }
-        match self.known.missing(self.realm) {
+        let memory = self.memory;
+        match memory.known.missing(self.realm) {
             Some(base) => self.begin(base),
             None => self.work(),
         }
     }
 
     /// What has to be asked before anything else.
-    fn owed(&self) -> Option<Wish> {
-        if self.kept.unseen {
-            return Some(Wish::LookUpUnseen);
+    fn owed(&self) -> Option<Wish<'k>> {
+        let memory = self.memory;
+        if let Some(place) = memory.unseen() {
+            return Some(Wish::LookUp(Place {
+                directory: &place.directory,
+                name: Called::Bytes(place.name.as_slice()),
+            }));
         }
-        let index = self.known.owed()?;
-        let facts = self.known.facts(index)?;
+        let index = memory.known.owed()?;
+        let facts = memory.known.facts(index)?;
         if facts.debt == Debt::Name {
-            return Some(Wish::LookUp(Place::Of(index)));
+            return Some(Wish::LookUp(self.place_at(Spot::Of(index))));
         }
-        Some(look(index, facts))
+        Some(self.look(index, facts))
+    }
+
+    /// A look at an object: its list, its bytes, its text, or its attributes where its kind isn't known.
+    fn look(&self, index: usize, facts: Facts) -> Wish<'k> {
+        let target = Target::Known(index);
+        match facts.kind {
+            Kind::Directory => self.whole_list(target),
+            Kind::File => Wish::Read(self.handle(target), last_bytes(facts)),
+            Kind::Link => Wish::ReadLink(self.handle(target)),
+            Kind::Unknown => Wish::GetAttr(self.handle(target)),
+        }
     }
 
     /// Makes or finds a directory in the root.
-    fn begin(&mut self, base: Base) -> Wish {
-        let place = Place::In(Target::Root, Label::Base(base));
+    fn begin(&mut self, base: Base) -> Wish<'k> {
+        let place = self.place_at(Spot::In(Target::Root, Label::Base(base)));
         match self.random.below(8) {
-            0 => Wish::GetAttr(Target::Root),
-            1 => Wish::List(Target::Root, self.listing()),
+            0 => Wish::GetAttr(self.handle(Target::Root)),
+            1 => self.list_of(Target::Root),
             2..=4 => Wish::LookUp(place),
             _ => Wish::MkDir(place),
         }
     }
 
-    fn work(&mut self) -> Wish {
-        if self.kept.page && self.random.once_in(3) {
-            return Wish::ListOn(self.list_count());
+    fn work(&mut self) -> Wish<'k> {
+        if let Some(wish) = self.next_page() {
+            return wish;
         }
-        match self.random.below(100) {
-            0..=19 => self.write(),
-            20..=33 => self.read(),
-            34..=41 => self.create(),
-            42..=49 => self.look_up(),
-            50..=55 => self.get_attributes(),
-            56..=61 => self.set_attributes(),
-            62..=67 => self.commit(),
-            68..=74 => self.remove(),
-            75..=81 => self.rename(),
-            82..=85 => self.make_directory(),
-            86..=89 => self.remove_directory(),
-            90 | 91 => self.make_link(),
-            92 | 93 => self.read_link(),
-            _ => self.list(),
+        if !self.is_to_change() {
+            return self.look_around();
+        }
+        if self.is_quiet {
+            return self.write();
+        }
+        match self.random.below(64) {
+            0..=15 => self.write(),
+            16..=27 => self.create(),
+            28..=34 => self.set_attributes(),
+            35..=42 => self.remove(),
+            43..=53 => self.rename(),
+            54..=56 => self.make_directory(),
+            57..=59 => self.remove_directory(),
+            _ => self.make_link(),
+        }
+    }
+
+    /// Whether the next call is one that changes something: seldom while another of this client is on its way. A server may do calls
+    /// that are on their way at once in any order, and how many orders there are decides how fast a history can be judged.
+    fn is_to_change(&mut self) -> bool {
+        match self.memory.changes {
+            0 => self.random.below(8) < 5,
+            1 => self.random.once_in(6),
+            _ => self.random.once_in(32),
+        }
+    }
+
+    /// Looks, asks for what can't be done, and now and then makes safe what was written.
+    fn look_around(&mut self) -> Wish<'k> {
+        match self.random.below(32) {
+            0..=9 => self.look_at_change(),
+            10..=12 => self.read(),
+            13..=16 => self.look_at_name(),
+            17 | 18 => self.look_up(),
+            19 | 20 => self.get_attributes(),
+            21 | 22 => self.commit(),
+            23 => self.read_link(),
+            24..=26 => self.list(),
+            _ => self.ask_in_vain(),
+        }
+    }
+
+    /// A look at an object that changed: its bytes or list, or its attributes.
+    pub(crate) fn look_at_change(&mut self) -> Wish<'k> {
+        let (memory, realm) = (self.memory, self.realm);
+        let changed = memory.known.one(&mut self.random, |facts| {
+            facts.looks > 0 && facts.realm == realm
+        });
+        let Some(index) = changed else {
+            return self.read();
+        };
+        match (memory.known.facts(index), self.random.below(4)) {
+            (Some(facts), 1..) => self.look(index, facts),
+            _ => Wish::GetAttr(self.handle(Target::Known(index))),
         }
     }
 
     /// What is believed of an object.
     pub(crate) fn facts(&self, target: Target) -> Option<Facts> {
         match target {
-            Target::Known(index) => self.known.facts(index),
+            Target::Known(index) => self.memory.known.facts(index),
             _ => None,
         }
     }
 
+    pub(crate) fn handle(&self, target: Target) -> &'k FileHandle {
+        let memory = self.memory;
+        memory.known.handle(target)
+    }
+
     /// Any object of the realm; one that the client may change, where that is asked for.
     pub(crate) fn object(&mut self, to_change: bool) -> Option<usize> {
-        let realm = self.realm;
-        self.known.one(&mut self.random, |facts| {
+        let (memory, realm) = (self.memory, self.realm);
+        memory.known.one(&mut self.random, |facts| {
             facts.realm == realm && (facts.is_own || !to_change)
         })
     }
 
     /// An object of a kind; now and then one of another, or one that is gone.
     pub(crate) fn object_of(&mut self, kind: Kind, to_change: bool) -> Option<Target> {
+        let (memory, realm) = (self.memory, self.realm);
         if self.random.once_in(24)
-            && let Some(target) = self.known.lost(&mut self.random)
+            && let Some(target) = memory.known.lost(&mut self.random)
         {
             return Some(target);
         }
@@ -151,8 +195,7 @@ impl<'k> Draw<'k> {
         {
             return Some(Target::Known(index));
         }
-        let realm = self.realm;
-        let index = self.known.one(&mut self.random, |facts| {
+        let index = memory.known.one(&mut self.random, |facts| {
             facts.kind == kind && facts.realm == realm && (facts.is_own || !to_change)
         })?;
         Some(Target::Known(index))
@@ -196,9 +239,62 @@ impl<'k> Draw<'k> {
         Label::Few(pick.min(u64::from(LABELS)) as u8, owner)
     }
 
-    /// One of the few names in some directory.
-    pub(crate) fn place(&mut self) -> Place {
+    /// One of the few names in some directory, seldom `.` or `..`.
+    pub(crate) fn spot(&mut self) -> Spot {
         let directory = self.directory();
-        Place::In(directory, self.label())
+        let label = match self.random.below(64) {
+            0 => Label::Here,
+            1 => Label::Parent,
+            _ => self.label(),
+        };
+        Spot::In(directory, label)
+    }
+
+    /// The directory and the name of a spot. Where it is none, it is a directory in the root.
+    pub(crate) fn place_at(&self, spot: Spot) -> Place<'k> {
+        let memory = self.memory;
+        match spot {
+            Spot::Of(index) => match memory.known.object(index) {
+                Some(object) => Place {
+                    directory: &object.directory,
+                    name: Called::Bytes(object.name.as_slice()),
+                },
+                None => self.place_of_base(),
+            },
+            Spot::In(directory, label) => Place {
+                directory: memory.known.handle(directory),
+                name: Called::Label(label),
+            },
+            Spot::Past(index) => match memory.known.past(index) {
+                Some(place) => Place {
+                    directory: &place.directory,
+                    name: Called::Bytes(place.name.as_slice()),
+                },
+                None => self.place_of_base(),
+            },
+        }
+    }
+
+    fn place_of_base(&self) -> Place<'k> {
+        Place {
+            directory: self.handle(Target::Root),
+            name: Called::Label(Label::Base(Base::Home)),
+        }
+    }
+
+    /// A list from its beginning.
+    pub(crate) fn list_with(&self, directory: Target, plus: bool, count: u32) -> Wish<'k> {
+        Wish::List(Listing {
+            directory: self.handle(directory),
+            plus,
+            cookie: 0,
+            verifier: nfs3_types::Verifier { value: 0 },
+            count: count.max(self.least_page),
+        })
+    }
+
+    /// A list with handles that comes in one page.
+    pub(crate) fn whole_list(&self, directory: Target) -> Wish<'k> {
+        self.list_with(directory, true, 8192)
     }
 }

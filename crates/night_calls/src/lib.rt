@@ -6,21 +6,10 @@ mod client;
 mod drawing;
 mod drawing_files;
 mod drawing_names;
-mod facts;
-mod known;
-mod labels;
-mod learning;
-mod learning_objects;
-mod lists;
-mod making;
-mod making_names;
 mod mix;
-mod random;
-mod stamp;
 #[cfg(test)]
 mod tests;
-mod wish;
 
+pub use call_making::{Stamp, whose};
 pub use client::Client;
 pub use mix::Mix;
-pub use stamp::{Stamp, whose};

@@ -1,4 +1,7 @@
-//! On what clients work: alone, side by side, or all on the same names.
+//! On what clients work and when they change it: alone, side by side, or all on the same names; names too, or only what files hold.
+
+use call_making::Realm;
+use client_memory::Random;
 
 /// How the clients of a night share what they work on.
 #[derive(Clone, Copy, PartialEq, Eq)]
@@ -16,16 +19,8 @@ pub enum Mix {
 /// How many calls a turn has.
 const TURN: u32 = 40;
 
-/// What a client works on with one call.
-#[derive(Clone, Copy, PartialEq, Eq)]
-pub(crate) enum Realm {
-    /// What is below its own directory.
-    Private,
-    /// What is below the directories that are used by all.
-    Shared,
-    /// What is below the directory whose names are used by all.
-    Race,
-}
+/// How many calls of each client a spell has.
+const SPELL: u32 = 24;
 
 impl Mix {
     /// What the call of this number works on.
@@ -41,4 +36,10 @@ impl Mix {
             },
         }
     }
+}
+
+/// Whether the call of this number is in a spell in which nothing is changed but by UNSTABLE WRITEs: a third of the spells, the same
+/// for all clients of a night. A crash can lose only what comes after the last change that was safe.
+pub(crate) fn is_quiet(seed: u64, call: u32) -> bool {
+    Random::new(seed.wrapping_add(1), call / SPELL).once_in(3)
 }

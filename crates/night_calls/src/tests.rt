@@ -4,7 +4,7 @@ mod answers;
 mod little_server;
 mod seen;
 
-use crate::{Client, Mix, whose};
+use crate::{Client, Mix};
 use little_server::{LittleServer, handle, wcc};
 use nfs3_types::{Answer, CreateSuccess, Held, NfsCall, NfsReply, Optional, Procedure, Verifier};
 use seen::Seen;
@@ -63,32 +63,13 @@ fn night(alloc: Global, seed: u64, mix: Mix, clients: u32, calls: u32) -> Result
 fn all_is_asked(rt: HostRuntime) -> Result<(), Fail> {
     let alloc = rt.alloc();
     for mix in [Mix::Private, Mix::Shared, Mix::Race, Mix::Turns] {
-        let seen = night(alloc, 7, mix, 4, 250)?;
+        let seen = night(alloc, 7, mix, 4, 500)?;
         assert_eq!(rt; seen.missing(), None);
         assert_eq!(rt; seen.untold, 0);
     }
-    let seen = night(alloc, 7, Mix::Private, 4, 250)?;
+    let seen = night(alloc, 7, Mix::Private, 4, 500)?;
     assert!(rt; seen.moves > 0);
     assert_eq!(rt; seen.names.iter().position(|count| *count == 0), None);
-    Ok(())
-}
-
-#[test]
-fn bytes_tell_their_call(rt: HostRuntime) -> Result<(), Fail> {
-    // Seed 7, client 3, call 18, block 2.
-    let block = b"0070300001200002".as_slice();
-    assert_eq!(rt; whose(7, 32, block), Some((3, 18)));
-    assert_eq!(rt; whose(7 + 4096, 32, block), Some((3, 18)));
-    for (seed, offset, bytes) in [
-        (8, 32, block),
-        (7, 48, block),
-        (7, 32, &block[1..]),
-        (7, 32, b"0070300001200003".as_slice()),
-        (7, 32, b"007030000120000g".as_slice()),
-        (7, u64::MAX, block),
-    ] {
-        assert_eq!(rt; whose(seed, offset, bytes), None);
-    }
     Ok(())
 }
 

@@ -28,7 +28,7 @@ impl Control {
         }
     }
 
-    /// So many clients begin; their era.
+    /// This number of clients begin; their era.
     pub(crate) fn begin(&mut self, clients: usize) -> u64
         ensures { (result ≡ self.old.era) × (self.new ≡ record self.old { running = clients }) }
     {

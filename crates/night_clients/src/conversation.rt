@@ -1,26 +1,37 @@
 //! The calls of a client on its connection, and the replies to them.
 
-use crate::hearing::{Heard, hear, note_heard};
-use crate::incoming::{Arrival, receive};
-use crate::lane::{Lane, LaneEnd};
 use crate::night::Night;
-use crate::notes::{Notes, SharedLog};
-use crate::open_calls::OpenCall;
 use crate::runtime::ClientsRuntime;
-use crate::troubles::{Trouble, TroubleKind};
+use crate::shared_log::SharedLog;
 use night_calls::Client;
+use night_lanes::{
+    Arrival, Heard, Lane, Notes, OpenCall, Trouble, TroubleKind, hear, note_heard, receive,
+};
 use program_streams::READ_SIZE;
 use std::alloc::{AllocError, Global};
 use std::io::{Read, Write};
 use std::net::TcpStream;
 use std::time::Instant;
 
+/// How a client's calls ended.
+#[derive(Clone, Copy, PartialEq, Eq)]
+pub enum LaneEnd {
+    /// It made all of them, and none is open.
+    Done,
+    /// The server went down.
+    Crash,
+    /// The connection ended, or a read or a write failed.
+    Ended,
+    /// What was told makes the connection useless.
+    Useless,
+}
+
 /// A buffer of this many bytes.
 fn empty_buffer(alloc: Global, size: usize) -> Result<Vec<u8>, AllocError> {
     vec![in alloc; 0; size]
 }
 
-/// Draws a client's next call, has it noted, and puts it behind what is to be sent. Where it isn't noted, that is the trouble.
+/// Draws a client's next call, has it noted, and puts it after what is to be sent. Where it isn't noted, that is the trouble.
 fn ask<N: Notes>(
     night: &Night,
     notes: &mut N,
@@ -71,6 +82,14 @@ fn take_in(client: &mut Client, lane: &mut Lane, heard: Heard) -> Result<(), All
     }
 }
 
+/// Gives up the calls that are open on a lane.
+pub(crate) fn give_up_all(client: &mut Client, lane: &Lane) -> Result<(), AllocError> {
+    for open in lane.pending.calls() {
+        client.give_up(&open.call)?;
+    }
+    Ok(())
+}
+
 impl Night {
     /// Says what is wrong with a lane, which is useless then.
     fn give_up_lane<R: ClientsRuntime>(&self, rt: &R, lane: &Lane, kind: TroubleKind) -> LaneEnd {
@@ -78,7 +97,7 @@ impl Night {
         LaneEnd::Useless
     }
 
-    /// Has as many calls noted, and put behind what is to be sent, as may be on their way.
+    /// Has as many calls noted, and put after what is to be sent, as may be on their way.
     fn ask_all<R: ClientsRuntime, N: Notes>(
         &self,
         rt: &R,
@@ -217,7 +236,11 @@ impl Night {
         let Ok(mut buffer) = empty_buffer(rt.alloc(), READ_SIZE) else {
             return self.give_up_lane(rt, lane, TroubleKind::NoMemory);
         };
-        let mut notes = SharedLog { rt, log: &self.log };
+        let mut notes = SharedLog {
+            rt,
+            log: &self.log,
+            reserved: self.settings.reserved,
+        };
         let (mut reader, mut writer) = (stream, stream);
         for _ in rt.forever() {
             if !self.runs(lane.era) {

@@ -5,13 +5,11 @@ ghost use Rattle.history_file.specs.Event.Event.{crash};
 ghost use Rattle.nfs_tap.specs.Noting.{with_event};
 
 use crate::control::Control;
-use crate::counts::Counts;
-use crate::lane::{Lane, LaneEnd};
+use crate::conversation::{LaneEnd, give_up_all};
 use crate::runtime::ClientsRuntime;
-use crate::settings::{Quota, Settings};
-use crate::troubles::{Trouble, TroubleKind, Troubles};
 use nfs_tap::{NoteFault, TapLog};
 use night_calls::Client;
+use night_lanes::{Counts, Lane, Quota, Settings, Trouble, TroubleKind, Troubles};
 use std::alloc::{AllocError, Global};
 use std::net::{Shutdown, TcpStream};
 use std::sync::atomic::{AtomicU64, Ordering};
@@ -115,7 +113,7 @@ impl Night {
         }
     }
 
-    /// Begins an era of so many clients, once a crash is noted that goes before it.
+    /// Begins an era of this number of clients, once a crash is noted that goes before it.
     fn begin<R: Wait>(&self, rt: &R, clients: usize) -> u64 {
         let mut control = self
             .changed
@@ -123,7 +121,7 @@ impl Night {
         control.begin(clients)
     }
 
-    /// The server went down: ends the clients that run, waits for their closes, and notes the crash behind them.
+    /// The server went down: ends the clients that run, waits for their closes, and notes the crash after them.
     pub fn crash<R: Wait>(&self, rt: &R) {
         let era = self.control.lock(rt).begin_crash();
         self.era.store(era, Ordering::SeqCst);
@@ -209,7 +207,7 @@ impl Night {
         if let Err(fault) = self.log.lock(rt).note_close(lane.number) {
             self.tell(rt, lane.trouble(close_trouble(fault)));
         }
-        if lane.give_up_all(client).is_err() || self.counts.lock(rt).add(&lane.counts).is_err() {
+        if give_up_all(client, lane).is_err() || self.counts.lock(rt).add(&lane.counts).is_err() {
             self.tell(rt, lane.trouble(TroubleKind::NoMemory));
         }
     }

@@ -1,4 +1,1 @@
-pub mod Exchanges
-pub mod Accounts
 pub mod Walked
-pub mod Stripping

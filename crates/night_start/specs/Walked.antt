@@ -3,7 +3,7 @@
 use Rattle.std.specs.Prelude.{ℕ, List, [], ◌∷◌, ◌++◌}
 use Rattle.nfs3_types.specs.declared.calls.NfsCall.{NfsCall}
 use Rattle.nfs3_types.specs.declared.replies.NfsReply.{NfsReply}
-use Rattle.night_start.specs.declared.exchange.Exchange.{Exchange}
+use Rattle.walk_accounts.specs.declared.exchange.Exchange.{Exchange}
 
 pub record Walked : Type 0 where
   pub root : List ℕ

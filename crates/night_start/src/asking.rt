@@ -3,12 +3,12 @@
 ghost use Rattle.std.specs.Prelude.{◌≡◌, IfOk, IfSome, false};
 ghost use Rattle.nfs3_types.specs.Procedures.{changes_the_tree, procedure_called};
 
-use crate::exchange::Cursor;
 use crate::explorer::{Explorer, Step};
 use nfs3_types::{
     DirectoryName, FileHandle, NfsCall, ReadArguments, ReadDirArguments, ReadDirPlusArguments,
 };
 use std::alloc::AllocError;
+use walk_accounts::Cursor;
 
 impl Explorer {
     /// The handle of an object.

@@ -1,7 +1,5 @@
 //! What a walk asks next, and what it learns from each reply.
 
-use crate::account::{Account, Kind, Part};
-use crate::exchange::Cursor;
 use crate::known::{Known, change_of};
 use crate::listing::List;
 use crate::refusal::{Cause, Change, Spot, Stop};
@@ -10,6 +8,7 @@ use crate::settings::Settings;
 use nfs3_types::{Failure, FileHandle, FileType, Name, NfsReply, Procedure};
 use std::alloc::{AllocError, Global};
 use tree_starts::{START_LIMIT, TEXT_LIMIT};
+use walk_accounts::{Account, Cursor, Kind, Part};
 
 /// What is asked next. Objects are numbered by their accounts.
 #[derive(Clone, Copy)]

@@ -1,11 +1,11 @@
 //! The objects that were found.
 
-use crate::account::{Account, Kind};
 use crate::refusal::{Cause, Change, Spot, Stop};
 use indexmap::IndexMap;
 use nfs3_types::{FILE_LIMIT, FileAttributes, FileHandle, Time};
 use std::alloc::{AllocError, Global};
 use tree_starts::TEXT_LIMIT;
+use walk_accounts::{Account, Kind};
 
 /// The objects that were found, with the attributes that were told of each first. They are looked up by handle and by `fileid`.
 pub(crate) struct Known {

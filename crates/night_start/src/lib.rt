@@ -2,18 +2,13 @@
 //! `Walk::learn`, and takes the starting objects of its history from `Walk::finish`.
 #![tactic(auto)]
 
-mod account;
 mod asking;
-mod exchange;
 mod explorer;
 mod faults;
-mod judging;
 mod known;
 mod listing;
-mod objects;
 mod pages;
 mod paths;
-mod places;
 mod refusal;
 mod replies;
 mod settings;

@@ -1,12 +1,12 @@
 //! What a walk learns from a page of a directory's list.
 
-use crate::exchange::{Page, page_in};
 use crate::explorer::{Explorer, Step};
 use crate::listing::Entry;
 use crate::refusal::{Cause, Spot, Stop};
 use crate::replies::{entries_plus_told, entries_told};
 use nfs3_types::{DirectoryEntryPlus, FileAttributes, FileHandle, Name, NfsReply};
 use tree_starts::{TEXT_LIMIT, is_dot, is_two_dots};
+use walk_accounts::{Page, page_in};
 
 /// A name of a page.
 #[derive(Clone, Copy)]

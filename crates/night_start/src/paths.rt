@@ -1,7 +1,7 @@
 //! Paths, as they are printed.
 
-use crate::account::Account;
 use std::alloc::{AllocError, Global};
+use walk_accounts::Account;
 
 const DIGITS: &[u8; 16] = b"0123456789abcdef";
 

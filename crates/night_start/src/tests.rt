@@ -392,12 +392,12 @@ fn empty_exports_are_told(rt: HostRuntime) -> Result<(), Fail> {
     let told = told_of(alloc, &TREE, habits, settings)?;
     assert_eq!(rt;
         told.as_str(),
-        "/: isn't empty: remove what it holds, or walk it (empty, docs, a\\x20b\\xff\\x5c, link, deep, ..)"
+        "/: isn't empty: remove what it holds, or leave out --empty (empty, docs, a\\x20b\\xff\\x5c, link, deep, ..)"
     );
     let told = told_of(alloc, &FLAT, habits, settings)?;
     assert_eq!(rt;
         told.as_str(),
-        "/: isn't empty: remove what it holds, or walk it (a, b)"
+        "/: isn't empty: remove what it holds, or leave out --empty (a, b)"
     );
     for plus in [Plus::Both, Plus::Missing] {
         let habits = Habits { plus, ..COMMON };

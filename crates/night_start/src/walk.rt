@@ -2,20 +2,17 @@
 
 ghost use Rattle.std.specs.Prelude.{◌≡◌, [], IfOk, IfSome, OnOk, false};
 ghost use Rattle.nfs3_types.specs.Procedures.{changes_the_tree, procedure_called};
-ghost use Rattle.night_start.specs.Accounts.{IsTold};
+ghost use Rattle.walk_accounts.specs.Accounts.{IsTold};
 ghost use Rattle.night_start.specs.Walked.{learned};
 
-use crate::account::Account;
-use crate::exchange::Exchange;
 use crate::explorer::Explorer;
-use crate::judging::is_explained;
-use crate::objects::objects_of;
 use crate::refusal::WalkFault;
 use crate::settings::Settings;
 use nfs3_types::{FileHandle, NfsCall, NfsReply};
 use std::alloc::{AllocError, Global};
 use std::marker::Model;
-use tree_starts::{Start, StartFault};
+use tree_starts::Start;
+use walk_accounts::{Exchange, start_of};
 
 /// The walk of an export: calls out, replies in, and at the end the objects that stand there. A contract sees the root's handle and the
 /// exchanges so far.
@@ -46,26 +43,6 @@ impl Drop for Walk {
         drop(exchanges);
         drop(explorer);
     }
-}
-
-/// The start of the accounts, of which the first is the root's.
-fn start_of(
-    alloc: Global,
-    root: &[u8],
-    exchanges: &[Exchange],
-    accounts: &[Account],
-) -> Result<Option<Start>, StartFault>
-    ensures { IfOk result (λ found. IfSome found (λ start. IsTold root.now exchanges.now start)) }
-{
-    let Some((first, found)) = accounts.split_first() else {
-        return Ok(None);
-    };
-    if !is_explained(root, exchanges, accounts, first, found) {
-        return Ok(None);
-    }
-    let objects = objects_of(alloc, exchanges, found)?;
-    let start = Start::new(alloc, objects)?;
-    Ok(Some(start))
 }
 
 impl Walk {

@@ -147,7 +147,7 @@ impl fmt::Display for Refusal {
         match self.cause {
             Cause::NotEmpty => write!(
                 f,
-                "{path}: isn't empty: remove what it holds, or walk it ({})",
+                "{path}: isn't empty: remove what it holds, or leave out --empty ({})",
                 self.others.as_str()
             ),
             Cause::NoDirectory => write!(f, "{path}: is no directory: export one"),

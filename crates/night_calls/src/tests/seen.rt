@@ -9,8 +9,8 @@ use nfs3_types::{
 /// The judged procedures, by their numbers (RFC 1813, section 3.3).
 const JUDGED: [usize; 15] = [1, 2, 3, 5, 6, 7, 8, 9, 10, 12, 13, 14, 16, 17, 21];
 
-/// NOENT, EXIST, NOTDIR, ISDIR, NOTEMPTY and STALE, by their numbers (RFC 1813, section 2.6).
-const STATUSES: [usize; 6] = [2, 17, 20, 21, 66, 70];
+/// NOENT, EXIST, NOTDIR, ISDIR, INVAL, NOTEMPTY and STALE, by their numbers (RFC 1813, section 2.6).
+const STATUSES: [usize; 7] = [2, 17, 20, 21, 22, 66, 70];
 
 /// How often each was met.
 #[derive(Clone, Copy)]

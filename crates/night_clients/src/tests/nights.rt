@@ -3,11 +3,12 @@
 use super::server::{Conduct, Manner, Seen, serve_next};
 use crate::night::{EraEnd, Night};
 use crate::runtime::ClientsRuntime;
-use crate::settings::{Credential, Depth, Quota, Settings};
 use history_file::Event;
 use nfs_tap::TapLog;
 use nfs3_types::FileHandle;
 use night_calls::{Client, Mix};
+use night_lanes::{Depth, Quota, Settings};
+use rpc_client::Credential;
 use std::alloc::{AllocError, Global};
 use std::io;
 use std::net::{IpAddr, Ipv4Addr, SocketAddr, TcpListener};
@@ -35,6 +36,7 @@ pub(super) fn night_at(alloc: Global, server: SocketAddr, depth: u32) -> Option<
         depth: Depth::new(depth)?,
         reply_seconds: 5,
         credential: Credential { uid: 7, gid: 9 },
+        reserved: 0,
     };
     Night::new(alloc, log, settings).ok()
 }

@@ -6,9 +6,9 @@ use super::nights::{
 use super::server::{Conduct, Manner};
 use crate::night::{EraEnd, Night};
 use crate::runtime::ClientsRuntime;
-use crate::settings::{Depth, Quota};
 use crate::up::is_up_within;
 use nfs3_types::{Failure, Procedure};
+use night_lanes::Quota;
 use std::net::{TcpListener, TcpStream};
 use std::test::Fail;
 use std::thread;

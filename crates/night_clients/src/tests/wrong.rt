@@ -3,11 +3,11 @@
 use super::nights::{RIGHT, calls, clients_of, listen, night_at, run};
 use super::server::{Conduct, Manner};
 use crate::night::EraEnd;
-use crate::refusal::Refusal;
 use crate::runtime::ClientsRuntime;
-use crate::troubles::{Trouble, TroubleKind};
 use nfs_tap::NoteFault;
 use nfs3_msgs::Kind;
+use night_lanes::{Trouble, TroubleKind};
+use rpc_client::Refusal;
 use rpc_reader::RpcFault;
 use std::net::{TcpListener, TcpStream};
 use std::test::Fail;

@@ -1,9 +1,0 @@
-pub mod Asking
-pub mod Noting
-pub mod Sending
-pub mod Receiving
-pub mod Standing
-pub mod Refusals
-pub mod Hearing
-pub mod Words
-pub mod Telling

@@ -1,6 +1,0 @@
-use Rattle.std.proofs.Common.{◌≡◌, drop}
-use Rattle.night_start.specs.Accounts.{is_listing, front}
-use Rattle.night_start.proofs.judging.is_listing.Given as goal
-
-abbrev pub invariant-loop-index : goal.invariant-loop-index
-invariant-loop-index l = is_listing l.directory l.cursor (drop l.index l.part) ≡ is_listing l.directory front l.part

@@ -1,7 +1,0 @@
-use Rattle.std.proofs.Common.{◌≡◌, take}
-use Rattle.std.specs.List.{flat_map}
-use Rattle.night_start.specs.Exchanges.{bytes_in}
-use Rattle.night_start.proofs.objects.contents.Given as goal
-
-abbrev pub invariant-loop-exchange : goal.invariant-loop-exchange
-invariant-loop-exchange l = l.bytes.items ≡ flat_map (λ e. bytes_in e.reply) (take l.exchange-index l.part)

@@ -1,8 +1,0 @@
-use Rattle.std.proofs.Common.{take}
-use Rattle.std.specs.List.{flat_map}
-use Rattle.night_start.specs.Exchanges.{place}
-use Rattle.night_start.specs.Stripping.{IsStripped}
-use Rattle.night_start.proofs.places.strip_entries_plus.Given as goal
-
-abbrev pub invariant-loop-entry : goal.invariant-loop-entry
-invariant-loop-entry l = IsStripped (flat_map (λ entry. place l.number entry.name) (take l.entry-index l.entries)) l.rest l.left
