@@ -1,0 +1,5 @@
+pub mod Paths
+pub mod AllRead
+pub mod Counted
+pub mod Roots
+pub mod Told

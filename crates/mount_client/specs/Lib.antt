@@ -1,0 +1,3 @@
+pub mod Mounting
+pub mod Statuses
+pub mod Hearing

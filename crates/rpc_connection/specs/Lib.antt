@@ -1,0 +1,4 @@
+pub mod Answers
+pub mod Receiving
+pub mod Sending
+pub mod Words
