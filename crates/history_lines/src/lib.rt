@@ -12,4 +12,5 @@ mod start_lines;
 mod text;
 
 pub use lines::{EventLines, Selection};
+pub use names::{procedure_name, status_name};
 pub use text::Line;

@@ -1,3 +1,4 @@
 pub mod FirstLine
 pub mod Numbers
 pub mod Told
+pub mod Missing

@@ -6,10 +6,13 @@ ghost use Rattle.nfs_history.specs.History.{IsCallsFile};
 ghost use Rattle.witness_check.specs.Verdict.{IsFileVerdict};
 ghost use Rattle.judging_commands.specs.Report.{line_of, status_of};
 ghost use Rattle.judging_commands.specs.Reported.{IsLost, IsReported, IsReportedOfRead, count_lines, lost_lines, number_line};
+ghost use Rattle.judging_commands.specs.Objects.{HasStatus};
 
+use crate::objects::{status_of, verdict_object};
 use crate::report::verdict_report;
 use certificate::{TextFault, read_certificate};
 use history_report::{HistoryNumbers, lost_of_calls, report_of_calls};
+use json_reports::report_line;
 use nfs_history::{HistoryFault, KnownCalls, read_calls};
 use program_streams::Report;
 use std::alloc::{AllocError, Global};
@@ -121,6 +124,37 @@ pub(crate) fn report_files(
         }
         Err(HistoryFault::NoMemory) => Err(AllocError),
         Err(fault) => verdict_report(alloc, FileVerdict::BadHistory(fault)),
+    }
+}
+
+/// The object of a history's numbers and what was found of it.
+fn found_object(
+    alloc: Global,
+    counts: &HistoryNumbers,
+    finding: &Finding,
+) -> Result<Report, AllocError>
+    ensures { IfOk result (λ report. report.status ≡ status_of finding.now.verdict) }
+{
+    let line = report_line(alloc, finding.verdict, counts, finding.lost)?;
+    Ok(Report::new(status_of(finding.verdict), line))
+}
+
+/// The same as a JSON object.
+pub(crate) fn report_files_as_json(
+    alloc: Global,
+    history: &[u8],
+    certificate: &[u8],
+) -> Result<Report, AllocError>
+    ensures { IfOk result (λ report. HasStatus history.now certificate.now report.status) }
+{
+    match read_calls(alloc, history) {
+        Ok(history) => {
+            let counts = report_of_calls(&history);
+            let finding = find(alloc, &history, certificate)?;
+            found_object(alloc, &counts, &finding)
+        }
+        Err(HistoryFault::NoMemory) => Err(AllocError),
+        Err(fault) => verdict_object(alloc, FileVerdict::BadHistory(fault)),
     }
 }
 

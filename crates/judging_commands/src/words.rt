@@ -13,14 +13,21 @@ pub struct SearchRequest<'a> {
     pub workers: u32,
     /// How many branches each worker takes at most, from 1 to 10,000,000.
     pub turns: u64,
+    /// After how many seconds it ends, from 1 to 1,000,000, if that is limited.
+    pub seconds: Option<u32>,
     /// Whether nothing is to be said while the search runs.
     pub is_quiet: bool,
+    /// Whether what is found is printed as a JSON object.
+    pub is_json: bool,
 }
 
 /// The most workers, and the most branches that each may take.
 pub(crate) const MOST_WORKERS: u32 = 64;
 
 const MOST_TURNS: u64 = 10_000_000;
+
+/// The most seconds that a search may be given.
+const MOST_SECONDS: u64 = 1_000_000;
 
 /// How many workers there are where the words don't say.
 const WORKERS: u32 = 4;
@@ -45,11 +52,26 @@ fn turns_option<'a>(alloc: Global) -> Arg<'a> {
         .help("How many branches each tries at most, 10000000 if not said")
 }
 
+fn seconds_option<'a>(alloc: Global) -> Arg<'a> {
+    Arg::new(alloc, "seconds")
+        .long("seconds")
+        .value_parser(ValueParser::unsigned(1, MOST_SECONDS))
+        .help("After how many seconds it ends, never if not said")
+}
+
 fn quiet_option<'a>(alloc: Global) -> Arg<'a> {
     Arg::new(alloc, "quiet")
         .long("quiet")
         .action(ArgAction::SetTrue)
-        .help("Doesn't tell once a second how far it is")
+        .help("Tells nothing on standard error")
+}
+
+/// Asks for a JSON object.
+pub fn json_option<'a>(alloc: Global) -> Arg<'a> {
+    Arg::new(alloc, "json")
+        .long("json")
+        .action(ArgAction::SetTrue)
+        .help("Prints one JSON object on one line")
 }
 
 /// The grammar of the words behind `search`.
@@ -58,7 +80,9 @@ pub fn search_command<'a>(alloc: Global) -> Result<Command<'a>, AllocError> {
         .about("Searches a certificate of a history, and prints it")
         .arg(workers_option(alloc))?
         .arg(turns_option(alloc))?
+        .arg(seconds_option(alloc))?
         .arg(quiet_option(alloc))?
+        .arg(json_option(alloc))?
         .arg(history_path(alloc))
 }
 
@@ -69,6 +93,8 @@ pub fn search_request<'a>(search: &ArgMatches<'a>) -> SearchRequest<'a> {
         history: search.get_str("HISTORY").unwrap_or(""),
         workers: search.get_one("workers").unwrap_or(WORKERS),
         turns: search.get_one("turns").unwrap_or(MOST_TURNS),
+        seconds: search.get_one("seconds"),
         is_quiet: search.get_flag("quiet"),
+        is_json: search.get_flag("json"),
     }
 }

@@ -1,5 +1,5 @@
-//! Tests of the search by threads, two workers and a gate that holds one of them, and of the table of seen states, alone and by several
-//! threads, through the public calls of their crates.
+//! Tests of the search by threads, two workers and gates that hold one of them or end the search, and of the table of seen states, alone and
+//! by several threads, through the public calls of their crates.
 #![tactic(auto)]
 
 #[cfg(test)]
@@ -8,6 +8,8 @@ mod claims;
 mod fingerprints;
 #[cfg(test)]
 mod held;
+#[cfg(test)]
+mod over;
 #[cfg(test)]
 mod samples;
 #[cfg(test)]

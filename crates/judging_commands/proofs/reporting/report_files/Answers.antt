@@ -1,12 +1,7 @@
-use Rattle.std.proofs.Common.{◌≢◌, ◌⊎◌, inl, inr, rules}
+use Rattle.std.proofs.Common.{◌≢◌, rules}
 use Rattle.nfs_history.specs.declared.fault.HistoryFault.TheVariants.{NoMemory}
-use Rattle.judging_commands.proofs.Numbers.{fault_reported, history_reported}
+use Rattle.judging_commands.proofs.Numbers.{fault_reported, history_reported, left}
 use Rattle.judging_commands.proofs.reporting.report_files.Goals as goal
-
--- of two, the one that is left
-left : {P Q : Type 0} → P ⊎ Q → (P → ⊥) → Q
-left (inl p) none = absurd (none p)
-left (inr q) none = q
 
 pub returns-in_ok-finding-in-Ok : goal.returns-in_ok-finding-in-Ok
 returns-in_ok-finding-in-Ok c =
