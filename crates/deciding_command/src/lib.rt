@@ -15,4 +15,5 @@ pub use file_decision::{FileDecision, decide_file};
 pub use prefix_words::{PrefixRequest, prefix_command, prefix_request};
 pub use prefixing::prefix_history;
 pub use rounds::Effort;
+pub use telling::reason_line;
 pub use words::{DecideRequest, decide_command, decide_request};

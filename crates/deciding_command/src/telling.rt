@@ -16,8 +16,8 @@ fn reason_at(alloc: Global, reason: &str, call: u64) -> Result<String, AllocErro
     format!(in alloc; "undecided: {reason} {call}\n")
 }
 
-/// The line of a reason.
-fn reason_line(alloc: Global, reason: Undecided) -> Result<String, AllocError> {
+/// The line of a reason why nothing is decided, with its line feed: it begins with `undecided: `.
+pub fn reason_line(alloc: Global, reason: Undecided) -> Result<String, AllocError> {
     match reason {
         Undecided::TooManyStates => line_of(alloc, "undecided: ", &"too many states"),
         Undecided::TooManySteps => line_of(alloc, "undecided: ", &"out of time"),

@@ -1,2 +1,3 @@
 pub mod ShownLines
 pub mod Yes
+mod Objects

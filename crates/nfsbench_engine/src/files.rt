@@ -3,9 +3,10 @@
 ghost use Rattle.std.specs.Prelude.{◌≡◌, ℕ, List, IfOk, Option};
 ghost use Rattle.judging_commands.specs.Report.{IsSaidOfRead};
 ghost use Rattle.judging_commands.specs.Reported.{IsReportedOfRead};
+ghost use Rattle.judging_commands.specs.Objects.{HasStatusOfRead};
 
 use history_file::HISTORY_LIMIT;
-use judging_commands::{judge_read, report_read};
+use judging_commands::{judge_read, judge_read_as_json, report_read, report_read_as_json};
 use program_streams::{InputFault, Report, Stream, read_all};
 use std::alloc::AllocError;
 use std::fs::{File, OpenFile};
@@ -94,4 +95,34 @@ pub(crate) fn report_paths<R: Files + AllocGlobal>(
     let history = read_history_file(rt, history)?;
     let certificate = read_file(rt, certificate, u64::MAX)?;
     report_read(rt.alloc(), history.as_deref(), certificate.as_deref())
+}
+
+/// What is said of the files at two paths, as [`check_paths`], but as a JSON object.
+pub(crate) fn check_paths_as_json<R: Files + AllocGlobal>(
+    rt: &R,
+    history: &str,
+    certificate: &str,
+) -> Result<Report, AllocError>
+    // The status is that of the verdict on what was read.
+    ensures said { IfOk result (λ report. (history_read : Option (List ℕ)) × (certificate_read : Option (List ℕ))
+        × HasStatusOfRead history_read certificate_read report.status) }
+{
+    let history = read_history_file(rt, history)?;
+    let certificate = read_file(rt, certificate, u64::MAX)?;
+    judge_read_as_json(rt.alloc(), history.as_deref(), certificate.as_deref())
+}
+
+/// What is reported of the files at two paths, as [`report_paths`], but as a JSON object.
+pub(crate) fn report_paths_as_json<R: Files + AllocGlobal>(
+    rt: &R,
+    history: &str,
+    certificate: &str,
+) -> Result<Report, AllocError>
+    // The status is that of the verdict on what was read.
+    ensures said { IfOk result (λ report. (history_read : Option (List ℕ)) × (certificate_read : Option (List ℕ))
+        × HasStatusOfRead history_read certificate_read report.status) }
+{
+    let history = read_history_file(rt, history)?;
+    let certificate = read_file(rt, certificate, u64::MAX)?;
+    report_read_as_json(rt.alloc(), history.as_deref(), certificate.as_deref())
 }

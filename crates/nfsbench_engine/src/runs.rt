@@ -68,7 +68,7 @@ fn serve_answer(alloc: Global, served: Result<RunTexts, RunFault>) -> Result<Rep
 }
 
 /// Says what is said, or that memory ran out.
-fn tell_known<O: Output>(output: &mut O, answer: Result<Report, AllocError>) -> u8
+pub(crate) fn tell_known<O: Output>(output: &mut O, answer: Result<Report, AllocError>) -> u8
     requires { IfOk answer (λ report. report.status < 3) }
     ensures report { IfOk answer (λ report. (result ≡ 2)
         ⊎ Tells result (O.contents output.old) (O.contents output.new) report.status report.line) }

@@ -1,25 +1,33 @@
 //! The command line.
 
-ghost use Rattle.std.specs.Prelude.{◌≡◌, ◌⊎◌, ◌<◌, ◌≤◌, ℕ, List, length, IfSome, IfOk, IsOk, OnErr, Ok};
+ghost use Rattle.std.specs.Prelude.{◌≡◌, ◌⊎◌, ◌<◌, ◌≤◌, ℕ, true, false, List, length, Option, IfSome, IfOk, IsOk, OnErr, Ok};
 ghost use Rattle.std.specs.Io.KnownBytes.{Appends};
 ghost use Rattle.judging_commands.specs.Bundle.{IsAcceptedBundle, IsRefutedBundle};
-ghost use Rattle.judging_commands.specs.Report.{IsSaid, MayTell, no_line};
+ghost use Rattle.judging_commands.specs.Objects.{HasStatusOfRead};
+ghost use Rattle.judging_commands.specs.Report.{IsSaid, IsSaidOfRead, MayTell, no_line};
+ghost use Rattle.judging_commands.specs.Reported.{IsReportedOfRead};
 ghost use Rattle.program_streams.specs.Streams.{AppendsFront, GivesAll, HasRoom};
 ghost use Rattle.program_streams.specs.Told.{Tells, memory_line};
 ghost use Rattle.witness_check.specs.declared.fault.Fault.{Fault};
 
-use crate::files::{check_paths, read_history_file, report_paths};
-use crate::runs::{run_path, serve_words};
+use crate::files::{
+    check_paths, check_paths_as_json, read_history_file, report_paths, report_paths_as_json,
+};
+use crate::runs::{run_path, serve_words, tell_known};
 use crate::show_words::{ShowRequest, show_command, show_request};
 use crate::showing::show_bytes;
 use clap::error::ErrorKind;
-use clap::{Arg, Command};
+use clap::{Arg, ArgMatches, Command};
 use deciding_command::{
     DecideRequest, PrefixRequest, decide_command, decide_history, decide_request, prefix_command,
     prefix_history, prefix_request,
 };
-use judging_commands::{SearchRequest, run_bundle, search_command, search_history, search_request};
-use program_streams::{Input, Output, tell, tell_answer, tell_want_of_memory};
+use judging_commands::{
+    SearchRequest, json_option, refused_as_json, run_bundle, search_command, search_history,
+    search_request,
+};
+use night_command::{TestRequest, run_test, test_command, test_request};
+use program_streams::{Input, Output, Report, tell, tell_answer, tell_want_of_memory};
 use recording_command::{RecordingRuntime, TapRequest, run_tap, tap_command, tap_request};
 use serving_commands::{
     RunRequest, ServeRequest, run_command, run_request, serve_command, serve_request,
@@ -28,21 +36,24 @@ use std::alloc::{AllocError, Global};
 use std::convert::AsStr;
 use std::rt::Files;
 
+/// The paths of a history and a certificate, and how they are judged.
+#[derive(Clone, Copy)]
+struct FilesRequest<'a> {
+    history: &'a str,
+    certificate: &'a str,
+    /// Whether what is said is printed as a JSON object.
+    is_json: bool,
+}
+
 /// What the words ask for.
 #[derive(Clone, Copy)]
 enum Request<'a> {
     /// The verdict on the bundle on the input.
     Bundle,
-    /// The verdict on the files at these paths.
-    Check {
-        history: &'a str,
-        certificate: &'a str,
-    },
-    /// What the history at a path comes to, and the verdict on the files at these paths.
-    Report {
-        history: &'a str,
-        certificate: &'a str,
-    },
+    /// The verdict on two files.
+    Check(FilesRequest<'a>),
+    /// What a history comes to, and the verdict on two files.
+    Report(FilesRequest<'a>),
     /// The events of a history.
     Show(ShowRequest<'a>),
     /// A certificate.
@@ -57,6 +68,8 @@ enum Request<'a> {
     Run(RunRequest<'a>),
     /// Connections to the bundled server.
     Serve(ServeRequest<'a>),
+    /// A night of a server.
+    Test(TestRequest<'a>),
 }
 
 /// What the words ask for that may wait for other threads.
@@ -67,6 +80,7 @@ pub(crate) enum Waiting<'a> {
     Tap(TapRequest<'a>),
     Run(RunRequest<'a>),
     Serve(ServeRequest<'a>),
+    Test(TestRequest<'a>),
 }
 
 /// A path that has to be said.
@@ -82,6 +96,7 @@ fn of_two_files<'a>(
 ) -> Result<Command<'a>, AllocError> {
     Command::new(alloc, name)
         .about(about)
+        .arg(json_option(alloc))?
         .arg(path(alloc, "HISTORY", "What the clients of a server saw"))?
         .arg(path(alloc, "CERTIFICATE", "A serial order of their calls"))
 }
@@ -119,7 +134,18 @@ fn command<'a>(alloc: Global) -> Result<Command<'a>, AllocError> {
         .subcommand(prefix_command(alloc)?)?
         .subcommand(run_command(alloc)?)?
         .subcommand(serve_command(alloc)?)?
-        .subcommand(tap_command(alloc)?)
+        .subcommand(tap_command(alloc)?)?
+        .subcommand(test_command(alloc)?)
+}
+
+/// What the words behind `check` or `report` ask for.
+fn files_request<'a>(words: &ArgMatches<'a>) -> FilesRequest<'a> {
+    FilesRequest {
+        // The parser asks for both paths.
+        history: words.get_str("HISTORY").unwrap_or(""),
+        certificate: words.get_str("CERTIFICATE").unwrap_or(""),
+        is_json: words.get_flag("json"),
+    }
 }
 
 /// What the words ask for, or the parser's text.
@@ -133,21 +159,22 @@ fn read_words<'a, S: AsStr>(alloc: Global, words: &'a [S]) -> Result<Request<'a>
                 Err(command(alloc)?.error(ErrorKind::ValueValidation, message)?)
             }
         },
+        Some(("test", test)) => match test_request(test) {
+            Some(request) => Ok(Request::Test(request)),
+            None => {
+                let message =
+                    "the value of --host is no IP address, or that of --mix isn't private, shared, race or turns";
+                Err(command(alloc)?.error(ErrorKind::ValueValidation, message)?)
+            }
+        },
         Some(("show", show)) => Ok(Request::Show(show_request(show))),
         Some(("search", search)) => Ok(Request::Search(search_request(search))),
         Some(("decide", decide)) => Ok(Request::Decide(decide_request(decide))),
         Some(("prefix", prefix)) => Ok(Request::Prefix(prefix_request(prefix))),
         Some(("run", run)) => Ok(Request::Run(run_request(run))),
         Some(("serve", serve)) => Ok(Request::Serve(serve_request(serve))),
-        // The parser asks for both words of these two.
-        Some(("report", report)) => Ok(Request::Report {
-            history: report.get_str("HISTORY").unwrap_or(""),
-            certificate: report.get_str("CERTIFICATE").unwrap_or(""),
-        }),
-        Some((_, check)) => Ok(Request::Check {
-            history: check.get_str("HISTORY").unwrap_or(""),
-            certificate: check.get_str("CERTIFICATE").unwrap_or(""),
-        }),
+        Some(("report", report)) => Ok(Request::Report(files_request(report))),
+        Some((_, check)) => Ok(Request::Check(files_request(check))),
         None => Ok(Request::Bundle),
     }
 }
@@ -167,6 +194,48 @@ fn tell_parser<O: Output>(alloc: Global, output: &mut O, error: &clap::Error) ->
             tell(output, text.as_bytes(), status)
         }
         Err(AllocError) => tell_want_of_memory(output),
+    }
+}
+
+/// What is said of two files, as a line or as a JSON object.
+#[tactic(auto, using(crate::proofs::Objects::known_object, crate::proofs::Objects::known_line))]
+fn check_files_at<R: Files + AllocGlobal>(
+    rt: &R,
+    request: &FilesRequest<'_>,
+) -> Result<Report, AllocError>
+    // The answer is what is said of what was read.
+    ensures said { request.now.is_json ≡ false → IfOk result (λ report. (history_read : Option (List ℕ)) × (certificate_read : Option (List ℕ))
+        × IsSaidOfRead history_read certificate_read report.status report.line) }
+    // As an object too, the status is that of the verdict on what was read.
+    ensures object { request.now.is_json ≡ true → IfOk result (λ report. (history_read : Option (List ℕ)) × (certificate_read : Option (List ℕ))
+        × HasStatusOfRead history_read certificate_read report.status) }
+    ensures known { IfOk result (λ report. report.status < 3) }
+{
+    if request.is_json {
+        check_paths_as_json(rt, request.history, request.certificate)
+    } else {
+        check_paths(rt, request.history, request.certificate)
+    }
+}
+
+/// What is reported of two files, as lines or as a JSON object.
+#[tactic(auto, using(crate::proofs::Objects::known_object, crate::proofs::Objects::known_report))]
+fn report_files_at<R: Files + AllocGlobal>(
+    rt: &R,
+    request: &FilesRequest<'_>,
+) -> Result<Report, AllocError>
+    // The answer is what is reported of what was read.
+    ensures said { request.now.is_json ≡ false → IfOk result (λ report. (history_read : Option (List ℕ)) × (certificate_read : Option (List ℕ))
+        × IsReportedOfRead history_read certificate_read report.status report.line) }
+    // As an object too, the status is that of the verdict on what was read.
+    ensures object { request.now.is_json ≡ true → IfOk result (λ report. (history_read : Option (List ℕ)) × (certificate_read : Option (List ℕ))
+        × HasStatusOfRead history_read certificate_read report.status) }
+    ensures known { IfOk result (λ report. report.status < 3) }
+{
+    if request.is_json {
+        report_paths_as_json(rt, request.history, request.certificate)
+    } else {
+        report_paths(rt, request.history, request.certificate)
     }
 }
 
@@ -204,6 +273,19 @@ fn prefix_path<R: Files + AllocGlobal, O: Output>(
     }
 }
 
+/// Says that a history can't be read, as a line or as a JSON object.
+fn tell_unreadable<O: Output>(alloc: Global, is_json: bool, output: &mut O) -> u8
+    ensures memory_line { result ≡ 3
+        → Appends (O.contents output.old) (O.contents output.new) memory_line }
+    ensures known { result < 4 }
+{
+    if is_json {
+        tell_known(output, refused_as_json(alloc, "unreadable history"))
+    } else {
+        tell(output, b"refused: unreadable history\n", 2)
+    }
+}
+
 /// Searches a certificate of the history at a path, as [`search_history`].
 fn search_path<R: RecordingRuntime, O: Output>(
     rt: &R,
@@ -216,7 +298,7 @@ fn search_path<R: RecordingRuntime, O: Output>(
 {
     match read_history_file(rt, request.history) {
         Ok(Some(bytes)) => search_history(rt, request, bytes.as_slice(), output),
-        Ok(None) => tell(output, b"refused: unreadable history\n", 2),
+        Ok(None) => tell_unreadable(rt.alloc(), request.is_json, output),
         Err(AllocError) => tell_want_of_memory(output),
     }
 }
@@ -275,18 +357,8 @@ pub(crate) fn judge_words<'a, R: Files + AllocGlobal, S: AsStr, I: Input, O: Out
     }
     match read_words(alloc, words) {
         Ok(Request::Bundle) => Ok(run_bundle(alloc, input, output)),
-        Ok(
-            Request::Check {
-                history,
-                certificate,
-            },
-        ) => Ok(tell_answer(output, check_paths(rt, history, certificate))),
-        Ok(
-            Request::Report {
-                history,
-                certificate,
-            },
-        ) => Ok(tell_answer(output, report_paths(rt, history, certificate))),
+        Ok(Request::Check(request)) => Ok(tell_answer(output, check_files_at(rt, &request))),
+        Ok(Request::Report(request)) => Ok(tell_answer(output, report_files_at(rt, &request))),
         Ok(Request::Show(request)) => Ok(show_path(rt, &request, output)),
         Ok(Request::Prefix(request)) => Ok(prefix_path(rt, &request, output)),
         Ok(Request::Search(request)) => Err(Waiting::Search(request)),
@@ -294,6 +366,7 @@ pub(crate) fn judge_words<'a, R: Files + AllocGlobal, S: AsStr, I: Input, O: Out
         Ok(Request::Tap(request)) => Err(Waiting::Tap(request)),
         Ok(Request::Run(request)) => Err(Waiting::Run(request)),
         Ok(Request::Serve(request)) => Err(Waiting::Serve(request)),
+        Ok(Request::Test(request)) => Err(Waiting::Test(request)),
         Err(error) => Ok(tell_parser(alloc, output, &error)),
     }
 }
@@ -309,8 +382,8 @@ pub(crate) fn judge_words<'a, R: Files + AllocGlobal, S: AsStr, I: Input, O: Out
 /// a path to write what `prefix_history` gives; which words ask for that, which files are opened and what the parser's texts are no clause
 /// says. With `search` and a path it is what `search_history` gives, with `decide` and a path what
 /// `decide_history` gives; with `run`, a path and two
-/// paths to write it runs a text, with `serve` it serves connections, and with `tap` it records: these five may wait or take long,
-/// the last two for as long as they are let.
+/// paths to write it runs a text, with `serve` it serves connections, with `tap` it records, and with `test` it drives a server, as
+/// [`run_test`]: these six may wait or take long, the last three for as long as they are let.
 pub fn run_words<R: RecordingRuntime, S: AsStr, I: Input, O: Output>(
     rt: &R,
     words: &[S],
@@ -343,5 +416,6 @@ pub fn run_words<R: RecordingRuntime, S: AsStr, I: Input, O: Output>(
         Err(Waiting::Tap(request)) => run_tap(rt, &request, input, output),
         Err(Waiting::Run(request)) => run_path(rt, &request, output),
         Err(Waiting::Serve(request)) => serve_words(rt, &request, output),
+        Err(Waiting::Test(request)) => run_test(rt, &request, input, output),
     }
 }

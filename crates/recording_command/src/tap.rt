@@ -47,7 +47,7 @@ fn take_orders<R: RelayRuntime>(
     for byte in bytes {
         match orders.take(*byte)? {
             Some(Order::Crash) => relay.crash(rt),
-            Some(Order::Unknown) => {
+            Some(Order::Up | Order::Unknown) => {
                 let _ = eprintln!(rt; "an order is unknown: crash is the only one");
             }
             None => {}

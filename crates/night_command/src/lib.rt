@@ -1,0 +1,15 @@
+//! The command `nfsbench test`: a night of a server, from its words to its last line.
+#![tactic(auto)]
+
+mod files;
+mod folder;
+mod growing;
+mod opening;
+mod refusal;
+mod running;
+mod summing;
+mod test;
+mod words;
+
+pub use test::run_test;
+pub use words::{TestRequest, test_command, test_request};

@@ -1,0 +1,206 @@
+//! What a night comes to is judged, written and said.
+
+ghost use Rattle.std.specs.Prelude.{◌≡◌, ◌<◌, IfOk};
+
+use crate::files::{Noted, findings_of, numbers_told, reason_lines, request_told, write_files};
+use crate::opening::profile_of;
+use crate::refusal::NightRefusal;
+use crate::running::Ran;
+use crate::words::TestRequest;
+use deciding_command::Effort;
+use history_file::WriteFault;
+use json_reports::refusal_line;
+use night_lanes::{Counts, Troubles};
+use night_report::{NightReport, Numbers, json_line};
+use night_verdict::{
+    Judgement, NightEnd, NightFacts, NightVerdict, Reasons, judge_night, night_history, reasons_of,
+    verdict_report,
+};
+use program_streams::{Report, line_of};
+use recording_command::RecordingRuntime;
+use std::alloc::{AllocError, Global};
+
+/// What is said where there was no night.
+pub(crate) fn refused_report(
+    alloc: Global,
+    request: &TestRequest<'_>,
+    refusal: &NightRefusal,
+) -> Result<Report, AllocError>
+    ensures { IfOk result (λ report. report.status ≡ 2) }
+{
+    let reason = refusal.reason(alloc)?;
+    if request.is_json {
+        return Ok(Report::new(2, refusal_line(alloc, reason.as_str())?));
+    }
+    Ok(Report::new(2, line_of(alloc, "refused: ", &reason.as_str())?))
+}
+
+/// How much it may cost to judge a night.
+fn effort_of(request: &TestRequest<'_>) -> Effort {
+    Effort {
+        states: request.limits.states,
+        seconds: request.limits.search_seconds,
+    }
+}
+
+/// What a night comes to, in words and numbers.
+#[derive(Drop)]
+struct Told {
+    judged: Judgement,
+    noted: Noted,
+    reasons: Reasons,
+    /// The same as lines.
+    lines: Vec<String>,
+    /// The last line, and the status.
+    last: Report,
+}
+
+/// The words of a night that was judged.
+fn told_of(
+    alloc: Global,
+    facts: &NightFacts<'_>,
+    judged: Judgement,
+    noted: Noted,
+) -> Result<Told, AllocError>
+    ensures { IfOk result (λ told. told.last.status < 3) }
+{
+    let reasons = reasons_of(alloc, facts, &judged)?;
+    let lines = reason_lines(alloc, &reasons)?;
+    let last = verdict_report(alloc, facts, &judged)?;
+    Ok(Told {
+        judged,
+        noted,
+        reasons,
+        lines,
+        last,
+    })
+}
+
+/// The lines before the last one.
+fn number_lines(alloc: Global, report: &NightReport<'_>) -> Result<String, AllocError> {
+    let Numbers {
+        eras,
+        calls,
+        judged_and_answered,
+        troubles,
+        ..
+    } = report.numbers;
+    format!(in alloc;
+        "eras {eras}\ncalls {calls}\nanswered {judged_and_answered}\ntroubles {troubles}\n"
+    )
+}
+
+/// What is said of a night whose files are written, or not: no yes where one isn't.
+fn said_of(
+    alloc: Global,
+    request: &TestRequest<'_>,
+    verdict: NightVerdict,
+    report: &NightReport<'_>,
+    is_written: bool,
+) -> Result<Report, AllocError>
+    requires { report.now.status < 3 }
+    ensures { IfOk result (λ report. report.status < 3) }
+{
+    if !is_written && !matches!(verdict, NightVerdict::No(_)) {
+        return refused_report(alloc, request, &NightRefusal::CannotWrite);
+    }
+    if request.is_json {
+        return Ok(Report::new(report.status, json_line(alloc, report)?));
+    }
+    let last = line_of(alloc, "", &report.line)?;
+    Report::new(report.status, last).behind(number_lines(alloc, report)?)
+}
+
+/// Writes the files of a night that was judged, and gives its lines and its status.
+fn written_report<'n, R: RecordingRuntime>(
+    rt: &'n R,
+    request: &'n TestRequest<'n>,
+    ran: &'n Ran,
+    told: &'n Told,
+    counts: &'n Counts,
+    troubles: &'n Troubles,
+    history: &'n [u8],
+) -> Result<Report, AllocError>
+    requires { told.now.last.status < 3 }
+    ensures { IfOk result (λ report. report.status < 3) }
+{
+    let (health, order, enough) = findings_of(&told.judged, &told.reasons);
+    let report = NightReport {
+        folder: request.folder,
+        request: request_told(request),
+        numbers: numbers_told(ran, told.noted, troubles, &told.judged),
+        counts,
+        troubles,
+        status: told.last.status(),
+        line: told.last.line().trim_end(),
+        reasons: told.lines.as_slice(),
+        health,
+        order,
+        enough,
+    };
+    let is_written = write_files(rt, request.folder, history, &told.judged, &report)?;
+    said_of(
+        rt.alloc(),
+        request,
+        told.judged.verdict,
+        &report,
+        is_written,
+    )
+}
+
+/// Judges a night by the bytes of its history.
+fn judged<R: RecordingRuntime>(
+    rt: &R,
+    request: &TestRequest<'_>,
+    end: NightEnd,
+    troubles: &Troubles,
+    noted: Noted,
+    history: &[u8],
+) -> Result<Told, AllocError>
+    ensures { IfOk result (λ told. told.last.status < 3) }
+{
+    let facts = NightFacts {
+        troubles,
+        end,
+        at_least: request.limits.at_least,
+    };
+    let judged = judge_night(rt, &facts, history, effort_of(request))?;
+    told_of(rt.alloc(), &facts, judged, noted)
+}
+
+/// Judges a night by the bytes of its history, writes its files, and gives its lines and its status.
+fn judged_report<R: RecordingRuntime>(
+    rt: &R,
+    request: &TestRequest<'_>,
+    ran: &Ran,
+    noted: Noted,
+    history: &[u8],
+) -> Result<Report, AllocError>
+    ensures { IfOk result (λ report. report.status < 3) }
+{
+    let troubles = ran.night.troubles().lock(rt);
+    let counts = ran.night.counts().lock(rt);
+    let told = judged(rt, request, ran.end, &troubles, noted, history)?;
+    written_report(rt, request, ran, &told, &counts, &troubles, history)
+}
+
+/// Judges a night, writes its files, and gives its lines and its status.
+pub(crate) fn end_report<R: RecordingRuntime>(
+    rt: &R,
+    request: &TestRequest<'_>,
+    ran: &Ran,
+) -> Result<Report, AllocError>
+    ensures { IfOk result (λ report. report.status < 3) }
+{
+    let log = ran.night.log().lock(rt);
+    let noted = Noted::in_log(&log);
+    let history = night_history(rt.alloc(), profile_of(request), &ran.start, &log);
+    drop(log);
+    match history {
+        Ok(history) => judged_report(rt, request, ran, noted, history.as_slice()),
+        Err(WriteFault::TooLarge) => {
+            refused_report(rt.alloc(), request, &NightRefusal::HistoryTooLarge)
+        }
+        Err(WriteFault::NoMemory) => Err(AllocError),
+    }
+}

@@ -1,0 +1,10 @@
+//! The eras of a night: clients call, the server is killed and started again as the orders say, and the clients go on.
+#![tactic(auto)]
+
+mod eras;
+mod orders;
+#[cfg(test)]
+mod tests;
+
+pub use eras::{ErasPlan, run_eras};
+pub use orders::Orders;

@@ -1,0 +1,131 @@
+//! The orders of whoever kills the server and starts it again, one a line: `crash` and `up`, in turn.
+
+use nfs_relay::{Order, OrderReader};
+use night_verdict::NightEnd;
+use program_streams::Input;
+use std::alloc::{AllocError, Global};
+use std::io::ErrorKind;
+use std::sync::Wait;
+use std::thread;
+use std::thread::Threads;
+use std::time::{Clock, Duration, Instant};
+
+/// How many bytes are read at a time.
+const PIECE: usize = 256;
+
+/// How many milliseconds are between two looks at a file that may grow.
+const PAUSE: u64 = 20;
+
+/// Where orders come from. They are read one at a time, as they are due.
+#[derive(Drop)]
+pub struct Orders {
+    /// Whether the input may go on after its end, as a file does that is written to.
+    may_grow: bool,
+    /// How many seconds an order may take, if that is limited.
+    seconds: Option<u32>,
+    reader: OrderReader,
+    buffer: Vec<u8>,
+    /// What of the buffer was read and not yet taken.
+    from: usize,
+    to: usize,
+}
+
+/// What comes of one look at the input.
+enum Look {
+    Order(Order),
+    /// The input has no more bytes now.
+    End,
+    /// There may be more.
+    More,
+}
+
+impl Orders {
+    /// The orders of an input that nothing was read of. One that may grow is a file that is written to.
+    pub fn new(alloc: Global, may_grow: bool, seconds: Option<u32>) -> Result<Orders, AllocError> {
+        Ok(Orders {
+            may_grow,
+            seconds,
+            reader: OrderReader::new(alloc),
+            buffer: vec![in alloc; 0; PIECE]?,
+            from: 0,
+            to: 0,
+        })
+    }
+
+    /// The next order in the bytes that were read.
+    fn take(&mut self) -> Result<Option<Order>, AllocError> {
+        let (from, to) = (self.from, self.to);
+        for index in from..to {
+            self.from = index.saturating_add(1);
+            let Some(byte) = self.buffer.get(index) else {
+                break;
+            };
+            if let Some(order) = self.reader.take(*byte)? {
+                return Ok(Some(order));
+            }
+        }
+        Ok(None)
+    }
+
+    /// Takes the next order, or reads a piece.
+    fn look<I: Input>(&mut self, input: &mut I, crash: u32) -> Result<Look, NightEnd> {
+        match self.take() {
+            Ok(Some(order)) => return Ok(Look::Order(order)),
+            Ok(None) => {}
+            Err(AllocError) => return Err(NightEnd::NoMemory),
+        }
+        match input.read(self.buffer.as_mut_slice()) {
+            Ok(0) => Ok(Look::End),
+            Ok(count) => {
+                self.from = 0;
+                self.to = count;
+                Ok(Look::More)
+            }
+            Err(error) if error.kind() == ErrorKind::Interrupted => Ok(Look::More),
+            Err(_) => Err(NightEnd::Unreadable(crash)),
+        }
+    }
+
+    /// Why no order comes, where the input is at its end now; or nothing, where it may go on.
+    fn end_at<R: Wait + Clock + Threads>(
+        &self,
+        rt: &R,
+        crash: u32,
+        since: Option<Instant>,
+    ) -> Option<NightEnd> {
+        if !self.may_grow {
+            return Some(NightEnd::OrdersEnded(crash));
+        }
+        let seconds = self.seconds?;
+        match (since, Instant::now(rt)) {
+            (Some(since), Ok(now))
+                if now.duration_since(since) < Duration::from_secs(u64::from(seconds)) => None,
+            _ => Some(NightEnd::NoOrder(crash, seconds)),
+        }
+    }
+
+    /// Waits for the order that is due at the crash of this number.
+    pub(crate) fn await_order<R: Wait + Clock + Threads, I: Input>(
+        &mut self,
+        rt: &R,
+        input: &mut I,
+        due: Order,
+        crash: u32,
+    ) -> Result<(), NightEnd> {
+        let since = Instant::now(rt).ok();
+        for _ in rt.forever() {
+            match self.look(input, crash)? {
+                Look::Order(order) if order == due => return Ok(()),
+                Look::Order(_) => return Err(NightEnd::OtherOrder(crash)),
+                Look::More => {}
+                Look::End => {
+                    if let Some(end) = self.end_at(rt, crash, since) {
+                        return Err(end);
+                    }
+                    thread::sleep(rt, Duration::from_millis(PAUSE));
+                }
+            }
+        }
+        unreachable!()
+    }
+}

@@ -1,0 +1,79 @@
+//! A night is judged.
+
+ghost use Rattle.std.specs.Prelude.{◌≡◌, ◌≢◌, IfOk, ℕ, List};
+ghost use Rattle.nfs_history.specs.declared.fault.HistoryFault.{HistoryFault};
+ghost use Rattle.nfs_history.specs.declared.knowing.KnownCalls.{KnownCalls};
+ghost use Rattle.nfs_history.specs.History.{IsCallsFile};
+ghost use Rattle.witness_check.specs.Witness.{AreAccepted};
+ghost use Rattle.deciding_command.specs.FileDecision.{Decides};
+ghost use Rattle.history_report.specs.Counted.{report_of};
+ghost use Rattle.night_verdict.specs.Verdict.{IsAnswered, IsCause, verdict_of};
+ghost use Rattle.night_verdict.specs.declared.verdict.Cause.{Cause};
+ghost use Rattle.night_verdict.specs.declared.verdict.NightVerdict.TheVariants.{Yes, No};
+
+use crate::facts::NightFacts;
+use crate::verdict::{NightVerdict, verdict_of};
+use deciding_command::{Effort, FileDecision, decide_file};
+use history_report::report_of_calls;
+use nfs_history::{HistoryFault, read_calls};
+use std::alloc::{AllocError, Global};
+use std::time::Clock;
+
+/// What a night comes to.
+#[derive(Drop)]
+pub struct Judgement {
+    /// What is said of it.
+    pub verdict: NightVerdict,
+    /// How many judged calls of the history were answered; 0 where there is no history.
+    pub answered: u64,
+    /// What is decided of the history.
+    pub decision: FileDecision,
+}
+
+/// None were answered where this fault was found; that memory ran out is no fault of the bytes.
+fn none_answered(fault: HistoryFault) -> Result<u64, AllocError>
+    ensures { IfOk result (λ count. (count ≡ 0) × (fault ≢ HistoryFault.NoMemory)) }
+{
+    match fault {
+        HistoryFault::NoMemory => Err(AllocError),
+        _ => Ok(0),
+    }
+}
+
+/// How many judged calls of the history in these bytes were answered; 0 where they are none.
+fn answered_in(alloc: Global, history: &[u8]) -> Result<u64, AllocError>
+    ensures { IfOk result (IsAnswered history.now) }
+{
+    match read_calls(alloc, history) {
+        Ok(known) => Ok(report_of_calls(&known).answered),
+        Err(fault) => none_answered(fault),
+    }
+}
+
+/// Judges a night by its history: whether the server was in health, whether enough calls were answered, and whether some order explains
+/// what the clients saw. The last may take as much as the effort allows. An `Err` means that memory ran out.
+pub fn judge_night<R: Clock + AllocGlobal>(
+    rt: &R,
+    facts: &NightFacts<'_>,
+    history: &[u8],
+    effort: Effort,
+) -> Result<Judgement, AllocError>
+    // A yes comes only with a certificate that is a witness, and with a server in health.
+    ensures yes { IfOk result (λ judged. judged.verdict ≡ Yes → (text : List ℕ) × AreAccepted history.now text) }
+    // A no comes only for a trouble that the server made, or where no certificate is a witness.
+    ensures no { IfOk result (λ judged. (cause : Cause) → judged.verdict ≡ No cause
+        → IsCause facts.now.troubles.now facts.now.end facts.now.at_least judged.answered history.now cause) }
+    // Which it is, is settled by what is known of the night.
+    ensures exact { IfOk result (λ judged.
+        judged.verdict ≡ verdict_of facts.now.troubles.now facts.now.end facts.now.at_least judged.answered judged.decision) }
+    ensures answered { IfOk result (λ judged. IsAnswered history.now judged.answered) }
+    ensures decided { IfOk result (λ judged. Decides history.now judged.decision) }
+{
+    let answered = answered_in(rt.alloc(), history)?;
+    let decision = decide_file(rt, history, effort)?;
+    Ok(Judgement {
+        verdict: verdict_of(facts, answered, &decision),
+        answered,
+        decision,
+    })
+}

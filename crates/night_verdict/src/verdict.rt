@@ -1,0 +1,137 @@
+//! What is said of a night.
+
+ghost use Rattle.std.specs.Prelude.{◌≡◌, ◌↔◌, IsTrue, Some};
+ghost use Rattle.night_verdict.specs.Verdict.{verdict_of, verdict_in_health, unless_doubt, health_of, doubt_of, is_not_up, is_whole};
+
+use crate::facts::{NightEnd, NightFacts, has_trouble_of_server};
+use deciding_command::FileDecision;
+
+/// Why the server is at fault.
+#[derive(Clone, Copy, PartialEq, Eq)]
+pub enum Cause {
+    /// It hindered a call or a connection: the first such trouble is the cause.
+    Trouble,
+    /// It didn't answer NULL in time after a crash.
+    NotUp,
+    /// Fewer judged calls were answered than had to be.
+    TooFew,
+    /// No order of the calls explains the history.
+    NoWitness,
+}
+
+/// Why nothing is said of the server.
+#[derive(Clone, Copy, PartialEq, Eq)]
+pub enum Doubt {
+    /// What was recorded is no history.
+    BadHistory,
+    /// The eras ended before they were to.
+    Ended,
+    /// This side hindered the calls.
+    Trouble,
+    /// It isn't decided whether some order explains the history.
+    Undecided,
+}
+
+/// What is said of a night.
+#[derive(Clone, Copy, PartialEq, Eq)]
+pub enum NightVerdict {
+    /// Some order explains the history, and the server was in health.
+    Yes,
+    /// The server is at fault.
+    No(Cause),
+    /// Neither.
+    Doubt(Doubt),
+}
+
+fn is_not_up(end: NightEnd) -> bool
+    ensures { result ≡ is_not_up end }
+{
+    matches!(end, NightEnd::NotUp(_, _))
+}
+
+fn is_whole(end: NightEnd) -> bool
+    ensures { result ≡ is_whole end }
+{
+    matches!(end, NightEnd::Whole)
+}
+
+/// Whether the server was in health; else the first cause.
+pub(crate) fn health_of(facts: &NightFacts<'_>) -> Option<Cause>
+    ensures { result ≡ health_of facts.now.troubles.now facts.now.end }
+{
+    if has_trouble_of_server(facts.troubles.kept()) {
+        return Some(Cause::Trouble);
+    }
+    if is_not_up(facts.end) {
+        return Some(Cause::NotUp);
+    }
+    None
+}
+
+/// What is in doubt where some order explains the history.
+pub(crate) fn doubt_of(facts: &NightFacts<'_>) -> Option<Doubt>
+    ensures { result ≡ doubt_of facts.now.troubles.now facts.now.end }
+{
+    if !facts.troubles.kept().is_empty() {
+        return Some(Doubt::Trouble);
+    }
+    if !is_whole(facts.end) {
+        return Some(Doubt::Ended);
+    }
+    None
+}
+
+/// What is said where some order explains the history, and the server was in health.
+fn unless_doubt(facts: &NightFacts<'_>) -> NightVerdict
+    ensures { result ≡ unless_doubt (doubt_of facts.now.troubles.now facts.now.end) }
+{
+    match doubt_of(facts) {
+        Some(doubt) => NightVerdict::Doubt(doubt),
+        None => NightVerdict::Yes,
+    }
+}
+
+/// What is said of a night in health, by what is decided of its history, and whether too few calls were answered.
+fn verdict_in_health(facts: &NightFacts<'_>, few: bool, decision: &FileDecision) -> NightVerdict
+    ensures { result ≡ verdict_in_health facts.now.troubles.now facts.now.end few decision.now }
+{
+    match decision {
+        FileDecision::BadHistory(_) => NightVerdict::Doubt(Doubt::BadHistory),
+        FileDecision::NoWitness { .. } => {
+            if few {
+                NightVerdict::No(Cause::TooFew)
+            } else {
+                NightVerdict::No(Cause::NoWitness)
+            }
+        }
+        FileDecision::Undecided(_) => {
+            if few {
+                NightVerdict::No(Cause::TooFew)
+            } else {
+                NightVerdict::Doubt(Doubt::Undecided)
+            }
+        }
+        FileDecision::Yes(_) => {
+            if few {
+                NightVerdict::No(Cause::TooFew)
+            } else {
+                unless_doubt(facts)
+            }
+        }
+    }
+}
+
+/// What is said of a night: the server's health first, then how many calls were answered, then what is decided of the history.
+pub(crate) fn verdict_of(
+    facts: &NightFacts<'_>,
+    answered: u64,
+    decision: &FileDecision,
+) -> NightVerdict
+    ensures { result ≡ verdict_of facts.now.troubles.now facts.now.end facts.now.at_least answered decision.now }
+{
+    let few = answered < facts.at_least;
+    match health_of(facts) {
+        Some(cause) => NightVerdict::No(cause),
+        None => verdict_in_health(facts, few, decision),
+    }
+}
