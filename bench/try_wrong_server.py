@@ -41,7 +41,7 @@ def is_right_blamed(words, folder: pathlib.Path) -> bool:
             if answers[-1] != "yes":
                 print(f"the right server, seed {seed}{', strict' * is_strict}: {answers[-1]}", flush=True)
         answers += trial.complaints + trial.recorder_complaints()
-        crashes, lost = crashes + trial.crashes, lost + trial.lost()
+        crashes, lost = crashes + trial.crashes, lost + trial.server.lost()
     print(f"the right server: {answers.count('yes')} of {len(answers)} yes; {crashes} crashes lost {lost} changes", flush=True)
     return any(answer != "yes" and not answer.startswith("undecided") for answer in answers)
 
@@ -60,7 +60,7 @@ def look_for(words, folder: pathlib.Path, name: str, kind) -> bool:
     crashes, times = 2 if kind in crash_faults.KINDS else 0, 0
     for seed in range(words.tries):
         trial = record(words.program, folder / f"{name} {seed}", words.port, seed, crashes, ["--fault", name, "--often", str(OFTEN)])
-        times += trial.times()
+        times += trial.server.times()
         how = found(trial, kind)
         if how:
             print(f"{name:22} {seed + 1:2} recordings, happened {times:3} times: {how}", flush=True)

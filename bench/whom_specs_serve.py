@@ -18,7 +18,9 @@ import sys
 ROOTS = {
     # a yes and a no
     "witness_check": "check_files check check_calls a_plan_has_one_verdict two_files_have_one_verdict",
-    "judging_commands": "judge judge_files judge_read run_bundle verdict_report",
+    "judging_commands": "judge judge_files judge_read judge_read_as_json report_read_as_json run_bundle verdict_report",
+    "json_reports": "",
+    "first_look": "look",
     # a book's certificate
     "recorder": "new_from new begin begin_read place place_spelled flush_giving flush answer answer_spelled close_lane crash history"
     " into_history certificate device",

@@ -15,12 +15,15 @@ reply without a handle, without attributes.
 import argparse
 import sys
 
+from differ.layouts import STATUSES
+
 from wrong.faults import OFTEN, all_faults
 from wrong.freedoms import FreeServer
 from wrong.host import Host
 from wrong.loop import Loop
 from wrong.orders import Orders
 from wrong.server import Server
+from wrong.settled import RefusingServer, hold
 
 DELAY = 300
 
@@ -33,20 +36,25 @@ def read_words(faults: dict):
     parser.add_argument("--fault", choices=faults, metavar="NAME")
     parser.add_argument("--free", type=int, metavar="N", help="the right server takes its freedoms about once in N calls")
     parser.add_argument("--often", type=int, default=OFTEN, metavar="N", help="once in N calls that the fault fits (%(default)s)")
+    parser.add_argument("--refuses", choices=STATUSES, metavar="STATUS", help="the server answers each call but NULL with this status, such as NOTSUPP")
+    parser.add_argument("--mount-status", type=int, default=0, metavar="NUMBER", help="MOUNT answers each MNT with this status, such as 13, MNT3ERR_ACCES")
+    parser.add_argument("--holds", type=int, default=0, metavar="N", help="the export has N files before the first call")
     parser.add_argument("--seed", type=int, default=1)
     parser.add_argument("--orders", metavar="FILE", help="a fifo, or a file that is read as it grows; else standard input")
     parser.add_argument("--delay", type=int, default=DELAY, metavar="MICROSECONDS",
                         help="the most between a call and its effect, and between that and its reply (%(default)s)")
     parser.add_argument("--list", action="store_true", help="prints the faults, where each shows, and what it does")
     words = parser.parse_args()
-    if words.fault and words.free:
-        parser.error("--free is for the right server")
+    if sum(map(bool, (words.fault, words.free, words.refuses))) > 1:
+        parser.error("one of --fault, --free and --refuses")
     return words
 
 
 def server_for(words, faults: dict) -> Server:
     if words.fault:
         return faults[words.fault](words.seed, words.often)
+    if words.refuses:
+        return RefusingServer(words.seed, words.refuses)
     return FreeServer(words.seed, words.free) if words.free else Server(words.seed)
 
 
@@ -55,7 +63,10 @@ class Program:
 
     def __init__(self, words, faults: dict):
         self.loop = Loop()
-        self.host = Host(self.loop, server_for(words, faults), (words.port, words.mount), words.export.encode(), words.seed, words.delay)
+        server = server_for(words, faults)
+        hold(server, words.holds)
+        self.host = Host(self.loop, server, (words.port, words.mount), words.export.encode(), words.seed, words.delay)
+        self.host.mounts.status = words.mount_status
         self.orders = Orders(self.loop, self.obey, words.orders)
 
     def obey(self, order: str) -> None:

@@ -15,9 +15,9 @@ class Host:
         """`delay` is in microseconds: the most by which an effect, and then the reply, comes later."""
         self.loop, self.server, self.delay = loop, server, delay / MILLION
         self.draws = random.Random(f"{seed} delays")
-        mount = Mount(export, server.root_handle)
+        self.mounts = Mount(export, server.root_handle)
         self.nfs = Port(loop, ports[0], self.take)
-        self.mount = Port(loop, ports[1], lambda connection, message: answer(connection, mount.answer(message)))
+        self.mount = Port(loop, ports[1], lambda connection, message: answer(connection, self.mounts.answer(message)))
         self.is_up = False
 
     def later(self, step, call: Call) -> None:

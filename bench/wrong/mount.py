@@ -14,6 +14,8 @@ PATH_LIMIT = 1024
 class Mount:
     def __init__(self, export: bytes, root_handle: bytes):
         self.export, self.root_handle = export, root_handle
+        # What each MNT is answered with, if it isn't 0.
+        self.status = OK
 
     def answer(self, message: bytes):
         """The reply to a message, or None where it is no call."""
@@ -31,6 +33,8 @@ class Mount:
     def results(self, procedure: int, source: Source) -> bytes:
         if procedure == MNT:
             path = Opaque(PATH_LIMIT).read(source)
+            if self.status != OK:
+                return word(self.status)
             if path.rstrip(b"/") != self.export.rstrip(b"/"):
                 return word(NO_ENTRY)
             return word(OK) + opaque(self.root_handle) + words(2, AUTH_SYS, AUTH_NONE)

@@ -1,9 +1,7 @@
 """A trial of the server: its clients are recorded by `nfsbench tap`, and the history is decided by `nfsbench decide`."""
-import atexit
 import pathlib
 import random
 import subprocess
-import sys
 import threading
 import time
 
@@ -13,10 +11,10 @@ from differ.rpc import read_reply
 from large.wire import opaque
 
 from .peer import Peer
+from .process import ServerProcess, say, soon, started
 from .results import word, words
 from .sample import STRICT_HEAD, Client, Mix, spelled
 
-SERVER = pathlib.Path(__file__).parents[1] / "wrong_server.py"
 PATIENCE = 3
 ROOT_AT = 28
 
@@ -24,15 +22,6 @@ ROOT_AT = 28
 def listens(port: int) -> bool:
     """Asks without a connection, which would be a lane."""
     return any(f":{port:04X} 00000000:0000 0A" in line for line in open("/proc/net/tcp"))
-
-
-def soon(is_so, seconds: float = 20) -> bool:
-    end = time.monotonic() + seconds
-    while time.monotonic() < end:
-        if is_so():
-            return True
-        time.sleep(0.01)
-    return False
 
 
 class Caller(threading.Thread):
@@ -74,27 +63,14 @@ class Trial:
     def __init__(self, program: str, folder: pathlib.Path, port: int, words_of_server: list[str]):
         self.program, self.folder, self.port = program, folder, port
         self.history = folder / "history"
-        self.said, self.heard = folder / "server", folder / "tap"
-        line = [sys.executable, str(SERVER), "--port", str(port), "--mount", str(port + 1), *words_of_server]
-        self.server = self.started(line, self.said)
-        self.expect("ready")
+        self.heard = folder / "tap"
+        self.server = ServerProcess(folder / "server", port, words_of_server)
         self.root = self.mounted()
         line = [program, "tap", "--quiet", "--root", self.root.hex(), "--port", str(port + 2), "--server", str(port), str(self.history)]
-        self.tap = self.started(line, self.heard)
+        self.tap = started(line, self.heard)
         assert soon(lambda: listens(port + 2)), "the recorder doesn't listen"
         self.clients: list[Client] = []
         self.crashes, self.complaints = 0, []
-
-    def started(self, line: list[str], errors: pathlib.Path) -> subprocess.Popen:
-        """A process that doesn't outlive this one."""
-        with open(errors, "w") as file:
-            process = subprocess.Popen(line, stdin=subprocess.PIPE, stdout=subprocess.PIPE, stderr=file, text=True)
-        atexit.register(process.kill)
-        return process
-
-    def expect(self, line: str) -> None:
-        answer = self.server.stdout.readline()
-        assert answer == line + "\n", f"the server says {answer!r}, not {line}"
 
     def mounted(self) -> bytes:
         """The root handle, from the reply to MNT."""
@@ -120,34 +96,17 @@ class Trial:
         if seconds is None:
             self.complaints += [caller.complaint for caller in callers if caller.complaint]
 
-    def say(self, process: subprocess.Popen, line: str) -> None:
-        process.stdin.write(line + "\n")
-        process.stdin.flush()
-
     def crash(self) -> None:
-        self.say(self.server, "crash")
-        self.expect("down")
+        self.server.crash()
         self.crashes += 1
-        self.say(self.tap, "crash")
+        say(self.tap, "crash")
         assert soon(lambda: self.heard.read_text().count("the crash is noted") == self.crashes), "the crash isn't noted"
-        self.say(self.server, "up")
-        self.expect("up")
+        self.server.up()
 
     def end(self) -> None:
         self.tap.communicate()
-        if self.server.poll() is not None:
+        if not self.server.end():
             self.complaints.append("the server ended")
-        else:
-            self.say(self.server, "end")
-        self.server.communicate()
-
-    def times(self) -> int:
-        """How often the fault happened."""
-        return sum(line.startswith("fault ") for line in self.said.read_text().splitlines())
-
-    def lost(self) -> int:
-        """How many changes the crashes took back."""
-        return sum(int(line.split()[1]) for line in self.said.read_text().splitlines() if line.startswith("lost "))
 
     def recorder_complaints(self) -> list[str]:
         return sorted({word for line in self.heard.read_text().splitlines() for word in ("NoSuchCall", "BadRpc", "RecordTooLong") if word in line})
