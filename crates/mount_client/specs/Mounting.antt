@@ -1,4 +1,4 @@
--- Believed.
+-- For the prover, and for callers.
 -- How a client asks the MOUNT service of version 3, and what it is answered: RFC 1813, section 5 and appendix I.
 use Rattle.std.specs.Prelude.{◌≡◌, ◌<◌, ℕ, zero, suc, ◌==◌, ◌||◌, Bool, List, [], ◌∷◌, length, Vec, Result, Ok, Err}
 use Rattle.std.specs.declared.alloc.Global.{Global}

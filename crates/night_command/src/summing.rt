@@ -1,13 +1,16 @@
 //! What a night comes to is judged, written and said.
 
 ghost use Rattle.std.specs.Prelude.{◌≡◌, ◌<◌, IfOk};
+ghost use Rattle.night_verdict.specs.Words.{night_status};
+ghost use Rattle.night_command.specs.Status.{told_status};
 
 use crate::files::{Noted, findings_of, numbers_told, reason_lines, request_told, write_files};
 use crate::opening::profile_of;
 use crate::refusal::NightRefusal;
 use crate::running::Ran;
 use crate::words::TestRequest;
-use deciding_command::Effort;
+use deciding_command::{Effort, FileDecision};
+use failure_causes::{CauseCounts, count_causes};
 use history_file::WriteFault;
 use json_reports::refusal_line;
 use night_lanes::{Counts, Troubles};
@@ -53,6 +56,20 @@ struct Told {
     lines: Vec<String>,
     /// The last line, and the status.
     last: Report,
+    /// Why calls failed, where an order explains it.
+    causes: Option<CauseCounts>,
+}
+
+/// Why calls of a history failed, by the order that was found, if one was.
+fn causes_of(
+    alloc: Global,
+    history: &[u8],
+    judged: &Judgement,
+) -> Result<Option<CauseCounts>, AllocError> {
+    match &judged.decision {
+        FileDecision::Yes(certificate) => count_causes(alloc, history, certificate.as_slice()),
+        _ => Ok(None),
+    }
 }
 
 /// The words of a night that was judged.
@@ -61,8 +78,10 @@ fn told_of(
     facts: &NightFacts<'_>,
     judged: Judgement,
     noted: Noted,
+    causes: Option<CauseCounts>,
 ) -> Result<Told, AllocError>
-    ensures { IfOk result (λ told. told.last.status < 3) }
+    ensures known { IfOk result (λ told. told.last.status < 3) }
+    ensures status { IfOk result (λ told. told.last.status ≡ night_status told.judged.verdict) }
 {
     let reasons = reasons_of(alloc, facts, &judged)?;
     let lines = reason_lines(alloc, &reasons)?;
@@ -73,6 +92,7 @@ fn told_of(
         reasons,
         lines,
         last,
+        causes,
     })
 }
 
@@ -98,8 +118,10 @@ fn said_of(
     report: &NightReport<'_>,
     is_written: bool,
 ) -> Result<Report, AllocError>
-    requires { report.now.status < 3 }
-    ensures { IfOk result (λ report. report.status < 3) }
+    requires known { report.now.status < 3 }
+    requires status { report.now.status ≡ night_status verdict }
+    ensures known { IfOk result (λ report. report.status < 3) }
+    ensures status { IfOk result (λ report. report.status ≡ told_status is_written verdict) }
 {
     if !is_written && !matches!(verdict, NightVerdict::No(_)) {
         return refused_report(alloc, request, &NightRefusal::CannotWrite);
@@ -121,7 +143,8 @@ fn written_report<'n, R: RecordingRuntime>(
     troubles: &'n Troubles,
     history: &'n [u8],
 ) -> Result<Report, AllocError>
-    requires { told.now.last.status < 3 }
+    requires known { told.now.last.status < 3 }
+    requires status { told.now.last.status ≡ night_status told.now.judged.verdict }
     ensures { IfOk result (λ report. report.status < 3) }
 {
     let (health, order, enough) = findings_of(&told.judged, &told.reasons);
@@ -130,6 +153,7 @@ fn written_report<'n, R: RecordingRuntime>(
         request: request_told(request),
         numbers: numbers_told(ran, told.noted, troubles, &told.judged),
         counts,
+        causes: told.causes,
         troubles,
         status: told.last.status(),
         line: told.last.line().trim_end(),
@@ -157,7 +181,8 @@ fn judged<R: RecordingRuntime>(
     noted: Noted,
     history: &[u8],
 ) -> Result<Told, AllocError>
-    ensures { IfOk result (λ told. told.last.status < 3) }
+    ensures known { IfOk result (λ told. told.last.status < 3) }
+    ensures status { IfOk result (λ told. told.last.status ≡ night_status told.judged.verdict) }
 {
     let facts = NightFacts {
         troubles,
@@ -165,7 +190,8 @@ fn judged<R: RecordingRuntime>(
         at_least: request.limits.at_least,
     };
     let judged = judge_night(rt, &facts, history, effort_of(request))?;
-    told_of(rt.alloc(), &facts, judged, noted)
+    let causes = causes_of(rt.alloc(), history, &judged)?;
+    told_of(rt.alloc(), &facts, judged, noted, causes)
 }
 
 /// Judges a night by the bytes of its history, writes its files, and gives its lines and its status.

@@ -6,10 +6,12 @@ use crate::coverage::{
 };
 use crate::hints::rights_hint;
 use crate::report::{NightReport, Numbers, Request};
+use failure_causes::{CauseCounts, cause_name};
 use history_lines::status_name;
 use night_lanes::{Counts, Trouble, TroubleKind, Troubles};
 use serde::{Described, Serialize, Serializer};
 use std::alloc::{AllocError, Global};
+use tree_answers::causes;
 
 /// The whole object.
 #[derive(Clone, Copy, Serialize)]
@@ -56,6 +58,27 @@ struct Coverage<'n> {
     missing: Missing<'n>,
     statuses: Statuses<'n>,
     results: u64,
+    causes: Option<MetCauses>,
+}
+
+/// How often each cause made a call fail, of those that did.
+#[derive(Clone, Copy)]
+struct MetCauses(CauseCounts);
+
+impl Described for MetCauses {}
+
+impl Serialize for MetCauses {
+    fn serialize<S: Serializer>(&self, out: &mut S) -> Result<(), S::Error> {
+        out.begin_map(None)?;
+        for cause in causes() {
+            let count = self.0.of(cause);
+            if count > 0 {
+                out.key(cause_name(cause))?;
+                out.u64(count)?;
+            }
+        }
+        out.end_map()
+    }
 }
 
 /// The names of the judged procedures that gave no result.
@@ -206,13 +229,14 @@ fn verdict_of<'n, 'a>(night: &'n NightReport<'a>) -> Verdict<'n, 'a> {
     }
 }
 
-fn coverage_of(counts: &Counts) -> Coverage<'_> {
+fn coverage_of(counts: &Counts, causes: Option<CauseCounts>) -> Coverage<'_> {
     Coverage {
         procedures: met_procedures(counts),
         of: judged_procedures(counts),
         missing: Missing(counts),
         statuses: Statuses(counts),
         results: met_results(counts),
+        causes: causes.map(MetCauses),
     }
 }
 
@@ -222,7 +246,7 @@ fn whole_of<'n, 'a>(night: &'n NightReport<'a>) -> Whole<'n, 'a> {
         verdict: verdict_of(night),
         request: night.request,
         numbers: night.numbers,
-        coverage: coverage_of(counts),
+        coverage: coverage_of(counts, night.causes),
         denied: counts.denied(),
         too_weak: counts.too_weak(),
         hint: rights_hint(counts),

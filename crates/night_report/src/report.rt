@@ -1,5 +1,6 @@
 //! What is told of a night.
 
+use failure_causes::CauseCounts;
 use night_lanes::{Counts, Troubles};
 use serde::Serialize;
 
@@ -54,6 +55,8 @@ pub struct NightReport<'a> {
     pub request: Request<'a>,
     pub numbers: Numbers,
     pub counts: &'a Counts,
+    /// How often each cause made a call fail, by the order that explains the history; nothing where none was found.
+    pub causes: Option<CauseCounts>,
     pub troubles: &'a Troubles,
     /// The exit status.
     pub status: u8,

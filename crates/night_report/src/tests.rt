@@ -99,6 +99,7 @@ impl<'a> Sample<'a> {
                 troubles: u64::from(self.troubles),
             },
             counts,
+            causes: None,
             troubles,
             status: self.status,
             line: self.line,
@@ -274,7 +275,8 @@ fn a_red_night_in_json(rt: HostRuntime) -> Result<(), Fail> {
       \"NFS3ERR_ACCES\",
       \"NFS3ERR_STALE\"
     ],
-    \"results\": 3
+    \"results\": 3,
+    \"causes\": null
   },
   \"denied\": 2,
   \"too_weak\": 0,

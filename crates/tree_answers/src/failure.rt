@@ -127,8 +127,8 @@ fn gives(cause: Cause, failure: Failure) -> bool
     }
 }
 
-/// Whether a cause holds.
-fn holds(view: &View<'_>, call: &NfsCall, cause: Cause) -> bool
+/// Whether a cause holds where a call is made, whatever its reply.
+pub fn holds(view: &View<'_>, call: &NfsCall, cause: Cause) -> bool
     ensures { result ≡ (row cause).holds view.now.binds.now view.now.nodes.now call.now }
 {
     match cause {
@@ -156,7 +156,7 @@ fn holds(view: &View<'_>, call: &NfsCall, cause: Cause) -> bool
 }
 
 /// Whether a cause holds that a status stands beside.
-fn is_caused_by(view: &View<'_>, call: &NfsCall, failure: Failure, cause: Cause) -> bool
+pub fn is_caused_by(view: &View<'_>, call: &NfsCall, failure: Failure, cause: Cause) -> bool
     ensures { result ≡ is_caused_by view.now.binds.now view.now.nodes.now call.now failure cause }
 {
     if gives(cause, failure) {
@@ -178,11 +178,11 @@ fn is_caused_by_any(view: &View<'_>, call: &NfsCall, failure: Failure, causes: &
     false
 }
 
-/// Whether any cause does.
-fn is_caused(view: &View<'_>, call: &NfsCall, failure: Failure) -> bool
-    ensures { result ≡ list_any (is_caused_by view.now.binds.now view.now.nodes.now call.now failure) causes }
+/// The causes, in the table's order.
+pub fn causes() -> [Cause; 20]
+    ensures { result ≡ causes }
 {
-    let causes = [
+    [
         Cause::HandleIsntLive,
         Cause::HandleOfNoDirectory,
         Cause::ReadLinkOfNoLink,
@@ -203,12 +203,18 @@ fn is_caused(view: &View<'_>, call: &NfsCall, failure: Failure) -> bool
         Cause::SetAttrWithGuard,
         Cause::ListingWithCookie,
         Cause::AnyListing,
-    ];
-    is_caused_by_any(view, call, failure, &causes)
+    ]
 }
 
-/// Whether a status may answer only beside a cause.
-fn is_judged_status(failure: Failure) -> bool
+/// Whether any cause does.
+fn is_caused(view: &View<'_>, call: &NfsCall, failure: Failure) -> bool
+    ensures { result ≡ list_any (is_caused_by view.now.binds.now view.now.nodes.now call.now failure) causes }
+{
+    is_caused_by_any(view, call, failure, &causes())
+}
+
+/// Whether a status may answer only beside a cause. Every other one may answer any call.
+pub fn is_judged_status(failure: Failure) -> bool
     ensures { result ≡ is_judged_status failure }
 {
     is_one_of(

@@ -12,7 +12,7 @@ mod read;
 mod rename_causes;
 
 pub use asked::{first_handle, first_place, second_handle};
-pub use failure::{Cause, is_permitted};
+pub use failure::{Cause, causes, holds, is_caused_by, is_judged_status, is_permitted};
 pub use listing::{readdir_is_legal, readdirplus_is_legal};
 pub use look::{
     commit_is_legal, getattr_is_legal, lookup_is_legal, object_named, readlink_is_legal,
