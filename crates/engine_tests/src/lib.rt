@@ -10,6 +10,8 @@ mod cut;
 #[cfg(test)]
 mod frames;
 #[cfg(test)]
+mod nights;
+#[cfg(test)]
 mod peers;
 #[cfg(test)]
 mod pieces;
