@@ -1,0 +1,9 @@
+pub mod Beginning
+pub mod EventLists
+pub mod Longest
+pub mod OneEnd
+pub mod Heads
+pub mod Reading
+pub mod Files
+pub mod Whole
+pub mod Cuts
