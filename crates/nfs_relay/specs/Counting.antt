@@ -2,7 +2,7 @@
 -- How many calls stand among events, as a log holds them.
 use Rattle.std.specs.Prelude.{ℕ, Bool, true, false, List, count_by}
 use Rattle.history_file.specs.declared.event.Event.{Event}
-use Rattle.history_file.specs.declared.event.Event.TheVariants.{Call, Reply, Close, Crash}
+use Rattle.history_file.specs.declared.event.Event.TheVariants.{Call}
 
 abbrev pub is_call : Event → Bool
 is_call (Call lane message) = true

@@ -6,6 +6,7 @@ ghost use Rattle.nfs_relay.specs.Closing.{NotesOnce};
 
 use crate::control::{Halt, Lane};
 use crate::ending::LaneEnd;
+use crate::health::ServerEnd;
 use crate::relay::{Relay, RelayRuntime};
 use nfs_tap::{PumpEnd, TapLog, pump_calls, pump_replies};
 use std::net::{Shutdown, TcpStream};
@@ -146,12 +147,16 @@ impl Relay {
             lane.number,
             &self.log,
         );
+        if end == PumpEnd::WriteFault {
+            self.note_server_end(rt, lane, ended);
+        }
+        // Noted before the server's side is ended, which is then no end of the server's.
+        self.note_end(rt, ended);
         if end == PumpEnd::End {
             let _ = pair.server.shutdown(Shutdown::Write);
         } else {
             pair.shut();
         }
-        self.note_end(rt, ended);
         end
     }
 
@@ -172,9 +177,24 @@ impl Relay {
             lane.number,
             &self.log,
         );
+        if matches!(end, PumpEnd::End | PumpEnd::ReadFault) {
+            self.note_server_end(rt, lane, ended);
+        }
         pair.shut();
         self.note_end(rt, ended);
         end
+    }
+
+    /// The server ended a lane. Where nobody else had, that is noted.
+    fn note_server_end<R: Wait>(&self, rt: &R, lane: Lane, ended: &AtomicU64) {
+        if ended.load(Ordering::SeqCst) > 0 || !self.control.lock(rt).runs(lane.era) {
+            return;
+        }
+        let events = self.log.lock(rt).events().len();
+        self.health.lock(rt).note_end(ServerEnd {
+            lane: lane.number,
+            events,
+        });
     }
 
     /// A pump ended.
@@ -205,11 +225,19 @@ impl Relay {
         }
     }
 
+    /// Notes the records of a lane that weren't noted.
+    fn note_pumps<R: Wait>(&self, rt: &R, end: LaneEnd) {
+        let mut health = self.health.lock(rt);
+        health.note_pump(end.lane, false, end.calls);
+        health.note_pump(end.lane, true, end.replies);
+    }
+
     /// Says how a lane ended where something failed, and ends the recording where the log can't go on.
     fn tell_end<R: RelayRuntime>(&self, rt: &R, end: LaneEnd) {
         if let Some(reason) = end.halt() {
             self.halt(rt, reason);
         }
+        self.note_pumps(rt, end);
         if !end.is_clean() {
             let _ = rt.eprintln(end);
         }

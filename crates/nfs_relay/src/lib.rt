@@ -4,11 +4,13 @@
 mod connection;
 mod control;
 mod ending;
+mod health;
 mod order;
 mod relay;
 mod tally;
 
 pub use control::Halt;
+pub use health::{Health, Refused, ServerEnd};
 pub use order::{Order, OrderReader};
 pub use relay::{Relay, RelayRuntime};
 pub use tally::calls_in;

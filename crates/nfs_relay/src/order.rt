@@ -11,6 +11,9 @@ const CRASH: &[u8] = b"crash";
 /// The line that tells that the server was started again.
 const UP: &[u8] = b"up";
 
+/// The line that ends the recording.
+const END: &[u8] = b"end";
+
 /// What a line says.
 #[derive(Clone, Copy, PartialEq, Eq)]
 pub enum Order {
@@ -18,6 +21,8 @@ pub enum Order {
     Crash,
     /// The server was started again. A recorder needs no word of that.
     Up,
+    /// The recording is to end.
+    End,
     /// Another line, which isn't empty.
     Unknown,
 }
@@ -52,7 +57,9 @@ impl OrderReader {
     pub fn take(&mut self, byte: u8) -> Result<Option<Order>, AllocError>
         ensures crash { IfOk result (λ order. (order ≡ Some Order.Crash) ↔ ((byte ≡ 10) × (self.old ≡ codes "crash"))) }
         ensures up { IfOk result (λ order. (order ≡ Some Order.Up) ↔ ((byte ≡ 10) × (self.old ≡ codes "up"))) }
-        ensures unknown { IfOk result (λ order. (order ≡ Some Order.Unknown) ↔ ((byte ≡ 10) × (self.old ≢ []) × (self.old ≢ codes "crash") × (self.old ≢ codes "up"))) }
+        ensures end { IfOk result (λ order. (order ≡ Some Order.End) ↔ ((byte ≡ 10) × (self.old ≡ codes "end"))) }
+        ensures unknown { IfOk result (λ order. (order ≡ Some Order.Unknown)
+            ↔ ((byte ≡ 10) × (self.old ≢ []) × (self.old ≢ codes "crash") × (self.old ≢ codes "up") × (self.old ≢ codes "end"))) }
         ensures begun { OnOk result (byte ≡ 10 → self.new ≡ []) }
         ensures line { OnOk result (byte ≢ 10 → self.new ≡ take 6 (self.old ++ byte ∷ [])) }
         ensures kept { OnErr result (self.new ≡ self.old) }
@@ -80,7 +87,9 @@ impl OrderReader {
 fn order_of(line: &[u8]) -> Option<Order>
     ensures crash { (result ≡ Some Order.Crash) ↔ (line.now ≡ codes "crash") }
     ensures up { (result ≡ Some Order.Up) ↔ (line.now ≡ codes "up") }
-    ensures unknown { (result ≡ Some Order.Unknown) ↔ ((line.now ≢ []) × (line.now ≢ codes "crash") × (line.now ≢ codes "up")) }
+    ensures end { (result ≡ Some Order.End) ↔ (line.now ≡ codes "end") }
+    ensures unknown { (result ≡ Some Order.Unknown)
+        ↔ ((line.now ≢ []) × (line.now ≢ codes "crash") × (line.now ≢ codes "up") × (line.now ≢ codes "end")) }
 {
     if line.is_empty() {
         return None;
@@ -90,6 +99,9 @@ fn order_of(line: &[u8]) -> Option<Order>
     }
     if line == UP {
         return Some(Order::Up);
+    }
+    if line == END {
+        return Some(Order::End);
     }
     Some(Order::Unknown)
 }

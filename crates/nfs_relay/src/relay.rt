@@ -6,8 +6,11 @@ ghost use Rattle.nfs_tap.specs.Room.{HasRoom};
 ghost use Rattle.nfs_relay.specs.Closing.{NotesOnce};
 
 use crate::control::{Admission, Control, Halt};
+use crate::health::Health;
 use crate::tally::{Progress, Tally};
+use history_file::{EVENT_LIMIT, HISTORY_LIMIT};
 use nfs_tap::TapLog;
+use std::alloc::Global;
 use std::net::{Net, SocketAddr, TcpListener, TcpStream};
 use std::sync::{Condvar, Mutex, Wait};
 use std::thread::{self, Threads};
@@ -33,6 +36,9 @@ where
         + Sync,
 {}
 
+/// How many events, and how many bytes, are left where the limits of a history are near.
+const NEAR: (usize, usize) = (EVENT_LIMIT as usize / 10, HISTORY_LIMIT / 10);
+
 /// How many milliseconds the relay sleeps where no connection waits.
 const PAUSE: u64 = 1;
 
@@ -43,6 +49,7 @@ pub struct Relay {
     pub(crate) control: Mutex<Control>,
     /// Told when the control changes.
     pub(crate) changed: Condvar,
+    pub(crate) health: Mutex<Health>,
     pub(crate) server: SocketAddr,
     /// Whether so many connections are to come, each of which has to get its server.
     pub(crate) is_counted: bool,
@@ -51,11 +58,18 @@ pub struct Relay {
 
 impl Relay {
     /// A relay to a server, for so many connections or any number of them.
-    pub fn new(log: TapLog, server: SocketAddr, lanes: Option<u32>, is_quiet: bool) -> Relay {
+    pub fn new(
+        alloc: Global,
+        log: TapLog,
+        server: SocketAddr,
+        lanes: Option<u32>,
+        is_quiet: bool,
+    ) -> Relay {
         Relay {
             log: Mutex::new(log),
             control: Mutex::new(Control::new(lanes)),
             changed: Condvar::new(),
+            health: Mutex::new(Health::new(alloc)),
             server,
             is_counted: lanes.is_some(),
             is_quiet,
@@ -65,6 +79,17 @@ impl Relay {
     /// What was noted.
     pub fn log(&self) -> &Mutex<TapLog> {
         &self.log
+    }
+
+    /// What went wrong, beside what the log shows.
+    pub fn health(&self) -> &Mutex<Health> {
+        &self.health
+    }
+
+    /// Whether all its connections have ended, and no more come.
+    pub fn has_ended<R: Wait>(&self, rt: &R) -> bool {
+        let control = self.control.lock(rt);
+        control.is_over() && control.present() == 0
     }
 
     /// Why it ended, or is to end, where not all its connections had come.
@@ -176,10 +201,22 @@ impl Relay {
 
     /// Once a second, tells how far the recording is.
     fn tell_progress<R: RelayRuntime>(&self, rt: &R, ticker: &mut Ticker) {
-        if self.is_quiet || !ticker.is_due(rt) {
+        if !ticker.is_due(rt) {
             return;
         }
-        ticker.tally.follow(self.log.lock(rt).events());
+        let log = self.log.lock(rt);
+        ticker.tally.follow(log.events());
+        let is_near = is_near_limit(&log);
+        drop(log);
+        if is_near && !ticker.is_warned {
+            ticker.is_warned = true;
+            let _ = eprintln!(rt;
+                "the history is near its limits: 1000000 events, 268435456 bytes"
+            );
+        }
+        if self.is_quiet {
+            return;
+        }
         let present = self.control.lock(rt).present();
         let tally = ticker.tally;
         let _ = rt.eprintln(Progress { present, tally });
@@ -191,6 +228,8 @@ impl Relay {
 struct Ticker {
     last: Option<Instant>,
     tally: Tally,
+    /// Whether it was told that the limits are near.
+    is_warned: bool,
 }
 
 impl Ticker {
@@ -198,6 +237,7 @@ impl Ticker {
         Ticker {
             last: Instant::now(rt).ok(),
             tally: Tally::new(),
+            is_warned: false,
         }
     }
 
@@ -215,6 +255,11 @@ impl Ticker {
         }
         is_due
     }
+}
+
+/// Whether nine parts of ten of what a history may have are taken.
+fn is_near_limit(log: &TapLog) -> bool {
+    log.events().len() > EVENT_LIMIT as usize - NEAR.0 || !log.has_room(NEAR.1)
 }
 
 /// Has a crash noted, if the log has room for it.

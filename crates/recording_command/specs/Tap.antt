@@ -10,11 +10,17 @@ use Rattle.program_streams.specs.Told.{Tells, refused_line, memory_line}
 
 abbrev pub end_status : TapEnd → ℕ
 end_status (ends.Written calls) = 0
+end_status (ends.Unhealthy calls) = 1
 end_status ends.NoMemory = 3
 end_status end = 2
 
 abbrev pub end_line : TapEnd → List ℕ
 end_line (ends.Written calls) = codes "calls " ++ (decimal calls ++ 10 ∷ [])
+end_line (ends.Unhealthy calls) = codes "calls " ++ (decimal calls ++ 10 ∷ [])
+end_line ends.CannotMount = refused_line (codes "cannot mount")
+end_line ends.NoOrders = refused_line (codes "cannot read orders")
+end_line ends.NoStart = refused_line (codes "no start")
+end_line ends.PartStands = refused_line (codes "a .part of an earlier recording is there: mend it, or remove it")
 end_line ends.BadRoot = refused_line (codes "bad root")
 end_line ends.CannotListen = refused_line (codes "cannot listen")
 end_line ends.CannotConnect = refused_line (codes "cannot connect")
@@ -28,9 +34,9 @@ refusal_of (Some halts.CannotConnect) = Some ends.CannotConnect
 refusal_of (Some halts.NoThread) = Some ends.NoThread
 refusal_of halt = None
 
--- this was said of an end, or that memory ran out, or a write failed
-abbrev pub IsTold : TapEnd → ℕ → Option (List ℕ) → Option (List ℕ) → Type 0
-IsTold end status old new = (status ≡ 2) ⊎ Tells status old new (end_status end) (end_line end) ⊎ Tells status old new 3 memory_line
+-- this was said of an end behind these lines, or that memory ran out, or a write failed
+abbrev pub IsTold : TapEnd → List ℕ → ℕ → Option (List ℕ) → Option (List ℕ) → Type 0
+IsTold end lines status old new = (status ≡ 2) ⊎ Tells status old new (end_status end) (lines ++ end_line end) ⊎ Tells status old new 3 memory_line
 
 -- no bytes of a handle are spelled so
 abbrev pub IsNoRoot : List ℕ → Type 0

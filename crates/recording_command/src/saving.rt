@@ -7,13 +7,16 @@ ghost use Rattle.history_file.specs.HistoryFile.{magic};
 ghost use Rattle.history_file.specs.declared.version.Version.TheVariants.{First};
 ghost use Rattle.history_file.specs.Limits.{history_limit};
 ghost use Rattle.history_file.specs.Owning.{all_happened};
-ghost use Rattle.history_file.specs.Writing.{events_text, file_text};
+ghost use Rattle.history_file.specs.Writing.{events_text, file_text, file_text_from};
 
-use history_file::{EVENT_LIMIT, Event, HISTORY_LIMIT, WriteFault, write_history};
+use history_file::{
+    EVENT_LIMIT, Event, HISTORY_LIMIT, WriteFault, write_history, write_history_from,
+};
 use nfs_tap::TapLog;
 use program_streams::write_pieces;
 use std::alloc::{AllocError, AllocFailed, Global};
 use std::io::{self, Write};
+use tree_starts::{Profile, Start};
 use xdr_records::{put_opaque, put_u32};
 
 /// How many events are written at a time.
@@ -57,6 +60,27 @@ impl From<WriteFault> for SaveFault {
     }
 }
 
+/// What a server held at first, and how its replies are judged: a history of version 2 begins so.
+#[derive(Drop)]
+pub(crate) struct Beginning {
+    pub(crate) profile: Profile,
+    pub(crate) start: Start,
+}
+
+/// The history file of these events of a log, of a server that held this at first.
+pub(crate) fn file_from(
+    alloc: Global,
+    beginning: &Beginning,
+    root: &[u8],
+    events: &[Event],
+) -> Result<Vec<u8>, SaveFault>
+    ensures { IfOk result (λ file. file.items ≡ file_text_from
+        (record { root = root.now; start = beginning.now.start; profile = beginning.now.profile }) (all_happened events.now)) }
+{
+    let file = write_history_from(alloc, root, beginning.profile, &beginning.start, events)?;
+    Ok(file)
+}
+
 /// The bytes of a file ahead of its events.
 fn file_head(alloc: Global, root: &[u8], events: u32) -> Result<Vec<u8>, SaveFault>
     requires { length root.now < 2 ^ 32 }
@@ -74,6 +98,15 @@ fn behind_head(text: &[u8]) -> &[u8]
     ensures { result.now ≡ drop 16 text.now }
 {
     &text[HEAD_SIZE..]
+}
+
+/// Events as they stand in a file.
+pub(crate) fn put_events(alloc: Global, events: &[Event]) -> Result<Vec<u8>, SaveFault>
+    ensures { IfOk result (λ text. text.items ≡ events_text (all_happened events.now)) }
+{
+    let text = write_history(alloc, b"".as_slice(), events)?;
+    let bytes = Vec::from_slice(alloc, behind_head(text.as_slice()))?;
+    Ok(bytes)
 }
 
 /// Writes events as they stand in a file, and says how many bytes these are.
@@ -114,6 +147,49 @@ fn write_events<W: Write>(
         rest = behind;
     }
     Ok(())
+}
+
+/// Writes the history file of what was noted, of a server that held this at first, or nothing.
+pub(crate) fn write_log_of<W: Write>(
+    alloc: Global,
+    beginning: &Option<Beginning>,
+    log: &TapLog,
+    writer: &mut W,
+) -> Result<(), SaveFault> {
+    match beginning {
+        None => write_log(alloc, log, writer),
+        Some(beginning) => {
+            let file = file_from(alloc, beginning, log.root().as_slice(), log.events())?;
+            write_pieces(writer, file.as_slice())?;
+            Ok(())
+        }
+    }
+}
+
+/// The history file of what was noted, of a server that held this at first, or nothing.
+pub(crate) fn log_file(
+    alloc: Global,
+    beginning: &Option<Beginning>,
+    log: &TapLog,
+) -> Result<Vec<u8>, SaveFault> {
+    let file = match beginning {
+        None => write_history(alloc, log.root().as_slice(), log.events())?,
+        Some(beginning) => file_from(alloc, beginning, log.root().as_slice(), log.events())?,
+    };
+    Ok(file)
+}
+
+/// The bytes that a file begins with while its events aren't counted: that of no events.
+pub(crate) fn part_head(
+    alloc: Global,
+    beginning: &Option<Beginning>,
+    root: &[u8],
+) -> Result<Vec<u8>, SaveFault> {
+    let file = match beginning {
+        None => write_history(alloc, root, &[])?,
+        Some(beginning) => file_from(alloc, beginning, root, &[])?,
+    };
+    Ok(file)
 }
 
 /// Writes the history file of what was noted.

@@ -1,41 +1,29 @@
 //! A recording, from its words to its history file.
 
-ghost use Rattle.std.specs.Prelude.{◌≡◌, ◌<◌, IfOk, Err};
+ghost use Rattle.std.specs.Prelude.{◌≡◌, ◌<◌, ℕ, List};
 ghost use Rattle.std.specs.Io.KnownBytes.{Appends};
-ghost use Rattle.hex.specs.Hex.{encode_lower};
 ghost use Rattle.program_streams.specs.Told.{memory_line};
-ghost use Rattle.recording_command.specs.Tap.{IsNoRoot, IsTold};
+ghost use Rattle.recording_command.specs.Tap.{IsTold};
 ghost use Rattle.recording_command.specs.declared.tap_end.TapEnd.{TapEnd};
 
+use crate::part::{Part, part_path};
+use crate::root::root_of;
 use crate::runtime::RecordingRuntime;
-use crate::saving::{SaveFault, write_log};
+use crate::saving::{Beginning, SaveFault, log_file, write_log_of};
 use crate::tap_end::{TapEnd, refusal_of, tell_end};
 use crate::tap_words::TapRequest;
+use crate::watching::await_end;
+use folder_start::{FolderFault, folder_start};
 use nfs_relay::{Halt, Order, OrderReader, Relay, RelayRuntime, calls_in};
 use nfs_tap::TapLog;
-use nfs3_types::{FileHandle, HANDLE_LIMIT};
-use program_streams::{DigitsFault, Input, Output, READ_SIZE, decode_digits};
-use std::alloc::{AllocError, Global};
+use program_streams::{Input, Output, READ_SIZE, line_of};
+use recording_health::{Reading, findings_of, reading_of};
+use std::alloc::AllocError;
 use std::fs::{self, File};
 use std::io::{ErrorKind, Write};
 use std::net::{IpAddr, Ipv4Addr, SocketAddr, TcpListener};
 use std::thread::{self, JoinHandle, Scope};
-
-/// The root's handle: the bytes that the text spells in lower case hex, at most 64.
-fn read_root(alloc: Global, text: &str) -> Result<FileHandle, TapEnd>
-    ensures spelled { IfOk result (λ root. text.now ≡ encode_lower root) }
-    ensures bad { result ≡ Err TapEnd.BadRoot → IsNoRoot text.now }
-{
-    match decode_digits(alloc, text.as_bytes()) {
-        Ok(bytes) if bytes.len() > HANDLE_LIMIT => Err(TapEnd::BadRoot),
-        Ok(bytes) => match FileHandle::from_slice(alloc, bytes.as_slice()) {
-            Ok(root) => Ok(root),
-            Err(AllocError) => Err(TapEnd::NoMemory),
-        },
-        Err(DigitsFault::Malformed) => Err(TapEnd::BadRoot),
-        Err(DigitsFault::NoMemory) => Err(TapEnd::NoMemory),
-    }
-}
+use tree_starts::{Profile, Start};
 
 /// Does what the lines say of which the bytes are a piece.
 fn take_orders<R: RelayRuntime>(
@@ -47,7 +35,7 @@ fn take_orders<R: RelayRuntime>(
     for byte in bytes {
         match orders.take(*byte)? {
             Some(Order::Crash) => relay.crash(rt),
-            Some(Order::Up | Order::Unknown) => {
+            Some(Order::Up | Order::End | Order::Unknown) => {
                 let _ = eprintln!(rt; "an order is unknown: crash is the only one");
             }
             None => {}
@@ -86,10 +74,15 @@ fn read_orders<R: RelayRuntime, I: Input>(
 }
 
 /// Writes what the log of a relay that has ended holds, and says how many calls that is.
-fn save<R: RelayRuntime, W: Write>(rt: &R, relay: &Relay, file: &mut W) -> TapEnd {
+fn save<R: RelayRuntime, W: Write>(
+    rt: &R,
+    relay: &Relay,
+    beginning: &Option<Beginning>,
+    file: &mut W,
+) -> TapEnd {
     let halt = relay.reason(rt);
     let log = relay.log().lock(rt);
-    match write_log(rt.alloc(), &log, file) {
+    match write_log_of(rt.alloc(), beginning, &log, file) {
         Ok(()) => {
             let calls = calls_in(log.events());
             tell_halt(rt, halt, calls);
@@ -110,21 +103,42 @@ fn tell_halt<R: RelayRuntime>(rt: &R, halt: Option<Halt>, calls: usize) {
     let _ = eprintln!(rt; "the recording ended: {reason}; calls {calls}");
 }
 
-/// Records so many connections as the relay takes.
-fn record_lanes<R: RecordingRuntime>(
+/// Begins to keep on disk what a relay notes, in a thread of its own.
+fn begin_part<'s, E, R: RelayRuntime>(
+    scope: &Scope<'s, E>,
+    rt: &'s R,
+    relay: &'s Relay,
+    part: Part,
+) -> Option<JoinHandle<()>> {
+    scope.spawn(move || part.follow(rt, relay)).ok()
+}
+
+/// The file that grows beside a recording. Where it can't be made, that is said, and the recording goes on.
+fn make_part<R: RecordingRuntime>(
     rt: &R,
     relay: &Relay,
-    listener: TcpListener,
+    beginning: &Option<Beginning>,
     path: &str,
-) -> TapEnd {
-    relay.run(rt, listener);
-    if let Some(refusal) = refusal_of(relay.reason(rt)) {
-        return refusal;
+) -> Option<Part> {
+    match Part::make(rt, relay, beginning, path) {
+        Ok(part) => Some(part),
+        Err(_) => {
+            let _ = eprintln!(rt;
+                "what is noted isn't kept on disk meanwhile: {path} can't be written"
+            );
+            None
+        }
     }
-    match fs::create(rt, path) {
-        Ok(mut file) => save(rt, relay, &mut file),
-        Err(_) => TapEnd::CannotWrite,
-    }
+}
+
+/// Begins to record in a thread of its own.
+fn begin_relay<'s, E, R: RelayRuntime>(
+    scope: &Scope<'s, E>,
+    rt: &'s R,
+    relay: &'s Relay,
+    listener: TcpListener,
+) -> Option<JoinHandle<()>> {
+    scope.spawn(move || relay.run(rt, listener)).ok()
 }
 
 /// Begins to record in a thread of its own, which writes the history when the relay has ended.
@@ -132,29 +146,61 @@ fn begin_recording<'s, E, R: RelayRuntime>(
     scope: &Scope<'s, E>,
     rt: &'s R,
     relay: &'s Relay,
+    beginning: &'s Option<Beginning>,
     listener: TcpListener,
     mut file: File,
 ) -> Option<JoinHandle<TapEnd>> {
     let recording = scope.spawn(move || {
         relay.run(rt, listener);
-        save(rt, relay, &mut file)
+        save(rt, relay, beginning, &mut file)
     });
     recording.ok()
+}
+
+/// Writes the history of a relay that has ended, unless it couldn't begin.
+fn save_ended<R: RecordingRuntime>(
+    rt: &R,
+    relay: &Relay,
+    beginning: &Option<Beginning>,
+    path: &str,
+) -> TapEnd {
+    if let Some(refusal) = refusal_of(relay.reason(rt)) {
+        return refusal;
+    }
+    match fs::create(rt, path) {
+        Ok(mut file) => save(rt, relay, beginning, &mut file),
+        Err(_) => TapEnd::CannotWrite,
+    }
+}
+
+/// Records so many connections as the relay takes.
+fn record_lanes<R: RecordingRuntime>(
+    rt: &R,
+    relay: &Relay,
+    beginning: &Option<Beginning>,
+    listener: TcpListener,
+    path: &str,
+) -> TapEnd {
+    relay.run(rt, listener);
+    save_ended(rt, relay, beginning, path)
 }
 
 /// Records until the input ends. The file is made first, since the recording may end before the input does.
 fn record_until_end<R: RecordingRuntime, I: Input>(
     rt: &R,
     relay: &Relay,
+    beginning: &Option<Beginning>,
     listener: TcpListener,
     path: &str,
     input: &mut I,
 ) -> TapEnd {
     let Ok(file) = fs::create(rt, path) else {
+        relay.finish(rt);
         return TapEnd::CannotWrite;
     };
     thread::scope(thread::scope_env(), rt, |scope| {
-        let Some(recording) = begin_recording(scope, rt, relay, listener, file) else {
+        let Some(recording) = begin_recording(scope, rt, relay, beginning, listener, file) else {
+            relay.finish(rt);
             let _ = fs::remove_file(rt, path);
             return TapEnd::NoThread;
         };
@@ -166,42 +212,287 @@ fn record_until_end<R: RecordingRuntime, I: Input>(
     })
 }
 
-/// Records what the words ask for.
-fn record<R: RecordingRuntime, I: Input>(
+/// Records until one of the ends comes that the words name, or all connections have.
+fn record_to_ends<R: RecordingRuntime>(
     rt: &R,
+    relay: &Relay,
+    beginning: &Option<Beginning>,
+    listener: TcpListener,
     request: &TapRequest<'_>,
-    input: &mut I,
+    orders: Option<File>,
 ) -> TapEnd {
-    let root = match read_root(rt.alloc(), request.root) {
-        Ok(root) => root,
-        Err(end) => return end,
-    };
-    let localhost = IpAddr::V4(Ipv4Addr::new(127, 0, 0, 1));
-    let address = SocketAddr::new(localhost, request.port);
-    let Ok(listener) = TcpListener::bind(rt, address) else {
-        return TapEnd::CannotListen;
-    };
-    let log = TapLog::new(rt.alloc(), root);
-    let relay = Relay::new(log, request.server, request.lanes, request.is_quiet);
-    if request.lanes.is_some() {
-        record_lanes(rt, &relay, listener, request.history)
+    let is_run = thread::scope(thread::scope_env(), rt, |scope| {
+        let Some(recording) = begin_relay(scope, rt, relay, listener) else {
+            return false;
+        };
+        if let Err(AllocError) = await_end(rt, relay, &request.ends, orders) {
+            let _ = eprintln!(rt; "the recording ends: out of memory");
+        }
+        relay.finish(rt);
+        recording.join(rt);
+        true
+    });
+    if is_run {
+        save_ended(rt, relay, beginning, request.history)
     } else {
-        record_until_end(rt, &relay, listener, request.history, input)
+        relay.finish(rt);
+        TapEnd::NoThread
     }
 }
 
-/// Records what the words ask for, and says what became of it.
+/// Records in the way that the words ask for.
+fn record_as<R: RecordingRuntime, I: Input>(
+    rt: &R,
+    relay: &Relay,
+    beginning: &Option<Beginning>,
+    listener: TcpListener,
+    request: &TapRequest<'_>,
+    orders: Option<File>,
+    input: &mut I,
+) -> TapEnd {
+    if request.ends.is_any() {
+        record_to_ends(rt, relay, beginning, listener, request, orders)
+    } else if request.lanes.is_some() {
+        record_lanes(rt, relay, beginning, listener, request.history)
+    } else {
+        record_until_end(rt, relay, beginning, listener, request.history, input)
+    }
+}
+
+/// Records, while a file grows beside it.
+fn record_beside<R: RecordingRuntime, I: Input>(
+    rt: &R,
+    relay: &Relay,
+    beginning: &Option<Beginning>,
+    listener: TcpListener,
+    request: &TapRequest<'_>,
+    orders: Option<File>,
+    input: &mut I,
+    part: Option<Part>,
+) -> TapEnd {
+    let Some(part) = part else {
+        return record_as(rt, relay, beginning, listener, request, orders, input);
+    };
+    thread::scope(thread::scope_env(), rt, |scope| {
+        let following = begin_part(scope, rt, relay, part);
+        let end = record_as(rt, relay, beginning, listener, request, orders, input);
+        if let Some(following) = following {
+            following.join(rt);
+        }
+        end
+    })
+}
+
+/// Records, and keeps on disk what is noted meanwhile, until the history is written.
+fn record_kept<R: RecordingRuntime, I: Input>(
+    rt: &R,
+    relay: &Relay,
+    beginning: &Option<Beginning>,
+    listener: TcpListener,
+    request: &TapRequest<'_>,
+    orders: Option<File>,
+    input: &mut I,
+) -> TapEnd {
+    let Ok(path) = part_path(rt.alloc(), request.history) else {
+        return TapEnd::NoMemory;
+    };
+    if fs::metadata(rt, path.as_str()).is_ok() {
+        return TapEnd::PartStands;
+    }
+    let part = make_part(rt, relay, beginning, path.as_str());
+    let end = record_beside(rt, relay, beginning, listener, request, orders, input, part);
+    if matches!(end, TapEnd::Written(_)) || relay.log().lock(rt).events().is_empty() {
+        let _ = fs::remove_file(rt, path.as_str());
+    }
+    end
+}
+
+/// What is read of the history of a log, as it is in its file.
+fn reading<R: RecordingRuntime>(
+    rt: &R,
+    relay: &Relay,
+    beginning: &Option<Beginning>,
+) -> Result<Reading, AllocError> {
+    let log = relay.log().lock(rt);
+    match log_file(rt.alloc(), beginning, &log) {
+        Ok(bytes) => reading_of(rt.alloc(), bytes.as_slice()),
+        // It was written, so that this is for memory.
+        Err(_) => Err(AllocError),
+    }
+}
+
+/// What was wrong with the server, in lines; for whoever wants it the history is read too.
+fn findings<R: RecordingRuntime>(
+    rt: &R,
+    relay: &Relay,
+    beginning: &Option<Beginning>,
+    request: &TapRequest<'_>,
+) -> Result<String, AllocError> {
+    let alloc = rt.alloc();
+    let reading = if request.is_strict {
+        reading(rt, relay, beginning)?
+    } else {
+        Reading::NONE
+    };
+    let is_full = matches!(relay.reason(rt), Some(Halt::LogFull));
+    let log = relay.log().lock(rt);
+    let health = relay.health().lock(rt);
+    let found = findings_of(
+        alloc,
+        log.events(),
+        health.ends(),
+        health.refused(),
+        is_full,
+        reading,
+    )?;
+    let mut lines = String::new(alloc);
+    for finding in found.all.iter() {
+        lines.push_str(line_of(alloc, "unhealthy: ", finding)?.as_str())?;
+    }
+    Ok(lines)
+}
+
+/// A recording that ended, and the lines ahead of its last one.
+#[derive(Drop)]
+struct Ended {
+    end: TapEnd,
+    lines: String,
+}
+
+/// Says what was wrong with the server: in lines of the answer where the words ask for it, else on standard error.
+fn with_findings<R: RecordingRuntime>(
+    rt: &R,
+    relay: &Relay,
+    beginning: &Option<Beginning>,
+    request: &TapRequest<'_>,
+    calls: usize,
+) -> Result<Ended, AllocError> {
+    let lines = findings(rt, relay, beginning, request)?;
+    if lines.is_empty() {
+        return Ok(Ended {
+            end: TapEnd::Written(calls),
+            lines,
+        });
+    }
+    if request.is_strict {
+        return Ok(Ended {
+            end: TapEnd::Unhealthy(calls),
+            lines,
+        });
+    }
+    let _ = rt.eprint(lines.as_str());
+    Ok(Ended {
+        end: TapEnd::Written(calls),
+        lines: String::new(rt.alloc()),
+    })
+}
+
+/// What a server held at first, where the words tell of it or ask for the strict profile. Why a folder is no start is said on standard error.
+fn beginning_of<R: RecordingRuntime>(
+    rt: &R,
+    request: &TapRequest<'_>,
+) -> Result<Option<Beginning>, TapEnd> {
+    let profile = request.profile;
+    let start = match request.start {
+        Some(path) => match folder_start(rt, path) {
+            Ok(start) => start,
+            Err(FolderFault::NoMemory) => return Err(TapEnd::NoMemory),
+            Err(fault) => {
+                let _ = rt.eprintln(fault);
+                return Err(TapEnd::NoStart);
+            }
+        },
+        None if profile == Profile::Plain => return Ok(None),
+        None => Start::empty(rt.alloc()),
+    };
+    Ok(Some(Beginning { profile, start }))
+}
+
+/// The file that the orders come from, where the words name one.
+fn orders_of<R: RecordingRuntime>(
+    rt: &R,
+    request: &TapRequest<'_>,
+) -> Result<Option<File>, TapEnd> {
+    let Some(path) = request.ends.orders else {
+        return Ok(None);
+    };
+    match File::open(rt, path) {
+        Ok(file) => Ok(Some(file)),
+        Err(_) => Err(TapEnd::NoOrders),
+    }
+}
+
+/// What a recording begins with.
+#[derive(Drop)]
+struct Opened {
+    relay: Relay,
+    beginning: Option<Beginning>,
+    listener: TcpListener,
+    orders: Option<File>,
+}
+
+/// Opens what a recording needs.
+fn open<R: RecordingRuntime>(rt: &R, request: &TapRequest<'_>) -> Result<Opened, TapEnd> {
+    let root = root_of(rt, request.root)?;
+    let beginning = beginning_of(rt, request)?;
+    let orders = orders_of(rt, request)?;
+    let localhost = IpAddr::V4(Ipv4Addr::new(127, 0, 0, 1));
+    let address = SocketAddr::new(localhost, request.port);
+    let Ok(listener) = TcpListener::bind(rt, address) else {
+        return Err(TapEnd::CannotListen);
+    };
+    let log = TapLog::new(rt.alloc(), root);
+    let relay = Relay::new(
+        rt.alloc(),
+        log,
+        request.server,
+        request.lanes,
+        request.is_quiet,
+    );
+    Ok(Opened {
+        relay,
+        beginning,
+        listener,
+        orders,
+    })
+}
+
+/// Records what the words ask for.
+fn record<R: RecordingRuntime, I: Input>(rt: &R, request: &TapRequest<'_>, input: &mut I) -> Ended {
+    let none = String::new(rt.alloc());
+    let Opened {
+        relay,
+        beginning,
+        listener,
+        orders,
+    } = match open(rt, request) {
+        Ok(opened) => opened,
+        Err(end) => return Ended { end, lines: none },
+    };
+    match record_kept(rt, &relay, &beginning, listener, request, orders, input) {
+        TapEnd::Written(calls) => match with_findings(rt, &relay, &beginning, request, calls) {
+            Ok(ended) => ended,
+            Err(AllocError) => Ended {
+                end: TapEnd::NoMemory,
+                lines: none,
+            },
+        },
+        end => Ended { end, lines: none },
+    }
+}
+
+/// Records what the words ask for, and says what became of it: first what was wrong with the server, where the words ask for it.
 pub fn run_tap<R: RecordingRuntime, I: Input, O: Output>(
     rt: &R,
     request: &TapRequest<'_>,
     input: &mut I,
     output: &mut O,
 ) -> u8
-    ensures told { (end : TapEnd) × IsTold end result (O.contents output.old) (O.contents output.new) }
+    ensures told { (end : TapEnd) × (lines : List ℕ) × IsTold end lines result (O.contents output.old) (O.contents output.new) }
     ensures memory_line { result ≡ 3
         → Appends (O.contents output.old) (O.contents output.new) memory_line }
     ensures known { result < 4 }
 {
-    let end = record(rt, request, input);
-    tell_end(rt.alloc(), output, end)
+    let Ended { end, lines } = record(rt, request, input);
+    tell_end(rt.alloc(), output, end, lines)
 }

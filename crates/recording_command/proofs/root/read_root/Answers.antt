@@ -1,7 +1,7 @@
 use Rattle.std.proofs.Common.{◌≡◌, ◌∙◌, ℕ, ◌<◌, ◌≤◌, List, length, arith, sym, ap}
 use Rattle.hex.specs.Hex.{encode_lower, lower_digits}
 use Rattle.hex.proofs.HexLemmas.{length-encode_with}
-use Rattle.recording_command.proofs.tap.read_root.Goals as goal
+use Rattle.recording_command.proofs.root.read_root.Goals as goal
 
 -- more bytes than a handle has aren't spelled as those of a handle are
 too_long : (text bytes items : List ℕ) → text ≡ encode_lower items → 64 < length items → length bytes ≤ 64 → text ≡ encode_lower bytes → ⊥

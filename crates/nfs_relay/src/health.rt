@@ -1,0 +1,79 @@
+//! What went wrong on connections that are relayed, beside what the log shows.
+
+use nfs_tap::PumpEnd;
+use std::alloc::Global;
+
+/// A lane that the server ended before its client did, and before the recording did.
+#[derive(Clone, Copy, Debug, PartialEq, Eq)]
+pub struct ServerEnd {
+    pub lane: u32,
+    /// How many events were noted by then.
+    pub events: usize,
+}
+
+/// A lane that ended since a record on it wasn't noted.
+#[derive(Clone, Copy, Debug, PartialEq, Eq)]
+pub struct Refused {
+    pub lane: u32,
+    /// Whether the server sent the record.
+    pub is_of_server: bool,
+    /// Why it wasn't noted: `RecordTooLong`, or `LogFault`.
+    pub end: PumpEnd,
+}
+
+/// What went wrong, in the order in which it was seen.
+#[derive(Drop)]
+pub struct Health {
+    ends: Vec<ServerEnd>,
+    refused: Vec<Refused>,
+    /// How much more there was, for which memory wasn't there.
+    more: u64,
+}
+
+impl Health {
+    /// Nothing went wrong yet.
+    pub fn new(alloc: Global) -> Health {
+        Health {
+            ends: Vec::new(alloc),
+            refused: Vec::new(alloc),
+            more: 0,
+        }
+    }
+
+    /// The lanes that the server ended first.
+    pub fn ends(&self) -> &[ServerEnd] {
+        self.ends.as_slice()
+    }
+
+    /// The lanes that ended since a record wasn't noted.
+    pub fn refused(&self) -> &[Refused] {
+        self.refused.as_slice()
+    }
+
+    /// How much more went wrong that memory wasn't there for.
+    pub fn more(&self) -> u64 {
+        self.more
+    }
+
+    /// The server ended a lane first.
+    pub(crate) fn note_end(&mut self, end: ServerEnd) {
+        if self.ends.push(end).is_err() {
+            self.more = self.more.saturating_add(1);
+        }
+    }
+
+    /// A lane's pump ended, of the records of its client or of the server.
+    pub(crate) fn note_pump(&mut self, lane: u32, is_of_server: bool, end: PumpEnd) {
+        if !matches!(end, PumpEnd::RecordTooLong | PumpEnd::LogFault(_)) {
+            return;
+        }
+        let refused = Refused {
+            lane,
+            is_of_server,
+            end,
+        };
+        if self.refused.push(refused).is_err() {
+            self.more = self.more.saturating_add(1);
+        }
+    }
+}

@@ -1,0 +1,59 @@
+//! The eras of a recording, and how long a server showed life in each.
+
+use history_file::Event;
+use indexmap::IndexMap;
+use std::alloc::{AllocError, Global};
+
+/// What is known of the eras of a recording. Events are counted from 0 here.
+#[derive(Drop)]
+pub(crate) struct Eras {
+    /// The crash that ended each era, but for the last one.
+    crashes: Vec<usize>,
+    /// Of each era the last lane, by its first event, that got a reply.
+    lives: Vec<usize>,
+}
+
+impl Eras {
+    /// The eras of these events.
+    pub(crate) fn of(alloc: Global, events: &[Event]) -> Result<Eras, AllocError> {
+        let mut first: IndexMap<u32, usize> = IndexMap::new(alloc);
+        let mut eras = Eras {
+            crashes: Vec::new(alloc),
+            lives: Vec::new(alloc),
+        };
+        let mut life = 0usize;
+        for (index, event) in events.iter().enumerate() {
+            match event {
+                Event::Call { lane, .. } => {
+                    if !first.contains_key(lane) {
+                        first.insert(*lane, index)?;
+                    }
+                }
+                Event::Reply { lane, .. } => {
+                    let begun = first.get(lane).copied().unwrap_or(0);
+                    life = life.max(begun);
+                }
+                Event::Close { .. } => {}
+                Event::Crash => {
+                    eras.crashes.push(index)?;
+                    eras.lives.push(life)?;
+                    life = 0;
+                }
+            }
+        }
+        eras.lives.push(life)?;
+        Ok(eras)
+    }
+
+    /// Whether what came about before this many events was the crash that ended its era: no lane that began later got a reply before it.
+    pub(crate) fn is_of_crash(&self, events: usize) -> bool {
+        let era = self.crashes.partition_point(|crash| *crash < events);
+        if era >= self.crashes.len() {
+            return false;
+        }
+        match self.lives.get(era) {
+            Some(life) => *life < events,
+            None => false,
+        }
+    }
+}

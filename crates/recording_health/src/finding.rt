@@ -1,0 +1,147 @@
+//! What was wrong, each kind in a line.
+
+use crate::eras::Eras;
+use crate::reading::Reading;
+use crate::unanswered::unanswered_in;
+use history_file::Event;
+use nfs_history::HistoryFault;
+use nfs_relay::{Refused, ServerEnd};
+use nfs_tap::PumpEnd;
+use std::alloc::{AllocError, Global};
+use std::fmt;
+
+/// One kind of what was wrong.
+#[derive(Clone, Copy, Debug, PartialEq, Eq)]
+pub enum Finding {
+    /// The server ended this many connections that no crash did, this lane the first of them.
+    ServerEnded(u64, u32),
+    /// This many calls got no reply, and no crash explains it: the first on this lane, with this transaction number.
+    Unanswered(u64, u32, u32),
+    /// A record of the server on this lane wasn't noted, for this reason.
+    RefusedReply(u32, PumpEnd),
+    /// A record of a client on this lane wasn't noted, for this reason.
+    RefusedCall(u32, PumpEnd),
+    /// The log was full.
+    LogFull,
+    /// `check` refuses the history.
+    Fault(HistoryFault),
+    /// No call is judged.
+    NothingJudged,
+}
+
+impl fmt::Display for Finding {
+    fn fmt<W: fmt::Write>(&self, f: &mut fmt::Formatter<W>) -> fmt::Result {
+        match *self {
+            Finding::ServerEnded(count, lane) => {
+                write!(
+                    f,
+                    "the server ended {count} connections outside a crash, the first lane {lane}"
+                )
+            }
+            Finding::Unanswered(count, lane, xid) => write!(
+                f,
+                "{count} calls were never answered, the first on lane {lane} with transaction number {xid}"
+            ),
+            Finding::RefusedReply(lane, end) => {
+                write!(
+                    f,
+                    "what the server sent on lane {lane} is no reply to an open call: {end}"
+                )
+            }
+            Finding::RefusedCall(lane, end) => {
+                write!(f, "what a client sent on lane {lane} is no call: {end}")
+            }
+            Finding::LogFull => f.write_str("the history is full: the recording ended early"),
+            Finding::Fault(fault) => write!(f, "check refuses the history: {fault}"),
+            Finding::NothingJudged => f.write_str("no call is judged: is the port that of NFS?"),
+        }
+    }
+}
+
+/// What was wrong, each kind once.
+#[derive(Drop)]
+pub struct Findings {
+    pub all: Vec<Finding>,
+}
+
+/// The lanes that the server ended outside a crash.
+fn server_ended(eras: &Eras, ends: &[ServerEnd]) -> Option<Finding> {
+    let mut lanes = 0u64;
+    let mut first = None;
+    let mut last = 0u32;
+    for end in ends {
+        // Both ways of a lane may tell of its end.
+        if end.lane != last && !eras.is_of_crash(end.events) {
+            lanes = lanes.saturating_add(1);
+            first = first.or(Some(end.lane));
+        }
+        last = end.lane;
+    }
+    Some(Finding::ServerEnded(lanes, first?))
+}
+
+/// The calls that got no reply outside a crash.
+fn unanswered(alloc: Global, eras: &Eras, events: &[Event]) -> Result<Option<Finding>, AllocError> {
+    let mut count = 0u64;
+    let mut first = None;
+    for call in unanswered_in(alloc, events)?.iter() {
+        if !eras.is_of_crash(call.events) {
+            count = count.saturating_add(1);
+            first = first.or(Some((call.lane, call.xid)));
+        }
+    }
+    Ok(first.map(|(lane, xid)| Finding::Unanswered(count, lane, xid)))
+}
+
+/// The first record that wasn't noted, of the server or of a client.
+fn refused(all: &[Refused], is_of_server: bool) -> Option<Finding> {
+    let refused = all
+        .iter()
+        .find(|refused| refused.is_of_server == is_of_server)?;
+    if is_of_server {
+        Some(Finding::RefusedReply(refused.lane, refused.end))
+    } else {
+        Some(Finding::RefusedCall(refused.lane, refused.end))
+    }
+}
+
+/// What is wrong with what was read of the file.
+fn misread(reading: Reading) -> Option<Finding> {
+    match reading.fault {
+        Some(fault) => Some(Finding::Fault(fault)),
+        None if reading.judged == 0 => Some(Finding::NothingJudged),
+        None => None,
+    }
+}
+
+/// What was wrong in a recording with these events, of which this was read, and of whose lanes this was seen: first the server's part,
+/// then the clients', then the recording's.
+pub fn findings_of(
+    alloc: Global,
+    events: &[Event],
+    ends: &[ServerEnd],
+    refusals: &[Refused],
+    is_full: bool,
+    reading: Reading,
+) -> Result<Findings, AllocError> {
+    let eras = Eras::of(alloc, events)?;
+    let full = if is_full {
+        Some(Finding::LogFull)
+    } else {
+        None
+    };
+    let mut all = Vec::new(alloc);
+    for finding in [
+        server_ended(&eras, ends),
+        unanswered(alloc, &eras, events)?,
+        refused(refusals, true),
+        refused(refusals, false),
+        full,
+        misread(reading),
+    ] {
+        if let Some(finding) = finding {
+            all.push(finding)?;
+        }
+    }
+    Ok(Findings { all })
+}
