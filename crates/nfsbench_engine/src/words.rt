@@ -26,6 +26,7 @@ use judging_commands::{
     SearchRequest, json_option, refused_as_json, run_bundle, search_command, search_history,
     search_request,
 };
+use mending_command::{MendRequest, mend_command, mend_request, run_mend};
 use night_command::{TestRequest, run_test, test_command, test_request};
 use program_streams::{Input, Output, Report, tell, tell_answer, tell_want_of_memory};
 use recording_command::{RecordingRuntime, TapRequest, run_tap, tap_command, tap_request};
@@ -62,6 +63,8 @@ enum Request<'a> {
     Decide(DecideRequest<'a>),
     /// The first events of a history, in a file.
     Prefix(PrefixRequest<'a>),
+    /// A history of what a recorder left on disk.
+    Mend(MendRequest<'a>),
     /// A recording.
     Tap(TapRequest<'a>),
     /// A run of a plan.
@@ -72,9 +75,10 @@ enum Request<'a> {
     Test(TestRequest<'a>),
 }
 
-/// What the words ask for that may wait for other threads.
+/// What the words ask for that may wait for other threads, or that says more on standard error.
 #[derive(Clone, Copy)]
 pub(crate) enum Waiting<'a> {
+    Mend(MendRequest<'a>),
     Search(SearchRequest<'a>),
     Decide(DecideRequest<'a>),
     Tap(TapRequest<'a>),
@@ -135,6 +139,7 @@ fn command<'a>(alloc: Global) -> Result<Command<'a>, AllocError> {
         .subcommand(run_command(alloc)?)?
         .subcommand(serve_command(alloc)?)?
         .subcommand(tap_command(alloc)?)?
+        .subcommand(mend_command(alloc)?)?
         .subcommand(test_command(alloc)?)
 }
 
@@ -167,6 +172,7 @@ fn read_words<'a, S: AsStr>(alloc: Global, words: &'a [S]) -> Result<Request<'a>
                 Err(command(alloc)?.error(ErrorKind::ValueValidation, message)?)
             }
         },
+        Some(("mend", mend)) => Ok(Request::Mend(mend_request(mend))),
         Some(("show", show)) => Ok(Request::Show(show_request(show))),
         Some(("search", search)) => Ok(Request::Search(search_request(search))),
         Some(("decide", decide)) => Ok(Request::Decide(decide_request(decide))),
@@ -361,6 +367,7 @@ pub(crate) fn judge_words<'a, R: Files + AllocGlobal, S: AsStr, I: Input, O: Out
         Ok(Request::Report(request)) => Ok(tell_answer(output, report_files_at(rt, &request))),
         Ok(Request::Show(request)) => Ok(show_path(rt, &request, output)),
         Ok(Request::Prefix(request)) => Ok(prefix_path(rt, &request, output)),
+        Ok(Request::Mend(request)) => Err(Waiting::Mend(request)),
         Ok(Request::Search(request)) => Err(Waiting::Search(request)),
         Ok(Request::Decide(request)) => Err(Waiting::Decide(request)),
         Ok(Request::Tap(request)) => Err(Waiting::Tap(request)),
@@ -379,7 +386,7 @@ pub(crate) fn judge_words<'a, R: Files + AllocGlobal, S: AsStr, I: Input, O: Out
 /// Without further words it is `run_bundle`. With `check` and two paths both files are read, in this order, before
 /// anything is judged, and what is said is what `judge_read` gives; with `report` and two paths it is what `report_read`
 /// gives; with `show` and a path a line for each event, and the first fault of the history; with `prefix`, a path, a number of events and
-/// a path to write what `prefix_history` gives; which words ask for that, which files are opened and what the parser's texts are no clause
+/// a path to write what `prefix_history` gives; with `mend`, of a file and a path to write, what [`run_mend`] gives; which words ask for that, which files are opened and what the parser's texts are no clause
 /// says. With `search` and a path it is what `search_history` gives, with `decide` and a path what
 /// `decide_history` gives; with `run`, a path and two
 /// paths to write it runs a text, with `serve` it serves connections, with `tap` it records, and with `test` it drives a server, as
@@ -413,6 +420,7 @@ pub fn run_words<R: RecordingRuntime, S: AsStr, I: Input, O: Output>(
         Ok(status) => status,
         Err(Waiting::Search(request)) => search_path(rt, &request, output),
         Err(Waiting::Decide(request)) => decide_path(rt, &request, output),
+        Err(Waiting::Mend(request)) => run_mend(rt, &request, output),
         Err(Waiting::Tap(request)) => run_tap(rt, &request, input, output),
         Err(Waiting::Run(request)) => run_path(rt, &request, output),
         Err(Waiting::Serve(request)) => serve_words(rt, &request, output),

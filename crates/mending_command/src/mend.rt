@@ -1,0 +1,93 @@
+//! The command `mend`.
+
+ghost use Rattle.std.specs.Prelude.{◌≡◌, ◌<◌, IfOk};
+ghost use Rattle.std.specs.Io.KnownBytes.{Appends};
+ghost use Rattle.program_streams.specs.Told.{memory_line};
+
+use crate::mend_words::MendRequest;
+use history_file::FileFault;
+use history_mending::{End, Mended, mend, mended_file};
+use program_streams::{Output, Report, line_of, tell_answer};
+use std::alloc::{AllocError, Global};
+use std::fs;
+use std::io::Eprint;
+use std::rt::Files;
+
+/// What is said where the head can't be read.
+fn refusal_of(alloc: Global, fault: FileFault) -> Result<Report, AllocError>
+    ensures { IfOk result (λ report. report.status ≡ 2) }
+{
+    match fault {
+        FileFault::NoMemory => Err(AllocError),
+        fault => Ok(Report::new(2, line_of(alloc, "refused: ", &fault)?)),
+    }
+}
+
+/// Says why the events end where they do, if bytes are left behind them.
+fn tell_end<R: Eprint>(rt: &R, bytes: usize, mended: &Mended<'_>) {
+    if mended.end == End::Whole {
+        return;
+    }
+    let (at, end) = (mended.events_end, mended.end);
+    let _ = eprintln!(rt; "the whole events end at byte {at} of {bytes}: {end}");
+}
+
+/// Writes the history of what was mended, and says how many events it has.
+fn save<R: Files + AllocGlobal + Eprint>(
+    rt: &R,
+    request: &MendRequest<'_>,
+    bytes: usize,
+    mended: &Mended<'_>,
+    file: &[u8],
+) -> Result<Report, AllocError>
+    ensures { IfOk result (λ report. report.status < 3) }
+{
+    if request.part == request.history || fs::write(rt, request.history, file).is_err() {
+        return Report::refused(rt.alloc(), "cannot write");
+    }
+    tell_end(rt, bytes, mended);
+    Ok(Report::new(0, line_of(rt.alloc(), "events ", &mended.events.len())?))
+}
+
+/// Mends these bytes, and writes their history.
+fn mend_bytes<R: Files + AllocGlobal + Eprint>(
+    rt: &R,
+    request: &MendRequest<'_>,
+    bytes: &[u8],
+) -> Result<Report, AllocError>
+    ensures { IfOk result (λ report. report.status < 3) }
+{
+    match mend(rt.alloc(), bytes) {
+        Ok(mended) => {
+            let file = mended_file(rt.alloc(), bytes, &mended)?;
+            save(rt, request, bytes.len(), &mended, file.as_slice())
+        }
+        Err(fault) => refusal_of(rt.alloc(), fault),
+    }
+}
+
+fn mend_report<R: Files + AllocGlobal + Eprint>(
+    rt: &R,
+    request: &MendRequest<'_>,
+) -> Result<Report, AllocError>
+    ensures { IfOk result (λ report. report.status < 3) }
+{
+    match fs::read(rt, request.part) {
+        Ok(bytes) => mend_bytes(rt, request, bytes.as_slice()),
+        Err(_) => Report::refused(rt.alloc(), "unreadable part"),
+    }
+}
+
+/// Writes the history of the whole events in what a recorder left on disk, and says how many they are: status 0. 2 is a refusal. Why the
+/// events end where they do is said on standard error. Which events these are, [`mend`] says.
+pub fn run_mend<R: Files + AllocGlobal + Eprint, O: Output>(
+    rt: &R,
+    request: &MendRequest<'_>,
+    output: &mut O,
+) -> u8
+    ensures memory_line { result ≡ 3
+        → Appends (O.contents output.old) (O.contents output.new) memory_line }
+    ensures known { result < 4 }
+{
+    tell_answer(output, mend_report(rt, request))
+}
