@@ -94,9 +94,9 @@ class Server:
 
 
 class Tap:
-    def __init__(self, lanes=None, quiet=True):
+    def __init__(self, lanes=None, quiet=True, words=()):
         self.path = tempfile.mktemp(suffix=".hist")
-        line = [sys.argv[1], "tap", "--root", ROOT, "--port", str(PORT), "--server", str(SERVER)]
+        line = [sys.argv[1], "tap", "--root", ROOT, "--port", str(PORT), "--server", str(SERVER), *words]
         line += ["--lanes", str(lanes)] if lanes else []
         line += ["--quiet"] if quiet else []
         self.process = subprocess.Popen(line + [self.path], stdin=subprocess.PIPE, stdout=subprocess.PIPE,
@@ -444,19 +444,225 @@ def log_full():
     assert count(events, 2) == 2 and 130 < calls < 137, calls
 
 
-CASES = [port_in_use, no_server, no_server_open, half_record, long_header, byte_by_byte, many_lanes, many_in_turn,
+class Answers(Server):
+    """Answers the calls of a connection by these functions in turn: each gives bytes to send, or None to end the connection."""
+
+    def __init__(self, *answers):
+        self.answers = answers
+        super().__init__()
+
+    def answer(self, peer):
+        try:
+            for answer in self.answers:
+                message = read_record(peer)
+                if message is None:
+                    break
+                text = answer(struct.unpack(">I", message[:4])[0])
+                if text is None:
+                    break
+                peer.sendall(text)
+            else:
+                peer.recv(1)
+        except OSError:
+            pass
+        peer.close()
+
+
+def right(xid):
+    return frame(reply(xid))
+
+
+def unhealthy(server, calls, wanted, words=()):
+    """What a strict recording of one connection with so many calls ends with: these lines, then their number, with status 1."""
+    tap = Tap(lanes=1, words=["--strict", *words])
+    sock = connect()
+    try:
+        for xid in range(calls):
+            sock.sendall(frame(call(xid + 1)))
+            if read_record(sock) is None:
+                break
+        time.sleep(0.3)
+        sock.close()
+    except OSError:
+        pass
+    status, out, err, events = tap.end()
+    server.close()
+    lines = out.splitlines()
+    said = [line for line in lines[:-1] if line != "unhealthy: no call is judged: is the port that of NFS?"]
+    assert status == 1 and said == [f"unhealthy: {line}" for line in wanted] and lines[-1] == f"calls {count(events, 0)}", (status, out, err)
+
+
+def server_ends_first():
+    unhealthy(Answers(right, lambda xid: None), 2,
+              ["the server ended 1 connections outside a crash, the first lane 1",
+               "1 calls were never answered, the first on lane 1 with transaction number 2"])
+
+
+def call_unanswered():
+    server, tap = Answers(right, lambda xid: b""), Tap(lanes=1, words=["--strict"])
+    sock = connect()
+    ask(sock, 7)
+    sock.sendall(frame(call(8)))
+    time.sleep(0.3)
+    sock.close()
+    status, out, err, _ = tap.end()
+    server.close()
+    assert status == 1 and "unhealthy: 1 calls were never answered, the first on lane 1 with transaction number 8\n" in out, (status, out, err)
+
+
+def answered_twice():
+    unhealthy(Answers(lambda xid: right(xid) + right(xid)), 1,
+              ["what the server sent on lane 1 is no reply to an open call: LogFault NoSuchCall"])
+
+
+def record_too_long():
+    unhealthy(Answers(lambda xid: right(xid) + struct.pack(">I", 0x80000000 | 2_097_153)), 1,
+              ["what the server sent on lane 1 is no reply to an open call: RecordTooLong"])
+
+
+def garbage():
+    unhealthy(Answers(lambda xid: right(xid) + frame(b"garbage!")), 1,
+              ["what the server sent on lane 1 is no reply to an open call: LogFault BadRpc"])
+
+
+def nothing_judged():
+    server, tap = Server(), Tap(lanes=1, words=["--strict"])
+    sock = connect()
+    ask(sock, 1)
+    sock.close()
+    status, out, _, _ = tap.end()
+    server.close()
+    assert (status, out) == (1, "unhealthy: no call is judged: is the port that of NFS?\ncalls 1\n"), (status, out)
+
+
+def healthy():
+    """A GETATTR that is answered NOENT's way is judged; a crash explains what it ends."""
+    server, tap = Answers(getattr_failed, getattr_failed), Tap(words=["--strict"])
+    sock = connect()
+    for xid in (1, 2):
+        sock.sendall(frame(getattr_call(xid)))
+        assert read_record(sock) is not None
+    sock.sendall(frame(getattr_call(3)))
+    time.sleep(0.2)
+    server.close()
+    tap.say(b"crash\n")
+    time.sleep(0.5)
+    status, out, err, events = tap.end()
+    assert (status, out) == (0, "calls 3\n"), (status, out, err)
+
+
+def getattr_call(xid):
+    return struct.pack(">10I", xid, 0, 2, 100003, 3, 1, 0, 0, 0, 0) + struct.pack(">I", 8) + bytes(8)
+
+
+def getattr_failed(xid):
+    return frame(reply(xid) + struct.pack(">I", 70))
+
+
+def refused_call():
+    """A LINK that succeeded is refused by check."""
+    message = struct.pack(">10I", 1, 0, 2, 100003, 3, 15, 0, 0, 0, 0) + (struct.pack(">I", 8) + bytes(8)) * 2 + struct.pack(">I", 1) + b"a\0\0\0"
+    server, tap = Answers(lambda xid: frame(reply(xid) + bytes(16))), Tap(lanes=1, words=["--strict"])
+    sock = connect()
+    sock.sendall(frame(message))
+    assert read_record(sock) is not None
+    sock.close()
+    status, out, err, _ = tap.end()
+    server.close()
+    assert (status, out) == (1, "unhealthy: check refuses the history: Outside 1 Link\ncalls 1\n"), (status, out, err)
+
+
+def ends_in_time():
+    server = Server()
+    begun, tap = time.time(), Tap(words=["--seconds", "1"])
+    sock = connect()
+    ask(sock, 1)
+    assert sock.recv(1) == b""
+    status, out, _, events = tap.end()
+    assert (status, out) == (0, "calls 1\n") and 0.9 < time.time() - begun < 4, (status, out)
+    assert not os.path.exists(tap.path + ".part")
+    tap = Tap(words=["--idle", "1"])
+    sock = connect()
+    for xid in range(4):
+        ask(sock, xid)
+        time.sleep(0.5)
+    status, out, _, events = tap.end()
+    server.close()
+    assert (status, out) == (0, "calls 4\n"), (status, out)
+
+
+def ordered_by_a_file():
+    server, orders = Server(), tempfile.mktemp()
+    open(orders, "w").close()
+    tap = Tap(words=["--orders", orders])
+    sock = connect()
+    ask(sock, 1)
+    open(orders, "a").write("cra")
+    time.sleep(0.2)
+    open(orders, "a").write("sh\nwhat\n")
+    assert sock.recv(1) == b""
+    time.sleep(0.2)
+    ask(connect(), 1)
+    open(orders, "a").write("end\n")
+    status, out, err, events = tap.end()
+    server.close()
+    os.remove(orders)
+    assert (status, out) == (0, "calls 2\n") and "an order is unknown: crash and end are known" in err, (status, out, err)
+    assert [event[0] for event in events] == [0, 1, 2, 3, 0, 1, 2]
+    status, out, _, _ = Tap(words=["--orders", orders]).end()
+    assert (status, out) == (2, "refused: cannot read orders\n"), (status, out)
+
+
+def part_stands():
+    tap = Tap(words=["--seconds", "1"])
+    tap.end()
+    kept, tempfile.mktemp = tempfile.mktemp, lambda suffix="": tap.path
+    open(tap.path + ".part", "w").close()
+    status, out, _, _ = Tap(words=["--seconds", "1"]).end()
+    tempfile.mktemp = kept
+    os.remove(tap.path + ".part")
+    assert (status, out) == (2, "refused: a .part of an earlier recording is there: mend it, or remove it\n"), (status, out)
+
+
+def from_a_folder():
+    """The history begins with what the folder holds; what can't be a start is named."""
+    folder = tempfile.mkdtemp()
+    os.mkdir(folder + "/b")
+    open(folder + "/b/c", "w").write("abc")
+    os.symlink("b", folder + "/a")
+    server = Server()
+    tap = Tap(words=["--seconds", "1", "--start", folder, "--profile", "strict"])
+    ask(connect(), 1)
+    out, err = tap.process.communicate(timeout=20)
+    data = open(tap.path, "rb").read()
+    os.remove(tap.path)
+    head = b"NFSHIST2" + struct.pack(">I", 8) + bytes(8) + struct.pack(">II", 1, 3)
+    link = bytes(8) + struct.pack(">I", 1) + b"a\0\0\0" + struct.pack(">II", 5, 1) + b"b\0\0\0"
+    directory = bytes(8) + struct.pack(">I", 1) + b"b\0\0\0" + struct.pack(">I", 2)
+    file = struct.pack(">QI", 2, 1) + b"c\0\0\0" + struct.pack(">II", 1, 3) + b"abc\0"
+    assert out == b"calls 1\n" and data.startswith(head + link + directory + file), (out, err, data[:120])
+    os.link(folder + "/b/c", folder + "/d")
+    tap = Tap(words=["--seconds", "1", "--start", folder])
+    status, out, err, events = tap.end()
+    server.close()
+    assert (status, out, events) == (2, "refused: no start\n", None) and "has 2 names (hard links)" in err, (status, out, err)
+
+
+CASES = [from_a_folder, server_ends_first, call_unanswered, answered_twice, record_too_long, garbage, nothing_judged, healthy, refused_call, ends_in_time,
+         ordered_by_a_file, part_stands, port_in_use, no_server, no_server_open, half_record, long_header, byte_by_byte, many_lanes, many_in_turn,
          server_dies_in_reply, half_closed, xid_in_use, not_rpc, late_connections, ended_by_input, crash, bad_root,
          cannot_write, log_full]
 
-faults = 0
-for case in CASES:
-    if sys.argv[2:] and case.__name__ not in sys.argv[2:]:
-        continue
-    begun, PORT, SERVER = time.time(), PORT + 2, SERVER + 2
-    try:
-        case()
-        said = "ok"
-    except Exception as error:
-        said, faults = f"FAILED {type(error).__name__}: {error}", 1
-    print(f"{case.__name__}: {said} ({time.time() - begun:.1f} s)", flush=True)
-sys.exit(faults)
+if __name__ == "__main__":
+    faults = 0
+    for case in CASES:
+        if sys.argv[2:] and case.__name__ not in sys.argv[2:]:
+            continue
+        begun, PORT, SERVER = time.time(), PORT + 2, SERVER + 2
+        try:
+            case()
+            said = "ok"
+        except Exception as error:
+            said, faults = f"FAILED {type(error).__name__}: {error}", 1
+        print(f"{case.__name__}: {said} ({time.time() - begun:.1f} s)", flush=True)
+    sys.exit(faults)
