@@ -108,6 +108,21 @@ fn a_tree_is_looked_up(rt: HostRuntime) -> Result<(), Fail> {
     Ok(())
 }
 
+/// The list of the root is asked for three times; a server that needs more time than the walk has is told.
+#[test]
+fn a_server_needs_time(rt: HostRuntime) -> Result<(), Fail> {
+    let _listener: Option<TcpListener> = None;
+    let _stream: Option<TcpStream> = None;
+    assert!(rt; counts(&rt, Conduct::NeedsTime(2)) == Some((0, 3, 3, 9)));
+    let late = is_told(
+        &rt,
+        Conduct::NeedsTime(1_000),
+        "/: READDIRPLUS failed with status 10008: the server needs more time (NFS3ERR_JUKEBOX): run again later",
+    );
+    assert!(rt; late);
+    Ok(())
+}
+
 /// The words of an end.
 fn words(alloc: Global, end: &WalkEnd) -> Result<String, AllocError> {
     format!(in alloc; "{end}")

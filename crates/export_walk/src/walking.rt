@@ -4,7 +4,7 @@ ghost use Rattle.std.specs.Prelude.{◌≡◌, IfOk};
 ghost use Rattle.export_walk.specs.Noted.{AreMessages, IsWalked};
 ghost use Rattle.export_walk.specs.Walking.{Journey, IsBegun, IsOn};
 
-use crate::asking::{Answered, ask};
+use crate::asking::{Answered, ask_patiently};
 use crate::end::WalkEnd;
 use crate::noting::{NotedExchange, is_noted, note};
 use nfs3_types::{FileHandle, NfsCall};
@@ -24,7 +24,7 @@ pub struct WalkedExport {
     pub start: Start,
     /// The LOOKUPs and READDIRPLUSes that succeeded, in order. Each handle of an object is given by one of them.
     pub noted: Vec<NotedExchange>,
-    /// How many calls the walk made.
+    /// How many calls the walk made, without those that it made again.
     pub calls: u64,
 }
 
@@ -125,7 +125,8 @@ impl Walking {
 }
 
 /// Walks the export with this root, at the server at an address, which is asked with this credential. The connection may take so long, as
-/// each reply may. The calls change nothing; their transaction numbers are 1, 2, 3, ..
+/// each reply may, and as a server may say that it needs more time for a call. The calls change nothing; their transaction numbers are 1, 2,
+/// 3, ..
 #[tactic(auto, using(crate::proofs::Steps::walked_from))]
 pub fn walk_export<R: ConnectionRuntime>(
     rt: &R,
@@ -145,8 +146,14 @@ pub fn walk_export<R: ConnectionRuntime>(
         let Some(call) = walking.walk.next()? else {
             return walking.finish();
         };
-        xid = xid.wrapping_add(1);
-        let answered = ask(rt, &mut connection, who, xid, &call)?;
+        let answered = ask_patiently(
+            rt,
+            &mut connection,
+            who,
+            &mut xid,
+            &call,
+            patience.as_secs(),
+        )?;
         walking = walking.take_in(call, answered)?;
     }
     unreachable!()

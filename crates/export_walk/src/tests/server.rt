@@ -44,6 +44,8 @@ pub(super) enum Conduct {
     OtherVersion,
     /// It doesn't let its root be listed.
     Denies,
+    /// It needs more time for so many calls, from the second on.
+    NeedsTime(u64),
 }
 
 /// An object. The root is object 0; those of the table have the numbers from 1 on.
@@ -227,6 +229,14 @@ fn results(
     if conduct == Conduct::BadStatus && count == 2 {
         put_u32(&mut out, 3)?;
         return Ok(out);
+    }
+    if let Conduct::NeedsTime(calls) = conduct {
+        if count >= 2 && count - 2 < calls {
+            // The status, and no attributes of the directory.
+            put_u32(&mut out, 10_008)?;
+            put_u32(&mut out, 0)?;
+            return Ok(out);
+        }
     }
     let Ok(head) = read_call(message) else {
         return Ok(out);
