@@ -402,22 +402,74 @@ def bad_root():
     global ROOT
     for root in ("zz", "0", "AA", "00" * 65):
         kept, ROOT = ROOT, root
-        status, out, _, events = Tap(lanes=1).end()
+        status, out, err, events = Tap(lanes=1).end()
         ROOT = kept
         assert (status, out, events) == (2, "refused: bad root\n", None), (root, status, out)
+        assert "--root takes at most 64 bytes in hexadecimal: two digits each, of 0 to 9 and a to f" in err, err
 
 
 def cannot_write():
-    server = Server()
-    line = [sys.argv[1], "tap", "--root", "", "--port", str(PORT), "--server", str(SERVER), "--lanes", "1", "/nowhere/h"]
-    process = subprocess.Popen(line, stdout=subprocess.PIPE, stderr=subprocess.PIPE)
-    time.sleep(0.3)
-    sock = connect()
-    ask(sock, 1)
-    sock.close()
-    out, err = process.communicate(timeout=20)
+    """A place where no file can be made, a folder and a file of the kernel's: said before a client is served."""
+    folder = tempfile.mkdtemp()
+    for path, words in (("/nowhere/h", ["--lanes", "1"]), (folder, ["--seconds", "30"]), ("/proc/nfsbench", ["--idle", "30"])):
+        line = [sys.argv[1], "tap", "--root", ROOT, "--port", str(PORT), "--server", str(SERVER), *words, path]
+        process = subprocess.run(line, capture_output=True, timeout=10)
+        assert (process.returncode, process.stdout) == (2, b"refused: cannot write\n"), (path, process)
+    os.rmdir(folder)
+
+
+def own_port():
+    line = [sys.argv[1], "tap", "--root", ROOT, "--port", str(PORT), "--server", str(PORT), "--seconds", "30", "/tmp/own.hist"]
+    process = subprocess.run(line, capture_output=True, timeout=10)
+    assert (process.returncode, process.stdout) == (2, b"refused: cannot listen\n"), process
+    assert b"--port and --server are the same port of this machine" in process.stderr, process
+
+
+def wrong_root():
+    """A server that answers GETATTR by NFS3ERR_STALE: that is said at once, and the recording goes on."""
+    stale = lambda xid: frame(reply(xid) + struct.pack(">I", 70))
+    server = Answers(stale)
+    tap = Tap(words=["--seconds", "1"])
+    status, out, err, events = tap.end()
     server.close()
-    assert (process.returncode, out) == (2, b"refused: cannot write\n"), (process.returncode, out, err)
+    assert (status, out, events) == (0, "calls 0\n", []), (status, out, events)
+    assert "the server answers GETATTR of the root with status 70: is --root its handle?" in err, err
+
+
+def empty_root():
+    server = Server()
+    line = [sys.argv[1], "tap", "--root", "", "--port", str(PORT), "--server", str(SERVER), "--seconds", "1", "/tmp/empty.hist"]
+    process = subprocess.run(line, capture_output=True, timeout=10)
+    server.close()
+    os.remove("/tmp/empty.hist")
+    assert (process.returncode, process.stdout) == (0, b"calls 0\n"), process
+    assert b"the root's handle has no byte: is --root empty by mistake?" in process.stderr, process
+
+
+def disk_full():
+    """What fits on a disk of 256 KiB stands in the file beside the history, whole events of it."""
+    folder = tempfile.mkdtemp()
+    if subprocess.run(["mount", "-t", "tmpfs", "-o", "size=256k", "none", folder]).returncode:
+        raise RuntimeError("needs a file system of its own: run it as root")
+    server, kept = Server(), tempfile.mktemp
+    tempfile.mktemp = lambda suffix="": folder + "/h" + suffix
+    tap = Tap(words=["--seconds", "3"])
+    tempfile.mktemp = kept
+    sock = connect()
+    for xid in range(400):
+        sock.sendall(frame(call(xid, 2_000)))
+        read_record(sock)
+    out, err = tap.process.communicate(timeout=20)
+    server.close()
+    mended = kept(suffix=".hist")
+    told = subprocess.run([sys.argv[1], "mend", tap.path + ".part", mended], capture_output=True, text=True)
+    events = read_history(mended)
+    os.remove(mended)
+    subprocess.run(["umount", folder])
+    os.rmdir(folder)
+    assert (tap.process.returncode, out) == (2, b"refused: cannot write\n"), (tap.process.returncode, out, err)
+    assert b"what is noted isn't kept on disk any more: a write failed" in err, err
+    assert told.returncode == 0 and count(events, 0) > 20, (told, len(events))
 
 
 def log_full():
@@ -651,7 +703,7 @@ def from_a_folder():
 CASES = [from_a_folder, server_ends_first, call_unanswered, answered_twice, record_too_long, garbage, nothing_judged, healthy, refused_call, ends_in_time,
          ordered_by_a_file, part_stands, port_in_use, no_server, no_server_open, half_record, long_header, byte_by_byte, many_lanes, many_in_turn,
          server_dies_in_reply, half_closed, xid_in_use, not_rpc, late_connections, ended_by_input, crash, bad_root,
-         cannot_write, log_full]
+         cannot_write, own_port, wrong_root, empty_root, disk_full, log_full]
 
 if __name__ == "__main__":
     faults = 0

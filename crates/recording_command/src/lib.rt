@@ -2,6 +2,7 @@
 #![tactic(auto)]
 
 mod part;
+mod probing;
 mod root;
 mod runtime;
 mod saving;

@@ -38,6 +38,19 @@ fn read_root(alloc: Global, text: &str) -> Result<FileHandle, TapEnd>
     }
 }
 
+/// The root's handle as the words give it. What is wrong with them is said on standard error.
+fn handle_of<R: RecordingRuntime>(rt: &R, text: &str) -> Result<FileHandle, TapEnd> {
+    let root = read_root(rt.alloc(), text);
+    if matches!(root, Err(TapEnd::BadRoot)) {
+        let _ = eprintln!(rt;
+            "--root takes at most 64 bytes in hexadecimal: two digits each, of 0 to 9 and a to f"
+        );
+    } else if text.is_empty() {
+        let _ = eprintln!(rt; "the root's handle has no byte: is --root empty by mistake?");
+    }
+    root
+}
+
 /// The root's handle as a MOUNT service tells it. Why it doesn't is said on standard error.
 fn mounted_root<R: RecordingRuntime>(
     rt: &R,
@@ -61,7 +74,7 @@ pub(crate) fn root_of<R: RecordingRuntime>(
     words: RootWords<'_>,
 ) -> Result<FileHandle, TapEnd> {
     match words {
-        RootWords::Handle(text) => read_root(rt.alloc(), text),
+        RootWords::Handle(text) => handle_of(rt, text),
         RootWords::Mounted(server, export) => mounted_root(rt, &server, export),
     }
 }

@@ -7,6 +7,7 @@ ghost use Rattle.recording_command.specs.Tap.{IsTold};
 ghost use Rattle.recording_command.specs.declared.tap_end.TapEnd.{TapEnd};
 
 use crate::part::{Part, part_path};
+use crate::probing::{can_write, is_own_port, probe_root};
 use crate::root::root_of;
 use crate::runtime::RecordingRuntime;
 use crate::saving::{Beginning, SaveFault, log_file, write_log_of};
@@ -436,11 +437,18 @@ fn open<R: RecordingRuntime>(rt: &R, request: &TapRequest<'_>) -> Result<Opened,
     let root = root_of(rt, request.root)?;
     let beginning = beginning_of(rt, request)?;
     let orders = orders_of(rt, request)?;
+    if is_own_port(rt, request) {
+        return Err(TapEnd::CannotListen);
+    }
     let localhost = IpAddr::V4(Ipv4Addr::new(127, 0, 0, 1));
     let address = SocketAddr::new(localhost, request.port);
     let Ok(listener) = TcpListener::bind(rt, address) else {
         return Err(TapEnd::CannotListen);
     };
+    if !can_write(rt, request.history) {
+        return Err(TapEnd::CannotWrite);
+    }
+    probe_root(rt, request, &root);
     let log = TapLog::new(rt.alloc(), root);
     let relay = Relay::new(
         rt.alloc(),
