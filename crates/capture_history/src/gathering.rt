@@ -1,0 +1,144 @@
+//! The connections of a capture, in the order of their first packets.
+
+use crate::connection::Connection;
+use crate::passed::PassedCounts;
+use packet_capture::Packet;
+use packet_layers::{Endpoint, Segment, segment_of};
+use std::alloc::{AllocError, Global};
+use std::collections::BTreeMap;
+
+/// Two ends, the lower one first.
+#[derive(Clone, Copy, PartialEq, Eq, PartialOrd, Ord)]
+struct Ends {
+    low: Endpoint,
+    high: Endpoint,
+}
+
+fn ends_of(segment: &Segment<'_>) -> Ends {
+    let (source, destination) = (segment.source, segment.destination);
+    if destination < source {
+        Ends {
+            low: destination,
+            high: source,
+        }
+    } else {
+        Ends {
+            low: source,
+            high: destination,
+        }
+    }
+}
+
+/// Where a segment's calls come from: the end that doesn't have the server's port, or whoever sent the segment.
+fn client_of(segment: &Segment<'_>, port: u16) -> Endpoint {
+    if segment.source.port == port && segment.destination.port != port {
+        segment.destination
+    } else {
+        segment.source
+    }
+}
+
+/// Connections, and which one is the last between two ends.
+#[derive(Drop)]
+struct Connections<'a> {
+    all: Vec<Connection<'a>>,
+    latest: BTreeMap<Ends, usize>,
+}
+
+impl<'a> Connections<'a> {
+    fn new(alloc: Global) -> Connections<'a> {
+        Connections {
+            all: Vec::new(alloc),
+            latest: BTreeMap::new(alloc),
+        }
+    }
+
+    /// A connection more.
+    fn begin(
+        &mut self,
+        alloc: Global,
+        port: u16,
+        segment: &Segment<'a>,
+    ) -> Result<usize, AllocError> {
+        let index = self.all.len();
+        let connection = Connection::new(alloc, client_of(segment, port));
+        self.all.push(connection)?;
+        self.latest.insert(ends_of(segment), index)?;
+        Ok(index)
+    }
+
+    /// The connection of a segment, if it was there before.
+    fn known(&self, segment: &Segment<'a>) -> Option<usize> {
+        let index = *self.latest.get(&ends_of(segment))?;
+        if self.all.get(index)?.is_over_by(segment) {
+            return None;
+        }
+        Some(index)
+    }
+
+    /// Takes the segment of the packet of this index.
+    fn put(
+        &mut self,
+        alloc: Global,
+        port: u16,
+        packet: u64,
+        segment: &Segment<'a>,
+    ) -> Result<(), AllocError> {
+        let index = match self.known(segment) {
+            Some(index) => index,
+            None => self.begin(alloc, port, segment)?,
+        };
+        match self.all.get_mut(index) {
+            Some(connection) => connection.put(packet, segment),
+            None => Ok(()),
+        }
+    }
+}
+
+/// The connections of a capture.
+#[derive(Drop)]
+pub struct Gathered<'a> {
+    /// Those of the server's port, which are lanes.
+    pub lanes: Vec<Connection<'a>>,
+    /// All others.
+    pub others: Vec<Connection<'a>>,
+    pub passed: PassedCounts,
+}
+
+/// The connections of packets. `port` is that of the NFS server.
+pub fn gather<'a>(
+    alloc: Global,
+    packets: &[Packet<'a>],
+    port: u16,
+) -> Result<Gathered<'a>, AllocError> {
+    let mut lanes = Connections::new(alloc);
+    let mut others = Connections::new(alloc);
+    let mut passed = PassedCounts::NONE;
+    let mut time = 0;
+    for index in 0..packets.len() {
+        if packets[index].time < time {
+            passed.too_early = passed.too_early.saturating_add(1);
+        }
+        time = packets[index].time;
+        let segment = match segment_of(&packets[index]) {
+            Ok(segment) => segment,
+            Err(reason) => {
+                passed.add(reason);
+                continue;
+            }
+        };
+        if segment.payload.len() < segment.length {
+            passed.cut_payloads = passed.cut_payloads.saturating_add(1);
+        }
+        if segment.source.port == port || segment.destination.port == port {
+            lanes.put(alloc, port, index as u64, &segment)?;
+        } else {
+            others.put(alloc, port, index as u64, &segment)?;
+        }
+    }
+    Ok(Gathered {
+        lanes: lanes.all,
+        others: others.all,
+        passed,
+    })
+}

@@ -1,0 +1,42 @@
+//! How many packets were passed over.
+
+use packet_layers::PassedOver;
+
+/// How many packets were passed over, for each reason, and how many lack bytes.
+#[derive(Clone, Copy, Debug, PartialEq, Eq)]
+pub struct PassedCounts {
+    pub not_ip: u64,
+    pub fragments: u64,
+    pub not_tcp: u64,
+    pub malformed: u64,
+    pub cut_headers: u64,
+    /// These weren't passed over: the snap length cut bytes of their segments.
+    pub cut_payloads: u64,
+    /// These weren't either: their times are earlier than those of the packets ahead of them.
+    pub too_early: u64,
+}
+
+impl PassedCounts {
+    /// Nothing was passed over.
+    pub const NONE: PassedCounts = PassedCounts {
+        not_ip: 0,
+        fragments: 0,
+        not_tcp: 0,
+        malformed: 0,
+        cut_headers: 0,
+        cut_payloads: 0,
+        too_early: 0,
+    };
+
+    /// Counts a packet more.
+    pub fn add(&mut self, reason: PassedOver) {
+        let count = match reason {
+            PassedOver::NotIp => &mut self.not_ip,
+            PassedOver::Fragment => &mut self.fragments,
+            PassedOver::NotTcp => &mut self.not_tcp,
+            PassedOver::Malformed => &mut self.malformed,
+            PassedOver::CutHeader => &mut self.cut_headers,
+        };
+        *count = count.saturating_add(1);
+    }
+}

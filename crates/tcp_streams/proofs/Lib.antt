@@ -1,0 +1,5 @@
+pub mod Rows
+pub mod Holding
+pub mod Fills
+pub mod Chains
+pub mod Puttings
