@@ -22,6 +22,7 @@ use deciding_command::{
     DecideRequest, PrefixRequest, decide_command, decide_history, decide_request, prefix_command,
     prefix_history, prefix_request,
 };
+use import_command::{ImportRequest, import_command, import_request, run_import};
 use judging_commands::{
     SearchRequest, json_option, refused_as_json, run_bundle, search_command, search_history,
     search_request,
@@ -65,6 +66,8 @@ enum Request<'a> {
     Prefix(PrefixRequest<'a>),
     /// A history of what a recorder left on disk.
     Mend(MendRequest<'a>),
+    /// A history of a capture of packets.
+    Import(ImportRequest<'a>),
     /// A recording.
     Tap(TapRequest<'a>),
     /// A run of a plan.
@@ -79,6 +82,7 @@ enum Request<'a> {
 #[derive(Clone, Copy)]
 pub(crate) enum Waiting<'a> {
     Mend(MendRequest<'a>),
+    Import(ImportRequest<'a>),
     Search(SearchRequest<'a>),
     Decide(DecideRequest<'a>),
     Tap(TapRequest<'a>),
@@ -140,6 +144,7 @@ fn command<'a>(alloc: Global) -> Result<Command<'a>, AllocError> {
         .subcommand(serve_command(alloc)?)?
         .subcommand(tap_command(alloc)?)?
         .subcommand(mend_command(alloc)?)?
+        .subcommand(import_command(alloc)?)?
         .subcommand(test_command(alloc)?)
 }
 
@@ -173,6 +178,7 @@ fn read_words<'a, S: AsStr>(alloc: Global, words: &'a [S]) -> Result<Request<'a>
             }
         },
         Some(("mend", mend)) => Ok(Request::Mend(mend_request(mend))),
+        Some(("import", import)) => Ok(Request::Import(import_request(import))),
         Some(("show", show)) => Ok(Request::Show(show_request(show))),
         Some(("search", search)) => Ok(Request::Search(search_request(search))),
         Some(("decide", decide)) => Ok(Request::Decide(decide_request(decide))),
@@ -368,6 +374,7 @@ pub(crate) fn judge_words<'a, R: Files + AllocGlobal, S: AsStr, I: Input, O: Out
         Ok(Request::Show(request)) => Ok(show_path(rt, &request, output)),
         Ok(Request::Prefix(request)) => Ok(prefix_path(rt, &request, output)),
         Ok(Request::Mend(request)) => Err(Waiting::Mend(request)),
+        Ok(Request::Import(request)) => Err(Waiting::Import(request)),
         Ok(Request::Search(request)) => Err(Waiting::Search(request)),
         Ok(Request::Decide(request)) => Err(Waiting::Decide(request)),
         Ok(Request::Tap(request)) => Err(Waiting::Tap(request)),
@@ -386,7 +393,8 @@ pub(crate) fn judge_words<'a, R: Files + AllocGlobal, S: AsStr, I: Input, O: Out
 /// Without further words it is `run_bundle`. With `check` and two paths both files are read, in this order, before
 /// anything is judged, and what is said is what `judge_read` gives; with `report` and two paths it is what `report_read`
 /// gives; with `show` and a path a line for each event, and the first fault of the history; with `prefix`, a path, a number of events and
-/// a path to write what `prefix_history` gives; with `mend`, of a file and a path to write, what [`run_mend`] gives; which words ask for that, which files are opened and what the parser's texts are no clause
+/// a path to write what `prefix_history` gives; with `mend`, of a file and a path to write, what [`run_mend`] gives, and with
+/// `import` what [`run_import`] gives; which words ask for that, which files are opened and what the parser's texts are no clause
 /// says. With `search` and a path it is what `search_history` gives, with `decide` and a path what
 /// `decide_history` gives; with `run`, a path and two
 /// paths to write it runs a text, with `serve` it serves connections, with `tap` it records, and with `test` it drives a server, as
@@ -421,6 +429,7 @@ pub fn run_words<R: RecordingRuntime, S: AsStr, I: Input, O: Output>(
         Err(Waiting::Search(request)) => search_path(rt, &request, output),
         Err(Waiting::Decide(request)) => decide_path(rt, &request, output),
         Err(Waiting::Mend(request)) => run_mend(rt, &request, output),
+        Err(Waiting::Import(request)) => run_import(rt, &request, output),
         Err(Waiting::Tap(request)) => run_tap(rt, &request, input, output),
         Err(Waiting::Run(request)) => run_path(rt, &request, output),
         Err(Waiting::Serve(request)) => serve_words(rt, &request, output),

@@ -1,0 +1,194 @@
+//! The command `import`.
+
+ghost use Rattle.std.specs.Prelude.{◌≡◌, ◌<◌, IfOk};
+ghost use Rattle.std.specs.Io.KnownBytes.{Appends};
+ghost use Rattle.program_streams.specs.Told.{memory_line};
+
+use crate::import_words::ImportRequest;
+use capture_history::{CaptureLog, ImportFault, LaneNote, PassedCounts, import_capture};
+use history_file::{WriteFault, write_history};
+use nfs_relay::calls_in;
+use program_streams::{DigitsFault, Output, Report, decode_digits, line_of, tell_answer};
+use std::alloc::{AllocError, Global};
+use std::fs;
+use std::io::{Eprint, Read};
+use std::rt::Files;
+
+/// The bytes of a root's handle, if one is said; nothing inside where its words are no hex.
+fn root_of(alloc: Global, words: Option<&str>) -> Result<Option<Option<Vec<u8>>>, AllocError> {
+    let Some(words) = words else {
+        return Ok(Some(None));
+    };
+    match decode_digits(alloc, words.as_bytes()) {
+        Ok(bytes) => Ok(Some(Some(bytes))),
+        Err(DigitsFault::Malformed) => Ok(None),
+        Err(DigitsFault::NoMemory) => Err(AllocError),
+    }
+}
+
+/// Says what became of a lane.
+fn tell_note<R: Eprint>(rt: &R, note: &LaneNote) {
+    let (lane, kind) = (note.lane, note.kind);
+    let (seconds, milliseconds) = (note.time / 1_000_000_000, note.time / 1_000_000 % 1_000);
+    let _ = eprintln!(rt; "lane {lane}: {kind}, at {seconds}.{milliseconds:03} seconds");
+}
+
+/// Says how many packets have no part in the history, or not all of theirs, for each reason.
+fn tell_passed<R: Eprint>(rt: &R, passed: PassedCounts) {
+    for (count, reason) in [
+        (passed.not_ip, "not IP"),
+        (passed.fragments, "a fragment of an IP packet"),
+        (passed.not_tcp, "not TCP"),
+        (passed.malformed, "a header that no packet has"),
+        (passed.cut_headers, "cut in a header by the snap length"),
+        (passed.cut_payloads, "cut by the snap length"),
+    ] {
+        if count > 0 {
+            let _ = eprintln!(rt; "packets passed over: {count}: {reason}");
+        }
+    }
+    if passed.too_early > 0 {
+        let count = passed.too_early;
+        let _ = eprintln!(rt;
+            "packets earlier than the one before: {count}: sort the capture by time (reordercap)"
+        );
+    }
+}
+
+/// Says so where the words give a handle of no bytes, which is seldom meant.
+fn tell_empty<R: Eprint>(rt: &R, request: &ImportRequest<'_>) {
+    if matches!(request.root, Some(words) if words.is_empty()) {
+        let _ = eprintln!(rt; "the root's handle has no byte: is --root empty by mistake?");
+    }
+}
+
+/// Whether the capture lacks something of the server's connections, or has none of their calls.
+fn lacks_something(log: &CaptureLog, calls: usize) -> bool {
+    let passed = log.passed;
+    let is_cut = log.cut.is_some() || passed.cut_headers > 0 || passed.cut_payloads > 0;
+    is_cut
+        || passed.fragments > 0
+        || passed.too_early > 0
+        || !log.import.notes.is_empty()
+        || calls == 0
+}
+
+/// Says what of a capture isn't in its history.
+fn tell_lacks<R: Eprint>(rt: &R, port: u16, log: &CaptureLog, calls: usize) {
+    for note in log.import.notes.iter() {
+        tell_note(rt, note);
+    }
+    tell_passed(rt, log.passed);
+    if let Some(at) = log.cut {
+        let _ = eprintln!(rt; "the capture is cut off in the packet at byte {at}");
+    }
+    if calls == 0 {
+        let _ = eprintln!(rt; "no call to port {port} was captured");
+    }
+}
+
+/// Whether what stands at a path begins as the capture does: it is one too, such as the capture itself by another path.
+fn is_capture<R: Files>(rt: &R, path: &str, capture: &[u8]) -> bool {
+    // A pipe or a device isn't read.
+    if !matches!(fs::metadata(rt, path), Ok(known) if known.is_file()) {
+        return false;
+    }
+    let Ok(mut file) = fs::open(rt, path) else {
+        return false;
+    };
+    let mut head = [0u8; 4];
+    file.read_exact(&mut head).is_ok() && capture.starts_with(&head)
+}
+
+/// The status: 1 where it is asked whether the capture lacks something, and it does.
+fn status_of(request: &ImportRequest<'_>, log: &CaptureLog, calls: usize) -> u8
+    ensures { result < 3 }
+{
+    if request.is_strict && lacks_something(log, calls) {
+        1
+    } else {
+        0
+    }
+}
+
+/// Writes the history of a capture, and says how many calls it has.
+fn save<R: Files + AllocGlobal + Eprint>(
+    rt: &R,
+    request: &ImportRequest<'_>,
+    capture: &[u8],
+    log: &CaptureLog,
+) -> Result<Report, AllocError>
+    ensures { IfOk result (λ report. report.status < 3) }
+{
+    let (alloc, import) = (rt.alloc(), &log.import);
+    let file = match write_history(alloc, import.log.root().as_slice(), import.log.events()) {
+        Ok(file) => file,
+        Err(WriteFault::NoMemory) => return Err(AllocError),
+        Err(WriteFault::TooLarge) => return Report::refused(alloc, "over the limits of a history"),
+    };
+    if is_capture(rt, request.history, capture)
+        || fs::write(rt, request.history, file.as_slice()).is_err()
+    {
+        return Report::refused(alloc, "cannot write");
+    }
+    let calls = calls_in(import.log.events());
+    tell_empty(rt, request);
+    tell_lacks(rt, request.port, log, calls);
+    let status = status_of(request, log, calls);
+    Ok(Report::new(status, line_of(alloc, "calls ", &calls)?))
+}
+
+/// What is said where a capture gives no history.
+fn refusal_of(alloc: Global, fault: ImportFault) -> Result<Report, AllocError>
+    ensures { IfOk result (λ report. report.status ≡ 2) }
+{
+    match fault {
+        ImportFault::NoMemory => Err(AllocError),
+        fault => Ok(Report::new(2, line_of(alloc, "refused: ", &fault)?)),
+    }
+}
+
+/// Reads a capture, and writes its history.
+fn import_bytes<R: Files + AllocGlobal + Eprint>(
+    rt: &R,
+    request: &ImportRequest<'_>,
+    root: Option<&[u8]>,
+) -> Result<Report, AllocError>
+    ensures { IfOk result (λ report. report.status < 3) }
+{
+    let Ok(capture) = fs::read(rt, request.capture) else {
+        return Report::refused(rt.alloc(), "unreadable capture");
+    };
+    match import_capture(rt.alloc(), capture.as_slice(), request.port, root) {
+        Ok(log) => save(rt, request, capture.as_slice(), &log),
+        Err(fault) => refusal_of(rt.alloc(), fault),
+    }
+}
+
+fn import_report<R: Files + AllocGlobal + Eprint>(
+    rt: &R,
+    request: &ImportRequest<'_>,
+) -> Result<Report, AllocError>
+    ensures { IfOk result (λ report. report.status < 3) }
+{
+    match root_of(rt.alloc(), request.root)? {
+        Some(Some(root)) => import_bytes(rt, request, Some(root.as_slice())),
+        Some(None) => import_bytes(rt, request, None),
+        None => Report::refused(rt.alloc(), "bad root"),
+    }
+}
+
+/// Writes the history of a capture of packets, and says how many calls it has: status 0, or with `is_strict` 1 where the capture lacks
+/// something of the server's connections. 2 is a refusal. What it lacks is said on standard error. What the history has, `import_capture`
+/// says.
+pub fn run_import<R: Files + AllocGlobal + Eprint, O: Output>(
+    rt: &R,
+    request: &ImportRequest<'_>,
+    output: &mut O,
+) -> u8
+    ensures memory_line { result ≡ 3
+        → Appends (O.contents output.old) (O.contents output.new) memory_line }
+    ensures known { result < 4 }
+{
+    tell_answer(output, import_report(rt, request))
+}
