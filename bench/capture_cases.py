@@ -225,9 +225,10 @@ def small_frames() -> list:
 
 def words() -> list[Case]:
     data = classic_file(MICRO, small_frames())
-    bad_roots = {"upper case": "AA", "no digits": "zz", "half a byte": "abc", "nothing": ""}
+    bad_roots = {"upper case": "AA", "no digits": "zz", "half a byte": "abc"}
     return [
         *(Case(f"bad root: {name}", data, 2, BAD_ROOT, words=(f"--root={root}",)) for name, root in bad_roots.items()),
+        Case("a root of no bytes", data, 0, "calls 1", told=["^the root's handle has no byte: is --root empty by mistake\\?$"], words=("--root=",)),
         Case("a root of 65 bytes", data, 2, "refused: the root handle has over 64 bytes", words=("--root", "ab" * 65)),
         Case("a root of 64 bytes", data, 0, "calls 1", words=("--root", "ab" * 64)),
         *(Case(f"port {port}", data, 2, None, port=port) for port in (0, 70_000, -1, "nfs")),
@@ -308,9 +309,9 @@ def many_calls(count: int, is_closed: bool) -> bytes:
 
 
 def limits():
-    """As many events as find room beside 4,096 closes (crates/nfs_tap), and more. Made when they are asked for."""
+    """As many events as find room beside 4,096 closes (crates/nfs_tap), and two more, replies. Made when they are asked for."""
     yield Case("995,904 events", many_calls(497_952, True), 0, "calls 497952")
-    yield Case("995,906 events", many_calls(497_953, True), 0, "calls 497952", told=["^lane 1: record not taken: the log is full, at "])
+    yield Case("995,906 events", many_calls(497_953, True), 0, "calls 497953", told=["^lane 1: record not taken: the log is full, at "] * 2)
 
 
 def strict() -> list[Case]:
