@@ -22,7 +22,8 @@ from differ.rpc import read_call, read_reply
 CALL, REPLY, CLOSE = range(3)
 RECORD_LIMIT = 2_097_152
 MOUNT, MNT = 100_005, 1
-TOO_EARLY = "earlier than the one before"
+TOO_EARLY = "earlier than one before"
+TOLERANCE = 1_000_000
 
 
 @dataclass
@@ -232,8 +233,8 @@ def passed_over(packets: list[Seen]) -> dict:
     """How many packets have no part in a history, or not all of theirs, for each reason."""
     passed, time = Counter(), 0
     for seen in packets:
-        passed[TOO_EARLY] += seen.time < time
-        time = seen.time
+        passed[TOO_EARLY] += seen.time + TOLERANCE < time
+        time = max(seen.time, time)
         if seen.segment is None:
             passed[seen.reason] += 1
         else:

@@ -7,6 +7,10 @@ use packet_layers::{Endpoint, Segment, segment_of};
 use std::alloc::{AllocError, Global};
 use std::collections::BTreeMap;
 
+/// By how many nanoseconds a packet may be earlier than another that stands ahead of it in a file that is in order: packets that several
+/// processors take are written a little later than they were seen, and each of them behind what caused it.
+const TOLERANCE: u64 = 1_000_000;
+
 /// Two ends, the lower one first.
 #[derive(Clone, Copy, PartialEq, Eq, PartialOrd, Ord)]
 struct Ends {
@@ -116,10 +120,10 @@ pub fn gather<'a>(
     let mut passed = PassedCounts::NONE;
     let mut time = 0;
     for index in 0..packets.len() {
-        if packets[index].time < time {
+        if packets[index].time.saturating_add(TOLERANCE) < time {
             passed.too_early = passed.too_early.saturating_add(1);
         }
-        time = packets[index].time;
+        time = packets[index].time.max(time);
         let segment = match segment_of(&packets[index]) {
             Ok(segment) => segment,
             Err(reason) => {

@@ -12,7 +12,7 @@ pub struct PassedCounts {
     pub cut_headers: u64,
     /// These weren't passed over: the snap length cut bytes of their segments.
     pub cut_payloads: u64,
-    /// These weren't either: their times are earlier than those of the packets ahead of them.
+    /// These weren't either: they are over a millisecond earlier than a packet ahead of them.
     pub too_early: u64,
 }
 

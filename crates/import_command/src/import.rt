@@ -50,7 +50,7 @@ fn tell_passed<R: Eprint>(rt: &R, passed: PassedCounts) {
     if passed.too_early > 0 {
         let count = passed.too_early;
         let _ = eprintln!(rt;
-            "packets earlier than the one before: {count}: sort the capture by time (reordercap)"
+            "packets earlier than one before: {count}: sort the capture by time (reordercap)"
         );
     }
 }
