@@ -6,8 +6,6 @@ mod labels;
 mod making;
 mod making_names;
 mod stamp;
-#[cfg(test)]
-mod tests;
 mod wish;
 
 pub use bases::{BASES, Base, Realm};

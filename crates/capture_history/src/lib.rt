@@ -14,8 +14,6 @@ mod mount;
 mod notes;
 mod passed;
 mod stream;
-#[cfg(test)]
-mod tests;
 mod way;
 
 pub use capture::{CaptureLog, import_capture};

@@ -5,8 +5,6 @@ mod asking;
 mod end;
 mod hearing;
 mod noting;
-#[cfg(test)]
-mod tests;
 mod walking;
 mod words;
 

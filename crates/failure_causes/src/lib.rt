@@ -5,8 +5,6 @@ mod counting;
 mod names;
 mod placed;
 mod running;
-#[cfg(test)]
-mod tests;
 
 pub use counting::CauseCounts;
 pub use names::cause_name;

@@ -4,10 +4,6 @@
 
 mod handles;
 mod looking;
-#[cfg(test)]
-mod samples;
-#[cfg(test)]
-mod tests;
 mod verifiers;
 
 pub use looking::{FirstLook, look};

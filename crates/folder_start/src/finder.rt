@@ -200,8 +200,8 @@ fn look_at<R: Files + AllocGlobal>(rt: &R, path: &str) -> Result<(), Stop> {
     }
 }
 
-/// The objects of a folder, of which there may be so much.
-pub(crate) fn start_within<R: Files + AllocGlobal>(
+/// The objects of the folder at a path, as [`folder_start`] gives them, where there may be so much of them.
+pub fn start_within<R: Files + AllocGlobal>(
     rt: &R,
     path: &str,
     limits: Limits,

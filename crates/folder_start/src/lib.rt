@@ -7,9 +7,8 @@ mod listing;
 mod paths;
 mod refusal;
 mod room;
-#[cfg(test)]
-mod tests;
 mod words;
 
-pub use finder::folder_start;
+pub use finder::{folder_start, start_within};
 pub use refusal::{Cause, FolderFault, Refusal, Special};
+pub use room::Limits;

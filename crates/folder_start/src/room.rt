@@ -5,16 +5,16 @@ use tree_starts::START_LIMIT;
 
 /// How much there may be.
 #[derive(Clone, Copy)]
-pub(crate) struct Limits {
+pub struct Limits {
     /// The most objects.
-    pub(crate) objects: usize,
+    pub objects: usize,
     /// The most bytes that they take in a history file.
-    pub(crate) bytes: u64,
+    pub bytes: u64,
 }
 
 impl Limits {
     /// Those of a history file.
-    pub(crate) const OF_FILES: Limits = Limits {
+    pub const OF_FILES: Limits = Limits {
         objects: START_LIMIT,
         bytes: 268_435_456,
     };

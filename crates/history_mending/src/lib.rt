@@ -10,8 +10,6 @@ mod items;
 mod laws;
 mod mending;
 mod part;
-#[cfg(test)]
-mod tests;
 
 pub use end::End;
 pub use file::mended_file;

@@ -4,8 +4,6 @@
 mod faults;
 mod object;
 mod searches;
-#[cfg(test)]
-mod tests;
 mod verdicts;
 
 pub use searches::{SearchMiss, found_line, miss_line};

@@ -32,7 +32,7 @@ fn root_told(alloc: Global, results: &[u8]) -> Result<FileHandle, MountFault>
 }
 
 /// The root that a reply to MNT gives, a message without record marking.
-pub(crate) fn root_in(alloc: Global, message: &[u8]) -> Result<FileHandle, MountFault>
+pub fn root_in(alloc: Global, message: &[u8]) -> Result<FileHandle, MountFault>
     ensures { IsHeard message.now result }
 {
     let head = match read_reply(message) {

@@ -8,10 +8,9 @@ mod hearing;
 mod mounting;
 mod results;
 mod status;
-#[cfg(test)]
-mod tests;
 mod words;
 
 pub use fault::MountFault;
+pub use hearing::root_in;
 pub use mounting::{mount, unmount};
 pub use status::MountStatus;

@@ -7,8 +7,6 @@ mod drawing;
 mod drawing_files;
 mod drawing_names;
 mod mix;
-#[cfg(test)]
-mod tests;
 
 pub use call_making::{Stamp, whose};
 pub use client::Client;

@@ -7,8 +7,6 @@ mod conversation;
 mod night;
 mod runtime;
 mod shared_log;
-#[cfg(test)]
-mod tests;
 mod up;
 
 pub use night::{EraEnd, Night};

@@ -3,8 +3,6 @@
 
 mod eras;
 mod orders;
-#[cfg(test)]
-mod tests;
 
 pub use eras::{ErasPlan, run_eras};
 pub use orders::Orders;

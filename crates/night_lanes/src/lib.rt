@@ -10,8 +10,6 @@ mod notes;
 mod open_calls;
 mod outgoing;
 mod settings;
-#[cfg(test)]
-mod tests;
 mod troubles;
 
 pub use counts::{Counts, FailureCount, ProcedureCounts};

@@ -9,8 +9,6 @@ mod hints;
 mod json;
 mod junit;
 mod report;
-#[cfg(test)]
-mod tests;
 
 pub use explaining::explanation;
 pub use hints::rights_hint;

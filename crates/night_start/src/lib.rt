@@ -12,8 +12,6 @@ mod paths;
 mod refusal;
 mod replies;
 mod settings;
-#[cfg(test)]
-mod tests;
 mod walk;
 mod words;
 

@@ -9,8 +9,6 @@ mod clock;
 mod fault;
 mod order;
 mod packet;
-#[cfg(test)]
-mod tests;
 
 pub use capture::read_packets;
 pub use fault::CaptureFault;

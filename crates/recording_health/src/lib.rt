@@ -4,8 +4,6 @@
 mod eras;
 mod finding;
 mod reading;
-#[cfg(test)]
-mod tests;
 mod unanswered;
 
 pub use finding::{Finding, Findings, findings_of};

@@ -3,8 +3,6 @@
 
 mod asking;
 mod refusal;
-#[cfg(test)]
-mod tests;
 
 pub use asking::{Asked, Credential, put_call_head, put_message};
 pub use refusal::Refusal;

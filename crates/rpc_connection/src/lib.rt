@@ -7,8 +7,6 @@ mod fault;
 mod incoming;
 mod outgoing;
 mod runtime;
-#[cfg(test)]
-mod tests;
 
 pub use connection::Connection;
 pub use fault::ConnectionFault;
