@@ -1,7 +1,10 @@
 //! The link header of a packet, by its type (tcpdump.org's list of link-layer header types; IEEE 802.1Q for tags).
 
-ghost use Rattle.std.specs.Prelude.{◌≡◌, ◌<◌, length, drop, IfSome, IfNone};
+ghost use Rattle.std.specs.Prelude.{◌≡◌, ◌+◌, ◌<◌, ◌≤◌, length, MatchOption, Some, None};
+ghost use Rattle.packet_layers.specs.Packets.{is_tag};
+ghost use Rattle.packet_layers.specs.Reading.{Gives, datagram_view, past_tags, protocol_at, family_number, family_at, raw_at, datagram_at};
 
+use crate::fields::{short_at, split};
 use crate::passed::PassedOver;
 use packet_capture::LinkType;
 
@@ -19,120 +22,124 @@ pub struct Datagram<'a> {
     pub bytes: &'a [u8],
 }
 
-/// The bytes from a place on.
-pub fn behind(bytes: &[u8], at: usize) -> Option<&[u8]>
-    ensures some { IfSome result (λ rest. rest.now ≡ drop at bytes.now) }
-    ensures none { IfNone result (length bytes.now < at) }
+/// What stands behind headers that say what follows: its kind, and its bytes.
+#[derive(Clone, Copy)]
+pub struct Reached<'a> {
+    pub kind: u16,
+    pub bytes: &'a [u8],
+}
+
+fn as_version(version: Version, bytes: &[u8]) -> Datagram<'_>
+    ensures { (result.version ≡ version) × (result.bytes.now ≡ bytes.now) }
 {
-    if bytes.len() < at {
-        return None;
-    }
-    Some(&bytes[at..])
+    Datagram { version, bytes }
 }
 
-/// The number of two bytes at a place.
-pub fn short_at(bytes: &[u8], at: usize) -> Option<u16> {
-    match behind(bytes, at) {
-        Some([high, low, ..]) => Some(u16::from(*high) * 256 + u16::from(*low)),
-        _ => None,
-    }
+/// Whether a protocol is that of a VLAN tag.
+fn is_tag(kind: u16) -> bool
+    ensures { result ≡ is_tag kind }
+{
+    kind == 0x8100 || kind == 0x88A8 || kind == 0x9100
 }
 
-/// The number of four bytes at a place.
-pub fn word_at(bytes: &[u8], at: usize) -> Option<u32> {
-    match behind(bytes, at) {
-        Some([a, b, c, d, ..]) => Some(u32::from_be_bytes([*a, *b, *c, *d])),
-        _ => None,
-    }
-}
-
-/// What stands behind a number that tells the protocol: IP, or a VLAN tag and again such a number.
-fn behind_type(bytes: &[u8]) -> Result<Datagram<'_>, PassedOver> {
+/// Goes past VLAN tags. `first` says what stands at the front.
+fn past_tags(first: u16, bytes: &[u8], most: usize) -> Option<Reached<'_>>
+    ensures { MatchOption result (past_tags most first bytes.now ≡ None)
+        (λ reached. past_tags most first bytes.now ≡ Some (reached.kind, reached.bytes.now)) }
+{
+    let mut kind = first;
     let mut rest = bytes;
-    for _ in 0..bytes.len() {
-        let [high, low, inner @ ..] = rest else {
-            break;
+    for _ in 0..most {
+        if !is_tag(kind) {
+            return Some(Reached { kind, bytes: rest });
+        }
+        let Some(parts) = split(rest, 4) else {
+            return None;
         };
-        match u16::from(*high) * 256 + u16::from(*low) {
-            0x0800 => return make_datagram(Version::V4, inner),
-            0x86DD => return make_datagram(Version::V6, inner),
-            0x8100 | 0x88A8 | 0x9100 => {
-                let Some(tagged) = behind(inner, 2) else {
-                    break;
-                };
-                rest = tagged;
-            }
-            _ => return Err(PassedOver::NotIp),
+        kind = short_at(rest, 2);
+        rest = parts.behind;
+    }
+    None
+}
+
+/// IP behind a header of so many bytes, with the protocol at a place in it, and tags.
+#[tactic(auto, unfolding(crate::specs::Reading::protocol_at, crate::specs::Reading::version_of))]
+fn behind_protocol(bytes: &[u8], all: usize, place: usize) -> Result<Datagram<'_>, PassedOver>
+    requires { place + 1 < all }
+    ensures { Gives datagram_view result (protocol_at all place bytes.now) }
+{
+    let Some(parts) = split(bytes, all) else {
+        return Err(PassedOver::CutHeader);
+    };
+    let Some(reached) = past_tags(short_at(bytes, place), parts.behind, bytes.len() + 1) else {
+        return Err(PassedOver::CutHeader);
+    };
+    match reached.kind {
+        0x0800 => Ok(as_version(Version::V4, reached.bytes)),
+        0x86DD => Ok(as_version(Version::V6, reached.bytes)),
+        _ => Err(PassedOver::NotIp),
+    }
+}
+
+/// The family of addresses in four bytes, in whichever order they stand, or 0, which is none.
+#[tactic(auto, unfolding(crate::specs::Reading::family_number))]
+fn family_number(bytes: &[u8]) -> u8
+    requires { 4 ≤ length bytes.now }
+    ensures { result ≡ family_number bytes.now }
+{
+    if bytes[1] == 0 && bytes[2] == 0 {
+        if bytes[0] == 0 {
+            return bytes[3];
+        }
+        if bytes[3] == 0 {
+            return bytes[0];
         }
     }
-    Err(PassedOver::CutHeader)
+    0
 }
 
-fn make_datagram(version: Version, bytes: &[u8]) -> Result<Datagram<'_>, PassedOver> {
-    Ok(Datagram { version, bytes })
+/// IP behind four bytes for the family of addresses: 2 for IPv4, and one of four numbers for IPv6.
+#[tactic(auto, unfolding(crate::specs::Reading::family_at))]
+fn behind_family(bytes: &[u8]) -> Result<Datagram<'_>, PassedOver>
+    ensures { Gives datagram_view result (family_at bytes.now) }
+{
+    let Some(parts) = split(bytes, 4) else {
+        return Err(PassedOver::CutHeader);
+    };
+    match family_number(bytes) {
+        2 => Ok(as_version(Version::V4, parts.behind)),
+        10 | 24 | 28 | 30 => Ok(as_version(Version::V6, parts.behind)),
+        _ => Err(PassedOver::NotIp),
+    }
 }
 
 /// IP of the version that its first four bits say.
-fn raw(bytes: &[u8]) -> Result<Datagram<'_>, PassedOver> {
-    let [first, ..] = bytes else {
+#[tactic(auto, unfolding(crate::specs::Reading::raw_at))]
+fn raw(bytes: &[u8]) -> Result<Datagram<'_>, PassedOver>
+    ensures { Gives datagram_view result (raw_at bytes.now) }
+{
+    if bytes.is_empty() {
         return Err(PassedOver::CutHeader);
-    };
-    match *first / 16 {
-        4 => make_datagram(Version::V4, bytes),
-        6 => make_datagram(Version::V6, bytes),
-        _ => Err(PassedOver::NotIp),
     }
-}
-
-/// IP behind a word for the protocol, in whichever order its bytes stand: 2 for IPv4, and one of four numbers for IPv6.
-fn behind_family(bytes: &[u8]) -> Result<Datagram<'_>, PassedOver> {
-    let [a, b, c, d, inner @ ..] = bytes else {
-        return Err(PassedOver::CutHeader);
-    };
-    let family = match (*a, *b, *c, *d) {
-        (0, 0, 0, family) | (family, 0, 0, 0) => family,
-        _ => return Err(PassedOver::NotIp),
-    };
-    match family {
-        2 => make_datagram(Version::V4, inner),
-        10 | 24 | 28 | 30 => make_datagram(Version::V6, inner),
+    match bytes[0] / 16 {
+        4 => Ok(as_version(Version::V4, bytes)),
+        6 => Ok(as_version(Version::V6, bytes)),
         _ => Err(PassedOver::NotIp),
-    }
-}
-
-/// IP behind a header of the second form of Linux, which begins with the number for the protocol.
-fn behind_cooked2(bytes: &[u8]) -> Result<Datagram<'_>, PassedOver> {
-    let (Some(number), Some(inner)) = (short_at(bytes, 0), behind(bytes, 20)) else {
-        return Err(PassedOver::CutHeader);
-    };
-    match number {
-        0x0800 => make_datagram(Version::V4, inner),
-        0x86DD => make_datagram(Version::V6, inner),
-        0x8100 | 0x88A8 | 0x9100 => match behind(inner, 2) {
-            Some(tagged) => behind_type(tagged),
-            None => Err(PassedOver::CutHeader),
-        },
-        _ => Err(PassedOver::NotIp),
-    }
-}
-
-/// The bytes behind so many, as far as they were captured.
-fn inner(bytes: &[u8], at: usize) -> &[u8] {
-    match behind(bytes, at) {
-        Some(rest) => rest,
-        None => &[],
     }
 }
 
 /// What stands behind the link header of a packet.
-pub fn datagram_of(link: LinkType, bytes: &[u8]) -> Result<Datagram<'_>, PassedOver> {
+#[tactic(auto, unfolding(crate::specs::Reading::datagram_at))]
+pub fn datagram_of(link: LinkType, bytes: &[u8]) -> Result<Datagram<'_>, PassedOver>
+    ensures { Gives datagram_view result (datagram_at link bytes.now) }
+{
     match link {
-        LinkType::Ethernet => behind_type(inner(bytes, 12)),
-        LinkType::Cooked => behind_type(inner(bytes, 14)),
-        LinkType::Cooked2 => behind_cooked2(bytes),
+        LinkType::Ethernet => behind_protocol(bytes, 14, 12),
+        LinkType::Cooked => behind_protocol(bytes, 16, 14),
+        LinkType::Cooked2 => behind_protocol(bytes, 20, 0),
         LinkType::Null | LinkType::Loop => behind_family(bytes),
         LinkType::Raw => raw(bytes),
-        LinkType::Ipv4 => make_datagram(Version::V4, bytes),
-        LinkType::Ipv6 => make_datagram(Version::V6, bytes),
+        LinkType::Ipv4 => Ok(as_version(Version::V4, bytes)),
+        LinkType::Ipv6 => Ok(as_version(Version::V6, bytes)),
     }
 }

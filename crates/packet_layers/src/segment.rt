@@ -1,5 +1,9 @@
 //! A TCP segment, with where it came from and where it went.
 
+ghost use Rattle.std.specs.Prelude.{◌≡◌, IfOk, Ok};
+ghost use Rattle.packet_layers.specs.Packets.{Told, IsPacket, mapped};
+ghost use Rattle.packet_layers.specs.Reading.{Gives, told, segment_at};
+
 use crate::link::datagram_of;
 use crate::network::carried_by;
 use crate::passed::PassedOver;
@@ -17,7 +21,9 @@ pub struct Address {
 
 impl Address {
     /// That of an IPv4 address.
-    pub fn from_v4(address: u32) -> Address {
+    pub fn from_v4(address: u32) -> Address
+        ensures { result ≡ mapped address }
+    {
         Address {
             high: 0,
             low: 0xFFFF_0000_0000 + u64::from(address),
@@ -48,9 +54,22 @@ pub struct Segment<'a> {
     pub length: usize,
 }
 
-/// The TCP segment in a packet, or why it is passed over.
-pub fn segment_of<'a>(packet: &Packet<'a>) -> Result<Segment<'a>, PassedOver> {
+/// Reads a packet from its front.
+#[tactic(auto, unfolding(crate::specs::Reading::segment_at))]
+fn segment_in_packet<'a>(packet: &Packet<'a>) -> Result<Segment<'a>, PassedOver>
+    ensures { Gives told result (segment_at packet.now.link packet.now.bytes.now) }
+{
     let datagram = datagram_of(packet.link, packet.bytes)?;
-    let carried = carried_by(datagram)?;
-    segment_in(carried)
+    let carried = carried_by(&datagram)?;
+    segment_in(&carried)
+}
+
+/// The TCP segment in a packet, or why it is passed over.
+pub fn segment_of<'a>(packet: &Packet<'a>) -> Result<Segment<'a>, PassedOver>
+    // What is given stands in the packet.
+    ensures found { IfOk result (λ segment. IsPacket packet.now.link packet.now.bytes.now (told segment)) }
+    // A packet in which a segment stands gives it.
+    ensures only { (segment : Told) → IsPacket packet.now.link packet.now.bytes.now segment → Gives told result (Ok segment) }
+{
+    segment_in_packet(packet)
 }

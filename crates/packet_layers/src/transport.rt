@@ -1,41 +1,46 @@
 //! The header of a TCP segment (RFC 9293, section 3.1).
 
-use crate::link::{behind, short_at, word_at};
-use crate::network::Carried;
+ghost use Rattle.packet_layers.specs.Reading.{Gives, carried_view, told, tcp_at};
+
+use crate::fields::{short_at, split, word_at};
+use crate::network::Within;
 use crate::passed::PassedOver;
 use crate::segment::{Endpoint, Segment};
 
 /// The segment that an IP packet carries.
-pub fn segment_in(carried: Carried<'_>) -> Result<Segment<'_>, PassedOver> {
-    let (Some(source), Some(destination), Some(sequence), Some(offset_and_flags)) = (
-        short_at(carried.bytes, 0),
-        short_at(carried.bytes, 2),
-        word_at(carried.bytes, 4),
-        short_at(carried.bytes, 12),
-    ) else {
+#[tactic(auto, unfolding(crate::specs::Reading::tcp_at))]
+pub fn segment_in<'a>(carried: &Within<'a>) -> Result<Segment<'a>, PassedOver>
+    ensures { Gives told result (tcp_at (carried_view carried.now)) }
+{
+    let bytes = carried.bytes;
+    if bytes.len() < 14 {
         return Err(PassedOver::CutHeader);
-    };
-    let header = offset_and_flags as usize / 4096 * 4;
-    if header < 20 || carried.length < header {
+    }
+    let header = bytes[12] as usize / 16 * 4;
+    let flags = bytes[13];
+    if header < 20 {
         return Err(PassedOver::Malformed);
     }
-    let Some(payload) = behind(carried.bytes, header) else {
+    if carried.length < header {
+        return Err(PassedOver::Malformed);
+    }
+    let Some(parts) = split(bytes, header) else {
         return Err(PassedOver::CutHeader);
     };
     Ok(Segment {
         source: Endpoint {
             address: carried.source,
-            port: source,
+            port: short_at(bytes, 0),
         },
         destination: Endpoint {
             address: carried.destination,
-            port: destination,
+            port: short_at(bytes, 2),
         },
-        sequence,
-        fin: offset_and_flags % 2 == 1,
-        syn: offset_and_flags / 2 % 2 == 1,
-        reset: offset_and_flags / 4 % 2 == 1,
-        payload,
+        sequence: word_at(bytes, 4),
+        fin: flags % 2 == 1,
+        syn: flags / 2 % 2 == 1,
+        reset: flags / 4 % 2 == 1,
+        payload: parts.behind,
         length: carried.length - header,
     })
 }
