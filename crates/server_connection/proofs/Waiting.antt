@@ -88,6 +88,21 @@ module _ (export : Export) (old now new : Intake) (content : List ℕ) (before m
             (lost_sent end h.unsent.count h.unsent.lost (replies so_far.answers) h.reply h.unsent.within);
       }
 
+  -- there was no room for it
+  pub stops_full : Stops export ends.Full old.left old.feed.waiting before mid held between
+  stops_full = record {
+    answers = so_far.answers;
+    behind = content ∷ new.feed.waiting;
+    parts = ahead;
+    left = now.left;
+    count = so_far.count;
+    stop = tt;
+    told = so_far.told;
+    written = frames (replies so_far.answers);
+    appended = so_far.appended;
+    sent = refl;
+  }
+
   pub stops_later : (end : StreamEnd) → IsUnanswered end content mid after between held' ⊎ IsHalfServed export end content mid after between held'
       → Stops export end old.left old.feed.waiting before after held held'
   stops_later end (inl u) = stops_unanswered end u

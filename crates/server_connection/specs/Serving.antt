@@ -76,7 +76,7 @@ pub record IsRefused (fault : CallFault) (bytes : List ℕ) : Type 0 where
 
 -- What stands behind the records that were answered, where `left` more might be: at the end of the stream, and where a read failed, a record
 -- that is begun, or nothing; at a record past the limit that record; at a refusal the record that was refused; at the bound any bytes if no
--- more might be answered, else no whole record; where a write failed or memory was wanting any bytes.
+-- more might be answered, else no whole record; where a write failed, or memory or room was wanting, any bytes.
 abbrev pub Behind : StreamEnd → ℕ → List ℕ → Type 0
 Behind ends.End left rest = IsUnfinished rest
 Behind ends.ReadFault left rest = IsUnfinished rest

@@ -66,6 +66,7 @@ pub record Answers (export : Export) (records : List (List ℕ)) (old new : Pass
 -- so it ended at the first of these records, where `left` of them might be answered
 abbrev pub IsStop : StreamEnd → ℕ → List (List ℕ) → Type 0
 IsStop ends.Bound left records = left ≡ 0
+IsStop ends.Full left records = Unit {0}
 IsStop ends.WriteFault left records = Unit {0}
 IsStop ends.NoMemory left records = Unit {0}
 IsStop (ends.Refused fault) left [] = ⊥

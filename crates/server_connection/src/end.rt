@@ -11,6 +11,8 @@ pub enum StreamEnd {
     End,
     /// As many records were answered as may be, or the stream didn't end within 1,000,000 reads.
     Bound,
+    /// A history's file has no room for the next record and a reply. The record isn't answered.
+    Full,
     /// A read failed. The records that came whole are answered.
     ReadFault,
     /// A write failed, or a reply is longer than 2,097,152 bytes, of which nothing is written. Its call is noted in the pass.
@@ -29,6 +31,7 @@ impl fmt::Display for StreamEnd {
         match self {
             StreamEnd::End => f.write_str("End"),
             StreamEnd::Bound => f.write_str("Bound"),
+            StreamEnd::Full => f.write_str("Full"),
             StreamEnd::ReadFault => f.write_str("ReadFault"),
             StreamEnd::WriteFault => f.write_str("WriteFault"),
             StreamEnd::RecordTooLong => f.write_str("RecordTooLong"),

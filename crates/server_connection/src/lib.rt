@@ -5,10 +5,12 @@ mod end;
 mod export;
 mod intake;
 mod laws;
+mod room;
 mod sending;
 mod serving;
 
 pub use end::StreamEnd;
 pub use export::Export;
 pub use laws::no_mounted_call_is_recorded;
-pub use serving::{serve_export, serve_stream};
+pub use room::Room;
+pub use serving::{Allowance, serve_export, serve_stream};

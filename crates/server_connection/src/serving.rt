@@ -9,14 +9,25 @@ ghost use Rattle.server_connection.specs.Steps.{IsAnsweredBy, IsServed, IsUnansw
 use crate::end::StreamEnd;
 use crate::export::Export;
 use crate::intake::Intake;
+use crate::room::Room;
 use crate::sending::send;
 use journal_server::{CallFault, Gate, JournalDevice, Pass, Server};
 use program_streams::{READ_LIMIT, READ_SIZE};
+use server_passes::Exchange;
 use server_requests::mount_reply;
 use std::alloc::{AllocError, Global};
 use std::io::{ErrorKind, Read, Write};
 use std::sync::Wait;
 use xdr_records::{FeedFault, RecordFeed};
+
+/// How much of a stream is answered.
+#[derive(Clone, Copy)]
+pub struct Allowance<'a> {
+    /// How many records at most.
+    pub records: u64,
+    /// What a history has room for.
+    pub room: &'a Room,
+}
 
 /// The reply to a message.
 fn answer<R: Wait, G: Gate, D: JournalDevice>(
@@ -58,6 +69,14 @@ fn serve_record<R: Wait, W: Write, G: Gate, D: JournalDevice>(
     send(alloc, writer, reply.as_slice())
 }
 
+/// Gives back what was set aside for a call of so many bytes and isn't needed for the exchange that was noted of it, if one was.
+fn settle(room: &Room, call: usize, noted: Option<&Exchange>) {
+    match noted {
+        Some(exchange) => room.give_back(exchange.reply().len()),
+        None => room.give_all_back(call),
+    }
+}
+
 /// Has the records answered that wait, as many as may be.
 fn serve_waiting<R: Wait, W: Write, G: Gate, D: JournalDevice>(
     rt: &R,
@@ -66,7 +85,7 @@ fn serve_waiting<R: Wait, W: Write, G: Gate, D: JournalDevice>(
     server: &Server<G, D>,
     pass: &mut Pass,
     writer: &mut W,
-    intake: &mut Intake,
+    intake: &mut Intake<'_>,
 ) -> Result<(), StreamEnd>
     ensures ok { OnOk result (Answers export intake.old.feed.waiting pass.old pass.new (W.contents writer.old) (W.contents writer.new)) }
     ensures emptied { OnOk result (IsEmptied intake.old intake.new) }
@@ -74,7 +93,12 @@ fn serve_waiting<R: Wait, W: Write, G: Gate, D: JournalDevice>(
         (W.contents writer.old) (W.contents writer.new)) }
 {
     while let Some(content) = intake.next() {
+        if !intake.room.take(content.len()) {
+            return Err(StreamEnd::Full);
+        }
+        let known = pass.exchanges().len();
         serve_record(rt, alloc, export, server, pass, writer, content.as_slice())?;
+        settle(intake.room, content.len(), pass.exchanges().get(known));
     }
     if intake.left == 0 {
         return Err(StreamEnd::Bound);
@@ -90,7 +114,7 @@ fn serve_piece<R: Wait, W: Write, G: Gate, D: JournalDevice>(
     server: &Server<G, D>,
     pass: &mut Pass,
     writer: &mut W,
-    intake: &mut Intake,
+    intake: &mut Intake<'_>,
     piece: &[u8],
 ) -> Result<(), StreamEnd>
     requires { IsReady intake.old }
@@ -119,13 +143,14 @@ fn empty_buffer(alloc: Global, size: usize) -> Result<Vec<u8>, AllocError>
 
 /// Serves a stream of calls: has each of its records answered by the server, as it comes whole, and writes each reply as one fragment
 /// (RFC 5531, section 11). Where stock clients may mount the server, what they ask first is answered ahead of it. It ends once so many
-/// records are answered, or behind 1,000,000 reads of at most 65,536 bytes. Bytes that came behind the last record that may be
+/// records are answered, or there is no room for one more, or behind 1,000,000 reads of at most 65,536 bytes. Bytes that came behind the last record that may be
 /// answered are dropped.
 ///
 /// Where the reader and the writer tell their bytes: whole records from the front of what was read are answered, in order, at most so
 /// many; what the pass knows more are the exchanges of those that are recorded; and what was written is the frames of all replies, but
 /// that of the last there may be a front at `WriteFault`, and nothing at `NoMemory`. It isn't claimed that a fault comes only where a
-/// read, a write or a growth failed, nor that `Bound` comes only where the stream may go on, nor how often it is read.
+/// read, a write or a growth failed, nor that `Bound` comes only where the stream may go on, nor that `Full` comes only where room is
+/// wanting, nor how often it is read.
 pub fn serve_export<R: Wait, I: Read, W: Write, G: Gate, D: JournalDevice>(
     rt: &R,
     alloc: Global,
@@ -134,12 +159,13 @@ pub fn serve_export<R: Wait, I: Read, W: Write, G: Gate, D: JournalDevice>(
     writer: &mut W,
     server: &Server<G, D>,
     pass: &mut Pass,
-    records: u64,
+    allowance: Allowance<'_>,
 ) -> StreamEnd
     ensures ended { result ≡ StreamEnd.End → IsAtEnd (I.remaining reader.new) }
-    ensures served { Serves export result records pass.old pass.new (I.remaining reader.old) (I.remaining reader.new)
+    ensures served { Serves export result allowance.records pass.old pass.new (I.remaining reader.old) (I.remaining reader.new)
         (W.contents writer.old) (W.contents writer.new) }
 {
+    let Allowance { records, room } = allowance;
     if records == 0 {
         return StreamEnd::Bound;
     }
@@ -151,6 +177,7 @@ pub fn serve_export<R: Wait, I: Read, W: Write, G: Gate, D: JournalDevice>(
     let mut intake = Intake {
         feed,
         left: records,
+        room,
     };
     for _read in 0..READ_LIMIT {
         match reader.read(buffer.as_mut_slice()) {
@@ -169,7 +196,7 @@ pub fn serve_export<R: Wait, I: Read, W: Write, G: Gate, D: JournalDevice>(
     StreamEnd::Bound
 }
 
-/// Serves a stream of calls, as [`serve_export`] to clients that mount nothing.
+/// Serves a stream of calls, as [`serve_export`] to clients that mount nothing, with room for whatever comes.
 pub fn serve_stream<R: Wait, I: Read, W: Write, G: Gate, D: JournalDevice>(
     rt: &R,
     alloc: Global,
@@ -183,6 +210,7 @@ pub fn serve_stream<R: Wait, I: Read, W: Write, G: Gate, D: JournalDevice>(
     ensures served { Serves Export.Plain result records pass.old pass.new (I.remaining reader.old) (I.remaining reader.new)
         (W.contents writer.old) (W.contents writer.new) }
 {
+    let room = &Room::endless();
     serve_export(
         rt,
         alloc,
@@ -191,6 +219,6 @@ pub fn serve_stream<R: Wait, I: Read, W: Write, G: Gate, D: JournalDevice>(
         writer,
         server,
         pass,
-        records,
+        Allowance { records, room },
     )
 }

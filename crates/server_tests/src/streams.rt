@@ -1,7 +1,7 @@
 //! Streams of calls that are served, over memory.
 
 use journal_server::{CallFault, OpenGate, Pass, Server, SimDevice};
-use server_connection::{StreamEnd, serve_stream};
+use server_connection::{Allowance, Export, Room, StreamEnd, serve_export, serve_stream};
 use std::alloc::{AllocError, Global};
 use std::io::{self, ErrorKind, Read, Write};
 use std::process::Abort;
@@ -222,5 +222,76 @@ fn a_recorded_call_is_noted_also_where_its_reply_is_not_written(
     let (end, noted) = serve(&rt, rt.alloc(), &mut frame, &mut Broken, 2)?;
     assert_eq!(rt; end, StreamEnd::WriteFault);
     assert_eq!(rt; noted, 1);
+    Ok(())
+}
+
+/// What a call of the root's attributes and its reply take in a history, and what is set aside for the call: 16 bytes beside each message,
+/// and a reply of 2,097,152 bytes.
+const TAKEN: usize = (16 + 52) + (16 + 112);
+
+const SET_ASIDE: usize = (16 + 52) + (16 + 2_097_152);
+
+/// Serves a stream on the next lane, of a history with room for so many bytes beside 64 closes: how it ends, and how many exchanges the pass
+/// has.
+fn serve_lane_within<R: Wait>(
+    rt: &R,
+    alloc: Global,
+    server: &OpenServer,
+    stream: &[u8],
+    bytes: usize,
+) -> Option<(StreamEnd, usize)> {
+    let mut pass = server.join_lane(rt).ok()?;
+    let room = Room::of_history(268_435_456 - 64 * 16 - bytes);
+    let allowance = Allowance {
+        records: 9,
+        room: &room,
+    };
+    let (mut reader, mut out) = (stream, Vec::new(alloc));
+    let end = serve_export(
+        rt,
+        alloc,
+        Export::Plain,
+        &mut reader,
+        &mut out,
+        server,
+        &mut pass,
+        allowance,
+    );
+    let noted = pass.exchanges().len();
+    Some((end, noted))
+}
+
+/// The same, of a new server.
+fn serve_within<R: Wait>(
+    rt: &R,
+    alloc: Global,
+    stream: &[u8],
+    bytes: usize,
+) -> Result<(StreamEnd, usize), AllocError> {
+    let server = new_server(alloc)?;
+    let served = serve_lane_within(rt, alloc, &server, stream, bytes);
+    put_away(alloc, server);
+    served.ok_or(AllocError)
+}
+
+#[test]
+fn a_full_history_ends_the_stream(rt: HostRuntime) -> Result<(), Fail> {
+    let alloc = rt.alloc();
+    let both = twice(alloc, RECORDED_FRAME)?;
+    let calls = both.as_slice();
+    assert!(rt; serve_within(&rt, alloc, calls, SET_ASIDE - 1)? == (StreamEnd::Full, 0));
+    assert!(rt; serve_within(&rt, alloc, calls, SET_ASIDE)? == (StreamEnd::Full, 1));
+    assert!(rt; serve_within(&rt, alloc, calls, SET_ASIDE + TAKEN - 1)? == (StreamEnd::Full, 1));
+    assert!(rt; serve_within(&rt, alloc, calls, SET_ASIDE + TAKEN)? == (StreamEnd::End, 2));
+    Ok(())
+}
+
+#[test]
+fn what_is_not_recorded_takes_no_room(rt: HostRuntime) -> Result<(), Fail> {
+    let alloc = rt.alloc();
+    let both = twice(alloc, NULL_FRAME)?;
+    let calls = both.as_slice();
+    assert!(rt; serve_within(&rt, alloc, calls, SET_ASIDE - 12)? == (StreamEnd::End, 0));
+    assert!(rt; serve_within(&rt, alloc, calls, SET_ASIDE - 13)? == (StreamEnd::Full, 0));
     Ok(())
 }

@@ -6,7 +6,7 @@ use crate::words::ServeRequest;
 use journal_server::{OpenGate, Pass, Server, SimDevice};
 use nfs_relay::RelayRuntime;
 use recording_command::RecordingRuntime;
-use server_connection::{Export, StreamEnd, serve_export};
+use server_connection::{Allowance, Export, Room, StreamEnd, serve_export};
 use std::net::{Shutdown, TcpListener, TcpStream};
 use std::sync::Mutex;
 use std::thread::{self, JoinHandle, Scope};
@@ -30,6 +30,8 @@ pub(crate) struct Serving<'a> {
     pub(crate) is_open: &'a Mutex<bool>,
     /// How many records of a connection are answered at most.
     pub(crate) records: u64,
+    /// What the history has room for.
+    pub(crate) room: &'a Room,
     pub(crate) export: Export,
 }
 
@@ -54,6 +56,10 @@ impl Serving<'_> {
         let mut pass = self.server.join_lane(rt)?;
         let _ = stream.set_nodelay(true);
         let (mut reader, mut writer) = (&stream, &stream);
+        let allowance = Allowance {
+            records: self.records,
+            room: self.room,
+        };
         let end = serve_export(
             rt,
             rt.alloc(),
@@ -62,7 +68,7 @@ impl Serving<'_> {
             &mut writer,
             self.server,
             &mut pass,
-            self.records,
+            allowance,
         );
         let _ = stream.shutdown(Shutdown::Both);
         drop(self.server.leave(rt, &mut pass));

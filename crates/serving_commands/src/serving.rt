@@ -8,8 +8,11 @@ use crate::fault::RunFault;
 use crate::lanes::{Served, Serving, SimServer, serve_lanes};
 use crate::recorded::{RunTexts, record_closed};
 use crate::words::ServeRequest;
+use history_file::write_history_from;
 use journal_server::{OpenGate, Profile, Server, SimDevice};
+use nfs3_types::HANDLE_LIMIT;
 use recording_command::RecordingRuntime;
+use server_connection::Room;
 use std::alloc::{AllocError, Global};
 use std::net::{IpAddr, Ipv4Addr, SocketAddr, TcpListener};
 use std::sync::Mutex;
@@ -28,6 +31,19 @@ fn server_from(
     };
     let device = SimDevice::new(alloc, None, None, None);
     Server::new_from(alloc, OpenGate, device, profile, start)
+}
+
+/// What the history of a server that begins so has room for.
+fn room_of(alloc: Global, beginning: &Beginning) -> Result<Room, RunFault> {
+    let longest = [0u8; HANDLE_LIMIT];
+    let head = write_history_from(
+        alloc,
+        longest.as_slice(),
+        beginning.profile,
+        &beginning.start,
+        &[],
+    )?;
+    Ok(Room::of_history(head.len()))
 }
 
 /// Ends a server, and writes what it recorded.
@@ -59,12 +75,14 @@ pub fn serve<R: RecordingRuntime>(
     let Ok(listener) = TcpListener::bind(rt, address) else {
         return Err(RunFault::CannotListen);
     };
+    let room = room_of(rt.alloc(), &beginning)?;
     let server = server_from(rt.alloc(), request, beginning)?;
     let serving = Serving {
         server: &server,
         listener: &listener,
         is_open: &Mutex::new(false),
         records: request.calls,
+        room: &room,
         export: request.export,
     };
     match serve_lanes(rt, serving, request) {
