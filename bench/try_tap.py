@@ -286,6 +286,7 @@ def server_dies_in_reply():
     server.close()
     sock.close()
     assert (status, out) == (0, "calls 3\n"), (status, out, err)
+    assert "lane 1: the server ended the connection first\n" in err, err
     assert [event[:2] for event in events] == [(0, 1), (1, 1), (0, 1), (1, 1), (0, 1), (2, 1)], events
 
 
@@ -396,6 +397,7 @@ def crash():
     assert (status, out) == (0, "calls 4\n"), (status, out, err)
     assert kinds == [0, 1] * 3 + [2] * 3 + [3, 0, 1, 2], kinds
     assert events[-1][1] == 4
+    assert "without a reply" not in err, err
 
 
 def bad_root():
@@ -560,6 +562,7 @@ def call_unanswered():
     status, out, err, _ = tap.end()
     server.close()
     assert status == 1 and "unhealthy: 1 calls were never answered, the first on lane 1 with transaction number 8\n" in out, (status, out, err)
+    assert "lane 1 ended: calls without a reply 1, such as that of transaction 8\n" in err, err
 
 
 def answered_twice():

@@ -11,7 +11,7 @@ use crate::relay::{Relay, RelayRuntime};
 use nfs_tap::{PumpEnd, TapLog, pump_calls, pump_replies};
 use std::net::{Shutdown, TcpStream};
 use std::sync::Wait;
-use std::sync::atomic::{AtomicU64, Ordering};
+use std::sync::atomic::{AtomicBool, AtomicU64, Ordering};
 use std::thread::{self, JoinHandle};
 use std::time::{Duration, Instant};
 
@@ -23,6 +23,14 @@ const CONNECT_SECS: u64 = 20;
 
 /// How many seconds a server may keep a connection whose client has ended its side.
 const DRAIN_SECS: u64 = 60;
+
+/// How far a lane has ended.
+struct Ended {
+    /// How many of its pumps have.
+    pumps: AtomicU64,
+    /// Whether the server ended it before anybody else had.
+    by_server: AtomicBool,
+}
 
 /// A client's connection and the server's, which are relayed.
 #[derive(Clone, Copy)]
@@ -110,13 +118,16 @@ impl Relay {
 
     /// Runs the pumps of a lane, unless there is no thread for them.
     fn pump_both<R: RelayRuntime>(&self, rt: &R, lane: Lane, pair: Pair<'_>) -> Option<LaneEnd> {
-        let ended = AtomicU64::new(0);
-        let count = &ended;
+        let ended = Ended {
+            pumps: AtomicU64::new(0),
+            by_server: AtomicBool::new(false),
+        };
+        let ended = &ended;
         thread::scope(thread::scope_env(), rt, move |scope| {
-            let calls = scope.spawn(move || self.run_calls(rt, lane, pair, count));
-            let replies = scope.spawn(move || self.run_replies(rt, lane, pair, count));
+            let calls = scope.spawn(move || self.run_calls(rt, lane, pair, ended));
+            let replies = scope.spawn(move || self.run_replies(rt, lane, pair, ended));
             if calls.is_ok() && replies.is_ok() {
-                self.watch(rt, lane, count);
+                self.watch(rt, lane, ended);
             }
             pair.shut();
             let (Ok(calls), Ok(replies)) = (calls, replies) else {
@@ -126,6 +137,7 @@ impl Relay {
                 lane: lane.number,
                 calls: calls.join(rt),
                 replies: replies.join(rt),
+                is_by_server: ended.by_server.load(Ordering::SeqCst),
             })
         })
     }
@@ -136,7 +148,7 @@ impl Relay {
         rt: &R,
         lane: Lane,
         pair: Pair<'_>,
-        ended: &AtomicU64,
+        ended: &Ended,
     ) -> PumpEnd {
         let (mut reader, mut writer) = (pair.client, pair.server);
         let end = pump_calls(
@@ -166,7 +178,7 @@ impl Relay {
         rt: &R,
         lane: Lane,
         pair: Pair<'_>,
-        ended: &AtomicU64,
+        ended: &Ended,
     ) -> PumpEnd {
         let (mut reader, mut writer) = (pair.server, pair.client);
         let end = pump_replies(
@@ -186,10 +198,11 @@ impl Relay {
     }
 
     /// The server ended a lane. Where nobody else had, that is noted.
-    fn note_server_end<R: Wait>(&self, rt: &R, lane: Lane, ended: &AtomicU64) {
-        if ended.load(Ordering::SeqCst) > 0 || !self.control.lock(rt).runs(lane.era) {
+    fn note_server_end<R: Wait>(&self, rt: &R, lane: Lane, ended: &Ended) {
+        if ended.pumps.load(Ordering::SeqCst) > 0 || !self.control.lock(rt).runs(lane.era) {
             return;
         }
+        ended.by_server.store(true, Ordering::SeqCst);
         let events = self.log.lock(rt).events().len();
         self.health.lock(rt).note_end(ServerEnd {
             lane: lane.number,
@@ -198,25 +211,25 @@ impl Relay {
     }
 
     /// A pump ended.
-    fn note_end<R: Wait>(&self, rt: &R, ended: &AtomicU64) {
-        ended.fetch_add(1, Ordering::SeqCst);
+    fn note_end<R: Wait>(&self, rt: &R, ended: &Ended) {
+        ended.pumps.fetch_add(1, Ordering::SeqCst);
         drop(self.control.lock(rt));
         self.changed.notify_all();
     }
 
     /// Waits until both pumps have ended, or the lane is to end, also since the server keeps a connection whose client has
     /// ended its side.
-    fn watch<R: RelayRuntime>(&self, rt: &R, lane: Lane, ended: &AtomicU64) {
+    fn watch<R: RelayRuntime>(&self, rt: &R, lane: Lane, ended: &Ended) {
         let control = self
             .changed
             .wait_while(rt, self.control.lock(rt), |control| {
-                control.runs(lane.era) && ended.load(Ordering::SeqCst) == 0
+                control.runs(lane.era) && ended.pumps.load(Ordering::SeqCst) == 0
             });
         let patience = Duration::from_secs(DRAIN_SECS);
         let (control, waited) = self
             .changed
             .wait_timeout_while(rt, control, patience, |control| {
-                control.runs(lane.era) && ended.load(Ordering::SeqCst) < 2
+                control.runs(lane.era) && ended.pumps.load(Ordering::SeqCst) < 2
             });
         drop(control);
         if waited.timed_out() {
@@ -238,6 +251,10 @@ impl Relay {
             self.halt(rt, reason);
         }
         self.note_pumps(rt, end);
+        if end.is_by_server {
+            let number = end.lane;
+            let _ = eprintln!(rt; "lane {number}: the server ended the connection first");
+        }
         if !end.is_clean() {
             let _ = rt.eprintln(end);
         }

@@ -15,6 +15,8 @@ pub(crate) struct LaneEnd {
     pub(crate) lane: u32,
     pub(crate) calls: PumpEnd,
     pub(crate) replies: PumpEnd,
+    /// Whether the server ended it, before anybody else had and outside a crash.
+    pub(crate) is_by_server: bool,
 }
 
 impl LaneEnd {
@@ -47,6 +49,7 @@ impl fmt::Display for LaneEnd {
             lane,
             calls,
             replies,
+            is_by_server: _,
         } = *self;
         write!(f, "lane {lane} ended: calls {calls}, replies {replies}")
     }

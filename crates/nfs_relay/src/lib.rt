@@ -8,9 +8,11 @@ mod health;
 mod order;
 mod relay;
 mod tally;
+mod waiting;
 
 pub use control::Halt;
 pub use health::{Health, Refused, ServerEnd};
 pub use order::{Order, OrderReader};
 pub use relay::{Relay, RelayRuntime};
 pub use tally::calls_in;
+pub use waiting::transaction;

@@ -8,9 +8,10 @@ ghost use Rattle.nfs_relay.specs.Closing.{NotesOnce};
 use crate::control::{Admission, Control, Halt};
 use crate::health::Health;
 use crate::tally::{Progress, Tally};
+use crate::waiting::{LeftLane, Waiting};
 use history_file::{EVENT_LIMIT, HISTORY_LIMIT};
 use nfs_tap::TapLog;
-use std::alloc::Global;
+use std::alloc::{AllocError, Global};
 use std::net::{Net, SocketAddr, TcpListener, TcpStream};
 use std::sync::{Condvar, Mutex, Wait};
 use std::thread::{self, Threads};
@@ -180,6 +181,7 @@ impl Relay {
             }
             drop(listener);
             self.wait_for_ends(rt, &mut ticker);
+            tell_left(rt, ticker.waiting.follow(self.log.lock(rt).events()));
         });
     }
 
@@ -206,8 +208,10 @@ impl Relay {
         }
         let log = self.log.lock(rt);
         ticker.tally.follow(log.events());
+        let left = ticker.waiting.follow(log.events());
         let is_near = is_near_limit(&log);
         drop(log);
+        tell_left(rt, left);
         if is_near && !ticker.is_warned {
             ticker.is_warned = true;
             let _ = eprintln!(rt;
@@ -223,20 +227,31 @@ impl Relay {
     }
 }
 
+/// Names the lanes that ended while calls on them waited for a reply.
+fn tell_left<R: Eprint>(rt: &R, left: Result<Vec<LeftLane>, AllocError>) {
+    if let Ok(left) = left {
+        for lane in left.iter() {
+            let _ = rt.eprintln(*lane);
+        }
+    }
+}
+
 /// When how far a recording is was told last, and what was counted by then.
-#[derive(Clone, Copy)]
+#[derive(Drop)]
 struct Ticker {
     last: Option<Instant>,
     tally: Tally,
+    waiting: Waiting,
     /// Whether it was told that the limits are near.
     is_warned: bool,
 }
 
 impl Ticker {
-    fn new<R: Clock>(rt: &R) -> Ticker {
+    fn new<R: Clock + AllocGlobal>(rt: &R) -> Ticker {
         Ticker {
             last: Instant::now(rt).ok(),
             tally: Tally::new(),
+            waiting: Waiting::new(rt.alloc()),
             is_warned: false,
         }
     }

@@ -1,8 +1,8 @@
 //! The calls of a recording that were never answered.
 
-use byteorder::{BigEndian, ByteOrder};
 use history_file::Event;
 use indexmap::IndexMap;
+use nfs_relay::transaction;
 use std::alloc::{AllocError, Global};
 
 /// A call that got no reply.
@@ -12,15 +12,6 @@ pub(crate) struct Unanswered {
     pub(crate) xid: u32,
     /// How many events there were when its lane was closed, or in all.
     pub(crate) events: usize,
-}
-
-/// The transaction number of a message: its first word.
-fn transaction(message: &[u8]) -> u32 {
-    if message.len() < 4 {
-        0
-    } else {
-        BigEndian::read_u32(message)
-    }
 }
 
 /// A call of a lane, as one number.
