@@ -100,15 +100,6 @@ fn behind_head(text: &[u8]) -> &[u8]
     &text[HEAD_SIZE..]
 }
 
-/// Events as they stand in a file.
-pub(crate) fn put_events(alloc: Global, events: &[Event]) -> Result<Vec<u8>, SaveFault>
-    ensures { IfOk result (λ text. text.items ≡ events_text (all_happened events.now)) }
-{
-    let text = write_history(alloc, b"".as_slice(), events)?;
-    let bytes = Vec::from_slice(alloc, behind_head(text.as_slice()))?;
-    Ok(bytes)
-}
-
 /// Writes events as they stand in a file, and says how many bytes these are.
 fn write_piece<W: Write>(
     alloc: Global,
@@ -175,19 +166,6 @@ pub(crate) fn log_file(
     let file = match beginning {
         None => write_history(alloc, log.root().as_slice(), log.events())?,
         Some(beginning) => file_from(alloc, beginning, log.root().as_slice(), log.events())?,
-    };
-    Ok(file)
-}
-
-/// The bytes that a file begins with while its events aren't counted: that of no events.
-pub(crate) fn part_head(
-    alloc: Global,
-    beginning: &Option<Beginning>,
-    root: &[u8],
-) -> Result<Vec<u8>, SaveFault> {
-    let file = match beginning {
-        None => write_history(alloc, root, &[])?,
-        Some(beginning) => file_from(alloc, beginning, root, &[])?,
     };
     Ok(file)
 }
