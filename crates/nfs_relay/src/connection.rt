@@ -25,6 +25,7 @@ const CONNECT_SECS: u64 = 20;
 const DRAIN_SECS: u64 = 60;
 
 /// How far a lane has ended.
+#[derive(Drop)]
 struct Ended {
     /// How many of its pumps have.
     pumps: AtomicU64,

@@ -181,7 +181,8 @@ impl Relay {
             }
             drop(listener);
             self.wait_for_ends(rt, &mut ticker);
-            tell_left(rt, ticker.waiting.follow(self.log.lock(rt).events()));
+            let left = ticker.waiting.follow(self.log.lock(rt).events());
+            tell_left(rt, left);
         });
     }
 

@@ -47,9 +47,9 @@ impl Room {
 
     /// That of a history's file of 1,000,000 events and 268,435,456 bytes, of which the head and 64 closes take so many.
     pub fn of_history(head: usize) -> Room {
-        let calls = (u64::from(EVENT_LIMIT) - MOST_CLOSES) / 2;
+        let calls = (EVENT_LIMIT as u64).saturating_sub(MOST_CLOSES) / 2;
         let bytes = (HISTORY_LIMIT as u64).saturating_sub(head as u64);
-        Room::new(calls, bytes.saturating_sub(MOST_CLOSES * BESIDE))
+        Room::new(calls, bytes.saturating_sub(MOST_CLOSES.saturating_mul(BESIDE)))
     }
 
     /// Room for whatever comes.
