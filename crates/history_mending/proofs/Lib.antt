@@ -7,3 +7,4 @@ pub mod Reading
 pub mod Files
 pub mod Whole
 pub mod Cuts
+pub mod Pieces

@@ -18,4 +18,4 @@ pub use laws::{
     a_cut_gives_the_whole_events, a_history_file_is_mended_whole, bytes_are_mended_one_way,
 };
 pub use mending::{Mended, mend};
-pub use part::{append_event, part_head, part_head_from};
+pub use part::{append_event, part_head, part_head_from, put_next};

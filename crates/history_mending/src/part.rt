@@ -1,17 +1,22 @@
 //! What a recorder appends to a file while it records.
 
-ghost use Rattle.std.specs.Prelude.{◌≡◌, ◌++◌, ◌<◌, ◌≤◌, [], length, IfOk, OnOk};
+ghost use Rattle.std.specs.Prelude.{◌≡◌, ◌++◌, ◌<◌, ◌≤◌, [], length, take, drop, IfOk, OnOk};
 ghost use Rattle.xdr_records.specs.Texts.{word_text, opaque_text};
 ghost use Rattle.xdr_records.specs.Record.{record_limit};
 ghost use Rattle.tree_starts.specs.Head.{plain_head};
 ghost use Rattle.history_file.specs.HistoryFile.{HistoryFile};
-ghost use Rattle.history_file.specs.Owning.{seen_event};
-ghost use Rattle.history_file.specs.Writing.{event_text, file_text, file_text_from, EventFits, IsLong, IsOverLimit, IsOverLimitFrom, IsLargeOnlyIf};
+ghost use Rattle.history_file.specs.Owning.{seen_event, all_happened};
+ghost use Rattle.history_file.specs.Writing.{event_text, events_text, file_text, file_text_from, EventFits, IsLong, IsOverLimit, IsOverLimitFrom, IsLargeOnlyIf};
 
 use history_file::{Event, SeenEvent, WriteFault, write_history, write_history_from};
 use std::alloc::Global;
 use tree_starts::{Profile, Start};
 use xdr_records::{RECORD_LIMIT, put_opaque, put_u32};
+
+/// How many events, and about how many bytes of them, are put into a text at a time.
+const MOST_EVENTS: usize = 1_024;
+
+const MOST_BYTES: usize = 262_144;
 
 /// What stands ahead of the events in version 1: the file of a history without events.
 pub fn part_head(alloc: Global, root: &[u8]) -> Result<Vec<u8>, WriteFault>
@@ -75,4 +80,59 @@ pub fn append_event(out: &mut Vec<u8>, event: &SeenEvent<'_>) -> Result<(), Writ
             Ok(())
         }
     }
+}
+
+/// How many of these events are put at a time: one at least, where there is one.
+fn piece_of(events: &[Event]) -> usize
+    ensures bound { result ≤ length events.now }
+    ensures some { result ≡ 0 → length events.now ≡ 0 }
+{
+    let (mut count, mut bytes) = (0usize, 0usize);
+    for event in events {
+        if count >= MOST_EVENTS || bytes >= MOST_BYTES {
+            break;
+        }
+        let size = match event {
+            Event::Call { message, .. } | Event::Reply { message, .. } => message.as_slice().len(),
+            Event::Close { .. } | Event::Crash => 0,
+        };
+        count = count.saturating_add(1);
+        bytes = bytes.saturating_add(size);
+    }
+    count.max(1).min(events.len())
+}
+
+/// Puts events into a text, as they stand in a file, in place of what it held.
+fn put_events(text: &mut Vec<u8>, events: &[Event]) -> Result<(), WriteFault>
+    ensures { OnOk result (text.new.items ≡ events_text (all_happened events.now)) }
+{
+    text.clear();
+    for event in events {
+        append_event(text, &event.as_seen())?;
+    }
+    Ok(())
+}
+
+/// The events behind so many of them.
+fn behind(events: &[Event], from: usize) -> &[Event]
+    ensures { result.now ≡ drop from events.now }
+{
+    if from < events.len() {
+        &events[from..]
+    } else {
+        &[]
+    }
+}
+
+/// Puts the next of some events behind so many of them into a text, as they stand in a file, in place of what it held. How many they are:
+/// at most 1,024, and no more once there are 262,144 bytes.
+pub fn put_next(text: &mut Vec<u8>, events: &[Event], from: usize) -> Result<usize, WriteFault>
+    ensures put { IfOk result (λ count. text.new.items ≡ events_text (take count (drop from (all_happened events.now)))) }
+    // None only where there is none.
+    ensures some { IfOk result (λ count. count ≡ 0 → length events.now ≤ from) }
+{
+    let rest = behind(events, from);
+    let (piece, _) = rest.split_at(piece_of(rest));
+    put_events(text, piece)?;
+    Ok(piece.len())
 }

@@ -9,6 +9,7 @@ mod desk;
 mod fault;
 mod gate;
 mod joining;
+mod noted;
 mod placing;
 mod server;
 

@@ -1,7 +1,7 @@
 -- A history's file, written as its head and its events piece by piece.
-use Rattle.std.proofs.Common.{◌≡◌, ℕ, ◌+◌, ◌≤◌, List, [], ◌∷◌, ◌++◌, length, take, drop, get_or, Option, Some, None, refl, arith, ◌<◌, sym, ap, subst, ◌∙◌, append_assoc, append-nil, length-append}
+use Rattle.std.proofs.Common.{◌≡◌, ℕ, ◌+◌, ◌≤◌, List, [], ◌∷◌, ◌++◌, length, take, drop, Option, Some, None, refl, arith, sym, ap, subst, ◌∙◌, append_assoc, append-nil, length-append}
 use Rattle.std.proofs.Math.Seq.{drop-append_seam}
-use Rattle.std.proofs.lemmas.List.{map-append, map_push, take-append-drop, take_more, take_all, take-map, drop-map, length-take-le}
+use Rattle.std.proofs.lemmas.List.{map-append, take-append-drop}
 use Rattle.std.specs.Io.KnownBytes.{Appends}
 use Rattle.xdr_records.specs.Texts.{word_text, opaque_text}
 use Rattle.xdr_records.proofs.Written.{length-word_text, length-opaque_text}
@@ -110,29 +110,3 @@ pub log_within : (head root : List ℕ) (es : List Event) → head ≡ (magic Fi
 log_within head root es is le =
     let parts : head ++ events_text es ≡ file_text root es = ap (λ (l : List ℕ). l ++ events_text es) is ∙ sym (file_parts root es) in
     omega (arith, le, ap length parts, length-append head (events_text es))
-
--- ---- the events that are put into a text one by one
-
-events_text-push : (es : List Event) (e : Event) → events_text (es ++ e ∷ []) ≡ events_text es ++ event_text e
-events_text-push es e = events_text-append es (e ∷ []) ∙ ap (λ (l : List ℕ). events_text es ++ l) (append-nil (event_text e))
-
-pub put_more : (es : List owned.Event) (i : ℕ) (x : owned.Event) (old new : List ℕ) → i < length es → x ≡ get_or es i x → new ≡ old ++ event_text (happened x)
-    → old ≡ events_text (all_happened (take i es)) → new ≡ events_text (all_happened (take (i + 1) es))
-put_more es i x old new lt is pushed so_far =
-    let before = all_happened (take i es) in
-    let taken : all_happened (take (i + 1) es) ≡ before ++ happened x ∷ [] =
-    ap all_happened (take_more es i x lt) ∙ map_push happened (take i es) (get_or es i x) ∙ ap (λ (y : owned.Event). before ++ happened y ∷ []) (sym is) in
-    pushed ∙ ap (λ (l : List ℕ). l ++ event_text (happened x)) so_far ∙ sym (events_text-push before (happened x)) ∙ ap events_text (sym taken)
-
-pub put_all : (es : List owned.Event) (i : ℕ) (text : List ℕ) → length es ≤ i → text ≡ events_text (all_happened (take i es)) → text ≡ events_text (all_happened es)
-put_all es i text le so_far = so_far ∙ ap (λ (l : List owned.Event). events_text (all_happened l)) (take_all i es le)
-
--- the next events of a log, of which these are the first
-pub next_put : (own : List owned.Event) (es : List Event) (rest piece : List owned.Event) (from m count : ℕ) (text : List ℕ) → all_happened own ≡ es → rest ≡ drop from own
-    → piece ≡ take m rest → m ≤ length rest → text ≡ events_text (all_happened piece) → count ≡ length piece → text ≡ events_text (take count (drop from es))
-next_put own es rest piece from m count text shown at front le put counted =
-    let size : count ≡ m = counted ∙ ap length front ∙ length-take-le m rest le in
-    let taken : take count (drop from es) ≡ all_happened piece =
-    ap (λ n. take n (drop from es)) size ∙ ap (λ (l : List Event). take m (drop from l)) (sym shown) ∙ ap (λ (l : List Event). take m l) (drop-map happened from own)
-    ∙ take-map happened m (drop from own) ∙ ap (λ (l : List owned.Event). all_happened (take m l)) (sym at) ∙ ap all_happened (sym front) in
-    put ∙ ap events_text (sym taken)

@@ -11,6 +11,7 @@ mod tap_end;
 mod tap_words;
 mod watching;
 
+pub use part::{Part, part_path};
 pub use runtime::RecordingRuntime;
 pub use tap::run_tap;
 pub use tap_words::{EndWords, RootWords, TapRequest, number_option, tap_command, tap_request};

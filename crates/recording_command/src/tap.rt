@@ -121,7 +121,7 @@ fn make_part<R: RecordingRuntime>(
     beginning: &Option<Beginning>,
     path: &str,
 ) -> Option<Part> {
-    match Part::make(rt, relay, beginning, path) {
+    match Part::beside(rt, relay, beginning, path) {
         Ok(part) => Some(part),
         Err(_) => {
             let _ = eprintln!(rt;

@@ -32,6 +32,7 @@ fault_line (faults.Start fault) = codes "refused: start: " ++ history_fault_word
 fault_line faults.CannotReadStart = refused_line (codes "start: cannot read")
 fault_line faults.CannotListen = refused_line (codes "cannot listen")
 fault_line faults.NoThread = refused_line (codes "no thread")
+fault_line faults.PartStands = refused_line (codes "a .part of an earlier recording is there: mend it, or remove it")
 fault_line faults.CannotWrite = refused_line (codes "cannot write")
 fault_line (faults.Crash fault) = codes "crash: " ++ crash_fault_words fault ++ 10 ∷ []
 fault_line (faults.Close fault) = codes "close: " ++ close_fault_words fault ++ 10 ∷ []

@@ -24,6 +24,8 @@ pub enum RunFault {
     CannotListen,
     /// No thread could be made for a connection. None was served.
     NoThread,
+    /// What an earlier run left on disk stands beside the history.
+    PartStands,
     /// A file can't be written, or the history is over the limits of one.
     CannotWrite,
     /// A crash of the plan failed.
@@ -154,6 +156,10 @@ pub fn fault_report(alloc: Global, fault: RunFault) -> Result<Report, AllocError
         RunFault::CannotReadStart => Report::refused(alloc, "start: cannot read"),
         RunFault::CannotListen => Report::refused(alloc, "cannot listen"),
         RunFault::NoThread => Report::refused(alloc, "no thread"),
+        RunFault::PartStands => Report::refused(
+            alloc,
+            "a .part of an earlier recording is there: mend it, or remove it",
+        ),
         RunFault::CannotWrite => Report::refused(alloc, "cannot write"),
         RunFault::Crash(fault) => Ok(Report::new(1, line_of(alloc, "crash: ", &fault)?)),
         RunFault::Close(fault) => Ok(Report::new(1, line_of(alloc, "close: ", &fault)?)),

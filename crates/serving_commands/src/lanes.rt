@@ -2,13 +2,15 @@
 
 use crate::fault::RunFault;
 use crate::outputs::Outputs;
+use crate::part::{follow, make_part};
 use crate::words::ServeRequest;
 use journal_server::{OpenGate, Pass, Server, SimDevice};
 use nfs_relay::RelayRuntime;
-use recording_command::RecordingRuntime;
+use recording_command::{Part, RecordingRuntime};
 use server_connection::{Allowance, Export, Room, StreamEnd, serve_export};
 use std::net::{Shutdown, TcpListener, TcpStream};
 use std::sync::Mutex;
+use std::sync::atomic::{AtomicBool, Ordering};
 use std::thread::{self, JoinHandle, Scope};
 use std::time::Duration;
 
@@ -28,6 +30,8 @@ pub(crate) struct Serving<'a> {
     pub(crate) listener: &'a TcpListener,
     /// Whether connections may be taken. It is locked until that is known.
     pub(crate) is_open: &'a Mutex<bool>,
+    /// Whether all connections have ended.
+    pub(crate) has_ended: &'a AtomicBool,
     /// How many records of a connection are answered at most.
     pub(crate) records: u64,
     /// What the history has room for.
@@ -120,6 +124,18 @@ fn begin_lanes<'s, E, R: RelayRuntime>(
     Ok(lanes)
 }
 
+/// Begins to keep on disk what is recorded, in a thread of its own.
+fn begin_part<'s, E, R: RelayRuntime>(
+    scope: &Scope<'s, E>,
+    rt: &'s R,
+    serving: Serving<'s>,
+    part: Part,
+) -> Option<JoinHandle<()>> {
+    scope
+        .spawn(move || follow(rt, serving.server, part, serving.has_ended))
+        .ok()
+}
+
 /// What the clients of connections know, once all have ended.
 fn join_lanes<R: RelayRuntime>(rt: &R, lanes: Vec<Lane>) -> Result<Vec<Pass>, RunFault> {
     let mut passes = Vec::new(rt.alloc());
@@ -129,19 +145,39 @@ fn join_lanes<R: RelayRuntime>(rt: &R, lanes: Vec<Lane>) -> Result<Vec<Pass>, Ru
     Ok(passes)
 }
 
-/// Serves as many connections as are asked for, each on a thread of its own, once there is a thread for each and the files are made.
+/// What the clients know once all connections have ended, and each event is on disk.
+fn await_lanes<R: RelayRuntime>(
+    rt: &R,
+    serving: Serving<'_>,
+    lanes: Vec<Lane>,
+    following: Option<JoinHandle<()>>,
+) -> Result<Vec<Pass>, RunFault> {
+    let passes = join_lanes(rt, lanes);
+    serving.has_ended.store(true, Ordering::SeqCst);
+    if let Some(following) = following {
+        following.join(rt);
+    }
+    passes
+}
+
+/// Serves as many connections as are asked for, each on a thread of its own, once there is a thread for each and the files are made. A
+/// file grows beside the history, which begins with these bytes.
 pub(crate) fn serve_lanes<R: RecordingRuntime>(
     rt: &R,
     serving: Serving<'_>,
     request: &ServeRequest<'_>,
+    path: &str,
+    head: &[u8],
 ) -> Result<Served, RunFault> {
     thread::scope(thread::scope_env(), rt, |scope| {
         let mut is_open = serving.is_open.lock(rt);
         let lanes = begin_lanes(scope, rt, serving, request.lanes)?;
         let outputs = Outputs::create(rt, request.history, request.certificate)?;
+        let part = make_part(rt, path, head);
+        let following = part.and_then(|part| begin_part(scope, rt, serving, part));
         *is_open = true;
         drop(is_open);
-        let passes = join_lanes(rt, lanes)?;
+        let passes = await_lanes(rt, serving, lanes, following)?;
         Ok(Served { outputs, passes })
     })
 }

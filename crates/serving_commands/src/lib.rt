@@ -5,6 +5,7 @@ mod beginning;
 mod fault;
 mod lanes;
 mod outputs;
+mod part;
 mod recorded;
 mod running;
 mod serving;

@@ -8,14 +8,14 @@ use crate::fault::RunFault;
 use crate::lanes::{Served, Serving, SimServer, serve_lanes};
 use crate::recorded::{RunTexts, record_closed};
 use crate::words::ServeRequest;
-use history_file::write_history_from;
 use journal_server::{OpenGate, Profile, Server, SimDevice};
-use nfs3_types::HANDLE_LIMIT;
-use recording_command::RecordingRuntime;
+use recording_command::{RecordingRuntime, part_path};
 use server_connection::Room;
 use std::alloc::{AllocError, Global};
+use std::fs;
 use std::net::{IpAddr, Ipv4Addr, SocketAddr, TcpListener};
 use std::sync::Mutex;
+use std::sync::atomic::AtomicBool;
 
 /// A server that begins so, over a device that doesn't fail. It is strict where the words or the beginning ask for it.
 fn server_from(
@@ -33,19 +33,6 @@ fn server_from(
     Server::new_from(alloc, OpenGate, device, profile, start)
 }
 
-/// What the history of a server that begins so has room for.
-fn room_of(alloc: Global, beginning: &Beginning) -> Result<Room, RunFault> {
-    let longest = [0u8; HANDLE_LIMIT];
-    let head = write_history_from(
-        alloc,
-        longest.as_slice(),
-        beginning.profile,
-        &beginning.start,
-        &[],
-    )?;
-    Ok(Room::of_history(head.len()))
-}
-
 /// Ends a server, and writes what it recorded.
 fn save(alloc: Global, server: SimServer, served: Served) -> Result<RunTexts, RunFault>
     ensures { IfOk result IsRecording }
@@ -60,8 +47,30 @@ fn save(alloc: Global, server: SimServer, served: Served) -> Result<RunTexts, Ru
     Ok(recorded)
 }
 
+/// Serves the connections that the words ask for, while a file at this path grows beside the history.
+fn serve_beside<R: RecordingRuntime>(
+    rt: &R,
+    request: &ServeRequest<'_>,
+    server: &SimServer,
+    listener: &TcpListener,
+    path: &str,
+) -> Result<Served, RunFault> {
+    let head = server.put_head(rt)?;
+    let serving = Serving {
+        server,
+        listener,
+        is_open: &Mutex::new(false),
+        has_ended: &AtomicBool::new(false),
+        records: request.calls,
+        room: &Room::of_history(head.len()),
+        export: request.export,
+    };
+    serve_lanes(rt, serving, request, path, head.as_slice())
+}
+
 /// Serves the connections that the words ask for by a server that begins so, and writes what it recorded: first each connection is taken on a
-/// thread of its own, and when all have ended the server closes. It waits as long as clients let it.
+/// thread of its own, and when all have ended the server closes. It waits as long as clients let it. What is recorded meanwhile is in a file
+/// beside the history, which goes once the history is written.
 pub fn serve<R: RecordingRuntime>(
     rt: &R,
     request: &ServeRequest<'_>,
@@ -75,21 +84,18 @@ pub fn serve<R: RecordingRuntime>(
     let Ok(listener) = TcpListener::bind(rt, address) else {
         return Err(RunFault::CannotListen);
     };
-    let room = room_of(rt.alloc(), &beginning)?;
+    let path = part_path(rt.alloc(), request.history)?;
+    if fs::metadata(rt, path.as_str()).is_ok() {
+        return Err(RunFault::PartStands);
+    }
     let server = server_from(rt.alloc(), request, beginning)?;
-    let serving = Serving {
-        server: &server,
-        listener: &listener,
-        is_open: &Mutex::new(false),
-        records: request.calls,
-        room: &room,
-        export: request.export,
-    };
-    match serve_lanes(rt, serving, request) {
-        Ok(served) => save(rt.alloc(), server, served),
+    let recorded = match serve_beside(rt, request, &server, &listener, path.as_str()) {
+        Ok(served) => save(rt.alloc(), server, served)?,
         Err(fault) => {
             drop(server.close(Vec::new(rt.alloc())));
-            Err(fault)
+            return Err(fault);
         }
-    }
+    };
+    let _ = fs::remove_file(rt, path.as_str());
+    Ok(recorded)
 }

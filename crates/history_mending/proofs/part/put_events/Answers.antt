@@ -1,8 +1,8 @@
 use Rattle.std.proofs.Common.{◌≡◌, ◌++◌, subst}
 use Rattle.history_file.specs.Event.{Event}
 use Rattle.history_file.specs.Writing.{event_text}
-use Rattle.recording_command.proofs.Saved.{put_more, put_all}
-use Rattle.recording_command.proofs.part.put_events.Goals as goal
+use Rattle.history_mending.proofs.Pieces.{put_more, put_all}
+use Rattle.history_mending.proofs.part.put_events.Goals as goal
 
 pub loop-event-preserved : goal.loop-event-preserved
 loop-event-preserved c =
