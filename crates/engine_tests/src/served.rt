@@ -201,7 +201,7 @@ fn what_serve_cannot_have_is_refused(rt: HostRuntime) -> Result<(), Fail> {
 }
 
 /// What is said of each fault.
-const FAULTS: [(RunFault, u8, &str); 9] = [
+const FAULTS: [(RunFault, u8, &str); 10] = [
     (RunFault::BadPlan(7), 2, "refused: BadPlan 7\n"),
     (
         RunFault::Start(HistoryFault::BadStart(5)),
@@ -215,6 +215,11 @@ const FAULTS: [(RunFault, u8, &str); 9] = [
     ),
     (RunFault::CannotListen, 2, "refused: cannot listen\n"),
     (RunFault::NoThread, 2, "refused: no thread\n"),
+    (
+        RunFault::PartStands,
+        2,
+        "refused: a .part of an earlier recording is there: mend it, or remove it\n",
+    ),
     (RunFault::CannotWrite, 2, "refused: cannot write\n"),
     (
         RunFault::Crash(CrashFault::DeviceFault),
