@@ -173,8 +173,10 @@ pub(crate) fn serve_lanes<R: RecordingRuntime>(
         let mut is_open = serving.is_open.lock(rt);
         let lanes = begin_lanes(scope, rt, serving, request.lanes)?;
         let outputs = Outputs::create(rt, request.history, request.certificate)?;
-        let part = make_part(rt, path, head);
-        let following = part.and_then(|part| begin_part(scope, rt, serving, part));
+        let following = match make_part(rt, path, head) {
+            Some(part) => begin_part(scope, rt, serving, part),
+            None => None,
+        };
         *is_open = true;
         drop(is_open);
         let passes = await_lanes(rt, serving, lanes, following)?;
