@@ -87,7 +87,8 @@ fn piece_of(events: &[Event]) -> usize
     ensures bound { result ≤ length events.now }
     ensures some { result ≡ 0 → length events.now ≡ 0 }
 {
-    let (mut count, mut bytes) = (0usize, 0usize);
+    let mut count = 0usize;
+    let mut bytes = 0usize;
     for event in events {
         if count >= MOST_EVENTS || bytes >= MOST_BYTES {
             break;
