@@ -205,7 +205,9 @@ pub fn start_within<R: Files + AllocGlobal>(
     rt: &R,
     path: &str,
     limits: Limits,
-) -> Result<Start, FolderFault> {
+) -> Result<Start, FolderFault>
+    ensures { IfOk result IsStart }
+{
     if let Err(stop) = look_at(rt, path) {
         return Err(fault_at(rt.alloc(), stop, path));
     }

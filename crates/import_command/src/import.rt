@@ -1,8 +1,9 @@
 //! The command `import`.
 
-ghost use Rattle.std.specs.Prelude.{◌≡◌, ◌<◌, IfOk};
+ghost use Rattle.std.specs.Prelude.{◌≡◌, ◌<◌, true, IsTrue, IfOk};
 ghost use Rattle.std.specs.Io.KnownBytes.{Appends};
 ghost use Rattle.program_streams.specs.Told.{memory_line};
+ghost use Rattle.import_command.specs.Whole.{IsWhole};
 
 use crate::import_words::ImportRequest;
 use capture_history::{CaptureLog, ImportFault, LaneNote, PassedCounts, import_capture};
@@ -62,15 +63,18 @@ fn tell_empty<R: Eprint>(rt: &R, request: &ImportRequest<'_>) {
     }
 }
 
-/// Whether the capture lacks something of the server's connections, or has none of their calls.
-fn lacks_something(log: &CaptureLog, calls: usize) -> bool {
+/// Whether nothing of the server's connections is wanting in the capture, and there are calls.
+fn is_whole(log: &CaptureLog, calls: usize) -> bool
+    ensures { IsTrue result → IsWhole log.now calls }
+{
     let passed = log.passed;
-    let is_cut = log.cut.is_some() || passed.cut_headers > 0 || passed.cut_payloads > 0;
-    is_cut
-        || passed.fragments > 0
-        || passed.too_early > 0
-        || !log.import.notes.is_empty()
-        || calls == 0
+    log.cut.is_none()
+        && passed.cut_headers == 0
+        && passed.cut_payloads == 0
+        && passed.fragments == 0
+        && passed.too_early == 0
+        && log.import.notes.is_empty()
+        && calls > 0
 }
 
 /// Says what of a capture isn't in its history.
@@ -102,9 +106,11 @@ fn is_capture<R: Files>(rt: &R, path: &str, capture: &[u8]) -> bool {
 
 /// The status: 1 where it is asked whether the capture lacks something, and it does.
 fn status_of(request: &ImportRequest<'_>, log: &CaptureLog, calls: usize) -> u8
-    ensures { result < 3 }
+    ensures bound { result < 3 }
+    // With `is_strict` 0 is said of a whole capture alone.
+    ensures strict { request.now.is_strict ≡ true → result ≡ 0 → IsWhole log.now calls }
 {
-    if request.is_strict && lacks_something(log, calls) {
+    if request.is_strict && !is_whole(log, calls) {
         1
     } else {
         0

@@ -1,0 +1,14 @@
+-- For the prover, and for callers.
+-- A capture in which nothing of the server's connections is wanting: the file isn't cut off; no packet is cut by the snap length, a fragment,
+-- or earlier than one ahead of it; no lane ends early and no event is left out, which a note would tell; and there are calls.
+use Rattle.std.specs.Prelude.{◌≡◌, ◌<◌, ℕ, [], None}
+use Rattle.capture_history.specs.declared.capture.CaptureLog.{CaptureLog}
+
+pub record IsWhole (log : CaptureLog) (count : ℕ) : Type 0 where
+  pub uncut : log.cut ≡ None
+  pub headers : log.passed.cut_headers ≡ 0
+  pub payloads : log.passed.cut_payloads ≡ 0
+  pub fragments : log.passed.fragments ≡ 0
+  pub order : log.passed.too_early ≡ 0
+  pub notes : log.import.notes.items ≡ []
+  pub some : 0 < count
