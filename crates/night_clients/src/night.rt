@@ -11,6 +11,7 @@ use nfs_tap::{NoteFault, TapLog};
 use night_calls::Client;
 use night_lanes::{Counts, Lane, Quota, Settings, Trouble, TroubleKind, Troubles};
 use std::alloc::{AllocError, Global};
+use std::io::ErrorKind;
 use std::net::{Shutdown, TcpStream};
 use std::sync::atomic::{AtomicU64, Ordering};
 use std::sync::{Condvar, Mutex, Wait};
@@ -19,6 +20,9 @@ use std::time::Duration;
 
 /// How many milliseconds a read or a write waits before a client looks up.
 const TICK: u64 = 50;
+
+/// Within how many seconds the word of a crash explains that a connection ended, or wasn't taken.
+const CRASH_SECONDS: u64 = 5;
 
 /// How an era ended.
 #[derive(Clone, Copy, PartialEq, Eq)]
@@ -82,19 +86,30 @@ impl Night {
         self.era.load(Ordering::SeqCst) == era
     }
 
-    /// Has all clients call, each on a connection and a thread of its own, until each has made its calls or the server goes down. Where
-    /// no thread can be made, clients call one after the other.
+    /// Begins an era and has all clients call in it, as [`Night::run_begun`].
     pub fn run_era<R: ClientsRuntime>(
         &self,
         rt: &R,
         clients: &mut [Client],
         quota: Quota,
     ) -> EraEnd {
+        let era = self.begin(rt, clients.len());
+        self.run_begun(rt, clients, era, quota)
+    }
+
+    /// Has all clients call in an era that has begun for so many, each on a connection and a thread of its own, until each has made its
+    /// calls or the server goes down. Where no thread can be made, clients call one after the other.
+    pub fn run_begun<R: ClientsRuntime>(
+        &self,
+        rt: &R,
+        clients: &mut [Client],
+        era: u64,
+        quota: Quota,
+    ) -> EraEnd {
         if clients.is_empty() {
             return EraEnd::Finished;
         }
         let count = clients.len();
-        let era = self.begin(rt, count);
         thread::for_each_mut(
             rt,
             clients,
@@ -113,16 +128,17 @@ impl Night {
         }
     }
 
-    /// Begins an era of this number of clients, once a crash is noted that goes before it.
-    fn begin<R: Wait>(&self, rt: &R, clients: usize) -> u64 {
+    /// Begins an era of this number of clients, once a crash is noted that goes before it. A crash from then on waits for their ends.
+    pub fn begin<R: Wait>(&self, rt: &R, clients: usize) -> u64 {
         let mut control = self
             .changed
             .wait_while(rt, self.control.lock(rt), |control| control.is_crashing());
         control.begin(clients)
     }
 
-    /// The server went down: ends the clients that run, waits for their closes, and notes the crash after them.
-    pub fn crash<R: Wait>(&self, rt: &R) {
+    /// The server went down: ends the clients that run, waits for their closes, and notes the crash after them. An `Err` says why it isn't
+    /// noted.
+    pub fn crash<R: Wait>(&self, rt: &R) -> Result<(), TroubleKind> {
         let era = self.control.lock(rt).begin_crash();
         self.era.store(era, Ordering::SeqCst);
         self.changed.notify_all();
@@ -136,19 +152,16 @@ impl Night {
         }
         self.control.lock(rt).end_crash();
         self.changed.notify_all();
+        noted
     }
 
     /// Has a client call.
     fn run_client<R: ClientsRuntime>(&self, rt: &R, client: &mut Client, era: u64, quota: Quota) {
         match self.connect(rt) {
-            Some(stream) => self.run_connected(rt, client, era, quota, &stream),
-            None => {
+            Ok(stream) => self.run_connected(rt, client, era, quota, &stream),
+            Err(kind) => {
                 let number = client.stamp().client;
-                self.tell_unless_crash(
-                    rt,
-                    era,
-                    Trouble::of_client(number, TroubleKind::CannotConnect),
-                );
+                self.tell_unless_crash(rt, era, Trouble::of_client(number, kind));
             }
         }
         self.control.lock(rt).leave();
@@ -156,17 +169,18 @@ impl Night {
     }
 
     /// A connection to the server.
-    fn connect<R: ClientsRuntime>(&self, rt: &R) -> Option<TcpStream> {
+    fn connect<R: ClientsRuntime>(&self, rt: &R) -> Result<TcpStream, TroubleKind> {
         let patience = self.settings.patience();
-        let Ok(stream) = TcpStream::connect_timeout(rt, &self.settings.server, patience) else {
-            return None;
+        let stream = match TcpStream::connect_timeout(rt, &self.settings.server, patience) {
+            Ok(stream) => stream,
+            Err(error) => return Err(connect_trouble(error.kind())),
         };
         let tick = Some(Duration::from_millis(TICK));
         let _ = stream.set_nodelay(true);
         if stream.set_read_timeout(tick).is_err() || stream.set_write_timeout(tick).is_err() {
-            return None;
+            return Err(TroubleKind::NoSocket);
         }
-        Some(stream)
+        Ok(stream)
     }
 
     /// Has a client call on a connection, whose close is noted.
@@ -212,9 +226,11 @@ impl Night {
         }
     }
 
-    /// Tells a trouble, unless the word of a crash comes in time that explains it.
+    /// Tells a trouble, unless the word of a crash comes within some seconds that explains it.
     fn tell_unless_crash<R: ClientsRuntime>(&self, rt: &R, era: u64, trouble: Trouble) {
-        let patience = self.settings.patience();
+        let patience = Duration::from_secs(u64::from(self.settings.reply_seconds).min(
+            CRASH_SECONDS,
+        ));
         let (control, _) = self
             .changed
             .wait_timeout_while(rt, self.control.lock(rt), patience, |control| {
@@ -225,6 +241,17 @@ impl Night {
         if !is_crash {
             self.tell(rt, trouble);
         }
+    }
+}
+
+/// The trouble of a connection that isn't made: the server's where it refuses it or doesn't take it in time, else this side's.
+fn connect_trouble(kind: ErrorKind) -> TroubleKind {
+    match kind {
+        ErrorKind::ConnectionRefused
+        | ErrorKind::ConnectionReset
+        | ErrorKind::ConnectionAborted
+        | ErrorKind::TimedOut => TroubleKind::CannotConnect,
+        _ => TroubleKind::NoSocket,
     }
 }
 

@@ -1,6 +1,7 @@
 //! The files of a night, and its report.
 
 use crate::folder::Folder;
+use crate::opening::WALK_LANE;
 use crate::running::Ran;
 use crate::words::TestRequest;
 use deciding_command::FileDecision;
@@ -35,6 +36,8 @@ pub(crate) struct Noted {
     pub(crate) eras: u64,
     pub(crate) calls: u64,
     pub(crate) replies: u64,
+    /// How many of the calls are the walk's, each of which has its reply.
+    pub(crate) walked: u64,
 }
 
 impl Noted {
@@ -44,10 +47,16 @@ impl Noted {
             eras: 1,
             calls: 0,
             replies: 0,
+            walked: 0,
         };
         for event in log.events() {
             match event {
-                Event::Call { .. } => noted.calls = noted.calls.saturating_add(1),
+                Event::Call { lane, .. } => {
+                    noted.calls = noted.calls.saturating_add(1);
+                    if *lane == WALK_LANE {
+                        noted.walked = noted.walked.saturating_add(1);
+                    }
+                }
                 Event::Reply { .. } => noted.replies = noted.replies.saturating_add(1),
                 Event::Crash => noted.eras = noted.eras.saturating_add(1),
                 Event::Close { .. } => {}
@@ -91,6 +100,14 @@ fn order_of<'a>(judged: &Judgement, reason: &'a Option<String>) -> Finding<'a> {
     }
 }
 
+/// Whether enough calls were answered, and nothing on this side hindered the night.
+fn enough_of(reasons: &Reasons) -> Finding<'_> {
+    match (&reasons.enough, &reasons.doubt) {
+        (None, Some(doubt)) => Finding::Unknown(doubt.as_str()),
+        (enough, _) => finding_of(enough),
+    }
+}
+
 /// The three answers about a night: health, order, enough.
 pub(crate) fn findings_of<'a>(
     judged: &Judgement,
@@ -99,7 +116,7 @@ pub(crate) fn findings_of<'a>(
     (
         finding_of(&reasons.health),
         order_of(judged, &reasons.order),
-        finding_of(&reasons.enough),
+        enough_of(reasons),
     )
 }
 
@@ -119,16 +136,16 @@ pub(crate) fn reason_lines(alloc: Global, reasons: &Reasons) -> Result<Vec<Strin
     Ok(lines)
 }
 
-/// Writes the files of a night into its folder. Whether each is there now.
+/// Writes the files of a night into its folder, but for its history, which is there or not. Whether each is there now.
 pub(crate) fn write_files<R: RecordingRuntime>(
     rt: &R,
     path: &str,
-    history: &[u8],
+    is_kept: bool,
     judged: &Judgement,
     report: &NightReport<'_>,
 ) -> Result<bool, AllocError> {
     let (alloc, folder) = (rt.alloc(), Folder { path });
-    let mut all = folder.write(rt, "history", history)?;
+    let mut all = is_kept;
     if let FileDecision::Yes(certificate) = &judged.decision {
         all &= folder.write(rt, "certificate", certificate.as_slice())?;
     }

@@ -14,7 +14,7 @@ use std::time::Duration;
 use tree_starts::{Profile, Start};
 
 /// The lane of the walk. Those of clients begin with 1.
-const WALK_LANE: u32 = 0;
+pub(crate) const WALK_LANE: u32 = 0;
 
 /// What a night begins with.
 #[derive(Drop)]

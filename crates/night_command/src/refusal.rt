@@ -12,6 +12,8 @@ pub(crate) enum NightRefusal {
     Folder(ErrorKind),
     /// The orders can't be read.
     Orders,
+    /// Orders are named, and no crash is asked for.
+    NoRounds,
     /// The clients would make more events than a history has.
     TooManyCalls,
     /// Nothing answers NULL at the port of NFS within this many seconds.
@@ -56,6 +58,10 @@ impl NightRefusal {
             NightRefusal::Orders => String::from_str(
                 alloc,
                 "the file of --orders can't be read: make it before the night begins",
+            ),
+            NightRefusal::NoRounds => String::from_str(
+                alloc,
+                "--orders needs --rounds: say how many crashes the orders tell of",
             ),
             NightRefusal::TooManyCalls => String::from_str(
                 alloc,

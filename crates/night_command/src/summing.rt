@@ -5,6 +5,7 @@ ghost use Rattle.night_verdict.specs.Words.{night_status};
 ghost use Rattle.night_command.specs.Status.{told_status};
 
 use crate::files::{Noted, findings_of, numbers_told, reason_lines, request_told, write_files};
+use crate::folder::Folder;
 use crate::opening::profile_of;
 use crate::refusal::NightRefusal;
 use crate::running::Ran;
@@ -141,7 +142,7 @@ fn written_report<'n, R: RecordingRuntime>(
     told: &'n Told,
     counts: &'n Counts,
     troubles: &'n Troubles,
-    history: &'n [u8],
+    is_kept: bool,
 ) -> Result<Report, AllocError>
     requires known { told.now.last.status < 3 }
     requires status { told.now.last.status ≡ night_status told.now.judged.verdict }
@@ -162,7 +163,7 @@ fn written_report<'n, R: RecordingRuntime>(
         order,
         enough,
     };
-    let is_written = write_files(rt, request.folder, history, &told.judged, &report)?;
+    let is_written = write_files(rt, request.folder, is_kept, &told.judged, &report)?;
     said_of(
         rt.alloc(),
         request,
@@ -187,7 +188,8 @@ fn judged<R: RecordingRuntime>(
     let facts = NightFacts {
         troubles,
         end,
-        at_least: request.limits.at_least,
+        at_least: request.limits.at_least.saturating_add(noted.walked),
+        walked: noted.walked,
     };
     let judged = judge_night(rt, &facts, history, effort_of(request))?;
     let causes = causes_of(rt.alloc(), history, &judged)?;
@@ -204,10 +206,15 @@ fn judged_report<R: RecordingRuntime>(
 ) -> Result<Report, AllocError>
     ensures { IfOk result (λ report. report.status < 3) }
 {
+    // What was recorded is kept also where judging it runs out of memory.
+    let folder = Folder {
+        path: request.folder,
+    };
+    let is_kept = folder.write(rt, "history", history)?;
     let troubles = ran.night.troubles().lock(rt);
     let counts = ran.night.counts().lock(rt);
     let told = judged(rt, request, ran.end, &troubles, noted, history)?;
-    written_report(rt, request, ran, &told, &counts, &troubles, history)
+    written_report(rt, request, ran, &told, &counts, &troubles, is_kept)
 }
 
 /// Judges a night, writes its files, and gives its lines and its status.

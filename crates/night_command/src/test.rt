@@ -34,11 +34,11 @@ fn makes_too_many(request: &TestRequest<'_>) -> bool {
     events > EVENTS
 }
 
-/// Whether the file of the orders is there, where orders are wanted and a file is named.
+/// Whether the file of the orders is there, where one is named.
 fn has_orders<R: RecordingRuntime>(rt: &R, request: &TestRequest<'_>) -> bool {
     match request.crashes.orders {
-        Some(path) if request.crashes.rounds > 0 => fs::metadata(rt, path).is_ok(),
-        _ => true,
+        Some(path) => fs::metadata(rt, path).is_ok(),
+        None => true,
     }
 }
 
@@ -84,6 +84,9 @@ fn night_report<R: RecordingRuntime, I: Input>(
 {
     if makes_too_many(request) {
         return refused_report(rt.alloc(), request, &NightRefusal::TooManyCalls);
+    }
+    if request.crashes.orders.is_some() && request.crashes.rounds == 0 {
+        return refused_report(rt.alloc(), request, &NightRefusal::NoRounds);
     }
     if !has_orders(rt, request) {
         return refused_report(rt.alloc(), request, &NightRefusal::Orders);

@@ -4,7 +4,7 @@ use crate::orders::Orders;
 use nfs_relay::Order;
 use night_calls::Client;
 use night_clients::{ClientsRuntime, Night, is_up_within};
-use night_lanes::Quota;
+use night_lanes::{Quota, TroubleKind};
 use night_verdict::NightEnd;
 use program_streams::Input;
 use std::io::Eprint;
@@ -48,19 +48,20 @@ impl ErasPlan {
     }
 }
 
-/// Has clients call in an era, and gives them back.
+/// Has clients call in an era that has begun, and gives them back.
 fn run_owned<R: ClientsRuntime>(
     rt: &R,
     night: &Night,
     clients: Vec<Client>,
+    era: u64,
     quota: Quota,
 ) -> Vec<Client> {
     let mut clients = clients;
-    night.run_era(rt, clients.as_mut_slice(), quota);
+    night.run_begun(rt, clients.as_mut_slice(), era, quota);
     clients
 }
 
-/// Begins an era in a thread of its own.
+/// Begins an era, whose clients call in a thread of its own. From then on a crash is one of this era.
 fn begin_era<'s, E, R: ClientsRuntime>(
     scope: &Scope<'s, E>,
     rt: &'s R,
@@ -68,9 +69,18 @@ fn begin_era<'s, E, R: ClientsRuntime>(
     clients: Vec<Client>,
     quota: Quota,
 ) -> Option<JoinHandle<Vec<Client>>> {
+    let era = night.begin(rt, clients.len());
     scope
-        .spawn(move || run_owned(rt, night, clients, quota))
+        .spawn(move || run_owned(rt, night, clients, era, quota))
         .ok()
+}
+
+/// Notes a crash. Where memory runs out it can't be noted, and what comes after it would be judged without it: so the night ends.
+fn crash<R: ClientsRuntime>(rt: &R, night: &Night) -> Result<(), NightEnd> {
+    match night.crash(rt) {
+        Err(TroubleKind::NoMemory) => Err(NightEnd::NoMemory),
+        _ => Ok(()),
+    }
 }
 
 /// Has the clients call until the word of a crash comes, and notes it. Where another word comes, or none, they make their calls.
@@ -81,18 +91,18 @@ fn run_to_crash<R: ClientsRuntime, I: Input>(
     quota: Quota,
     orders: &mut Orders,
     input: &mut I,
-    crash: u32,
+    number: u32,
 ) -> Result<Vec<Client>, NightEnd> {
     thread::scope(thread::scope_env(), rt, |scope| {
         let Some(era) = begin_era(scope, rt, night, clients, quota) else {
             return Err(NightEnd::NoThread);
         };
-        let ordered = orders.await_order(rt, input, Order::Crash, crash);
-        if ordered.is_ok() {
-            night.crash(rt);
-        }
+        let noted = match orders.await_order(rt, input, Order::Crash, number) {
+            Ok(()) => crash(rt, night),
+            Err(end) => Err(end),
+        };
         let clients = era.join(rt);
-        match ordered {
+        match noted {
             Ok(()) => Ok(clients),
             Err(end) => Err(end),
         }
@@ -152,6 +162,7 @@ pub fn run_eras<R: ClientsRuntime + Eprint, I: Input>(
             Err(end) => return end,
         }
     }
-    drop(run_owned(rt, night, clients, plan.quota(rt)));
+    let era = night.begin(rt, clients.len());
+    drop(run_owned(rt, night, clients, era, plan.quota(rt)));
     NightEnd::Whole
 }

@@ -21,6 +21,7 @@ kind_of_trouble_words (kinds.BadResult at kind) = codes "the result isn't in the
 kind_of_trouble_words (kinds.Refused refusal) = codes "RPC refused the call: " ++ refusal_words refusal
 kind_of_trouble_words (kinds.LogRefuses fault) = codes "the log refuses the event: " ++ note_fault_words fault
 kind_of_trouble_words kinds.LogFull = codes "the log is full"
+kind_of_trouble_words kinds.NoSocket = codes "no connection can be made here"
 kind_of_trouble_words kinds.NoMemory = codes "out of memory"
 
 -- what a number is of, and the number, where there is one

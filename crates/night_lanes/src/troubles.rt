@@ -39,6 +39,8 @@ pub enum TroubleKind {
     LogRefuses(NoteFault),
     /// The log has no room for the event.
     LogFull,
+    /// This side can't make a connection, such as for want of descriptors.
+    NoSocket,
     /// Memory ran out here, not at the server.
     NoMemory,
 }
@@ -67,6 +69,7 @@ impl fmt::Display for TroubleKind {
             TroubleKind::Refused(refusal) => write!(f, "RPC refused the call: {refusal}"),
             TroubleKind::LogRefuses(fault) => write!(f, "the log refuses the event: {fault}"),
             TroubleKind::LogFull => f.write_str("the log is full"),
+            TroubleKind::NoSocket => f.write_str("no connection can be made here"),
             TroubleKind::NoMemory => f.write_str("out of memory"),
         }
     }

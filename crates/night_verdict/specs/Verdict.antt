@@ -1,6 +1,6 @@
 -- For the prover, and for callers.
 -- What is said of a night (words of this project's own).
-use Rattle.std.specs.Prelude.{◌≡◌, ◌⊎◌, ℕ, ◌<◌, nat_lt, Bool, true, false, IsTrue, List, [], ◌∷◌, Option, Some, None}
+use Rattle.std.specs.Prelude.{◌≡◌, ◌⊎◌, ℕ, ◌<◌, ◌/◌, ◌&&◌, nat_lt, Bool, true, false, IsTrue, List, [], ◌∷◌, Option, Some, None}
 use Rattle.std.specs.List.{list_any}
 use Rattle.nfs_history.specs.declared.knowing.KnownCalls.{KnownCalls}
 use Rattle.nfs_history.specs.History.{IsCallsFile}
@@ -14,6 +14,7 @@ use Rattle.night_lanes.specs.declared.troubles.Trouble.{Trouble}
 use Rattle.night_lanes.specs.declared.troubles.TroubleKind.{TroubleKind}
 use Rattle.night_lanes.specs.declared.troubles.TroubleKind.TheVariants as kinds
 use Rattle.night_lanes.specs.declared.troubles.Troubles.{Troubles}
+use Rattle.night_verdict.specs.declared.judging.Answered.{Answered}
 use Rattle.night_verdict.specs.declared.facts.NightEnd.{NightEnd}
 use Rattle.night_verdict.specs.declared.facts.NightEnd.TheVariants as ends
 use Rattle.night_verdict.specs.declared.verdict.Cause.{Cause}
@@ -27,17 +28,55 @@ use Rattle.night_verdict.specs.declared.verdict.NightVerdict.TheVariants.{Yes, N
 abbrev pub is_of_server : TroubleKind → Bool
 is_of_server (kinds.LogRefuses fault) = false
 is_of_server kinds.LogFull = false
+is_of_server kinds.NoSocket = false
 is_of_server kinds.NoMemory = false
 is_of_server kind = true
 
-abbrev pub has_trouble_of_server : List Trouble → Bool
-has_trouble_of_server troubles = list_any (λ (trouble : Trouble). is_of_server trouble.kind) troubles
+-- the orders went astray: the server may have been killed, and nothing told of it
+abbrev pub is_astray : NightEnd → Bool
+is_astray (ends.OrdersEnded crash) = true
+is_astray (ends.NoOrder crash seconds) = true
+is_astray (ends.OtherOrder crash) = true
+is_astray (ends.Unreadable crash) = true
+is_astray end = false
+
+-- what the clients of a server that was killed see
+abbrev pub is_of_crash : TroubleKind → Bool
+is_of_crash kinds.CannotConnect = true
+is_of_crash kinds.Ended = true
+is_of_crash kinds.NoReply = true
+is_of_crash kind = false
+
+-- a trouble that the server is blamed for: one that it made, and not one that a crash explains which may have come
+abbrev pub unless_crash : Bool → Bool → Bool
+unless_crash true crash = if crash then false else true
+unless_crash false crash = true
+
+abbrev pub is_blamed : NightEnd → TroubleKind → Bool
+is_blamed end kind = is_of_server kind && unless_crash (is_astray end) (is_of_crash kind)
+
+abbrev pub has_trouble_of_server : NightEnd → List Trouble → Bool
+has_trouble_of_server end troubles = list_any (λ (trouble : Trouble). is_blamed end trouble.kind) troubles
 
 -- so many judged calls of the history in these bytes were answered; none, where the bytes are no history
 abbrev pub IsAnswered : List ℕ → ℕ → Type 0
 IsAnswered bytes count =
     ((known : KnownCalls) × IsCallsFile bytes known × (count ≡ (report_of known.eras known.calls).answered))
     ⊎ ((fault : HistoryFault) × FirstFault bytes fault × (count ≡ 0))
+
+-- so many of them by a status which may answer any call
+abbrev pub IsExcused : List ℕ → ℕ → Type 0
+IsExcused bytes count =
+    ((known : KnownCalls) × IsCallsFile bytes known × (count ≡ (report_of known.eras known.calls).excused))
+    ⊎ ((fault : HistoryFault) × FirstFault bytes fault × (count ≡ 0))
+
+-- both numbers of a history
+abbrev pub AreAnswered : List ℕ → Answered → Type 0
+AreAnswered bytes count = IsAnswered bytes count.all × IsExcused bytes count.excused
+
+-- those are over a quarter: the server may have done nothing that was asked of it
+abbrev pub is_mostly_excused : ℕ → ℕ → Bool
+is_mostly_excused answered excused = nat_lt (answered / 4) excused
 
 -- it didn't come up in time after a crash; each era and each crash came about
 abbrev pub is_not_up : NightEnd → Bool
@@ -51,7 +90,7 @@ is_whole end = false
 -- why the server is at fault, and what is so then: it made a trouble; it didn't come up in time; too few calls of the history were
 -- answered; or no certificate explains the history
 abbrev pub IsCause : Troubles → NightEnd → ℕ → ℕ → List ℕ → Cause → Type 0
-IsCause troubles end at_least answered history causes.Trouble = IsTrue (has_trouble_of_server troubles.kept.items)
+IsCause troubles end at_least answered history causes.Trouble = IsTrue (has_trouble_of_server end troubles.kept.items)
 IsCause troubles end at_least answered history causes.NotUp = IsTrue (is_not_up end)
 IsCause troubles end at_least answered history causes.TooFew = answered < at_least
 IsCause troubles end at_least answered history causes.NoWitness =
@@ -64,15 +103,16 @@ health_by false true = Some causes.NotUp
 health_by false false = None
 
 abbrev pub health_of : Troubles → NightEnd → Option Cause
-health_of troubles end = health_by (has_trouble_of_server troubles.kept.items) (is_not_up end)
+health_of troubles end = health_by (has_trouble_of_server end troubles.kept.items) (is_not_up end)
 
-abbrev pub doubt_by : List Trouble → Bool → Option Doubt
-doubt_by [] true = None
-doubt_by [] false = Some doubts.Ended
-doubt_by (trouble ∷ more) whole = Some doubts.Trouble
+abbrev pub doubt_by : Bool → List Trouble → Bool → Option Doubt
+doubt_by true troubles whole = Some doubts.Ended
+doubt_by false [] true = None
+doubt_by false [] false = Some doubts.Ended
+doubt_by false (trouble ∷ more) whole = Some doubts.Trouble
 
 abbrev pub doubt_of : Troubles → NightEnd → Option Doubt
-doubt_of troubles end = doubt_by troubles.kept.items (is_whole end)
+doubt_of troubles end = doubt_by (is_astray end) troubles.kept.items (is_whole end)
 
 abbrev pub unless_doubt : Option Doubt → NightVerdict
 unless_doubt (Some doubt) = IsDoubt doubt
@@ -82,16 +122,26 @@ abbrev pub unless_few : Bool → NightVerdict → NightVerdict
 unless_few true verdict = No causes.TooFew
 unless_few false verdict = verdict
 
-abbrev pub verdict_in_health : Troubles → NightEnd → Bool → FileDecision → NightVerdict
-verdict_in_health troubles end few (decisions.BadHistory fault) = IsDoubt doubts.BadHistory
-verdict_in_health troubles end few (decisions.NoWitness event call) = unless_few few (No causes.NoWitness)
-verdict_in_health troubles end few (decisions.Undecided reason) = unless_few few (IsDoubt doubts.Undecided)
-verdict_in_health troubles end few (decisions.Yes text) = unless_few few (unless_doubt (doubt_of troubles end))
+-- too few calls are the server's fault only where the orders didn't go astray
+abbrev pub is_few : Bool → Bool → Bool
+is_few true few = false
+is_few false few = few
+
+abbrev pub unless_excused : Bool → NightVerdict → NightVerdict
+unless_excused true verdict = IsDoubt doubts.Excused
+unless_excused false verdict = verdict
+
+abbrev pub verdict_in_health : Troubles → NightEnd → Bool → Bool → FileDecision → NightVerdict
+verdict_in_health troubles end few excused (decisions.BadHistory fault) = IsDoubt doubts.BadHistory
+verdict_in_health troubles end few excused (decisions.NoWitness event call) = unless_few few (No causes.NoWitness)
+verdict_in_health troubles end few excused (decisions.Undecided reason) = unless_few few (IsDoubt doubts.Undecided)
+verdict_in_health troubles end few excused (decisions.Yes text) = unless_few few (unless_excused excused (unless_doubt (doubt_of troubles end)))
 
 abbrev pub unless_cause : Option Cause → NightVerdict → NightVerdict
 unless_cause (Some cause) verdict = No cause
 unless_cause None verdict = verdict
 
-abbrev pub verdict_of : Troubles → NightEnd → ℕ → ℕ → FileDecision → NightVerdict
-verdict_of troubles end at_least answered decision =
-    unless_cause (health_of troubles end) (verdict_in_health troubles end (nat_lt answered at_least) decision)
+abbrev pub verdict_of : Troubles → NightEnd → ℕ → ℕ → ℕ → FileDecision → NightVerdict
+verdict_of troubles end at_least answered excused decision =
+    unless_cause (health_of troubles end)
+    (verdict_in_health troubles end (is_few (is_astray end) (nat_lt answered at_least)) (is_mostly_excused answered excused) decision)

@@ -1,7 +1,7 @@
 //! What is known of a night when its last client has ended.
 
 ghost use Rattle.std.specs.Prelude.{◌≡◌};
-ghost use Rattle.night_verdict.specs.Verdict.{has_trouble_of_server, is_of_server};
+ghost use Rattle.night_verdict.specs.Verdict.{has_trouble_of_server, is_of_server, is_astray, is_of_crash, is_blamed};
 
 use night_lanes::{Trouble, TroubleKind, Troubles};
 
@@ -33,8 +33,10 @@ pub struct NightFacts<'a> {
     pub troubles: &'a Troubles,
     /// How its eras ended.
     pub end: NightEnd,
-    /// How many judged calls had to be answered at least.
+    /// How many judged calls of the history had to be answered at least, those of the walk among them.
     pub at_least: u64,
+    /// How many calls of the history are the walk's.
+    pub walked: u64,
 }
 
 /// Whether the server made a trouble. The others are this side's: its log, and its memory.
@@ -43,18 +45,51 @@ pub fn is_of_server(kind: TroubleKind) -> bool
 {
     !matches!(
         kind,
-        TroubleKind::LogRefuses(_) | TroubleKind::LogFull | TroubleKind::NoMemory
+        TroubleKind::LogRefuses(_)
+            | TroubleKind::LogFull
+            | TroubleKind::NoSocket
+            | TroubleKind::NoMemory
     )
 }
 
-/// Whether the server made one of these troubles.
-pub(crate) fn has_trouble_of_server(troubles: &[Trouble]) -> bool
-    ensures { result ≡ has_trouble_of_server troubles.now }
+/// Whether the orders went astray, so that the server may have been killed and nothing told of it.
+pub(crate) fn is_astray(end: NightEnd) -> bool
+    ensures { result ≡ is_astray end }
 {
-    troubles.iter().any(|trouble| is_of_server(trouble.kind))
+    matches!(
+        end,
+        NightEnd::OrdersEnded(_)
+            | NightEnd::NoOrder(_, _)
+            | NightEnd::OtherOrder(_)
+            | NightEnd::Unreadable(_)
+    )
 }
 
-/// The first trouble that the server made.
-pub(crate) fn first_of_server(troubles: &[Trouble]) -> Option<&Trouble> {
-    troubles.iter().find(|trouble| is_of_server(trouble.kind))
+/// Whether clients see such a trouble where the server was killed.
+fn is_of_crash(kind: TroubleKind) -> bool
+    ensures { result ≡ is_of_crash kind }
+{
+    matches!(
+        kind,
+        TroubleKind::CannotConnect | TroubleKind::Ended | TroubleKind::NoReply
+    )
+}
+
+/// Whether the server is blamed for a trouble: one that it made, and that no crash explains of which nothing told.
+fn is_blamed(end: NightEnd, kind: TroubleKind) -> bool
+    ensures { result ≡ is_blamed end kind }
+{
+    is_of_server(kind) && !(is_astray(end) && is_of_crash(kind))
+}
+
+/// Whether the server is blamed for one of these troubles.
+pub(crate) fn has_trouble_of_server(end: NightEnd, troubles: &[Trouble]) -> bool
+    ensures { result ≡ has_trouble_of_server end troubles.now }
+{
+    troubles.iter().any(|trouble| is_blamed(end, trouble.kind))
+}
+
+/// The first trouble that the server is blamed for.
+pub(crate) fn first_of_server(end: NightEnd, troubles: &[Trouble]) -> Option<&Trouble> {
+    troubles.iter().find(|trouble| is_blamed(end, trouble.kind))
 }

@@ -7,7 +7,7 @@ ghost use Rattle.nfs_history.specs.History.{IsCallsFile};
 ghost use Rattle.witness_check.specs.Witness.{AreAccepted};
 ghost use Rattle.deciding_command.specs.FileDecision.{Decides};
 ghost use Rattle.history_report.specs.Counted.{report_of};
-ghost use Rattle.night_verdict.specs.Verdict.{IsAnswered, IsCause, verdict_of};
+ghost use Rattle.night_verdict.specs.Verdict.{IsAnswered, IsExcused, AreAnswered, IsCause, verdict_of};
 ghost use Rattle.night_verdict.specs.declared.verdict.Cause.{Cause};
 ghost use Rattle.night_verdict.specs.declared.verdict.NightVerdict.TheVariants.{Yes, No};
 
@@ -19,6 +19,13 @@ use nfs_history::{HistoryFault, read_calls};
 use std::alloc::{AllocError, Global};
 use std::time::Clock;
 
+/// How many judged calls of a history were answered, and how many of them by a status that may answer any call.
+#[derive(Clone, Copy)]
+pub struct Answered {
+    pub all: u64,
+    pub excused: u64,
+}
+
 /// What a night comes to.
 #[derive(Drop)]
 pub struct Judgement {
@@ -26,26 +33,34 @@ pub struct Judgement {
     pub verdict: NightVerdict,
     /// How many judged calls of the history were answered; 0 where there is no history.
     pub answered: u64,
+    /// How many of them by a status that may answer any call, such as NFS3ERR_ACCES (docs/PROFILE.md).
+    pub excused: u64,
     /// What is decided of the history.
     pub decision: FileDecision,
 }
 
 /// None were answered where this fault was found; that memory ran out is no fault of the bytes.
-fn none_answered(fault: HistoryFault) -> Result<u64, AllocError>
-    ensures { IfOk result (λ count. (count ≡ 0) × (fault ≢ HistoryFault.NoMemory)) }
+fn none_answered(fault: HistoryFault) -> Result<Answered, AllocError>
+    ensures { IfOk result (λ count. (count.all ≡ 0) × (count.excused ≡ 0) × (fault ≢ HistoryFault.NoMemory)) }
 {
     match fault {
         HistoryFault::NoMemory => Err(AllocError),
-        _ => Ok(0),
+        _ => Ok(Answered { all: 0, excused: 0 }),
     }
 }
 
 /// How many judged calls of the history in these bytes were answered; 0 where they are none.
-fn answered_in(alloc: Global, history: &[u8]) -> Result<u64, AllocError>
-    ensures { IfOk result (IsAnswered history.now) }
+fn answered_in(alloc: Global, history: &[u8]) -> Result<Answered, AllocError>
+    ensures { IfOk result (AreAnswered history.now) }
 {
     match read_calls(alloc, history) {
-        Ok(known) => Ok(report_of_calls(&known).answered),
+        Ok(known) => {
+            let numbers = report_of_calls(&known);
+            Ok(Answered {
+                all: numbers.answered,
+                excused: numbers.excused,
+            })
+        }
         Err(fault) => none_answered(fault),
     }
 }
@@ -65,15 +80,17 @@ pub fn judge_night<R: Clock + AllocGlobal>(
         → IsCause facts.now.troubles.now facts.now.end facts.now.at_least judged.answered history.now cause) }
     // Which it is, is settled by what is known of the night.
     ensures exact { IfOk result (λ judged.
-        judged.verdict ≡ verdict_of facts.now.troubles.now facts.now.end facts.now.at_least judged.answered judged.decision) }
+        judged.verdict ≡ verdict_of facts.now.troubles.now facts.now.end facts.now.at_least judged.answered judged.excused judged.decision) }
     ensures answered { IfOk result (λ judged. IsAnswered history.now judged.answered) }
+    ensures excused { IfOk result (λ judged. IsExcused history.now judged.excused) }
     ensures decided { IfOk result (λ judged. Decides history.now judged.decision) }
 {
     let answered = answered_in(rt.alloc(), history)?;
     let decision = decide_file(rt, history, effort)?;
     Ok(Judgement {
         verdict: verdict_of(facts, answered, &decision),
-        answered,
+        answered: answered.all,
+        excused: answered.excused,
         decision,
     })
 }

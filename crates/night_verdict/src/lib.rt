@@ -9,7 +9,7 @@ mod verdict;
 mod writing;
 
 pub use facts::{NightEnd, NightFacts, is_of_server};
-pub use judging::{Judgement, judge_night};
+pub use judging::{Answered, Judgement, judge_night};
 pub use reasons::{Reasons, reasons_of};
 pub use telling::verdict_report;
 pub use verdict::{Cause, Doubt, NightVerdict};

@@ -3,7 +3,7 @@
 use crate::facts::NightFacts;
 use crate::judging::Judgement;
 use crate::telling::{cause_words, decision_line, doubt_line};
-use crate::verdict::{Cause, doubt_of, health_of};
+use crate::verdict::{Cause, Doubt, NightVerdict, doubt_of, health_of, is_few};
 use deciding_command::FileDecision;
 use std::alloc::{AllocError, Global};
 
@@ -62,7 +62,11 @@ fn doubt_text(
     facts: &NightFacts<'_>,
     judged: &Judgement,
 ) -> Result<Option<String>, AllocError> {
-    match doubt_of(facts) {
+    let doubt = match judged.verdict {
+        NightVerdict::Doubt(Doubt::Excused) => Some(Doubt::Excused),
+        _ => doubt_of(facts),
+    };
+    match doubt {
         Some(doubt) if health_of(facts).is_none() => {
             let line = doubt_line(alloc, facts, judged, doubt)?;
             without_end(alloc, line.as_str())
@@ -77,8 +81,11 @@ pub fn reasons_of(
     facts: &NightFacts<'_>,
     judged: &Judgement,
 ) -> Result<Reasons, AllocError> {
-    let few = judged.answered < facts.at_least;
-    let enough = if few { Some(Cause::TooFew) } else { None };
+    let enough = if is_few(facts, judged.answered) {
+        Some(Cause::TooFew)
+    } else {
+        None
+    };
     Ok(Reasons {
         health: cause_text(alloc, facts, judged, health_of(facts))?,
         enough: cause_text(alloc, facts, judged, enough)?,

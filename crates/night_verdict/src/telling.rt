@@ -47,12 +47,14 @@ pub(crate) fn cause_words(
     cause: Cause,
 ) -> Result<String, AllocError> {
     match cause {
-        Cause::Trouble => trouble_words(alloc, first_of_server(facts.troubles.kept())),
+        Cause::Trouble => {
+            trouble_words(alloc, first_of_server(facts.end, facts.troubles.kept()))
+        }
         Cause::NotUp => not_up_words(alloc, facts.end),
         Cause::TooFew => {
-            let answered = judged.answered;
+            let answered = judged.answered.saturating_sub(facts.walked);
             format!(in alloc;
-                "only {answered} judged calls were answered, fewer than --at-least says"
+                "only {answered} judged calls of clients were answered, fewer than --at-least says"
             )
         }
         Cause::NoWitness => witness_words(alloc, &judged.decision),
@@ -100,6 +102,14 @@ pub(crate) fn decision_line(alloc: Global, decision: &FileDecision) -> Result<St
     }
 }
 
+/// The line of a history with too many failures that may answer any call.
+fn excused_line(alloc: Global, judged: &Judgement) -> Result<String, AllocError> {
+    let (answered, excused) = (judged.answered, judged.excused);
+    format!(in alloc;
+        "undecided: {excused} of {answered} replies are failures that may answer any call, such as NFS3ERR_ACCES: report.json has them\n"
+    )
+}
+
 /// The line of a doubt; of one that memory ran out, that is the answer.
 pub(crate) fn doubt_line(
     alloc: Global,
@@ -110,6 +120,7 @@ pub(crate) fn doubt_line(
     match doubt {
         Doubt::Ended => end_line(alloc, facts.end),
         Doubt::Trouble => trouble_line(alloc, facts.troubles.kept().first()),
+        Doubt::Excused => excused_line(alloc, judged),
         Doubt::BadHistory | Doubt::Undecided => decision_line(alloc, &judged.decision),
     }
 }

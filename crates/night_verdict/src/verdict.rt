@@ -1,9 +1,10 @@
 //! What is said of a night.
 
-ghost use Rattle.std.specs.Prelude.{◌≡◌, ◌↔◌, IsTrue, Some};
-ghost use Rattle.night_verdict.specs.Verdict.{verdict_of, verdict_in_health, unless_doubt, health_of, doubt_of, is_not_up, is_whole};
+ghost use Rattle.std.specs.Prelude.{◌≡◌, ◌↔◌, IsTrue, Some, nat_lt};
+ghost use Rattle.night_verdict.specs.Verdict.{verdict_of, verdict_in_health, unless_doubt, unless_few, unless_excused, health_of, doubt_of, is_astray, is_few, is_mostly_excused, is_not_up, is_whole};
 
-use crate::facts::{NightEnd, NightFacts, has_trouble_of_server};
+use crate::facts::{NightEnd, NightFacts, has_trouble_of_server, is_astray};
+use crate::judging::Answered;
 use deciding_command::FileDecision;
 
 /// Why the server is at fault.
@@ -28,6 +29,8 @@ pub enum Doubt {
     Ended,
     /// This side hindered the calls.
     Trouble,
+    /// Over a quarter of the replies are failures that may answer any call.
+    Excused,
     /// It isn't decided whether some order explains the history.
     Undecided,
 }
@@ -59,7 +62,7 @@ fn is_whole(end: NightEnd) -> bool
 pub(crate) fn health_of(facts: &NightFacts<'_>) -> Option<Cause>
     ensures { result ≡ health_of facts.now.troubles.now facts.now.end }
 {
-    if has_trouble_of_server(facts.troubles.kept()) {
+    if has_trouble_of_server(facts.end, facts.troubles.kept()) {
         return Some(Cause::Trouble);
     }
     if is_not_up(facts.end) {
@@ -72,6 +75,9 @@ pub(crate) fn health_of(facts: &NightFacts<'_>) -> Option<Cause>
 pub(crate) fn doubt_of(facts: &NightFacts<'_>) -> Option<Doubt>
     ensures { result ≡ doubt_of facts.now.troubles.now facts.now.end }
 {
+    if is_astray(facts.end) {
+        return Some(Doubt::Ended);
+    }
     if !facts.troubles.kept().is_empty() {
         return Some(Doubt::Trouble);
     }
@@ -91,47 +97,75 @@ fn unless_doubt(facts: &NightFacts<'_>) -> NightVerdict
     }
 }
 
-/// What is said of a night in health, by what is decided of its history, and whether too few calls were answered.
-fn verdict_in_health(facts: &NightFacts<'_>, few: bool, decision: &FileDecision) -> NightVerdict
-    ensures { result ≡ verdict_in_health facts.now.troubles.now facts.now.end few decision.now }
+/// What is said unless too few calls were answered.
+fn unless_few(few: bool, verdict: NightVerdict) -> NightVerdict
+    ensures { result ≡ unless_few few verdict }
+{
+    if few {
+        NightVerdict::No(Cause::TooFew)
+    } else {
+        verdict
+    }
+}
+
+/// What is said unless the server may have done nothing that was asked of it.
+fn unless_excused(excused: bool, verdict: NightVerdict) -> NightVerdict
+    ensures { result ≡ unless_excused excused verdict }
+{
+    if excused {
+        NightVerdict::Doubt(Doubt::Excused)
+    } else {
+        verdict
+    }
+}
+
+/// What is said of a night in health, by what is decided of its history, whether too few calls were answered, and whether too many by a
+/// failure that may answer any call.
+fn verdict_in_health(
+    facts: &NightFacts<'_>,
+    few: bool,
+    excused: bool,
+    decision: &FileDecision,
+) -> NightVerdict
+    ensures { result ≡ verdict_in_health facts.now.troubles.now facts.now.end few excused decision.now }
 {
     match decision {
         FileDecision::BadHistory(_) => NightVerdict::Doubt(Doubt::BadHistory),
-        FileDecision::NoWitness { .. } => {
-            if few {
-                NightVerdict::No(Cause::TooFew)
-            } else {
-                NightVerdict::No(Cause::NoWitness)
-            }
-        }
-        FileDecision::Undecided(_) => {
-            if few {
-                NightVerdict::No(Cause::TooFew)
-            } else {
-                NightVerdict::Doubt(Doubt::Undecided)
-            }
-        }
-        FileDecision::Yes(_) => {
-            if few {
-                NightVerdict::No(Cause::TooFew)
-            } else {
-                unless_doubt(facts)
-            }
-        }
+        FileDecision::NoWitness { .. } => unless_few(few, NightVerdict::No(Cause::NoWitness)),
+        FileDecision::Undecided(_) => unless_few(few, NightVerdict::Doubt(Doubt::Undecided)),
+        FileDecision::Yes(_) => unless_few(few, unless_excused(excused, unless_doubt(facts))),
     }
+}
+
+/// Whether too few calls were answered, which is the server's fault where the orders didn't go astray.
+pub(crate) fn is_few(facts: &NightFacts<'_>, answered: u64) -> bool
+    ensures { result ≡ is_few (is_astray facts.now.end) (nat_lt answered facts.now.at_least) }
+{
+    !is_astray(facts.end) && answered < facts.at_least
+}
+
+/// Whether over a quarter of the answers are failures that may answer any call.
+fn is_mostly_excused(answered: Answered) -> bool
+    ensures { result ≡ is_mostly_excused answered.all answered.excused }
+{
+    answered.all / 4 < answered.excused
 }
 
 /// What is said of a night: the server's health first, then how many calls were answered, then what is decided of the history.
 pub(crate) fn verdict_of(
     facts: &NightFacts<'_>,
-    answered: u64,
+    answered: Answered,
     decision: &FileDecision,
 ) -> NightVerdict
-    ensures { result ≡ verdict_of facts.now.troubles.now facts.now.end facts.now.at_least answered decision.now }
+    ensures { result ≡ verdict_of facts.now.troubles.now facts.now.end facts.now.at_least answered.all answered.excused decision.now }
 {
-    let few = answered < facts.at_least;
     match health_of(facts) {
         Some(cause) => NightVerdict::No(cause),
-        None => verdict_in_health(facts, few, decision),
+        None => verdict_in_health(
+            facts,
+            is_few(facts, answered.all),
+            is_mostly_excused(answered),
+            decision,
+        ),
     }
 }

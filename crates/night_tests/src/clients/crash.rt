@@ -18,7 +18,7 @@ fn goes_down<R: ClientsRuntime>(rt: &R, night: &Night, listener: &TcpListener) {
     };
     drop(serve_next(rt, night, listener, manner));
     drop(serve_next(rt, night, listener, manner));
-    night.crash(rt);
+    let _ = night.crash(rt);
 }
 
 /// Begins a server that goes down.
@@ -140,7 +140,7 @@ fn crashes_between<R: ClientsRuntime>(rt: &R) -> Option<bool> {
         calls(3),
         RIGHT,
     )?;
-    night.crash(rt);
+    let _ = night.crash(rt);
     let second = run(
         rt,
         &night,
