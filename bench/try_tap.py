@@ -565,6 +565,24 @@ def call_unanswered():
     assert "lane 1 ended: calls without a reply 1, such as that of transaction 8\n" in err, err
 
 
+def ends_while_busy():
+    """What waits when the recording ends is no fault of the server's."""
+    orders = tempfile.mktemp()
+    open(orders, "w").close()
+    server, tap = Answers(right, lambda xid: b""), Tap(words=["--strict", "--orders", orders])
+    sock = connect()
+    ask(sock, 7)
+    sock.sendall(frame(call(8)))
+    time.sleep(0.3)
+    with open(orders, "a") as file:
+        file.write("end\n")
+    status, out, err, _ = tap.end()
+    sock.close()
+    server.close()
+    os.remove(orders)
+    assert "never answered" not in out, (status, out, err)
+
+
 def answered_twice():
     unhealthy(Answers(lambda xid: right(xid) + right(xid)), 1,
               ["what the server sent on lane 1 is no reply to an open call: LogFault NoSuchCall"])
@@ -703,7 +721,7 @@ def from_a_folder():
     assert (status, out, events) == (2, "refused: no start\n", None) and "has 2 names (hard links)" in err, (status, out, err)
 
 
-CASES = [from_a_folder, server_ends_first, call_unanswered, answered_twice, record_too_long, garbage, nothing_judged, healthy, refused_call, ends_in_time,
+CASES = [from_a_folder, server_ends_first, call_unanswered, ends_while_busy, answered_twice, record_too_long, garbage, nothing_judged, healthy, refused_call, ends_in_time,
          ordered_by_a_file, part_stands, port_in_use, no_server, no_server_open, half_record, long_header, byte_by_byte, many_lanes, many_in_turn,
          server_dies_in_reply, half_closed, xid_in_use, not_rpc, late_connections, ended_by_input, crash, bad_root,
          cannot_write, own_port, wrong_root, empty_root, disk_full, log_full]

@@ -86,6 +86,7 @@ impl Relay {
         if self.is_counted {
             self.halt(rt, Halt::CannotConnect);
         }
+        self.health.lock(rt).note_untaken();
         let _ = eprintln!(rt; "a connection ended: the server takes none");
         None
     }
@@ -130,6 +131,7 @@ impl Relay {
             if calls.is_ok() && replies.is_ok() {
                 self.watch(rt, lane, ended);
             }
+            let is_halted = self.reason(rt).is_some() && ended.pumps.load(Ordering::SeqCst) < 2;
             pair.shut();
             let (Ok(calls), Ok(replies)) = (calls, replies) else {
                 return None;
@@ -139,6 +141,7 @@ impl Relay {
                 calls: calls.join(rt),
                 replies: replies.join(rt),
                 is_by_server: ended.by_server.load(Ordering::SeqCst),
+                is_halted,
             })
         })
     }
@@ -244,6 +247,9 @@ impl Relay {
         let mut health = self.health.lock(rt);
         health.note_pump(end.lane, false, end.calls);
         health.note_pump(end.lane, true, end.replies);
+        if end.is_cut() {
+            health.note_cut(end.lane);
+        }
     }
 
     /// Says how a lane ended where something failed, and ends the recording where the log can't go on.

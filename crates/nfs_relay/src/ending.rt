@@ -17,6 +17,8 @@ pub(crate) struct LaneEnd {
     pub(crate) replies: PumpEnd,
     /// Whether the server ended it, before anybody else had and outside a crash.
     pub(crate) is_by_server: bool,
+    /// Whether the recording ended it.
+    pub(crate) is_halted: bool,
 }
 
 impl LaneEnd {
@@ -25,6 +27,14 @@ impl LaneEnd {
         ensures { IsTrue result ↔ ((self.now.calls ≡ ends.End) × (self.now.replies ≡ ends.End)) }
     {
         self.calls == PumpEnd::End && self.replies == PumpEnd::End
+    }
+
+    /// Whether replies could still have come, and it wasn't the server that ended the lane: the recording ended, or the client was gone, or sent
+    /// what isn't noted.
+    pub(crate) fn is_cut(&self) -> bool {
+        let is_by_client = self.replies == PumpEnd::WriteFault
+            || !matches!(self.calls, PumpEnd::End | PumpEnd::WriteFault);
+        self.is_halted || (is_by_client && !self.is_by_server)
     }
 
     /// Why the whole recording ends with this lane, if it does.
@@ -50,6 +60,7 @@ impl fmt::Display for LaneEnd {
             calls,
             replies,
             is_by_server: _,
+            is_halted: _,
         } = *self;
         write!(f, "lane {lane} ended: calls {calls}, replies {replies}")
     }

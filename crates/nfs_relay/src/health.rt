@@ -26,6 +26,10 @@ pub struct Refused {
 pub struct Health {
     ends: Vec<ServerEnd>,
     refused: Vec<Refused>,
+    /// The lanes that this side ended, or the client.
+    cut: Vec<u32>,
+    /// How many connections the server didn't take.
+    untaken: u64,
     /// How much more there was, for which memory wasn't there.
     more: u64,
 }
@@ -36,6 +40,8 @@ impl Health {
         Health {
             ends: Vec::new(alloc),
             refused: Vec::new(alloc),
+            cut: Vec::new(alloc),
+            untaken: 0,
             more: 0,
         }
     }
@@ -50,6 +56,16 @@ impl Health {
         self.refused.as_slice()
     }
 
+    /// The lanes that ended while replies could still come, and not by the server: since the recording ended, or the client was gone.
+    pub fn cut(&self) -> &[u32] {
+        self.cut.as_slice()
+    }
+
+    /// How many connections ended since the server took none in time.
+    pub fn untaken(&self) -> u64 {
+        self.untaken
+    }
+
     /// How much more went wrong that memory wasn't there for.
     pub fn more(&self) -> u64 {
         self.more
@@ -60,6 +76,18 @@ impl Health {
         if self.ends.push(end).is_err() {
             self.more = self.more.saturating_add(1);
         }
+    }
+
+    /// A lane ended while replies could still come, and not by the server.
+    pub(crate) fn note_cut(&mut self, lane: u32) {
+        if self.cut.push(lane).is_err() {
+            self.more = self.more.saturating_add(1);
+        }
+    }
+
+    /// The server took no connection in time.
+    pub(crate) fn note_untaken(&mut self) {
+        self.untaken = self.untaken.saturating_add(1);
     }
 
     /// A lane's pump ended, of the records of its client or of the server.

@@ -18,7 +18,7 @@ use folder_start::{FolderFault, folder_start};
 use nfs_relay::{Halt, Order, OrderReader, Relay, RelayRuntime, calls_in};
 use nfs_tap::TapLog;
 use program_streams::{Input, Output, READ_SIZE, line_of};
-use recording_health::{Reading, findings_of, reading_of};
+use recording_health::{Reading, Recording, findings_of, reading_of};
 use std::alloc::AllocError;
 use std::fs::{self, File};
 use std::io::{ErrorKind, Write};
@@ -276,6 +276,9 @@ fn record_beside<R: RecordingRuntime, I: Input>(
     };
     thread::scope(thread::scope_env(), rt, |scope| {
         let following = begin_part(scope, rt, relay, part);
+        if following.is_none() {
+            let _ = eprintln!(rt; "what is noted isn't kept on disk meanwhile: no thread");
+        }
         let end = record_as(rt, relay, beginning, listener, request, orders, input);
         if let Some(following) = following {
             following.join(rt);
@@ -335,17 +338,18 @@ fn findings<R: RecordingRuntime>(
     } else {
         Reading::NONE
     };
-    let is_full = matches!(relay.reason(rt), Some(Halt::LogFull));
+    let halt = relay.reason(rt);
     let log = relay.log().lock(rt);
     let health = relay.health().lock(rt);
-    let found = findings_of(
-        alloc,
-        log.events(),
-        health.ends(),
-        health.refused(),
-        is_full,
-        reading,
-    )?;
+    let recording = Recording {
+        events: log.events(),
+        ends: health.ends(),
+        refusals: health.refused(),
+        cut: health.cut(),
+        untaken: health.untaken(),
+        halt,
+    };
+    let found = findings_of(alloc, recording, reading)?;
     let mut lines = String::new(alloc);
     for finding in found.all.iter() {
         lines.push_str(line_of(alloc, "unhealthy: ", finding)?.as_str())?;

@@ -2,6 +2,7 @@
 
 use history_file::Event;
 use indexmap::IndexMap;
+use nfs_relay::transaction;
 use std::alloc::{AllocError, Global};
 
 /// What is known of the eras of a recording. Events are counted from 0 here.
@@ -9,14 +10,14 @@ use std::alloc::{AllocError, Global};
 pub(crate) struct Eras {
     /// The crash that ended each era, but for the last one.
     crashes: Vec<usize>,
-    /// Of each era the last lane, by its first event, that got a reply.
+    /// Of each era the last call that got a reply.
     lives: Vec<usize>,
 }
 
 impl Eras {
     /// The eras of these events.
     pub(crate) fn of(alloc: Global, events: &[Event]) -> Result<Eras, AllocError> {
-        let mut first: IndexMap<u32, usize> = IndexMap::new(alloc);
+        let mut open: IndexMap<(u32, u32), usize> = IndexMap::new(alloc);
         let mut eras = Eras {
             crashes: Vec::new(alloc),
             lives: Vec::new(alloc),
@@ -24,14 +25,12 @@ impl Eras {
         let mut life = 0usize;
         for (index, event) in events.iter().enumerate() {
             match event {
-                Event::Call { lane, .. } => {
-                    if !first.contains_key(lane) {
-                        first.insert(*lane, index)?;
-                    }
+                Event::Call { lane, message } => {
+                    open.insert((*lane, transaction(message.as_slice())), index)?;
                 }
-                Event::Reply { lane, .. } => {
-                    let begun = first.get(lane).copied().unwrap_or(0);
-                    life = life.max(begun);
+                Event::Reply { lane, message } => {
+                    let call = open.swap_remove(&(*lane, transaction(message.as_slice())));
+                    life = life.max(call.unwrap_or(0));
                 }
                 Event::Close { .. } => {}
                 Event::Crash => {
@@ -45,7 +44,7 @@ impl Eras {
         Ok(eras)
     }
 
-    /// Whether what came about before this many events was the crash that ended its era: no lane that began later got a reply before it.
+    /// Whether what came about before this many events was the crash that ended its era: no call that came later got a reply before it.
     pub(crate) fn is_of_crash(&self, events: usize) -> bool {
         let era = self.crashes.partition_point(|crash| *crash < events);
         if era >= self.crashes.len() {

@@ -4,8 +4,9 @@ use crate::eras::Eras;
 use crate::reading::Reading;
 use crate::unanswered::unanswered_in;
 use history_file::Event;
+use indexmap::IndexMap;
 use nfs_history::HistoryFault;
-use nfs_relay::{Refused, ServerEnd};
+use nfs_relay::{Halt, Refused, ServerEnd};
 use nfs_tap::PumpEnd;
 use std::alloc::{AllocError, Global};
 use std::fmt;
@@ -17,12 +18,16 @@ pub enum Finding {
     ServerEnded(u64, u32),
     /// This many calls got no reply, and no crash explains it: the first on this lane, with this transaction number.
     Unanswered(u64, u32, u32),
+    /// The server took none of this many connections.
+    Untaken(u64),
     /// A record of the server on this lane wasn't noted, for this reason.
     RefusedReply(u32, PumpEnd),
     /// A record of a client on this lane wasn't noted, for this reason.
     RefusedCall(u32, PumpEnd),
     /// The log was full.
     LogFull,
+    /// Memory ran out.
+    NoMemory,
     /// `check` refuses the history.
     Fault(HistoryFault),
     /// No call is judged.
@@ -42,6 +47,7 @@ impl fmt::Display for Finding {
                 f,
                 "{count} calls were never answered, the first on lane {lane} with transaction number {xid}"
             ),
+            Finding::Untaken(count) => write!(f, "the server took none of {count} connections"),
             Finding::RefusedReply(lane, end) => {
                 write!(
                     f,
@@ -52,10 +58,28 @@ impl fmt::Display for Finding {
                 write!(f, "what a client sent on lane {lane} is no call: {end}")
             }
             Finding::LogFull => f.write_str("the history is full: the recording ended early"),
+            Finding::NoMemory => f.write_str("the recording ended early: out of memory"),
             Finding::Fault(fault) => write!(f, "check refuses the history: {fault}"),
             Finding::NothingJudged => f.write_str("no call is judged: is the port that of NFS?"),
         }
     }
+}
+
+/// What is known of a recording that ended.
+#[derive(Clone, Copy)]
+pub struct Recording<'a> {
+    /// What was noted.
+    pub events: &'a [Event],
+    /// The lanes that the server ended first.
+    pub ends: &'a [ServerEnd],
+    /// The lanes that ended since a record wasn't noted.
+    pub refusals: &'a [Refused],
+    /// The lanes that ended while replies could still come, and not by the server.
+    pub cut: &'a [u32],
+    /// How many connections the server didn't take.
+    pub untaken: u64,
+    /// Why the recording ended.
+    pub halt: Option<Halt>,
 }
 
 /// What was wrong, each kind once.
@@ -80,12 +104,20 @@ fn server_ended(eras: &Eras, ends: &[ServerEnd]) -> Option<Finding> {
     Some(Finding::ServerEnded(lanes, first?))
 }
 
-/// The calls that got no reply outside a crash.
-fn unanswered(alloc: Global, eras: &Eras, events: &[Event]) -> Result<Option<Finding>, AllocError> {
+/// The calls that got no reply outside a crash, on lanes that weren't cut.
+fn unanswered(
+    alloc: Global,
+    eras: &Eras,
+    recording: Recording<'_>,
+) -> Result<Option<Finding>, AllocError> {
+    let mut cut: IndexMap<u32, ()> = IndexMap::new(alloc);
+    for lane in recording.cut {
+        cut.insert(*lane, ())?;
+    }
     let mut count = 0u64;
     let mut first = None;
-    for call in unanswered_in(alloc, events)?.iter() {
-        if !eras.is_of_crash(call.events) {
+    for call in unanswered_in(alloc, recording.events)?.iter() {
+        if !cut.contains_key(&call.lane) && !eras.is_of_crash(call.events) {
             count = count.saturating_add(1);
             first = first.or(Some((call.lane, call.xid)));
         }
@@ -105,6 +137,24 @@ fn refused(all: &[Refused], is_of_server: bool) -> Option<Finding> {
     }
 }
 
+/// The connections that the server didn't take.
+fn untaken(count: u64) -> Option<Finding> {
+    if count > 0 {
+        Some(Finding::Untaken(count))
+    } else {
+        None
+    }
+}
+
+/// Why the recording ended early, if it did.
+fn early(halt: Option<Halt>) -> Option<Finding> {
+    match halt {
+        Some(Halt::LogFull) => Some(Finding::LogFull),
+        Some(Halt::NoMemory) => Some(Finding::NoMemory),
+        _ => None,
+    }
+}
+
 /// What is wrong with what was read of the file.
 fn misread(reading: Reading) -> Option<Finding> {
     match reading.fault {
@@ -114,29 +164,21 @@ fn misread(reading: Reading) -> Option<Finding> {
     }
 }
 
-/// What was wrong in a recording with these events, of which this was read, and of whose lanes this was seen: first the server's part,
-/// then the clients', then the recording's.
+/// What was wrong in a recording, of whose file this was read: first the server's part, then the clients', then the recording's.
 pub fn findings_of(
     alloc: Global,
-    events: &[Event],
-    ends: &[ServerEnd],
-    refusals: &[Refused],
-    is_full: bool,
+    recording: Recording<'_>,
     reading: Reading,
 ) -> Result<Findings, AllocError> {
-    let eras = Eras::of(alloc, events)?;
-    let full = if is_full {
-        Some(Finding::LogFull)
-    } else {
-        None
-    };
+    let eras = Eras::of(alloc, recording.events)?;
     let mut all = Vec::new(alloc);
     for finding in [
-        server_ended(&eras, ends),
-        unanswered(alloc, &eras, events)?,
-        refused(refusals, true),
-        refused(refusals, false),
-        full,
+        server_ended(&eras, recording.ends),
+        unanswered(alloc, &eras, recording)?,
+        untaken(recording.untaken),
+        refused(recording.refusals, true),
+        refused(recording.refusals, false),
+        early(recording.halt),
         misread(reading),
     ] {
         if let Some(finding) = finding {

@@ -6,5 +6,5 @@ mod finding;
 mod reading;
 mod unanswered;
 
-pub use finding::{Finding, Findings, findings_of};
+pub use finding::{Finding, Findings, Recording, findings_of};
 pub use reading::{Reading, reading_of};

@@ -2,9 +2,9 @@
 
 use history_file::{Event, SeenEvent};
 use nfs_history::HistoryFault;
-use nfs_relay::{Refused, ServerEnd};
+use nfs_relay::{Halt, Refused, ServerEnd};
 use nfs_tap::{NoteFault, PumpEnd};
-use recording_health::{Finding, Reading, findings_of, reading_of};
+use recording_health::{Finding, Reading, Recording, findings_of, reading_of};
 use std::alloc::{AllocError, Global};
 use std::test::Fail;
 
@@ -56,8 +56,27 @@ fn is_found(
     ends: &[ServerEnd],
     wanted: &[Finding],
 ) -> Result<bool, AllocError> {
+    is_found_of_cut(alloc, steps, ends, &[], wanted)
+}
+
+/// The same where some lanes were cut.
+fn is_found_of_cut(
+    alloc: Global,
+    steps: &[Step],
+    ends: &[ServerEnd],
+    cut: &[u32],
+    wanted: &[Finding],
+) -> Result<bool, AllocError> {
     let events = events_of(alloc, steps)?;
-    let found = findings_of(alloc, events.as_slice(), ends, &[], false, FINE)?;
+    let recording = Recording {
+        events: events.as_slice(),
+        ends,
+        refusals: &[],
+        cut,
+        untaken: 0,
+        halt: None,
+    };
+    let found = findings_of(alloc, recording, FINE)?;
     Ok(found.all.as_slice() == wanted)
 }
 
@@ -101,6 +120,38 @@ fn a_server_that_lives_on_is_at_fault(rt: HostRuntime) -> Result<(), Fail> {
     let ends = [ServerEnd { lane: 1, events: 1 }];
     let wanted = [Finding::ServerEnded(1, 1), Finding::Unanswered(1, 1, 7)];
     assert!(rt; is_found(alloc, &steps, &ends, &wanted)?);
+    Ok(())
+}
+
+#[test]
+fn a_later_answer_on_an_older_lane_shows_life(rt: HostRuntime) -> Result<(), Fail> {
+    let steps = [
+        Step::Call(2, 1),
+        Step::Reply(2, 1),
+        Step::Call(1, 7),
+        Step::Close(1),
+        Step::Call(2, 9),
+        Step::Reply(2, 9),
+        Step::Close(2),
+        Step::Crash,
+    ];
+    let ends = [ServerEnd { lane: 1, events: 3 }];
+    let wanted = [Finding::ServerEnded(1, 1), Finding::Unanswered(1, 1, 7)];
+    assert!(rt; is_found(rt.alloc(), &steps, &ends, &wanted)?);
+    Ok(())
+}
+
+#[test]
+fn calls_on_lanes_that_were_cut_are_no_fault(rt: HostRuntime) -> Result<(), Fail> {
+    let steps = [
+        Step::Call(1, 7),
+        Step::Call(2, 8),
+        Step::Close(1),
+        Step::Close(2),
+    ];
+    assert!(rt; is_found_of_cut(rt.alloc(), &steps, &[], &[1, 2], &[])?);
+    let wanted = [Finding::Unanswered(1, 2, 8)];
+    assert!(rt; is_found_of_cut(rt.alloc(), &steps, &[], &[1], &wanted)?);
     Ok(())
 }
 
@@ -152,8 +203,17 @@ fn records_that_were_not_noted_are_named(rt: HostRuntime) -> Result<(), Fail> {
         fault: None,
         judged: 0,
     };
-    let found = findings_of(alloc, &[], &[], &refused, true, reading)?;
+    let recording = Recording {
+        events: &[],
+        ends: &[],
+        refusals: &refused,
+        cut: &[],
+        untaken: 2,
+        halt: Some(Halt::LogFull),
+    };
+    let found = findings_of(alloc, recording, reading)?;
     let wanted = [
+        Finding::Untaken(2),
         Finding::RefusedReply(5, twice),
         Finding::RefusedCall(4, PumpEnd::RecordTooLong),
         Finding::LogFull,
@@ -204,6 +264,11 @@ fn findings_have_words(rt: HostRuntime) -> Result<(), Fail> {
         (
             Finding::RefusedCall(4, PumpEnd::RecordTooLong),
             "what a client sent on lane 4 is no call: RecordTooLong",
+        ),
+        (Finding::Untaken(7), "the server took none of 7 connections"),
+        (
+            Finding::NoMemory,
+            "the recording ended early: out of memory",
         ),
         (
             Finding::LogFull,

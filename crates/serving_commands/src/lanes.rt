@@ -131,9 +131,11 @@ fn begin_part<'s, E, R: RelayRuntime>(
     serving: Serving<'s>,
     part: Part,
 ) -> Option<JoinHandle<()>> {
-    scope
-        .spawn(move || follow(rt, serving.server, part, serving.has_ended))
-        .ok()
+    let following = scope.spawn(move || follow(rt, serving.server, part, serving.has_ended));
+    if following.is_err() {
+        let _ = eprintln!(rt; "what is recorded isn't kept on disk meanwhile: no thread");
+    }
+    following.ok()
 }
 
 /// What the clients of connections know, once all have ended.

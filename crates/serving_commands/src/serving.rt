@@ -88,6 +88,9 @@ pub fn serve<R: RecordingRuntime>(
     if fs::metadata(rt, path.as_str()).is_ok() {
         return Err(RunFault::PartStands);
     }
+    if path.as_str() == request.certificate {
+        return Err(RunFault::CannotWrite);
+    }
     let server = server_from(rt.alloc(), request, beginning)?;
     let recorded = match serve_beside(rt, request, &server, &listener, path.as_str()) {
         Ok(served) => save(rt.alloc(), server, served)?,
