@@ -324,6 +324,7 @@ def strict() -> list[Case]:
         "a segment": (captured(of_one(asks(0, FIRST), asks(2 * SIZE, THIRD)))[0], 1),
         "a call": (captured(of_one(gives(0, ONE), asks(0, FIRST)))[0], 1),
         "all calls": (captured(right[:2])[0], 1),
+        "the beginning": (captured(right[2:])[0], 1),
         "the last byte": (captured(right)[0][:-1], 1),
         "the order of time": (captured(late)[0], 1),
         "bytes by a snap length": (captured(of_one(asks(0, FIRST), asks(SIZE, framed(call(2, 7, bytes(200))))), snap=150)[0], 1),

@@ -44,6 +44,18 @@ impl<'a> Connection<'a> {
         self.closed.is_some()
     }
 
+    /// Whether one way alone was captured.
+    pub fn is_one_way(&self) -> bool {
+        let (calls, replies) = (&self.calls, &self.replies);
+        (!calls.payloads.is_empty() && !replies.has_begun)
+            || (!replies.payloads.is_empty() && !calls.has_begun)
+    }
+
+    /// Whether it began ahead of the capture: neither SYN was captured.
+    pub fn has_no_beginning(&self) -> bool {
+        !self.calls.has_syn && !self.replies.has_syn
+    }
+
     /// Takes a segment of the packet of this index.
     pub fn put(&mut self, packet: u64, segment: &Segment<'a>) -> Result<(), AllocError> {
         if segment.source == self.client {

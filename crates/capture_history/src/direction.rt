@@ -32,6 +32,8 @@ pub struct Direction<'a> {
     pub first: u32,
     /// Whether it is known.
     pub has_begun: bool,
+    /// Whether its SYN was seen.
+    pub has_syn: bool,
     /// Whether a FIN was seen.
     pub has_ended: bool,
     /// Where their bytes stand in the stream. Their sources are places in `payloads`.
@@ -48,6 +50,7 @@ impl<'a> Direction<'a> {
         Direction {
             first: 0,
             has_begun: false,
+            has_syn: false,
             has_ended: false,
             segments: Vec::new(alloc),
             payloads: Vec::new(alloc),
@@ -69,6 +72,7 @@ impl<'a> Direction<'a> {
             self.first = sequence;
             self.has_begun = true;
         }
+        self.has_syn = self.has_syn || segment.syn;
         if segment.fin {
             self.has_ended = true;
         }

@@ -140,6 +140,9 @@ pub fn gather<'a>(
             others.put(alloc, port, index as u64, &segment)?;
         }
     }
+    for connection in lanes.all.iter() {
+        passed.add_connection(connection);
+    }
     Ok(Gathered {
         lanes: lanes.all,
         others: others.all,

@@ -1,5 +1,6 @@
-//! How many packets were passed over.
+//! How many packets were passed over, and what of connections wasn't captured.
 
+use crate::connection::Connection;
 use packet_layers::PassedOver;
 
 /// How many packets were passed over, for each reason, and how many lack bytes.
@@ -14,6 +15,10 @@ pub struct PassedCounts {
     pub cut_payloads: u64,
     /// These weren't either: they are over a millisecond earlier than a packet ahead of them.
     pub too_early: u64,
+    /// So many connections to the server were captured one way alone.
+    pub one_way: u64,
+    /// So many began ahead of the capture.
+    pub without_beginning: u64,
 }
 
 impl PassedCounts {
@@ -26,7 +31,19 @@ impl PassedCounts {
         cut_headers: 0,
         cut_payloads: 0,
         too_early: 0,
+        one_way: 0,
+        without_beginning: 0,
     };
+
+    /// Counts a connection to the server.
+    pub fn add_connection(&mut self, connection: &Connection<'_>) {
+        if connection.is_one_way() {
+            self.one_way = self.one_way.saturating_add(1);
+        }
+        if connection.has_no_beginning() {
+            self.without_beginning = self.without_beginning.saturating_add(1);
+        }
+    }
 
     /// Counts a packet more.
     pub fn add(&mut self, reason: PassedOver) {

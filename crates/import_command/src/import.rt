@@ -54,6 +54,14 @@ fn tell_passed<R: Eprint>(rt: &R, passed: PassedCounts) {
             "packets earlier than one before: {count}: sort the capture by time (reordercap)"
         );
     }
+    if passed.one_way > 0 {
+        let count = passed.one_way;
+        let _ = eprintln!(rt; "connections of which one way alone was captured: {count}");
+    }
+    if passed.without_beginning > 0 {
+        let count = passed.without_beginning;
+        let _ = eprintln!(rt; "connections that began before the capture: {count}");
+    }
 }
 
 /// Says so where the words give a handle of no bytes, which is seldom meant.
@@ -73,6 +81,8 @@ fn is_whole(log: &CaptureLog, calls: usize) -> bool
         && passed.cut_payloads == 0
         && passed.fragments == 0
         && passed.too_early == 0
+        && passed.one_way == 0
+        && passed.without_beginning == 0
         && log.import.notes.is_empty()
         && calls > 0
 }
