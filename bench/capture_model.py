@@ -6,7 +6,7 @@ It is given what a reader can know of each packet (`captures.Seen`), and works b
 - A lane ends by a gap at the first packet that shows it, or at the last one that brought bytes ahead of the gap, if that came later; what stands at
   that packet is still in the lane. A packet shows it whose bytes stand behind it; and, if `shows_all`, one whose bytes were cut off by a snap length
   there, and a FIN behind it. A reader may wait for bytes that were captured: then a gap that none follow isn't told.
-- A lane ends by a record that is too long at the packet that brought its first byte.
+- A lane ends by a record that is too long at the packet with which its first byte was known without a gap.
 - The bytes of a RST aren't those of the stream (RFC 1122, section 4.2.2.12).
 - A record that can't follow the events before it is left out, and the lane goes on.
 """
@@ -113,7 +113,7 @@ def records_of(way: Way) -> Records:
             head = int.from_bytes(data[at:at + 4], "big")
             is_last, size = head >> 31 == 1, head & 0x7FFFFFFF
             if len(message) + size > RECORD_LIMIT:
-                return Records(records, way.sources[begin])
+                return Records(records, known[begin])
             if at + 4 + size > len(data):
                 return Records(records, None)
             message += data[at + 4:at + 4 + size]

@@ -45,6 +45,14 @@ impl<'a> Cursor<'a> {
         }
     }
 
+    /// The packet with which the next byte was known, and all ahead of it.
+    pub fn known(&mut self) -> u64 {
+        match self.part_at(self.at) {
+            Some(part) => part.known,
+            None => 0,
+        }
+    }
+
     /// Goes behind the record that stands here, and gives the packet with which its last byte was known.
     pub fn pass(&mut self) -> u64 {
         let size = record_size(self.rest);

@@ -17,7 +17,7 @@ pub struct Way {
     pub found: Vec<Found>,
     /// The packet at which the stream ends by a gap.
     pub gap: Option<u64>,
-    /// The packet that brought the first byte of a record that is too long.
+    /// The packet with which the first byte of a record was known that is too long: no whole record ahead of it stands later.
     pub too_long: Option<u64>,
 }
 
@@ -64,7 +64,7 @@ fn events_in(alloc: Global, lane: u32, kind: FoundKind, stream: &Stream) -> Resu
     let mut cursor = Cursor::new(stream.bytes.as_slice(), stream.parts.as_slice());
     let found = take_events(alloc, lane, kind, &mut feed, &mut cursor)?;
     let too_long = if is_too_long {
-        Some(cursor.first())
+        Some(cursor.known())
     } else {
         None
     };
