@@ -19,10 +19,13 @@ use std::fs;
 use std::rt::Files;
 use std::time::Clock;
 
-/// Writes the certificate of a yes to a path, if one is wanted. Whether it is there now, or wasn't wanted.
-fn is_saved<R: Files>(rt: &R, path: Option<&str>, decision: &FileDecision) -> bool {
-    match (path, decision) {
-        (Some(path), FileDecision::Yes(text)) => fs::write(rt, path, text.as_slice()).is_ok(),
+/// Writes the certificate of a yes to the path that is asked for, if one is. Whether it is there now, or wasn't wanted. The history's own
+/// path can't be that one.
+fn is_saved<R: Files>(rt: &R, request: &DecideRequest<'_>, decision: &FileDecision) -> bool {
+    match (request.certificate, decision) {
+        (Some(path), FileDecision::Yes(text)) => {
+            path != request.history && fs::write(rt, path, text.as_slice()).is_ok()
+        }
         _ => true,
     }
 }
@@ -30,7 +33,7 @@ fn is_saved<R: Files>(rt: &R, path: Option<&str>, decision: &FileDecision) -> bo
 /// Says what was decided.
 fn tell_decision<R: Files + AllocGlobal, O: Output>(
     rt: &R,
-    certificate: Option<&str>,
+    request: &DecideRequest<'_>,
     decision: &FileDecision,
     output: &mut O,
 ) -> u8
@@ -42,7 +45,7 @@ fn tell_decision<R: Files + AllocGlobal, O: Output>(
     ensures memory_line { result ≡ 3 → Appends (O.contents output.old) (O.contents output.new) memory_line }
     ensures known { result < 4 }
 {
-    if is_saved(rt, certificate, decision) {
+    if is_saved(rt, request, decision) {
         tell_answer(output, report_of(rt.alloc(), decision))
     } else {
         tell(output, b"refused: cannot write\n", 2)
@@ -82,7 +85,7 @@ fn tell_all<R: Files + Clock + AllocGlobal, O: Output>(
     ensures memory_line { result ≡ 3 → Appends (O.contents output.old) (O.contents output.new) memory_line }
     ensures known { result < 4 }
 {
-    let status = tell_decision(rt, request.certificate, decision, output);
+    let status = tell_decision(rt, request, decision, output);
     match named_by(request, decision, status) {
         Some(named) => tell_hints(rt, request, bytes, named, output),
         None => status,
