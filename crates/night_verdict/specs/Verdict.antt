@@ -1,6 +1,6 @@
 -- For the prover, and for callers.
 -- What is said of a night (words of this project's own).
-use Rattle.std.specs.Prelude.{◌≡◌, ◌⊎◌, ℕ, ◌<◌, ◌/◌, ◌&&◌, nat_lt, Bool, true, false, IsTrue, List, [], ◌∷◌, Option, Some, None}
+use Rattle.std.specs.Prelude.{◌≡◌, ◌⊎◌, ℕ, ◌<◌, ◌/◌, ◌&&◌, not, nat_lt, Bool, true, false, IsTrue, List, [], ◌∷◌, Option, Some, None}
 use Rattle.std.specs.List.{list_any}
 use Rattle.nfs_history.specs.declared.knowing.KnownCalls.{KnownCalls}
 use Rattle.nfs_history.specs.History.{IsCallsFile}
@@ -48,12 +48,8 @@ is_of_crash kinds.NoReply = true
 is_of_crash kind = false
 
 -- a trouble that the server is blamed for: one that it made, and not one that a crash explains which may have come
-abbrev pub unless_crash : Bool → Bool → Bool
-unless_crash true crash = if crash then false else true
-unless_crash false crash = true
-
 abbrev pub is_blamed : NightEnd → TroubleKind → Bool
-is_blamed end kind = is_of_server kind && unless_crash (is_astray end) (is_of_crash kind)
+is_blamed end kind = is_of_server kind && not (is_astray end && is_of_crash kind)
 
 abbrev pub has_trouble_of_server : NightEnd → List Trouble → Bool
 has_trouble_of_server end troubles = list_any (λ (trouble : Trouble). is_blamed end trouble.kind) troubles
@@ -124,8 +120,7 @@ unless_few false verdict = verdict
 
 -- too few calls are the server's fault only where the orders didn't go astray
 abbrev pub is_few : Bool → Bool → Bool
-is_few true few = false
-is_few false few = few
+is_few astray few = not astray && few
 
 abbrev pub unless_excused : Bool → NightVerdict → NightVerdict
 unless_excused true verdict = IsDoubt doubts.Excused
