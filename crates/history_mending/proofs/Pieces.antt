@@ -1,6 +1,6 @@
 -- Events that are put into a text, one by one, and which of a log's they are.
-use Rattle.std.proofs.Common.{◌≡◌, ℕ, ◌+◌, ◌-◌, ◌<◌, ◌≤◌, List, [], ◌∷◌, ◌++◌, length, take, drop, get_or, refl, sym, ap, ◌∙◌, arith, append_assoc, append-nil}
-use Rattle.std.proofs.lemmas.List.{map_push, take_more, take_all, take-map, drop-map, length-take-le, length-drop}
+use Rattle.std.proofs.Common.{◌≡◌, ℕ, ◌+◌, ◌<◌, ◌≤◌, List, [], ◌∷◌, ◌++◌, length, take, drop, get_or, refl, sym, ap, ◌∙◌, arith, append_assoc, append-nil}
+use Rattle.std.proofs.lemmas.List.{map_push, take_more, take_all, take-map, drop-map, length-drop}
 use Rattle.history_file.specs.declared.event.Event as owned
 use Rattle.history_file.specs.Event.{Event}
 use Rattle.history_file.specs.Owning.{happened, all_happened}
@@ -22,17 +22,13 @@ pub put_all : (es : List owned.Event) (i : ℕ) (text : List ℕ) → length es 
 put_all es i text le so_far = so_far ∙ ap (λ (l : List owned.Event). events_text (all_happened l)) (take_all i es le)
 
 -- the first of those that are left
-pub next_put : (es rest piece : List owned.Event) (from m count : ℕ) (text : List ℕ) → rest ≡ drop from es → piece ≡ take m rest → m ≤ length rest
-    → text ≡ events_text (all_happened piece) → count ≡ length piece → text ≡ events_text (take count (drop from (all_happened es)))
-next_put es rest piece from m count text at front le put counted =
-    let size : count ≡ m = counted ∙ ap length front ∙ length-take-le m rest le in
+pub next_put : (es rest piece : List owned.Event) (from count : ℕ) (text : List ℕ) → rest ≡ drop from es → piece ≡ take count rest
+    → text ≡ events_text (all_happened piece) → text ≡ events_text (take count (drop from (all_happened es)))
+next_put es rest piece from count text at front put =
     let taken : take count (drop from (all_happened es)) ≡ all_happened piece =
-    ap (λ n. take n (drop from (all_happened es))) size ∙ ap (λ (l : List Event). take m l) (drop-map happened from es) ∙ take-map happened m (drop from es)
-    ∙ ap (λ (l : List owned.Event). all_happened (take m l)) (sym at) ∙ ap all_happened (sym front) in
+    ap (λ (l : List Event). take count l) (drop-map happened from es) ∙ take-map happened count (drop from es)
+    ∙ ap (λ (l : List owned.Event). all_happened (take count l)) (sym at) ∙ ap all_happened (sym front) in
     put ∙ ap events_text (sym taken)
 
-pub none_left : (es rest piece : List owned.Event) (from m count : ℕ) → rest ≡ drop from es → piece ≡ take m rest → m ≤ length rest → (m ≡ 0 → length rest ≡ 0) → count ≡ length piece
-    → count ≡ 0 → length es ≤ from
-none_left es rest piece from m count at front le some counted none =
-    let size : m ≡ 0 = sym (counted ∙ ap length front ∙ length-take-le m rest le) ∙ none in
-    omega (arith, some size, ap length at, length-drop from es)
+pub none_left : (es rest : List owned.Event) (from count : ℕ) → rest ≡ drop from es → (count ≡ 0 → length rest ≡ 0) → count ≡ 0 → length es ≤ from
+none_left es rest from count at some none = omega (arith, some none, ap length at, length-drop from es)

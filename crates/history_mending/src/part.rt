@@ -133,7 +133,8 @@ pub fn put_next(text: &mut Vec<u8>, events: &[Event], from: usize) -> Result<usi
     ensures some { IfOk result (λ count. count ≡ 0 → length events.now ≤ from) }
 {
     let rest = behind(events, from);
-    let (piece, _) = rest.split_at(piece_of(rest));
+    let count = piece_of(rest);
+    let (piece, _) = rest.split_at(count);
     put_events(text, piece)?;
-    Ok(piece.len())
+    Ok(count)
 }
