@@ -1,5 +1,5 @@
 -- A no has its cause.
-use Rattle.std.proofs.Common.{◌≡◌, ℕ, Bool, true, false, refl, List, Option, Some, None, sym, subst, IsTrue, ltb-true, rules, inl, inr, ◌≢◌, ◌⊎◌, Result, Ok, Err, IfOk}
+use Rattle.std.proofs.Common.{◌≡◌, ◌<◌, ℕ, Bool, true, false, refl, List, Option, Some, None, sym, subst, IsTrue, ltb-true, rules, inl, inr, ◌≢◌, ◌⊎◌, Result, Ok, Err, IfOk}
 use Rattle.std.specs.Prelude.{nat_lt}
 use Rattle.nfs_history.specs.declared.fault.HistoryFault.{HistoryFault}
 use Rattle.nfs_history.specs.declared.fault.HistoryFault.TheVariants as history_faults
