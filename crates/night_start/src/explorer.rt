@@ -7,7 +7,7 @@ use crate::replies::{attributes_told, bytes_told, lookup_told, text_told};
 use crate::settings::Settings;
 use nfs3_types::{Failure, FileHandle, FileType, Name, NfsReply, Procedure};
 use std::alloc::{AllocError, Global};
-use tree_starts::{START_LIMIT, TEXT_LIMIT};
+use tree_starts::TEXT_LIMIT;
 use walk_accounts::{Account, Cursor, Kind, Part};
 
 /// What is asked next. Objects are numbered by their accounts.
@@ -60,8 +60,6 @@ pub(crate) struct Explorer {
     /// The server has READDIRPLUS, as far as is known.
     pub(crate) has_plus: bool,
     pub(crate) step: Step,
-    /// The most objects that may be found.
-    pub(crate) room: usize,
 }
 
 impl Drop for Explorer {
@@ -74,7 +72,6 @@ impl Drop for Explorer {
             listed: _,
             has_plus: _,
             step: _,
-            room: _,
         } = self;
         drop(known);
         drop(list);
@@ -107,7 +104,6 @@ impl Explorer {
             listed: 0,
             has_plus: true,
             step: Step::Root,
-            room: START_LIMIT,
         })
     }
 

@@ -1,5 +1,7 @@
 //! How a walk asks.
 
+use tree_starts::START_LIMIT;
+
 /// How a walk asks, and whether the export has to be empty.
 #[derive(Clone, Copy, Debug, PartialEq, Eq)]
 pub struct Settings {
@@ -9,6 +11,8 @@ pub struct Settings {
     pub page: u32,
     /// An export that holds anything is refused.
     pub is_empty: bool,
+    /// The most objects that may be found below the root: a start in a history has at most `START_LIMIT`.
+    pub objects: usize,
 }
 
 impl Settings {
@@ -17,5 +21,6 @@ impl Settings {
         piece: 65_536,
         page: 32_768,
         is_empty: false,
+        objects: START_LIMIT,
     };
 }

@@ -8,7 +8,7 @@ use night_start::{Cause, Change, Settings, Walk, WalkFault};
 use std::alloc::{AllocError, Global};
 use std::test::Fail;
 use tree_server::{Fault, Habits, Object, Plus, TreeServer, What, byte_at};
-use tree_starts::{Start, StartNode, StartObject};
+use tree_starts::{START_LIMIT, Start, StartNode, StartObject};
 
 /// The objects in the order in which a walk finds them.
 static TREE: [Object; 14] = [
@@ -97,6 +97,7 @@ const SETTINGS: Settings = Settings {
     piece: 7,
     page: 1_000,
     is_empty: false,
+    objects: START_LIMIT,
 };
 
 fn server(alloc: Global, objects: &'static [Object], habits: Habits) -> TreeServer {
@@ -449,10 +450,13 @@ enum Handed {
 }
 
 /// Whether a walk gives a start that has room for so many objects.
-fn is_found_with(alloc: Global, handed: Handed, room: usize) -> Result<bool, WalkFault> {
+fn is_found_with(alloc: Global, handed: Handed, objects: usize) -> Result<bool, WalkFault> {
     let mut server = server(alloc, &FLAT, COMMON);
-    let mut walk = Walk::new(alloc, server.handle(0)?, SETTINGS)?;
-    walk.explorer.room = room;
+    let settings = Settings {
+        objects,
+        ..SETTINGS
+    };
+    let mut walk = Walk::new(alloc, server.handle(0)?, settings)?;
     for step in 0..1_000 {
         let Some(mut call) = walk.next()? else {
             break;
