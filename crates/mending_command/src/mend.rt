@@ -32,6 +32,16 @@ fn tell_end<R: Eprint>(rt: &R, bytes: usize, mended: &Mended<'_>) {
     let _ = eprintln!(rt; "the whole events end at byte {at} of {bytes}: {end}");
 }
 
+/// The status where the events end so: 0 where a write that was cut off leaves that.
+fn status_of(end: End) -> u8
+    ensures { result < 3 }
+{
+    match end {
+        End::Whole | End::Cut => 0,
+        End::NoEvent | End::CannotFollow(_) | End::Full => 1,
+    }
+}
+
 /// Writes the history of what was mended, and says how many events it has.
 fn save<R: Files + AllocGlobal + Eprint>(
     rt: &R,
@@ -46,7 +56,8 @@ fn save<R: Files + AllocGlobal + Eprint>(
         return Report::refused(rt.alloc(), "cannot write");
     }
     tell_end(rt, bytes, mended);
-    Ok(Report::new(0, line_of(rt.alloc(), "events ", &mended.events.len())?))
+    let line = line_of(rt.alloc(), "events ", &mended.events.len())?;
+    Ok(Report::new(status_of(mended.end), line))
 }
 
 /// Mends these bytes, and writes their history.
@@ -78,8 +89,9 @@ fn mend_report<R: Files + AllocGlobal + Eprint>(
     }
 }
 
-/// Writes the history of the whole events in what a recorder left on disk, and says how many they are: status 0. 2 is a refusal. Why the
-/// events end where they do is said on standard error. Which events these are, [`mend`] says.
+/// Writes the history of the whole events in what a recorder left on disk, and says how many they are: status 0. It is 1 where bytes are
+/// left that aren't the beginning of one more event, or an event may not follow those before it, or is over a history's limits. 2 is a
+/// refusal. Why the events end where they do is said on standard error. Which events these are, [`mend`] says.
 pub fn run_mend<R: Files + AllocGlobal + Eprint, O: Output>(
     rt: &R,
     request: &MendRequest<'_>,
