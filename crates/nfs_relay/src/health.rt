@@ -30,6 +30,10 @@ pub struct Health {
     cut: Vec<u32>,
     /// How many connections the server didn't take.
     untaken: u64,
+    /// How many connections of clients weren't served.
+    unserved: u64,
+    /// How many orders were missed.
+    missed: u64,
     /// How much more there was, for which memory wasn't there.
     more: u64,
 }
@@ -42,6 +46,8 @@ impl Health {
             refused: Vec::new(alloc),
             cut: Vec::new(alloc),
             untaken: 0,
+            unserved: 0,
+            missed: 0,
             more: 0,
         }
     }
@@ -66,6 +72,17 @@ impl Health {
         self.untaken
     }
 
+    /// How many connections of clients weren't served: too many were open, or the system gave no thread or no file for one. Where it gives
+    /// none for a while, that counts once.
+    pub fn unserved(&self) -> u64 {
+        self.unserved
+    }
+
+    /// How many orders weren't understood, or couldn't be read.
+    pub fn missed(&self) -> u64 {
+        self.missed
+    }
+
     /// How much more went wrong that memory wasn't there for.
     pub fn more(&self) -> u64 {
         self.more
@@ -88,6 +105,16 @@ impl Health {
     /// The server took no connection in time.
     pub(crate) fn note_untaken(&mut self) {
         self.untaken = self.untaken.saturating_add(1);
+    }
+
+    /// A connection of a client isn't served.
+    pub(crate) fn note_unserved(&mut self) {
+        self.unserved = self.unserved.saturating_add(1);
+    }
+
+    /// An order isn't understood.
+    pub(crate) fn note_missed(&mut self) {
+        self.missed = self.missed.saturating_add(1);
     }
 
     /// A lane's pump ended, of the records of its client or of the server.

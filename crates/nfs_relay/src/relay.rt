@@ -12,6 +12,7 @@ use crate::waiting::{LeftLane, Waiting};
 use history_file::{EVENT_LIMIT, HISTORY_LIMIT};
 use nfs_tap::TapLog;
 use std::alloc::{AllocError, Global};
+use std::io::ErrorKind;
 use std::net::{Net, SocketAddr, TcpListener, TcpStream};
 use std::sync::{Condvar, Mutex, Wait};
 use std::thread::{self, Threads};
@@ -138,6 +139,7 @@ impl Relay {
         match admission {
             Admission::Admitted => true,
             Admission::Refused => {
+                self.health.lock(rt).note_unserved();
                 let _ = eprintln!(rt; "a connection ended: too many are open");
                 false
             }
@@ -150,7 +152,26 @@ impl Relay {
         if self.is_counted {
             self.halt(rt, Halt::NoThread);
         }
+        self.health.lock(rt).note_unserved();
         let _ = eprintln!(rt; "a connection ended: no thread");
+    }
+
+    /// An order isn't understood, or can't be read.
+    pub fn miss_order<R: Wait>(&self, rt: &R) {
+        self.health.lock(rt).note_missed();
+    }
+
+    /// Says that connections that come can't be taken, when this begins.
+    fn tell_untakable<R: RelayRuntime>(&self, rt: &R, ticker: &mut Ticker, why: ErrorKind) {
+        let is_deaf = !matches!(
+            why,
+            ErrorKind::WouldBlock | ErrorKind::Interrupted | ErrorKind::ConnectionAborted
+        );
+        if is_deaf && !ticker.is_deaf {
+            self.health.lock(rt).note_unserved();
+            let _ = eprintln!(rt; "no connection can be taken: are too many files open?");
+        }
+        ticker.is_deaf = is_deaf;
     }
 
     /// A connection that was taken ended.
@@ -175,7 +196,10 @@ impl Relay {
                             self.leave(rt);
                         }
                     }
-                    Err(_) => thread::sleep(rt, Duration::from_millis(PAUSE)),
+                    Err(error) => {
+                        self.tell_untakable(rt, &mut ticker, error.kind());
+                        thread::sleep(rt, Duration::from_millis(PAUSE));
+                    }
                 }
                 self.tell_progress(rt, &mut ticker);
             }
@@ -245,6 +269,8 @@ struct Ticker {
     waiting: Waiting,
     /// Whether it was told that the limits are near.
     is_warned: bool,
+    /// Whether the last connection that came couldn't be taken.
+    is_deaf: bool,
 }
 
 impl Ticker {
@@ -254,6 +280,7 @@ impl Ticker {
             tally: Tally::new(),
             waiting: Waiting::new(rt.alloc()),
             is_warned: false,
+            is_deaf: false,
         }
     }
 

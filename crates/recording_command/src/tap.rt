@@ -37,6 +37,7 @@ fn take_orders<R: RelayRuntime>(
         match orders.take(*byte)? {
             Some(Order::Crash) => relay.crash(rt),
             Some(Order::Up | Order::End | Order::Unknown) => {
+                relay.miss_order(rt);
                 let _ = eprintln!(rt; "an order is unknown: crash is the only one");
             }
             None => {}
@@ -46,10 +47,17 @@ fn take_orders<R: RelayRuntime>(
 }
 
 /// Says that the last order has no end, which may be a part of one.
-fn tell_unfinished<R: RelayRuntime>(rt: &R, orders: &OrderReader) {
+pub(crate) fn tell_unfinished<R: RelayRuntime>(rt: &R, relay: &Relay, orders: &OrderReader) {
     if orders.is_amid_line() {
+        relay.miss_order(rt);
         let _ = eprintln!(rt; "the last order isn't done: it has no line feed");
     }
+}
+
+/// Says that the orders can't be read any more.
+pub(crate) fn tell_unreadable<R: RelayRuntime>(rt: &R, relay: &Relay) {
+    relay.miss_order(rt);
+    let _ = eprintln!(rt; "the orders can't be read any more");
 }
 
 /// Hands the orders on an input to the relay, to the end of the input.
@@ -63,12 +71,15 @@ fn read_orders<R: RelayRuntime, I: Input>(
     for _ in rt.forever() {
         match input.read(buffer.as_mut_slice()) {
             Ok(0) => {
-                tell_unfinished(rt, &orders);
+                tell_unfinished(rt, relay, &orders);
                 return Ok(());
             }
             Ok(count) => take_orders(rt, relay, &mut orders, &buffer[..count])?,
             Err(error) if error.kind() == ErrorKind::Interrupted => {}
-            Err(_) => return Ok(()),
+            Err(_) => {
+                tell_unreadable(rt, relay);
+                return Ok(());
+            }
         }
     }
     unreachable!()
@@ -347,6 +358,8 @@ fn findings<R: RecordingRuntime>(
         refusals: health.refused(),
         cut: health.cut(),
         untaken: health.untaken(),
+        unserved: health.unserved(),
+        missed: health.missed(),
         halt,
     };
     let found = findings_of(alloc, recording, reading)?;

@@ -1,12 +1,13 @@
 //! What ends a recording, beside its connections and standard input.
 
 use crate::runtime::RecordingRuntime;
+use crate::tap::{tell_unfinished, tell_unreadable};
 use crate::tap_words::EndWords;
 use nfs_relay::{Order, OrderReader, Relay};
 use program_streams::READ_SIZE;
 use std::alloc::AllocError;
 use std::fs::File;
-use std::io::Read;
+use std::io::{ErrorKind, Read};
 use std::thread;
 use std::time::{Duration, Instant};
 
@@ -25,6 +26,7 @@ fn take_orders<R: RecordingRuntime>(
             Some(Order::Crash) => relay.crash(rt),
             Some(Order::End) => return Ok(true),
             Some(Order::Up | Order::Unknown) => {
+                relay.miss_order(rt);
                 let _ = eprintln!(rt; "an order is unknown: crash and end are known");
             }
             None => {}
@@ -52,7 +54,12 @@ impl OrderFile {
                 let bytes = self.buffer.get(..count).unwrap_or(&[]);
                 take_orders(rt, relay, &mut self.reader, bytes)
             }
-            Err(_) => Ok(false),
+            Err(error) if error.kind() == ErrorKind::Interrupted => Ok(false),
+            Err(_) => {
+                self.file = None;
+                tell_unreadable(rt, relay);
+                Ok(false)
+            }
         }
     }
 }
@@ -118,5 +125,6 @@ pub(crate) fn await_end<R: RecordingRuntime>(
         }
         thread::sleep(rt, Duration::from_millis(PAUSE));
     }
+    tell_unfinished(rt, relay, &orders.reader);
     Ok(())
 }

@@ -24,6 +24,10 @@ pub enum Finding {
     RefusedReply(u32, PumpEnd),
     /// A record of a client on this lane wasn't noted, for this reason.
     RefusedCall(u32, PumpEnd),
+    /// This many connections of clients weren't served: too many were open, or the system gave no thread or no file.
+    Unserved(u64),
+    /// This many orders weren't understood, or couldn't be read.
+    Missed(u64),
     /// The log was full.
     LogFull,
     /// Memory ran out.
@@ -57,6 +61,10 @@ impl fmt::Display for Finding {
             Finding::RefusedCall(lane, end) => {
                 write!(f, "what a client sent on lane {lane} is no call: {end}")
             }
+            Finding::Unserved(count) => {
+                write!(f, "{count} connections of clients weren't served")
+            }
+            Finding::Missed(count) => write!(f, "{count} orders weren't understood or read"),
             Finding::LogFull => f.write_str("the history is full: the recording ended early"),
             Finding::NoMemory => f.write_str("the recording ended early: out of memory"),
             Finding::Fault(fault) => write!(f, "check refuses the history: {fault}"),
@@ -78,6 +86,10 @@ pub struct Recording<'a> {
     pub cut: &'a [u32],
     /// How many connections the server didn't take.
     pub untaken: u64,
+    /// How many connections of clients weren't served.
+    pub unserved: u64,
+    /// How many orders were missed.
+    pub missed: u64,
     /// Why the recording ended.
     pub halt: Option<Halt>,
 }
@@ -137,13 +149,9 @@ fn refused(all: &[Refused], is_of_server: bool) -> Option<Finding> {
     }
 }
 
-/// The connections that the server didn't take.
-fn untaken(count: u64) -> Option<Finding> {
-    if count > 0 {
-        Some(Finding::Untaken(count))
-    } else {
-        None
-    }
+/// What there was a number of times, if it was at all.
+fn counted(count: u64, finding: Finding) -> Option<Finding> {
+    if count > 0 { Some(finding) } else { None }
 }
 
 /// Why the recording ended early, if it did.
@@ -175,9 +183,11 @@ pub fn findings_of(
     for finding in [
         server_ended(&eras, recording.ends),
         unanswered(alloc, &eras, recording)?,
-        untaken(recording.untaken),
+        counted(recording.untaken, Finding::Untaken(recording.untaken)),
         refused(recording.refusals, true),
         refused(recording.refusals, false),
+        counted(recording.unserved, Finding::Unserved(recording.unserved)),
+        counted(recording.missed, Finding::Missed(recording.missed)),
         early(recording.halt),
         misread(reading),
     ] {

@@ -74,6 +74,8 @@ fn is_found_of_cut(
         refusals: &[],
         cut,
         untaken: 0,
+        unserved: 0,
+        missed: 0,
         halt: None,
     };
     let found = findings_of(alloc, recording, FINE)?;
@@ -209,6 +211,8 @@ fn records_that_were_not_noted_are_named(rt: HostRuntime) -> Result<(), Fail> {
         refusals: &refused,
         cut: &[],
         untaken: 2,
+        unserved: 3,
+        missed: 1,
         halt: Some(Halt::LogFull),
     };
     let found = findings_of(alloc, recording, reading)?;
@@ -216,6 +220,8 @@ fn records_that_were_not_noted_are_named(rt: HostRuntime) -> Result<(), Fail> {
         Finding::Untaken(2),
         Finding::RefusedReply(5, twice),
         Finding::RefusedCall(4, PumpEnd::RecordTooLong),
+        Finding::Unserved(3),
+        Finding::Missed(1),
         Finding::LogFull,
         Finding::NothingJudged,
     ];
@@ -266,6 +272,14 @@ fn findings_have_words(rt: HostRuntime) -> Result<(), Fail> {
             "what a client sent on lane 4 is no call: RecordTooLong",
         ),
         (Finding::Untaken(7), "the server took none of 7 connections"),
+        (
+            Finding::Unserved(3),
+            "3 connections of clients weren't served",
+        ),
+        (
+            Finding::Missed(1),
+            "1 orders weren't understood or read",
+        ),
         (
             Finding::NoMemory,
             "the recording ended early: out of memory",
