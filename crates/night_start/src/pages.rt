@@ -114,7 +114,9 @@ impl Explorer {
         if self.settings.is_empty && found > 0 {
             return Err(Stop::at(Cause::NotEmpty, directory));
         }
-        if found.saturating_add(self.known.accounts.len()) > self.settings.objects.saturating_add(1) {
+        if found.saturating_add(self.known.accounts.len())
+            > self.settings.objects.saturating_add(1)
+        {
             return Err(Stop::at(Cause::TooMany, directory));
         }
         let next = index.saturating_add(1);

@@ -276,10 +276,7 @@ fn findings_have_words(rt: HostRuntime) -> Result<(), Fail> {
             Finding::Unserved(3),
             "3 connections of clients weren't served",
         ),
-        (
-            Finding::Missed(1),
-            "1 orders weren't understood or read",
-        ),
+        (Finding::Missed(1), "1 orders weren't understood or read"),
         (
             Finding::NoMemory,
             "the recording ended early: out of memory",

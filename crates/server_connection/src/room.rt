@@ -49,7 +49,10 @@ impl Room {
     pub fn of_history(head: usize) -> Room {
         let calls = (EVENT_LIMIT as u64).saturating_sub(MOST_CLOSES) / 2;
         let bytes = (HISTORY_LIMIT as u64).saturating_sub(head as u64);
-        Room::new(calls, bytes.saturating_sub(MOST_CLOSES.saturating_mul(BESIDE)))
+        Room::new(
+            calls,
+            bytes.saturating_sub(MOST_CLOSES.saturating_mul(BESIDE)),
+        )
     }
 
     /// Room for whatever comes.
