@@ -114,6 +114,7 @@ CASES = [
     Case("an order is cut", 2, "undecided: .*", words={"rounds": 1}, fed="cra"),
     Case("an unknown order", 2, "undecided: .*", words={"rounds": 1}, orders="crush\n"),
     Case("up before crash", 2, "undecided: .*", words={"rounds": 1}, orders="up\n"),
+    Case("the server lives on", 2, "undecided: the server answers on a connection from before crash 1: .*", words={"rounds": 1}, orders="crash\nup\n"),
     Case("no up after crash", 2, "undecided: .*", words={"rounds": 1}, orders="crash\n"),
     Case("no file of orders", 2, "refused: .*", words={"rounds": 1}, before=lambda night: night.orders.unlink()),
     Case("an order of odd bytes", 2, "undecided: .*", words={"rounds": 1}, orders="\x1b[2J\x00\u00e9" + 70_000 * "x" + "\n"),

@@ -11,4 +11,4 @@ mod up;
 
 pub use night::{EraEnd, Night};
 pub use runtime::ClientsRuntime;
-pub use up::is_up_within;
+pub use up::{OldConnection, is_up_within};

@@ -59,16 +59,43 @@ fn answers<S: Read + Write>(stream: &mut S, record: &[u8]) -> bool {
     is_answer(&reply[HEADER_SIZE..])
 }
 
+/// A connection to a server, on which nothing waits for longer than a try may take.
+fn connect<R: ClientsRuntime>(rt: &R, server: &SocketAddr) -> Option<TcpStream> {
+    let patience = Duration::from_secs(PATIENCE);
+    let stream = TcpStream::connect_timeout(rt, server, patience).ok()?;
+    stream.set_read_timeout(Some(patience)).ok()?;
+    Some(stream)
+}
+
 /// Whether a server takes a connection and answers NULL on it.
 fn is_up<R: ClientsRuntime>(rt: &R, server: &SocketAddr, record: &[u8]) -> bool {
-    let patience = Duration::from_secs(PATIENCE);
-    let Ok(mut stream) = TcpStream::connect_timeout(rt, server, patience) else {
-        return false;
-    };
-    if stream.set_read_timeout(Some(patience)).is_err() {
-        return false;
+    match connect(rt, server) {
+        Some(mut stream) => answers(&mut stream, record),
+        None => false,
     }
-    answers(&mut stream, record)
+}
+
+/// A connection that is made before a server is killed, by which it shows whether it was. None of its calls is noted.
+#[derive(Drop)]
+pub struct OldConnection {
+    stream: Option<TcpStream>,
+}
+
+impl OldConnection {
+    /// A connection, if the server takes one.
+    pub fn open<R: ClientsRuntime>(rt: &R, server: &SocketAddr) -> OldConnection {
+        OldConnection {
+            stream: connect(rt, server),
+        }
+    }
+
+    /// Whether the server still answers NULL on it, within a second.
+    pub fn is_answered(&mut self, alloc: Global) -> bool {
+        match (self.stream.as_mut(), null_record(alloc)) {
+            (Some(stream), Ok(record)) => answers(stream, record.as_slice()),
+            _ => false,
+        }
+    }
 }
 
 /// Waits until a server answers NULL, as long as the limit says. No call of it is noted.

@@ -3,7 +3,7 @@
 use crate::orders::Orders;
 use nfs_relay::Order;
 use night_calls::Client;
-use night_clients::{ClientsRuntime, Night, is_up_within};
+use night_clients::{ClientsRuntime, Night, OldConnection, is_up_within};
 use night_lanes::{Quota, TroubleKind};
 use night_verdict::NightEnd;
 use program_streams::Input;
@@ -109,16 +109,20 @@ fn run_to_crash<R: ClientsRuntime, I: Input>(
     })
 }
 
-/// Waits for the word that the server was started again, and for the server.
+/// Waits for the word that the server was started again, sees whether it had been killed, and waits for it.
 fn await_return<R: ClientsRuntime + Eprint, I: Input>(
     rt: &R,
     plan: &ErasPlan,
     orders: &mut Orders,
     input: &mut I,
+    old: &mut OldConnection,
     crash: u32,
 ) -> Result<(), NightEnd> {
     plan.tell(rt, crash, "noted");
     orders.await_order(rt, input, Order::Up, crash)?;
+    if old.is_answered(rt.alloc()) {
+        return Err(NightEnd::NotDown(crash));
+    }
     let limit = Duration::from_secs(u64::from(plan.up_seconds));
     if !is_up_within(rt, &plan.server, limit) {
         return Err(NightEnd::NotUp(crash, plan.up_seconds));
@@ -137,9 +141,10 @@ fn run_round<R: ClientsRuntime + Eprint, I: Input>(
     input: &mut I,
     crash: u32,
 ) -> Result<Vec<Client>, NightEnd> {
+    let mut old = OldConnection::open(rt, &plan.server);
     let quota = plan.quota(rt);
     let mut clients = run_to_crash(rt, night, clients, quota, orders, input, crash)?;
-    await_return(rt, plan, orders, input, crash)?;
+    await_return(rt, plan, orders, input, &mut old, crash)?;
     for client in clients.iter_mut() {
         client.new_era();
     }

@@ -10,7 +10,7 @@ use night_clients::{ClientsRuntime, Night};
 use night_eras::{ErasPlan, Orders, run_eras};
 use night_lanes::{Depth, Settings};
 use night_verdict::NightEnd;
-use refuser::{Refuser, begin, listen, wake};
+use refuser::{Habit, Refuser, begin, listen, wake};
 use rpc_client::Credential;
 use std::alloc::Global;
 use std::io::Eprint;
@@ -83,12 +83,12 @@ fn ended<R: ClientsRuntime + Eprint>(
     rt: &R,
     told: &[u8],
     may_grow: bool,
-    answers_null: bool,
+    habit: Habit,
 ) -> Option<(NightEnd, usize)> {
     let listener = listen(rt).ok()?;
     let server = listener.local_addr().ok()?;
     let night = night_at(rt.alloc(), server)?;
-    let refuser = Refuser::new(listener, answers_null);
+    let refuser = Refuser::new(listener, habit);
     thread::scope(thread::scope_env(), rt, |scope| {
         let serving = begin(scope, rt, &refuser)?;
         let end = run(rt, &night, server, told, may_grow);
@@ -103,7 +103,7 @@ fn crash_and_return(rt: HostRuntime) -> Result<(), Fail> {
     // The prover knows the types that a function names.
     let _listener: Option<TcpListener> = None;
     let _stream: Option<TcpStream> = None;
-    assert!(rt; ended(&rt, b"crash\nup\n", false, true) == Some((NightEnd::Whole, 1)));
+    assert!(rt; ended(&rt, b"crash\nup\n", false, Habit::Answers) == Some((NightEnd::Whole, 1)));
     Ok(())
 }
 
@@ -112,7 +112,7 @@ fn orders_that_end(rt: HostRuntime) -> Result<(), Fail> {
     // The prover knows the types that a function names.
     let _listener: Option<TcpListener> = None;
     let _stream: Option<TcpStream> = None;
-    assert!(rt; ended(&rt, b"crash\n", false, true) == Some((NightEnd::OrdersEnded(1), 1)));
+    assert!(rt; ended(&rt, b"crash\n", false, Habit::Answers) == Some((NightEnd::OrdersEnded(1), 1)));
     Ok(())
 }
 
@@ -121,7 +121,7 @@ fn orders_cut_in_a_line(rt: HostRuntime) -> Result<(), Fail> {
     // The prover knows the types that a function names.
     let _listener: Option<TcpListener> = None;
     let _stream: Option<TcpStream> = None;
-    assert!(rt; ended(&rt, b"crash", false, true) == Some((NightEnd::OrdersEnded(1), 0)));
+    assert!(rt; ended(&rt, b"crash", false, Habit::Answers) == Some((NightEnd::OrdersEnded(1), 0)));
     Ok(())
 }
 
@@ -130,7 +130,7 @@ fn another_order(rt: HostRuntime) -> Result<(), Fail> {
     // The prover knows the types that a function names.
     let _listener: Option<TcpListener> = None;
     let _stream: Option<TcpStream> = None;
-    assert!(rt; ended(&rt, b"up\n", false, true) == Some((NightEnd::OtherOrder(1), 0)));
+    assert!(rt; ended(&rt, b"up\n", false, Habit::Answers) == Some((NightEnd::OtherOrder(1), 0)));
     Ok(())
 }
 
@@ -139,7 +139,7 @@ fn no_order_in_time(rt: HostRuntime) -> Result<(), Fail> {
     // The prover knows the types that a function names.
     let _listener: Option<TcpListener> = None;
     let _stream: Option<TcpStream> = None;
-    assert!(rt; ended(&rt, b"", true, true) == Some((NightEnd::NoOrder(1, 1), 0)));
+    assert!(rt; ended(&rt, b"", true, Habit::Answers) == Some((NightEnd::NoOrder(1, 1), 0)));
     Ok(())
 }
 
@@ -148,6 +148,15 @@ fn server_stays_down(rt: HostRuntime) -> Result<(), Fail> {
     // The prover knows the types that a function names.
     let _listener: Option<TcpListener> = None;
     let _stream: Option<TcpStream> = None;
-    assert!(rt; ended(&rt, b"crash\nup\n", false, false) == Some((NightEnd::NotUp(1, 1), 1)));
+    assert!(rt; ended(&rt, b"crash\nup\n", false, Habit::Refuses) == Some((NightEnd::NotUp(1, 1), 1)));
+    Ok(())
+}
+
+#[test]
+fn server_lives_on(rt: HostRuntime) -> Result<(), Fail> {
+    // The prover knows the types that a function names.
+    let _listener: Option<TcpListener> = None;
+    let _stream: Option<TcpStream> = None;
+    assert!(rt; ended(&rt, b"crash\nup\n", false, Habit::LivesOn) == Some((NightEnd::NotDown(1), 1)));
     Ok(())
 }

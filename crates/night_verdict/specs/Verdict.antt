@@ -32,8 +32,9 @@ is_of_server kinds.NoSocket = false
 is_of_server kinds.NoMemory = false
 is_of_server kind = true
 
--- the orders went astray: the server may have been killed, and nothing told of it
+-- the orders went astray: the server may have been killed and nothing told of it, or it wasn't and they told of it
 abbrev pub is_astray : NightEnd → Bool
+is_astray (ends.NotDown crash) = true
 is_astray (ends.OrdersEnded crash) = true
 is_astray (ends.NoOrder crash seconds) = true
 is_astray (ends.OtherOrder crash) = true

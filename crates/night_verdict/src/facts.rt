@@ -12,6 +12,8 @@ pub enum NightEnd {
     Whole,
     /// After the crash of this number, from 1, and the order `up`, the server didn't answer NULL within this many seconds.
     NotUp(u32, u32),
+    /// After the crash of this number and the order `up`, the server answered on a connection from before that crash: it wasn't killed.
+    NotDown(u32),
     /// The orders end before that crash, or the word that the server is up after it.
     OrdersEnded(u32),
     /// No order came for that crash within this many seconds.
@@ -52,13 +54,14 @@ pub fn is_of_server(kind: TroubleKind) -> bool
     )
 }
 
-/// Whether the orders went astray, so that the server may have been killed and nothing told of it.
+/// Whether the orders went astray, so that the server may have been killed and nothing told of it, or wasn't though they told of it.
 pub(crate) fn is_astray(end: NightEnd) -> bool
     ensures { result ≡ is_astray end }
 {
     matches!(
         end,
-        NightEnd::OrdersEnded(_)
+        NightEnd::NotDown(_)
+            | NightEnd::OrdersEnded(_)
             | NightEnd::NoOrder(_, _)
             | NightEnd::OtherOrder(_)
             | NightEnd::Unreadable(_)

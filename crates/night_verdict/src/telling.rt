@@ -65,6 +65,9 @@ pub(crate) fn cause_words(
 fn end_line(alloc: Global, end: NightEnd) -> Result<String, AllocError> {
     match end {
         NightEnd::Whole | NightEnd::NotUp(_, _) => Ok(String::new(alloc)),
+        NightEnd::NotDown(crash) => format!(in alloc;
+            "undecided: the server answers on a connection from before crash {crash}: kill it before `crash` is written\n"
+        ),
         NightEnd::OrdersEnded(crash) => format!(in alloc;
             "undecided: the orders end before crash {crash} and its `up`: write both lines, each with a line feed\n"
         ),

@@ -6,7 +6,7 @@ use std::alloc::{AllocError, Global};
 use std::io::{self, Read, Write};
 use std::net::{IpAddr, Ipv4Addr, SocketAddr, TcpListener, TcpStream};
 use std::sync::atomic::{AtomicBool, Ordering};
-use std::thread::{JoinHandle, Scope};
+use std::thread::{self, JoinHandle, Scope};
 use std::time::Duration;
 use xdr_records::{RecordFeed, frame, put_u32};
 
@@ -15,19 +15,33 @@ const SUCCESS: u32 = 0;
 
 const PROC_UNAVAIL: u32 = 3;
 
-/// A server whose connections are served in turn.
+/// Within how many milliseconds a client has to call.
+const PATIENCE: u64 = 50;
+
+/// What a server does with NULL and with its connections.
+#[derive(Clone, Copy, PartialEq, Eq)]
+pub(super) enum Habit {
+    /// It answers NULL, and ends a connection that says nothing: its connections are served in turn.
+    Answers,
+    /// It refuses NULL too.
+    Refuses,
+    /// It answers NULL, and keeps all connections.
+    LivesOn,
+}
+
+/// A server that refuses calls.
 #[derive(Drop)]
 pub(super) struct Refuser {
     listener: TcpListener,
-    answers_null: bool,
+    habit: Habit,
     is_over: AtomicBool,
 }
 
 impl Refuser {
-    pub(super) fn new(listener: TcpListener, answers_null: bool) -> Refuser {
+    pub(super) fn new(listener: TcpListener, habit: Habit) -> Refuser {
         Refuser {
             listener,
-            answers_null,
+            habit,
             is_over: AtomicBool::new(false),
         }
     }
@@ -40,12 +54,12 @@ pub(super) fn listen<R: ClientsRuntime>(rt: &R) -> io::Result<TcpListener> {
 }
 
 /// The record of the reply to a call, whose results are empty (RFC 5531, section 9).
-fn reply_to(alloc: Global, call: &[u8], answers_null: bool) -> Result<Vec<u8>, AllocError> {
+fn reply_to(alloc: Global, call: &[u8], habit: Habit) -> Result<Vec<u8>, AllocError> {
     let (xid, is_null) = match read_call(call) {
         Ok(head) => (head.xid, head.procedure == 0),
         Err(_) => (0, false),
     };
-    let status = if is_null && answers_null {
+    let status = if is_null && habit != Habit::Refuses {
         SUCCESS
     } else {
         PROC_UNAVAIL
@@ -65,14 +79,14 @@ fn answer_all(
     alloc: Global,
     feed: &mut RecordFeed,
     stream: &TcpStream,
-    answers_null: bool,
+    habit: Habit,
 ) -> bool {
     let mut writer = stream;
     for _ in 0..u64::MAX {
         let Some(call) = feed.take() else {
             return true;
         };
-        let Ok(reply) = reply_to(alloc, call.as_slice(), answers_null) else {
+        let Ok(reply) = reply_to(alloc, call.as_slice(), habit) else {
             return false;
         };
         if writer.write_all(reply.as_slice()).is_err() {
@@ -83,7 +97,10 @@ fn answer_all(
 }
 
 /// Serves a connection to its end.
-fn serve(alloc: Global, stream: &TcpStream, answers_null: bool) {
+fn serve(alloc: Global, stream: &TcpStream, habit: Habit) {
+    if habit != Habit::LivesOn {
+        let _ = stream.set_read_timeout(Some(Duration::from_millis(PATIENCE)));
+    }
     let mut buffer = [0u8; 1024];
     let mut feed = RecordFeed::new(alloc);
     let mut reader = stream;
@@ -94,7 +111,7 @@ fn serve(alloc: Global, stream: &TcpStream, answers_null: bool) {
         if count == 0 || feed.feed(&buffer[..count]).is_err() {
             return;
         }
-        if !answer_all(alloc, &mut feed, stream, answers_null) {
+        if !answer_all(alloc, &mut feed, stream, habit) {
             return;
         }
     }
@@ -102,14 +119,22 @@ fn serve(alloc: Global, stream: &TcpStream, answers_null: bool) {
 
 /// Serves connections until the server is over.
 fn serve_all<R: ClientsRuntime>(rt: &R, refuser: &Refuser) {
-    for stream in refuser.listener.incoming() {
-        if refuser.is_over.load(Ordering::SeqCst) {
-            return;
+    let habit = refuser.habit;
+    thread::scope(thread::scope_env(), rt, move |scope| {
+        for stream in refuser.listener.incoming() {
+            if refuser.is_over.load(Ordering::SeqCst) {
+                return;
+            }
+            let Ok(stream) = stream else {
+                continue;
+            };
+            if habit == Habit::LivesOn {
+                let _ = scope.spawn(move || serve(rt.alloc(), &stream, habit));
+            } else {
+                serve(rt.alloc(), &stream, habit);
+            }
         }
-        if let Ok(stream) = stream {
-            serve(rt.alloc(), &stream, refuser.answers_null);
-        }
-    }
+    });
 }
 
 /// Begins to serve.
