@@ -112,7 +112,9 @@ fn orders_that_end(rt: HostRuntime) -> Result<(), Fail> {
     // The prover knows the types that a function names.
     let _listener: Option<TcpListener> = None;
     let _stream: Option<TcpStream> = None;
-    assert!(rt; ended(&rt, b"crash\n", false, Habit::Answers) == Some((NightEnd::OrdersEnded(1), 1)));
+    assert!(rt;
+        ended(&rt, b"crash\n", false, Habit::Answers) == Some((NightEnd::OrdersEnded(1), 1))
+    );
     Ok(())
 }
 
@@ -148,7 +150,9 @@ fn server_stays_down(rt: HostRuntime) -> Result<(), Fail> {
     // The prover knows the types that a function names.
     let _listener: Option<TcpListener> = None;
     let _stream: Option<TcpStream> = None;
-    assert!(rt; ended(&rt, b"crash\nup\n", false, Habit::Refuses) == Some((NightEnd::NotUp(1, 1), 1)));
+    assert!(rt;
+        ended(&rt, b"crash\nup\n", false, Habit::Refuses) == Some((NightEnd::NotUp(1, 1), 1))
+    );
     Ok(())
 }
 
@@ -157,6 +161,8 @@ fn server_lives_on(rt: HostRuntime) -> Result<(), Fail> {
     // The prover knows the types that a function names.
     let _listener: Option<TcpListener> = None;
     let _stream: Option<TcpStream> = None;
-    assert!(rt; ended(&rt, b"crash\nup\n", false, Habit::LivesOn) == Some((NightEnd::NotDown(1), 1)));
+    assert!(rt;
+        ended(&rt, b"crash\nup\n", false, Habit::LivesOn) == Some((NightEnd::NotDown(1), 1))
+    );
     Ok(())
 }

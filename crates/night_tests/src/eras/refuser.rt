@@ -75,12 +75,7 @@ fn reply_to(alloc: Global, call: &[u8], habit: Habit) -> Result<Vec<u8>, AllocEr
 }
 
 /// Answers the whole records that came. Whether the connection goes on.
-fn answer_all(
-    alloc: Global,
-    feed: &mut RecordFeed,
-    stream: &TcpStream,
-    habit: Habit,
-) -> bool {
+fn answer_all(alloc: Global, feed: &mut RecordFeed, stream: &TcpStream, habit: Habit) -> bool {
     let mut writer = stream;
     for _ in 0..u64::MAX {
         let Some(call) = feed.take() else {
