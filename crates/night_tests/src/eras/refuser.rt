@@ -15,15 +15,12 @@ const SUCCESS: u32 = 0;
 
 const PROC_UNAVAIL: u32 = 3;
 
-/// Within how many milliseconds a client has to call.
-const PATIENCE: u64 = 50;
-
 /// What a server does with NULL and with its connections.
 #[derive(Clone, Copy, PartialEq, Eq)]
 pub(super) enum Habit {
-    /// It answers NULL, and ends a connection that says nothing: its connections are served in turn.
+    /// It answers NULL. It ends its first connection at once, as if it went down after it, and serves the others in turn.
     Answers,
-    /// It refuses NULL too.
+    /// The same, but it refuses NULL too.
     Refuses,
     /// It answers NULL, and keeps all connections.
     LivesOn,
@@ -93,9 +90,6 @@ fn answer_all(alloc: Global, feed: &mut RecordFeed, stream: &TcpStream, habit: H
 
 /// Serves a connection to its end.
 fn serve(alloc: Global, stream: &TcpStream, habit: Habit) {
-    if habit != Habit::LivesOn {
-        let _ = stream.set_read_timeout(Some(Duration::from_millis(PATIENCE)));
-    }
     let mut buffer = [0u8; 1024];
     let mut feed = RecordFeed::new(alloc);
     let mut reader = stream;
@@ -116,6 +110,7 @@ fn serve(alloc: Global, stream: &TcpStream, habit: Habit) {
 fn serve_all<R: ClientsRuntime>(rt: &R, refuser: &Refuser) {
     let habit = refuser.habit;
     thread::scope(thread::scope_env(), rt, move |scope| {
+        let mut is_first = true;
         for stream in refuser.listener.incoming() {
             if refuser.is_over.load(Ordering::SeqCst) {
                 return;
@@ -125,9 +120,10 @@ fn serve_all<R: ClientsRuntime>(rt: &R, refuser: &Refuser) {
             };
             if habit == Habit::LivesOn {
                 let _ = scope.spawn(move || serve(rt.alloc(), &stream, habit));
-            } else {
+            } else if !is_first {
                 serve(rt.alloc(), &stream, habit);
             }
+            is_first = false;
         }
     });
 }
