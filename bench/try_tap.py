@@ -686,6 +686,35 @@ def ordered_by_a_file():
     assert (status, out) == (2, "refused: cannot read orders\n"), (status, out)
 
 
+def orders_astray():
+    """An order that is unknown, and one that has no line feed at the end: a crash may not be noted."""
+    orders = tempfile.mktemp()
+    with open(orders, "w") as file:
+        file.write("crush\ncra")
+    server, tap = Answers(getattr_failed), Tap(words=["--strict", "--seconds", "2", "--orders", orders])
+    sock = connect()
+    sock.sendall(frame(getattr_call(1)))
+    assert read_record(sock) is not None
+    sock.close()
+    status, out, err, _ = tap.end()
+    server.close()
+    os.remove(orders)
+    assert (status, out) == (1, "unhealthy: 2 orders weren't understood or read\ncalls 1\n"), (status, out, err)
+
+
+def mended_by_hand():
+    """A crash, and behind it nothing, the beginning of an event, and what no event begins with."""
+    part, history = tempfile.mktemp(), tempfile.mktemp()
+    for behind, wanted in (b"", 0), (bytes(2), 0), (struct.pack(">I", 4), 1), (struct.pack(">III", 1, 1, 1) + b"x\0\0\0", 1):
+        with open(part, "wb") as file:
+            file.write(b"NFSHIST1" + struct.pack(">III", 0, 0, 3) + behind)
+        told = subprocess.run([sys.argv[1], "mend", part, history], capture_output=True, text=True)
+        assert (told.returncode, told.stdout) == (wanted, "events 1\n"), (behind, told)
+        assert len(read_history(history)) == 1, read_history(history)
+    os.remove(part)
+    os.remove(history)
+
+
 def part_stands():
     tap = Tap(words=["--seconds", "1"])
     tap.end()
@@ -722,7 +751,7 @@ def from_a_folder():
 
 
 CASES = [from_a_folder, server_ends_first, call_unanswered, ends_while_busy, answered_twice, record_too_long, garbage, nothing_judged, healthy, refused_call, ends_in_time,
-         ordered_by_a_file, part_stands, port_in_use, no_server, no_server_open, half_record, long_header, byte_by_byte, many_lanes, many_in_turn,
+         ordered_by_a_file, orders_astray, mended_by_hand, part_stands, port_in_use, no_server, no_server_open, half_record, long_header, byte_by_byte, many_lanes, many_in_turn,
          server_dies_in_reply, half_closed, xid_in_use, not_rpc, late_connections, ended_by_input, crash, bad_root,
          cannot_write, own_port, wrong_root, empty_root, disk_full, log_full]
 
