@@ -162,7 +162,7 @@ pub fn serve_export<R: Wait, I: Read, W: Write, G: Gate, D: JournalDevice>(
     allowance: Allowance<'_>,
 ) -> StreamEnd
     ensures ended { result ≡ StreamEnd.End → IsAtEnd (I.remaining reader.new) }
-    ensures served { Serves export result allowance.records pass.old pass.new (I.remaining reader.old) (I.remaining reader.new)
+    ensures served { Serves export result allowance.entry.records pass.old pass.new (I.remaining reader.old) (I.remaining reader.new)
         (W.contents writer.old) (W.contents writer.new) }
 {
     let Allowance { records, room } = allowance;

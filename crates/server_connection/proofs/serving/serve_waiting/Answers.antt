@@ -24,8 +24,8 @@ loop-content-preserved g c =
     one_answered c.args.export c.args.intake.now c.loop-content.intake c.next.new.self content c.args.pass.now c.loop-content.pass c.serve_record.new.pass held between held'
     c.loop-content.invariant took c.in-Some.ensures.some.1 c.in_ok-serve_record.ensures.ok
 
-pub returns-then-not-clause-err : goal.returns-then-not-clause-err
-returns-then-not-clause-err g c =
+pub returns-then-not-take-clause-err : goal.returns-then-not-take-clause-err
+returns-then-not-take-clause-err g c =
     let held = g.W.Write.contents c.args.writer.now in
     let between = g.W.Write.contents c.loop-content.writer in
     stops_full c.args.export c.args.intake.now c.loop-content.intake c.next.new.self c.in-Some.content.items c.args.pass.now c.loop-content.pass c.loop-content.pass held between between
