@@ -231,6 +231,9 @@ const TAKEN: usize = (16 + 52) + (16 + 112);
 
 const SET_ASIDE: usize = (16 + 52) + (16 + 2_097_152);
 
+/// A history's bytes beside 64 closes.
+const BESIDE_CLOSES: usize = 268_435_456 - 64 * 16;
+
 /// Serves a stream on the next lane, of a history with room for so many bytes beside 64 closes: how it ends, and how many exchanges the pass
 /// has.
 fn serve_lane_within<R: Wait>(
@@ -241,7 +244,7 @@ fn serve_lane_within<R: Wait>(
     bytes: usize,
 ) -> Option<(StreamEnd, usize)> {
     let mut pass = server.join_lane(rt).ok()?;
-    let room = Room::of_history(268_435_456 - 64 * 16 - bytes);
+    let room = Room::of_history(BESIDE_CLOSES.saturating_sub(bytes));
     let allowance = Allowance {
         records: 9,
         room: &room,
