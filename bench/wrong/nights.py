@@ -35,9 +35,9 @@ class Night:
         self.run = None
 
     def start(self, words: dict, flags: list[str], is_fed: bool = True) -> None:
-        """Starts the run. `words` have values, also for the words that each run has; with `is_fed` it reads its orders from the file."""
+        """Starts the run. `words` have values, also for the words that each run has; with `is_fed` a run with crashes reads its orders from the file."""
         usual = {"port": self.port, "mount": self.port + 1, "export": EXPORT, "out": self.folder / "night"}
-        usual |= {"orders": self.orders} if is_fed else {}
+        usual |= {"orders": self.orders} if is_fed and words.get("rounds") else {}
         line = [self.program, "test", *flags]
         for word, value in (usual | words).items():
             line += [f"--{word}", str(value)]
