@@ -14,16 +14,16 @@ use Rattle.program_streams.proofs.Fronts.{both as both_appended}
 use Rattle.nfs_tap.proofs.Fronts.{none_appended, none_consumed}
 use Rattle.program_streams.proofs.Pieces.{consumed_both}
 
-frames-append : (xs ys : List (List ℕ)) → frames (xs ++ ys) ≡ frames xs ++ frames ys
+pub frames-append : (xs ys : List (List ℕ)) → frames (xs ++ ys) ≡ frames xs ++ frames ys
 frames-append [] ys = refl
 frames-append (x ∷ xs) ys = ap (λ l. record_text x ++ l) (frames-append xs ys) ∙ sym (append_assoc (record_text x) (frames xs) (frames ys))
 
 -- all of a text is written
-all_written : (end : PumpEnd) (text : List ℕ) → IsWritten end text text
+pub all_written : (end : PumpEnd) (text : List ℕ) → IsWritten end text text
 all_written end text = record { lost = []; parts = sym (append-nil text); whole = λ _. refl }
 
 -- more of it, behind what was written
-written_behind : (end : PumpEnd) (xs ys : List (List ℕ)) (written : List ℕ) → IsWritten end (frames ys) written → IsWritten end (frames (xs ++ ys)) (frames xs ++ written)
+pub written_behind : (end : PumpEnd) (xs ys : List (List ℕ)) (written : List ℕ) → IsWritten end (frames ys) written → IsWritten end (frames (xs ++ ys)) (frames xs ++ written)
 written_behind end xs ys written w = record {
   lost = w.lost;
   parts = frames-append xs ys ∙ ap (λ l. frames xs ++ l) w.parts ∙ sym (append_assoc (frames xs) written w.lost);
@@ -169,26 +169,31 @@ split (x ∷ xs) ys bytes are =
       others = later.others;
     }
 
-pub stopped_in : {X : Type 0} (r : Result X FeedFault) (end : PumpEnd) (held held' : Option (List ℕ)) (old : Feed) (piece : List ℕ) (new : Feed) → HasFed r old piece new → Stops end held held' new.waiting
-    → (written : List ℕ) × Appends held held' written × IsForwarded end (old.rest ++ piece) written
-stopped_in r end held held' old piece new fed s =
-    let some = fed_split r old piece new fed in
-    let whole = some.1 in
+-- it ended while the records at the front of some bytes were forwarded
+pub stopped_at : (end : PumpEnd) (held held' : Option (List ℕ)) (bytes rest : List ℕ) (records : List (List ℕ)) → IsSplit (λ _. Unit {0}) bytes records rest → Stops end held held' records
+    → (written : List ℕ) × Appends held held' written × IsForwarded end bytes written
+stopped_at end held held' bytes rest records whole s =
     let first = split s.front s.behind whole.front (subst (λ (xs : List (List ℕ)). AreRecords xs whole.front) s.parts whole.whole) in (
       s.written,
       s.appended,
       record {
         records = s.front;
-        rest = first.back ++ some.0;
+        rest = first.back ++ rest;
         split = record {
           front = first.front;
-          parts = whole.parts ∙ ap (λ l. l ++ some.0) first.parts ∙ append_assoc first.front first.back some.0;
+          parts = whole.parts ∙ ap (λ l. l ++ rest) first.parts ∙ append_assoc first.front first.back rest;
           whole = first.first;
-          left = s.anywhere.2 (first.back ++ some.0);
+          left = s.anywhere.2 (first.back ++ rest);
         };
         sent = s.sent;
       },
     )
+
+pub stopped_in : {X : Type 0} (r : Result X FeedFault) (end : PumpEnd) (held held' : Option (List ℕ)) (old : Feed) (piece : List ℕ) (new : Feed) → HasFed r old piece new → Stops end held held' new.waiting
+    → (written : List ℕ) × Appends held held' written × IsForwarded end (old.rest ++ piece) written
+stopped_in r end held held' old piece new fed s =
+    let some = fed_split r old piece new fed in
+    stopped_at end held held' (old.rest ++ piece) some.0 new.waiting some.1 s
 
 pub no_memory_for : {X : Type 0} (held held' : Option (List ℕ)) (old : Feed) (piece : List ℕ) (now : Feed) → HasFed {X = X} (Err feed_faults.NoMemory) old piece now → Appends held held' (frames now.waiting)
     → (written : List ℕ) × Appends held held' written × IsForwarded ends.NoMemory (old.rest ++ piece) written

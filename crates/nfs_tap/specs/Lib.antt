@@ -3,3 +3,5 @@ pub mod Noting
 pub mod Room
 pub mod Keeping
 pub mod Pumping
+pub mod Waiting
+pub mod Whole

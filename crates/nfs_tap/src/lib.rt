@@ -2,9 +2,11 @@
 #![tactic(auto)]
 
 mod fault;
+mod front;
 mod log;
 mod pump;
 mod room;
+mod window;
 
 pub use fault::NoteFault;
 pub use log::TapLog;

@@ -3,7 +3,7 @@
 ghost use Rattle.std.specs.Prelude.{◌≡◌, [], IsTrue, ◌↔◌};
 ghost use Rattle.tree_starts.specs.Head.{plain_head};
 ghost use Rattle.history_file.specs.Event.Event.{call, reply, close, crash};
-ghost use Rattle.history_file.specs.Owning.{seen_event, all_happened};
+ghost use Rattle.history_file.specs.Owning.{happened, seen_event, all_happened};
 ghost use Rattle.nfs_history.specs.Standing.{EachMayFollow};
 ghost use Rattle.nfs_tap.specs.Noting.{Notes};
 ghost use Rattle.nfs_tap.specs.Room.{HasRoom};
@@ -55,21 +55,36 @@ impl TapLog {
         }
     }
 
-    // Puts an event behind the others, if it may follow.
-    fn note(&mut self, seen: &SeenEvent<'_>) -> Result<(), NoteFault>
-        ensures { Notes self.old (seen_event seen.now) result self.new }
+    /// Puts an event behind the others, if it may follow. Nothing is copied.
+    pub fn note_event(&mut self, event: Event) -> Result<(), NoteFault>
+        ensures { Notes self.old (happened event) result self.new }
     {
+        let seen = event.as_seen();
         let number = self.events.len() as u64 + 1;
-        if let Some(fault) = self.known.fault_of(number, seen) {
+        if let Some(fault) = self.known.fault_of(number, &seen) {
             return Err(NoteFault::from(fault));
         }
-        let event = Event::from_seen(*self.events.allocator(), seen)?;
         let left = left_behind(self.left, &event);
         self.events.reserve(1)?;
-        self.known.follow(seen)?;
+        self.known.follow(&seen)?;
         self.events.push(event).unwrap();
         self.left = left;
         Ok(())
+    }
+
+    // What allocates the events.
+    fn alloc(&self) -> Global {
+        *self.events.allocator()
+    }
+
+    // Puts a copy of an event behind the others, if it may follow.
+    fn note(&mut self, seen: &SeenEvent<'_>) -> Result<(), NoteFault>
+        ensures { Notes self.old (seen_event seen.now) result self.new }
+    {
+        match Event::from_seen(self.alloc(), seen) {
+            Ok(event) => self.note_event(event),
+            Err(error) => Err(NoteFault::from(error)),
+        }
     }
 
     /// Notes that a client sent a call. The message, without record marking, is copied.

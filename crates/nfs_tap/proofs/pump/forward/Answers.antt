@@ -1,23 +1,16 @@
-use Rattle.std.proofs.Common.{◌∷◌, [], ◌∙◌}
+use Rattle.std.proofs.Common.{◌∷◌, []}
 use Rattle.std.proofs.lemmas.Result.{err_from_is_err_and}
-use Rattle.nfs_tap.specs.declared.pump.PumpEnd.TheVariants as ends
-use Rattle.nfs_tap.proofs.Forwarding.{no_memory_anywhere, stops_ahead, stops_within}
+use Rattle.nfs_tap.proofs.Forwarding.{stops_ahead, stops_within}
 use Rattle.nfs_tap.proofs.pump.forward.Goals as goal
-
-pub returns-in_err-text-clause-err : goal.returns-in_err-text-clause-err
-returns-in_err-text-clause-err g c =
-    let held = g.W.Write.contents c.args.writer.now in
-    let p = err_from_is_err_and c.from_residual.result c.from_residual.ensures.1 in
-    rw (p.1, p.2) (stops_ahead ends.NoMemory held (c.args.content.now ∷ []) no_memory_anywhere)
 
 pub returns-in_err-note_shared-clause-err : goal.returns-in_err-note_shared-clause-err
 returns-in_err-note_shared-clause-err g c =
     let held = g.W.Write.contents c.args.writer.now in
-    let p = err_from_is_err_and c.from_residual-in_err-note_shared.result c.from_residual-in_err-note_shared.ensures.1 in
+    let p = err_from_is_err_and c.from_residual.result c.from_residual.ensures.1 in
     rw (p.1, p.2) (stops_ahead _ held (c.args.content.now ∷ []) c.in_err-note_shared.ensures)
 
 pub returns-clause-err : goal.returns-clause-err
 returns-clause-err g c =
     let held = g.W.Write.contents c.args.writer.now in
     let held' = g.W.Write.contents c.write_pieces.new.writer in
-    stops_within held held' c.args.content.now c.as_slice.result.now (c.as_slice.ensures.value ∙ c.in_ok-text.ensures.text) c.write_pieces.ensures.front
+    stops_within held held' c.args.content.now c.args.text.now c.requires c.write_pieces.ensures.front

@@ -1,56 +1,51 @@
-use Rattle.std.proofs.Common.{◌≡◌, length, take, sym, subst, arith, rules}
-use Rattle.std.specs.Io.KnownBytes.{Consumes, Keeps}
-use Rattle.xdr_records.specs.Feed.{fresh}
+use Rattle.std.proofs.Common.{ℕ, List, subst}
+use Rattle.std.specs.Io.KnownBytes.{prepend_known}
 use Rattle.nfs_tap.specs.declared.pump.PumpEnd.TheVariants as ends
-use Rattle.nfs_tap.proofs.Fronts.{piece_read, unread}
-use Rattle.nfs_tap.proofs.Forwarding.{none_pumped, pumped_still, pumped_more, pumps_within, pumps_behind}
+use Rattle.nfs_tap.specs.Pumping.{Pumps}
+use Rattle.nfs_tap.proofs.Turning.{begun, pumped_on, pumps_then, pumps_waiting}
 use Rattle.nfs_tap.proofs.pump.pump.Goals as goal
-use Rattle.nfs_tap.proofs.pump.pump.Goals.{in-Ok-read+in-Ok-pass_on, in-Err+then-eq}
 
-pub returns-in-Err-clause-forwarded : goal.returns-in-Err-clause-forwarded
-returns-in-Err-clause-forwarded g c =
-    let left = g.I.Read.remaining c.args.reader.now in
-    let held = g.W.Write.contents c.args.writer.now in
-    pumps_behind ends.NoMemory left left held held fresh (none_pumped left held) (λ _. tt)
+pub loop-turn-init : goal.loop-turn-init
+loop-turn-init g c = rw c.new-window.ensures (begun (g.I.Read.remaining c.args.reader.now) (g.W.Write.contents c.args.writer.now))
 
-pub loop-read-init : goal.loop-read-init
-loop-read-init g c =
+pub loop-turn-preserved : goal.loop-turn-preserved
+loop-turn-preserved g c =
     let left = g.I.Read.remaining c.args.reader.now in
+    let mid = prepend_known c.loop-turn.window.bytes (g.I.Read.remaining c.loop-turn.reader) in
+    let left' = g.I.Read.remaining c.make_turn.new.reader in
     let held = g.W.Write.contents c.args.writer.now in
-    record { room = c.in-Ok.ensures; pumped = rw c.new-feed.ensures (none_pumped left held) }
+    let between = g.W.Write.contents c.loop-turn.writer in
+    let held' = g.W.Write.contents c.make_turn.new.writer in
+    pumped_on left mid left' held between held' c.make_turn.new.window.bytes c.loop-turn.invariant c.in-On.ensures.turned
 
-pub returns-in-Err-pass_on-clause-forwarded : goal.returns-in-Err-pass_on-clause-forwarded
-returns-in-Err-pass_on-clause-forwarded g c =
+pub returns-in-Odd-clause-forwarded : goal.returns-in-Odd-clause-forwarded
+returns-in-Odd-clause-forwarded g c =
     let left = g.I.Read.remaining c.args.reader.now in
-    let mid = g.I.Read.remaining c.loop-read.reader in
-    let left' = g.I.Read.remaining c.read.new.self in
+    let mid = prepend_known c.loop-turn.window.bytes (g.I.Read.remaining c.loop-turn.reader) in
+    let left' = g.I.Read.remaining c.make_turn.new.reader in
+    let left'' = g.I.Read.remaining c.pump_pieces.new.reader in
     let held = g.W.Write.contents c.args.writer.now in
-    let between = g.W.Write.contents c.loop-read.writer in
-    let held' = g.W.Write.contents c.pass_on.new.writer in
-    let count = c.in-Ok-read.count in
-    let size : length c.read.new.buf ≡ c.loop-read.buffer.len = omega (arith, c.read.auto.buf, c.as_mut_slice.ensures.len) in
-    let same : take count c.deref.result.now ≡ take count c.read.new.buf = piece_read c.read.new.buf c.loop-read.buffer.items c.deref.result.now c.loop-read.buffer.len count size c.deref.ensures.value in
-    let gave : Consumes mid left' (take count c.deref.result.now) = subst (Consumes mid left') (sym same) c.in-Ok-read.ensures.bytes.0 in
-    pumps_within c.in-Err-pass_on.end left mid left' held between held' c.loop-read.feed (take count c.deref.result.now) c.loop-read.invariant.pumped gave c.in-Err-pass_on.ensures.err
+    let between = g.W.Write.contents c.loop-turn.writer in
+    let held' = g.W.Write.contents c.make_turn.new.writer in
+    let held'' = g.W.Write.contents c.pump_pieces.new.writer in
+    let so_far = pumped_on left mid left' held between held' c.make_turn.new.window.bytes c.loop-turn.invariant c.in-Odd.ensures.turned in
+    let later = subst (λ (l : List ℕ). Pumps c.pump_pieces.result (prepend_known l left') left'' held' held'') c.as_slice.ensures c.pump_pieces.ensures.forwarded in
+    pumps_then c.pump_pieces.result left (prepend_known c.make_turn.new.window.bytes left') left'' held held' held'' so_far later
 
-pub loop-read-preserved : goal.loop-read-preserved
-loop-read-preserved g c =
+pub returns-in-Over-clause-forwarded : goal.returns-in-Over-clause-forwarded
+returns-in-Over-clause-forwarded g c =
     let left = g.I.Read.remaining c.args.reader.now in
-    let mid = g.I.Read.remaining c.loop-read.reader in
-    let left' = g.I.Read.remaining c.read.new.self in
+    let mid = prepend_known c.loop-turn.window.bytes (g.I.Read.remaining c.loop-turn.reader) in
+    let left' = g.I.Read.remaining c.make_turn.new.reader in
     let held = g.W.Write.contents c.args.writer.now in
-    let between = g.W.Write.contents c.loop-read.writer in
-    elim c.match-read.branch [
-      | in-Ok-read+in-Ok-pass_on w ↦
-          let held' = g.W.Write.contents w.pass_on.new.writer in
-          let count = w.in-Ok-read.count in
-          let size : length c.read.new.buf ≡ c.loop-read.buffer.len = omega (arith, c.read.auto.buf, c.as_mut_slice.ensures.len) in
-          let same : take count w.deref.result.now ≡ take count c.read.new.buf = piece_read c.read.new.buf c.loop-read.buffer.items w.deref.result.now c.loop-read.buffer.len count size w.deref.ensures.value in
-          let gave : Consumes mid left' (take count w.deref.result.now) = subst (Consumes mid left') (sym same) w.in-Ok-read.ensures.bytes.0 in
-          let more = pumped_more left mid left' held between held' c.loop-read.feed w.pass_on.new.feed (take count w.deref.result.now) c.loop-read.invariant.pumped gave w.in-Ok-pass_on.ensures.ok in
-          record { room = c.loop-read.invariant.room; pumped = rw (w.writer-is, w.feed-is) more }
-      | in-Err+then-eq w ↦
-          let keeps : Keeps mid left' = search rules in
-          let still = pumped_still left mid left' held between c.loop-read.feed c.loop-read.invariant.pumped (λ bytes consumed. unread left mid left' bytes consumed keeps) in
-          record { room = c.loop-read.invariant.room; pumped = rw (w.writer-is, w.feed-is) still }
-    ]
+    let between = g.W.Write.contents c.loop-turn.writer in
+    let held' = g.W.Write.contents c.make_turn.new.writer in
+    pumps_then c.in-Over.end left mid left' held between held' c.loop-turn.invariant c.in-Over.ensures.turned.1
+
+pub returns-clause-forwarded : goal.returns-clause-forwarded
+returns-clause-forwarded g c =
+    let left = g.I.Read.remaining c.args.reader.now in
+    let left' = g.I.Read.remaining c.loop-turn.reader in
+    let held = g.W.Write.contents c.args.writer.now in
+    let held' = g.W.Write.contents c.loop-turn.writer in
+    pumps_waiting ends.Bound left left' held held' c.loop-turn.window.bytes c.loop-turn.invariant tt

@@ -1,9 +1,8 @@
-use Rattle.std.proofs.Common.{◌≡◌, vec_len}
+use Rattle.std.specs.Io.KnownBytes.{prepend_known}
+use Rattle.xdr_records.specs.Feed.{fresh}
 use Rattle.nfs_tap.proofs.Forwarding.{HasPumped}
 use Rattle.nfs_tap.proofs.pump.pump.Given as goal
 
-abbrev pub invariant-loop-read : goal.invariant-loop-read
-invariant-loop-read g l = record {
-  room : vec_len l.buffer ≡ 65536;
-  pumped : HasPumped (g.I.Read.remaining l.fn.reader) (g.I.Read.remaining l.reader) (g.W.Write.contents l.fn.writer) (g.W.Write.contents l.writer) l.feed;
-}
+abbrev pub invariant-loop-turn : goal.invariant-loop-turn
+invariant-loop-turn g l =
+    HasPumped (g.I.Read.remaining l.fn.reader) (prepend_known l.window.bytes (g.I.Read.remaining l.reader)) (g.W.Write.contents l.fn.writer) (g.W.Write.contents l.writer) fresh
