@@ -1,9 +1,11 @@
 -- Records that came as one fragment each, turn by turn. What waits counts as left.
-use Rattle.std.proofs.Common.{◌≡◌, ℕ, ◌+◌, ◌-◌, ◌≤◌, List, [], ◌∷◌, ◌++◌, length, drop, Option, Some, None, refl, sym, ap, subst, ◌∙◌, arith, append_assoc, append-nil, length-append, drop_at}
+use Rattle.std.proofs.Common.{◌≡◌, ℕ, ◌+◌, ◌-◌, ◌<◌, ◌≤◌, List, [], ◌∷◌, ◌++◌, length, drop, Option, Some, None, refl, sym, ap, subst, ◌∙◌, arith, append_assoc, append-nil, length-append, drop_at}
 use Rattle.std.specs.Io.KnownBytes.{Consumes, Appends, Keeps, IsAtEnd, prepend_known}
 use Rattle.xdr_records.specs.Record.{IsUnfinished, IsSplit, record_text}
 use Rattle.xdr_records.specs.Feed.{Feed, fresh}
+use Rattle.xdr_records.specs.Texts.{word_text}
 use Rattle.xdr_records.proofs.Splitting.{unfinished_none, split_join, framed_split}
+use Rattle.xdr_records.proofs.Written.{length-word_text}
 use Rattle.nfs_tap.specs.declared.pump.PumpEnd.{PumpEnd}
 use Rattle.nfs_tap.specs.declared.pump.PumpEnd.TheVariants as ends
 use Rattle.nfs_tap.specs.declared.pump.Turn.{Turn}
@@ -184,9 +186,15 @@ advanced bytes new used held held' p is =
     let back : new ≡ p.back = is ∙ ap (λ (l : List ℕ). drop used l) p.passed.parts ∙ drop_at p.passed.front p.back used p.size in
     subst (λ (l : List ℕ). PassesOn bytes l held held') (sym back) p.passed
 
--- fewer bytes are left behind a record
-pub record-length : (bytes text content behind : List ℕ) → IsFirst bytes text content behind → length bytes ≡ length text + length behind
-record-length bytes text content behind first = omega (arith, ap length first.parts, length-append text behind)
+-- no more bytes are left behind records, and fewer behind one
+pub passed_shorter : (bytes rest : List ℕ) (held held' : Option (List ℕ)) → PassesOn bytes rest held held' → length rest ≤ length bytes
+passed_shorter bytes rest held held' p = omega (arith, ap length p.parts, length-append p.front rest)
+
+pub behind_shorter : (bytes text content behind : List ℕ) → IsFirst bytes text content behind → length behind < length bytes
+behind_shorter bytes text content behind first =
+    let word = word_text (2147483648 + length content) in
+    let size : length text ≡ length (word ++ content) = ap length first.spelled in
+    omega (arith, ap length first.parts, length-append text behind, size, length-append word content, length-word_text (2147483648 + length content))
 
 -- ---- what stands at the end of the stream
 

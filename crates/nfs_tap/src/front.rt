@@ -39,7 +39,10 @@ pub(crate) fn announced(bytes: &[u8]) -> Option<usize>
         return None;
     }
     let word = header_word(bytes);
-    if word < LAST || !bytes.starts_with(&word.to_be_bytes()) {
+    if word < LAST {
+        return None;
+    }
+    if !bytes.starts_with(&word.to_be_bytes()) {
         return None;
     }
     let count = (word - LAST) as usize;

@@ -1,6 +1,6 @@
-use Rattle.std.proofs.Common.{◌≡◌, ◌-◌, length, arith}
+use Rattle.std.proofs.Common.{arith}
 use Rattle.std.proofs.lemmas.Result.{err_from_is_err_and}
-use Rattle.nfs_tap.proofs.Turning.{none_sent, one_sent, stopped_amid, passed_so, record-length}
+use Rattle.nfs_tap.proofs.Turning.{none_sent, one_sent, stopped_amid, passed_so, passed_shorter, behind_shorter}
 use Rattle.nfs_tap.proofs.pump.forward_front.Goals as goal
 
 pub loop-first-init : goal.loop-first-init
@@ -31,3 +31,14 @@ returns-clause-ok g c =
     let held = g.W.Write.contents c.args.writer.now in
     let held' = g.W.Write.contents c.loop-first.writer in
     passed_so c.args.bytes.now c.loop-first.rest.now _ held held' c.loop-first.invariant (omega (arith, c.len.ensures, c.len-2.ensures))
+
+pub loop-first-smaller : goal.loop-first-smaller
+loop-first-smaller g c =
+    let first = c.in-Some.first in
+    behind_shorter c.loop-first.rest.now first.text.now first.content.now first.behind.now c.in-Some.ensures
+
+pub overflow_sub-result : goal.overflow_sub-result
+overflow_sub-result g c =
+    let held = g.W.Write.contents c.args.writer.now in
+    let held' = g.W.Write.contents c.loop-first.writer in
+    omega (arith, c.len.ensures, c.len-2.ensures, passed_shorter c.args.bytes.now c.loop-first.rest.now held held' c.loop-first.invariant)

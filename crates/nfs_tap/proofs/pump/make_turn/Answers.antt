@@ -5,6 +5,9 @@ use Rattle.nfs_tap.specs.Whole.{Turns}
 use Rattle.nfs_tap.proofs.Turning.{front_taken, ended_ahead}
 use Rattle.nfs_tap.proofs.pump.make_turn.Goals as goal
 
+pub read_on-requires : goal.read_on-requires
+read_on-requires g c = c.in-Ok.ensures.room
+
 pub returns-in-Ok-clause-turned : goal.returns-in-Ok-clause-turned
 returns-in-Ok-clause-turned g c =
     let left = g.I.Read.remaining c.args.reader.now in

@@ -33,5 +33,4 @@ returns-in-Err-clause-err g c =
     let after = put_mid w.end (w.stop - w.end) all c.read.new.buf in
     let whole = with_items_is w.bytes after (search (rules, places)) in
     let items : slice_range after w.start w.end ≡ slice_range w.bytes.items w.start w.end = search (rules, between_is, overwrites) in
-    let size : length after ≡ length w.bytes.items = search (rules, places) in
-    (rw (whole, items, size) c.self.view_is, c.in-Err.ensures.bytes)
+    (rw (whole, items) c.self.view_is, c.in-Err.ensures.bytes)
