@@ -9,6 +9,7 @@ use crate::ending::LaneEnd;
 use crate::health::ServerEnd;
 use crate::relay::{Relay, RelayRuntime};
 use nfs_tap::{PumpEnd, TapLog, pump_calls, pump_replies};
+use std::io::ErrorKind;
 use std::net::{Shutdown, TcpStream};
 use std::sync::Wait;
 use std::sync::atomic::{AtomicBool, AtomicU64, Ordering};
@@ -31,6 +32,20 @@ struct Ended {
     pumps: AtomicU64,
     /// Whether the server ended it before anybody else had.
     by_server: AtomicBool,
+}
+
+/// Whether a connection isn't made for want of something on this side, such as files or ports; else the server refuses it, or can't be
+/// reached.
+fn is_of_this_side(kind: ErrorKind) -> bool {
+    !matches!(
+        kind,
+        ErrorKind::ConnectionRefused
+            | ErrorKind::ConnectionReset
+            | ErrorKind::ConnectionAborted
+            | ErrorKind::TimedOut
+            | ErrorKind::HostUnreachable
+            | ErrorKind::NetworkUnreachable
+    )
 }
 
 /// A client's connection and the server's, which are relayed.
@@ -70,13 +85,15 @@ impl Relay {
     /// A connection to the server, which may take a while to come up.
     fn connect<R: RelayRuntime>(&self, rt: &R) -> Option<TcpStream> {
         let start = Instant::now(rt).ok();
+        let mut is_ours = false;
         for _try in 0..CONNECT_TRIES {
             if self.reason(rt).is_some() {
                 return None;
             }
             let patience = Duration::from_secs(1);
-            if let Ok(server) = TcpStream::connect_timeout(rt, &self.server, patience) {
-                return Some(server);
+            match TcpStream::connect_timeout(rt, &self.server, patience) {
+                Ok(server) => return Some(server),
+                Err(error) => is_ours = is_of_this_side(error.kind()),
             }
             if is_late(rt, start) {
                 break;
@@ -86,9 +103,19 @@ impl Relay {
         if self.is_counted {
             self.halt(rt, Halt::CannotConnect);
         }
-        self.health.lock(rt).note_untaken();
-        let _ = eprintln!(rt; "a connection ended: the server takes none");
+        self.tell_unconnected(rt, is_ours);
         None
+    }
+
+    /// Says that a client's connection got no server, and whose fault that is.
+    fn tell_unconnected<R: RelayRuntime>(&self, rt: &R, is_ours: bool) {
+        if is_ours {
+            self.health.lock(rt).note_unserved();
+            let _ = eprintln!(rt; "a connection ended: the system gives none to the server");
+        } else {
+            self.health.lock(rt).note_untaken();
+            let _ = eprintln!(rt; "a connection ended: the server takes none");
+        }
     }
 
     /// The next lane, once the connections of a server that went down have ended.
