@@ -1,4 +1,4 @@
--- For the prover, and for callers.
+-- For the prover.
 -- A capture of which it shows nowhere that something of the server's connections is wanting: the file isn't cut off; no packet is cut by the
 -- snap length, a fragment, or earlier than one ahead of it; of each connection the beginning was captured, and both ways; no lane ends early
 -- and no event is left out, which a note would tell; and there are calls. Segments behind the last one that was captured don't show.

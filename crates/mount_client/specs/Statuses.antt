@@ -1,4 +1,4 @@
--- For the prover.
+-- For the prover, and for callers.
 -- The statuses of MNT by their numbers: RFC 1813, section 5.1.5, enum mountstat3.
 use Rattle.std.specs.Prelude.{ℕ, ◌==◌, if◌then◌else◌}
 use Rattle.mount_client.specs.declared.status.MountStatus.{MountStatus}

@@ -1,4 +1,4 @@
--- Believed.
+-- For the prover, and for callers.
 -- What a captured packet is: a link header (tcpdump.org's list of link-layer header types) with VLAN tags (IEEE 802.1Q), a header of IPv4
 -- (RFC 791, section 3.1) or IPv6 (RFC 8200, sections 3 and 4), one of TCP (RFC 9293, section 3.1), and what the segment carries.
 use Rattle.std.specs.Prelude.{◌≡◌, ◌<◌, ◌≤◌, ◌⊎◌, ℕ, ◌+◌, ◌*◌, ◌/◌, ◌%◌, ◌==◌, ◌||◌, Bool, true, if◌then◌else◌, List, [], ◌∷◌, ◌++◌, length, slice_index}

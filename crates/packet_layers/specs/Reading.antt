@@ -1,4 +1,4 @@
--- For the prover.
+-- For the prover, and for callers.
 -- Reading a packet from its front, as functions of its bytes, with the first reason to pass it over.
 use Rattle.std.specs.Prelude.{◌≡◌, ℕ, zero, suc, ◌+◌, ◌-◌, ◌*◌, ◌/◌, ◌%◌, ◌==◌, ◌&&◌, ◌||◌, Bool, true, false, if◌then◌else◌, nat_lt, nat_le, List, [], ◌∷◌, length, take, drop, Option, Some, None, Result, Ok, Err}
 use Rattle.packet_capture.specs.declared.packet.LinkType.{LinkType}
