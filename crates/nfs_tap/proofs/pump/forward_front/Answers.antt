@@ -30,7 +30,7 @@ pub returns-clause-ok : goal.returns-clause-ok
 returns-clause-ok g c =
     let held = g.W.Write.contents c.args.writer.now in
     let held' = g.W.Write.contents c.loop-first.writer in
-    passed_so c.args.bytes.now c.loop-first.rest.now _ held held' c.loop-first.invariant (omega (arith, c.len.ensures, c.len-2.ensures))
+    passed_so c.args.bytes.now c.loop-first.rest.now _ held held' c.loop-first.invariant (omega arith)
 
 pub loop-first-smaller : goal.loop-first-smaller
 loop-first-smaller g c =
@@ -41,4 +41,4 @@ pub overflow_sub-result : goal.overflow_sub-result
 overflow_sub-result g c =
     let held = g.W.Write.contents c.args.writer.now in
     let held' = g.W.Write.contents c.loop-first.writer in
-    omega (arith, c.len.ensures, c.len-2.ensures, passed_shorter c.args.bytes.now c.loop-first.rest.now held held' c.loop-first.invariant)
+    omega (arith, passed_shorter c.args.bytes.now c.loop-first.rest.now held held' c.loop-first.invariant)

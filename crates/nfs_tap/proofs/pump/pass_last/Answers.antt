@@ -2,7 +2,7 @@ use Rattle.std.proofs.Common.{refl}
 use Rattle.xdr_records.specs.Feed.{fresh}
 use Rattle.nfs_tap.specs.declared.pump.PumpEnd.TheVariants as ends
 use Rattle.nfs_tap.specs.Pumping.{frames}
-use Rattle.nfs_tap.proofs.Turning.{last_passed, last_stopped}
+use Rattle.nfs_tap.proofs.Turning.{last_passed}
 use Rattle.nfs_tap.proofs.pump.pass_last.Goals as goal
 
 pub pass_on-requires : goal.pass_on-requires
@@ -13,9 +13,3 @@ returns-in-Ok-clause-forwarded g c =
     let held = g.W.Write.contents c.args.writer.now in
     let held' = g.W.Write.contents c.pass_on.new.writer in
     last_passed held held' c.new-feed.result c.pass_on.new.feed c.args.bytes.now c.new-feed.ensures c.in-Ok.ensures.ok
-
-pub returns-in-Err-clause-forwarded : goal.returns-in-Err-clause-forwarded
-returns-in-Err-clause-forwarded g c =
-    let held = g.W.Write.contents c.args.writer.now in
-    let held' = g.W.Write.contents c.pass_on.new.writer in
-    last_stopped c.in-Err.end held held' c.new-feed.result c.args.bytes.now c.new-feed.ensures c.in-Err.ensures.err

@@ -37,7 +37,7 @@ returns-in-Err-pass_on-clause-forwarded g c =
     let left' = g.I.Read.remaining c.read.new.self in
     let held = g.W.Write.contents c.args.writer.now in
     let between = g.W.Write.contents c.loop-read.writer in
-    let held' = g.W.Write.contents c.pass_on.new.writer in
+    let held' = g.W.Write.contents c.pass_on-in-Ok-read.new.writer in
     let count = c.in-Ok-read.count in
     let size : length c.read.new.buf ≡ c.loop-read.buffer.len = omega (arith, c.read.auto.buf, c.as_mut_slice.ensures.len) in
     let same : take count c.deref.result.now ≡ take count c.read.new.buf = piece_read c.read.new.buf c.loop-read.buffer.items c.deref.result.now c.loop-read.buffer.len count size c.deref.ensures.value in
@@ -53,12 +53,12 @@ loop-read-preserved g c =
     let between = g.W.Write.contents c.loop-read.writer in
     elim c.match-read.branch [
       | in-Ok-read+in-Ok-pass_on w ↦
-          let held' = g.W.Write.contents w.pass_on.new.writer in
+          let held' = g.W.Write.contents w.pass_on-in-Ok-read.new.writer in
           let count = w.in-Ok-read.count in
           let size : length c.read.new.buf ≡ c.loop-read.buffer.len = omega (arith, c.read.auto.buf, c.as_mut_slice.ensures.len) in
           let same : take count w.deref.result.now ≡ take count c.read.new.buf = piece_read c.read.new.buf c.loop-read.buffer.items w.deref.result.now c.loop-read.buffer.len count size w.deref.ensures.value in
           let gave : Consumes mid left' (take count w.deref.result.now) = subst (Consumes mid left') (sym same) w.in-Ok-read.ensures.bytes.0 in
-          let more = pumped_more left mid left' held between held' c.loop-read.feed w.pass_on.new.feed (take count w.deref.result.now) c.loop-read.invariant.pumped gave w.in-Ok-pass_on.ensures.ok in
+          let more = pumped_more left mid left' held between held' c.loop-read.feed w.pass_on-in-Ok-read.new.feed (take count w.deref.result.now) c.loop-read.invariant.pumped gave w.in-Ok-pass_on.ensures.ok in
           record { room = c.loop-read.invariant.room; pumped = rw (w.writer-is, w.feed-is) more }
       | in-Err+then-eq w ↦
           let keeps : Keeps mid left' = search rules in
