@@ -1,10 +1,10 @@
 -- The record at the front of some bytes, where it came as one fragment.
-use Rattle.std.proofs.Common.{◌≡◌, ℕ, ◌+◌, ◌≤◌, true, List, [], ◌++◌, length, take, drop, refl, sym, ap, subst, ◌∙◌, nat_eq, arith}
+use Rattle.std.proofs.Common.{◌≡◌, ℕ, ◌+◌, ◌≤◌, true, List, ◌++◌, length, take, drop, sym, ap, subst, ◌∙◌, nat_eq, arith}
 use Rattle.std.specs.Int.{w32, to_be_bytes, bytes_high_first}
 use Rattle.std.specs.List.{starts_with}
 use Rattle.std.specs.Cmp.Lexicographic.{same_text}
 use Rattle.std.proofs.lemmas.List.{length-take-le, length-drop, take-append-drop, take-take}
-use Rattle.xdr_records.specs.Record.{record_text, record_limit}
+use Rattle.xdr_records.specs.Record.{record_limit}
 use Rattle.xdr_records.specs.Texts.{word_text}
 use Rattle.nfs_tap.specs.Whole.{IsFirst}
 

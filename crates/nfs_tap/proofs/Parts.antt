@@ -1,5 +1,5 @@
 -- A part of a list, cut again or grown.
-use Rattle.std.proofs.Common.{◌≡◌, ℕ, ◌+◌, ◌-◌, ◌≤◌, Bool, true, false, cond, List, [], ◌∷◌, ◌++◌, zero, suc, length, take, drop, slice_range, refl, sym, ap, ◌∙◌, arith, length-take-le}
+use Rattle.std.proofs.Common.{◌≡◌, ℕ, ◌+◌, ◌≤◌, Bool, true, false, cond, List, [], ◌∷◌, ◌++◌, zero, suc, length, take, drop, slice_range, refl, sym, ap, ◌∙◌, arith, length-take-le}
 use Rattle.std.proofs.lemmas.List.{drop-drop, drop-append-le, take-take, take_all, take_at}
 use Rattle.std.proofs.lemmas.Slice.{between_is}
 

@@ -1,7 +1,4 @@
 use Rattle.std.proofs.Common.{refl}
-use Rattle.xdr_records.specs.Feed.{fresh}
-use Rattle.nfs_tap.specs.declared.pump.PumpEnd.TheVariants as ends
-use Rattle.nfs_tap.specs.Pumping.{frames}
 use Rattle.nfs_tap.proofs.Turning.{last_passed}
 use Rattle.nfs_tap.proofs.pump.pass_last.Goals as goal
 

@@ -1,4 +1,4 @@
-use Rattle.std.proofs.Common.{◌≡◌, ◌∙◌, drop, ap, subst, List, ℕ, ◌≤◌, length}
+use Rattle.std.proofs.Common.{subst, List, ℕ, ◌≤◌, length}
 use Rattle.nfs_tap.specs.Whole.{IsPassed, StopsAmid}
 use Rattle.nfs_tap.proofs.Turning.{passed_within, advanced, next_turned}
 use Rattle.nfs_tap.proofs.pump.pass_window.Goals as goal

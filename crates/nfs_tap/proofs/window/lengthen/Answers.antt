@@ -1,4 +1,4 @@
-use Rattle.std.proofs.Common.{length, arith}
+use Rattle.std.proofs.Common.{arith}
 use Rattle.std.specs.Prelude.{is_ok}
 use Rattle.nfs_tap.proofs.Parts.{lengthened}
 use Rattle.nfs_tap.proofs.window.lengthen.Goals as goal

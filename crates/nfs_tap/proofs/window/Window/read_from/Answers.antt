@@ -1,4 +1,4 @@
-use Rattle.std.proofs.Common.{rules, arith, ap, sym, ◌∙◌, ◌++◌, ◌≡◌, ◌+◌, ◌-◌, take, length, slice_range}
+use Rattle.std.proofs.Common.{rules, arith, ap, sym, ◌∙◌, ◌++◌, ◌≡◌, ◌+◌, ◌-◌, take, slice_range}
 use Rattle.std.proofs.lemmas.List.{with_items_is, places, take-append-le}
 use Rattle.std.proofs.lemmas.Slice.{overwrites, between_is}
 use borrow.Rule.Slice.PartMut.{put_mid, post_of}

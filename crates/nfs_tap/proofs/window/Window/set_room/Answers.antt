@@ -1,5 +1,4 @@
 use Rattle.std.proofs.Common.{ap, sym, ◌∙◌, length, arith}
-use Rattle.std.proofs.lemmas.Result.{err_from_is_err_and}
 use Rattle.nfs_tap.proofs.Parts.{slice_range_front}
 use Rattle.nfs_tap.proofs.window.Window.set_room.Goals as goal
 
