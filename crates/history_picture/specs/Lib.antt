@@ -1,0 +1,4 @@
+pub mod Escaping
+pub mod Fixed
+pub mod Shapes
+pub mod Pages
