@@ -1,11 +1,11 @@
 -- What stands for bytes is text.
-use Rattle.std.proofs.Common.{◌≡◌, ◌≢◌, ◌⊎◌, inl, inr, ⊎_elim, ℕ, zero, suc, ◌+◌, ◌-◌, ◌/◌, ◌%◌, ◌<◌, ◌≤◌, Bool, true, false, cond, not, ◌&&◌, ◌||◌, nat_lt, nat_le, List, [], ◌∷◌, ◌++◌, slice_index, Option, Some, None, refl, sym, ap, subst, ◌∙◌, arith, lt-ltb, le-ltb}
+use Rattle.std.proofs.Common.{◌≡◌, inl, inr, ⊎_elim, ℕ, zero, suc, ◌+◌, ◌-◌, ◌/◌, ◌%◌, ◌<◌, ◌≤◌, Bool, true, false, cond, nat_lt, List, [], ◌∷◌, ◌++◌, slice_index, Option, Some, None, refl, sym, ap, subst, ◌∙◌, arith, lt-ltb, le-ltb}
 use Rattle.std.specs.Prelude.{◌==◌}
 use Rattle.std.proofs.lemmas.Bool.{cases_Bool, cases_lt, cond-true, cond-false}
 use Rattle.std.proofs.lemmas.Bool.Decides.{nat_tests}
 use Rattle.std.specs.Char.{encode_utf8}
-use Rattle.std.specs.List.{AllByRecursion, flat_map}
-use Rattle.history_picture.specs.Escaping.{is_markup, is_control, is_hidden, MayStand, IsTextPart, IsText, hex_digit, four_digits, byte_escape, char_escape, shown_char, first_char, shown_first, taken_first, escaped_behind, escaped}
+use Rattle.std.specs.List.{AllByRecursion}
+use Rattle.history_picture.specs.Escaping.{is_markup, is_hidden, MayStand, IsTextPart, IsText, hex_digit, four_digits, byte_escape, char_escape, shown_char, first_char, shown_first, taken_first, escaped_behind, escaped}
 
 -- ---- escapes
 
@@ -19,11 +19,16 @@ rest_below : (n : ℕ) → n % 16 < 16
 rest_below n = omega arith
 
 digits_stand : (n : ℕ) → AllByRecursion MayStand (four_digits n)
-digits_stand n =
-    (digit_stands (n / 0x1000 % 16) (rest_below (n / 0x1000)),
-    (digit_stands (n / 0x100 % 16) (rest_below (n / 0x100)),
-    (digit_stands (n / 16 % 16) (rest_below (n / 16)),
-    (digit_stands (n % 16) (rest_below n), tt))))
+digits_stand n = (
+  digit_stands (n / 0x1000 % 16) (rest_below (n / 0x1000)),
+  (
+    digit_stands (n / 0x100 % 16) (rest_below (n / 0x100)),
+    (
+      digit_stands (n / 16 % 16) (rest_below (n / 16)),
+      (digit_stands (n % 16) (rest_below n), tt),
+    ),
+  ),
+)
 
 both_stand : (xs ys : List ℕ) → AllByRecursion MayStand xs → AllByRecursion MayStand ys → AllByRecursion MayStand (xs ++ ys)
 both_stand [] ys front behind = behind
@@ -53,39 +58,46 @@ char_escape_stands c =
 high_stands : (b : ℕ) → 0x80 ≤ b → MayStand b
 high_stands b high = grind (arith, nat_tests)
 
+low_stands : (c : ℕ) → c < 128 → is_markup c ≡ false → is_hidden c ≡ false → MayStand c
+low_stands c low unmarked seen = grind (arith, nat_tests)
+
+either_stands : (b : Bool) (xs ys : List ℕ) → (b ≡ true → AllByRecursion MayStand xs) → (b ≡ false → AllByRecursion MayStand ys)
+    → AllByRecursion MayStand (cond b xs ys)
+either_stands true xs ys front behind = front refl
+either_stands false xs ys front behind = behind refl
+
 -- a character that means nothing and isn't hidden has bytes that stand for themselves
 plain_stands : (c : ℕ) → is_markup c ≡ false → is_hidden c ≡ false → AllByRecursion MayStand (encode_utf8 c)
 unfolding encode_utf8
-plain_stands c unmarked seen = ⊎_elim
-    (λ one.
-    let stands : MayStand c = grind (arith, nat_tests) in
-    subst (AllByRecursion MayStand) (sym (cond-true _ _ _ (lt-ltb c 128 one))) (stands, tt))
-    (λ more1. ⊎_elim
-    (λ two. subst (AllByRecursion MayStand) (sym (cond-false _ _ _ (le-ltb c 128 more1) ∙ cond-true _ _ _ (lt-ltb c 2048 two)))
-    (high_stands _ (omega arith), (high_stands _ (omega arith), tt)))
-    (λ more2. ⊎_elim
-    (λ three. subst (AllByRecursion MayStand) (sym (cond-false _ _ _ (le-ltb c 128 more1) ∙ cond-false _ _ _ (le-ltb c 2048 more2) ∙ cond-true _ _ _ (lt-ltb c 65536 three)))
-    (high_stands _ (omega arith), (high_stands _ (omega arith), (high_stands _ (omega arith), tt))))
-    (λ more3. subst (AllByRecursion MayStand) (sym (cond-false _ _ _ (le-ltb c 128 more1) ∙ cond-false _ _ _ (le-ltb c 2048 more2) ∙ cond-false _ _ _ (le-ltb c 65536 more3)))
-    (high_stands _ (omega arith), (high_stands _ (omega arith), (high_stands _ (omega arith), (high_stands _ (omega arith), tt)))))
-    (cases_lt c 65536))
-    (cases_lt c 2048))
-    (cases_lt c 128)
+plain_stands c unmarked seen =
+    either_stands (nat_lt c 128) (c ∷ [])
+    (cond (nat_lt c 2048) ((192 + c / 64) ∷ (128 + c % 64) ∷ [])
+    (cond (nat_lt c 65536) ((224 + c / 4096) ∷ (128 + c / 64 % 64) ∷ (128 + c % 64) ∷ [])
+    ((240 + c / 262144) ∷ (128 + c / 4096 % 64) ∷ (128 + c / 64 % 64) ∷ (128 + c % 64) ∷ [])))
+    (λ one. let low : c < 128 = grind (arith, nat_tests) in (low_stands c low unmarked seen, tt))
+    (λ more. either_stands (nat_lt c 2048) ((192 + c / 64) ∷ (128 + c % 64) ∷ [])
+    (cond (nat_lt c 65536) ((224 + c / 4096) ∷ (128 + c / 64 % 64) ∷ (128 + c % 64) ∷ [])
+    ((240 + c / 262144) ∷ (128 + c / 4096 % 64) ∷ (128 + c / 64 % 64) ∷ (128 + c % 64) ∷ []))
+    (λ two. (high_stands (192 + c / 64) (omega arith), (high_stands (128 + c % 64) (omega arith), tt)))
+    (λ more2. either_stands (nat_lt c 65536) ((224 + c / 4096) ∷ (128 + c / 64 % 64) ∷ (128 + c % 64) ∷ [])
+    ((240 + c / 262144) ∷ (128 + c / 4096 % 64) ∷ (128 + c / 64 % 64) ∷ (128 + c % 64) ∷ [])
+    (λ three. (high_stands (224 + c / 4096) (omega arith), (high_stands (128 + c / 64 % 64) (omega arith), (high_stands (128 + c % 64) (omega arith), tt))))
+    (λ four. (high_stands (240 + c / 262144) (omega arith), (high_stands (128 + c / 4096 % 64) (omega arith), (high_stands (128 + c / 64 % 64) (omega arith), (high_stands (128 + c % 64) (omega arith), tt)))))))
 
 unmarked : (c : ℕ) → c == 0x26 ≡ false → c == 0x3C ≡ false → c == 0x3E ≡ false → c == 0x22 ≡ false → c == 0x27 ≡ false → is_markup c ≡ false
 unmarked c a b d e f = grind (arith, nat_tests)
 
 shown_char_is_text : (c : ℕ) → IsTextPart (shown_char c)
 shown_char_is_text c = ⊎_elim
-    (λ yes. inr (inl (cond-true _ _ _ yes)))
+    (λ is. inr (inl (cond-true _ _ _ is)))
     (λ no1. ⊎_elim
-    (λ yes. inr (inr (inl (cond-false _ _ _ no1 ∙ cond-true _ _ _ yes))))
+    (λ is. inr (inr (inl (cond-false _ _ _ no1 ∙ cond-true _ _ _ is))))
     (λ no2. ⊎_elim
-    (λ yes. inr (inr (inr (inl (cond-false _ _ _ no1 ∙ cond-false _ _ _ no2 ∙ cond-true _ _ _ yes)))))
+    (λ is. inr (inr (inr (inl (cond-false _ _ _ no1 ∙ cond-false _ _ _ no2 ∙ cond-true _ _ _ is)))))
     (λ no3. ⊎_elim
-    (λ yes. inr (inr (inr (inr (inl (cond-false _ _ _ no1 ∙ cond-false _ _ _ no2 ∙ cond-false _ _ _ no3 ∙ cond-true _ _ _ yes))))))
+    (λ is. inr (inr (inr (inr (inl (cond-false _ _ _ no1 ∙ cond-false _ _ _ no2 ∙ cond-false _ _ _ no3 ∙ cond-true _ _ _ is))))))
     (λ no4. ⊎_elim
-    (λ yes. inr (inr (inr (inr (inr (cond-false _ _ _ no1 ∙ cond-false _ _ _ no2 ∙ cond-false _ _ _ no3 ∙ cond-false _ _ _ no4 ∙ cond-true _ _ _ yes))))))
+    (λ is. inr (inr (inr (inr (inr (cond-false _ _ _ no1 ∙ cond-false _ _ _ no2 ∙ cond-false _ _ _ no3 ∙ cond-false _ _ _ no4 ∙ cond-true _ _ _ is))))))
     (λ no5.
     let none = cond-false _ _ _ no1 ∙ cond-false _ _ _ no2 ∙ cond-false _ _ _ no3 ∙ cond-false _ _ _ no4 ∙ cond-false _ _ _ no5 in
     ⊎_elim

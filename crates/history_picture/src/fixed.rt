@@ -124,7 +124,8 @@ Pointed at, it tells the words of <code>nfsbench show</code>.
 <span class=\"key taken\">lost in a crash</span> <span class=\"key waiting\">no reply</span></p>
 ";
 
-const HATCH: &str = "<defs><pattern id=\"hatch\" width=\"6\" height=\"6\" patternUnits=\"userSpaceOnUse\" patternTransform=\"rotate(45)\">\
+const HATCH: &str =
+    "<defs><pattern id=\"hatch\" width=\"6\" height=\"6\" patternUnits=\"userSpaceOnUse\" patternTransform=\"rotate(45)\">\
     <rect class=\"hatch\" width=\"2\" height=\"6\"/></pattern></defs>\n";
 
 const TABLE: &str = "</svg>

@@ -59,7 +59,10 @@ impl fmt::Display for Class {
 #[derive(Clone, Copy)]
 pub enum Shape {
     /// The picture.
-    Svg { width: u64, height: u64 },
+    Svg {
+        width: u64,
+        height: u64,
+    },
     /// What belongs together.
     Group(Class),
     /// A rectangle.
@@ -86,7 +89,11 @@ pub enum Shape {
         bottom: u64,
     },
     /// The beginning of a text, above this height.
-    Text { class: Class, x: u64, y: u64 },
+    Text {
+        class: Class,
+        x: u64,
+        y: u64,
+    },
     /// The beginning of a row of the table, with its first cell.
     Row(Class),
 }
