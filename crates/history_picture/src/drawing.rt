@@ -1,7 +1,8 @@
 //! The picture: lanes from top to bottom, events from left to right.
 
 use crate::fixed::Fixed;
-use crate::layout::{Drawn, Layout, TOP, front_of};
+use crate::fronts::put_front;
+use crate::layout::{Drawn, LABEL_BYTES, Layout, TOP};
 use crate::pages::Page;
 use crate::parts::{Bar, Mark, Picture};
 use crate::shapes::{Class, Shape};
@@ -11,6 +12,10 @@ use std::alloc::AllocError;
 const BAR: u64 = 18;
 /// Every so many events their number is told.
 const TOLD_EVENTS: u64 = 10;
+/// So many events are as wide as the number of the first.
+const FIRST_NUMBER: u64 = 5;
+/// How many bytes of a line of `show` are told.
+const LINE_BYTES: usize = 480;
 
 /// How what belongs to a call looks.
 pub fn class_of(mark: Mark) -> Class {
@@ -72,7 +77,7 @@ fn put_tick(page: &mut Page, layout: &Layout, event: u64) -> Result<(), AllocErr
 fn put_ticks(page: &mut Page, layout: &Layout) -> Result<(), AllocError> {
     for index in 0..layout.span.count() {
         let event = layout.span.first.saturating_add(index);
-        if index == 0 || event % TOLD_EVENTS == 0 {
+        if index == 0 || (index >= FIRST_NUMBER && event % TOLD_EVENTS == 0) {
             put_tick(page, layout, event)?;
         }
     }
@@ -101,9 +106,9 @@ fn put_crash(page: &mut Page, layout: &Layout, event: u64) -> Result<(), AllocEr
 /// Appends what a call and its reply say.
 fn put_words(page: &mut Page, bar: &Bar) -> Result<(), AllocError> {
     page.fixed(Fixed::Title)?;
-    page.text(bar.asked.as_slice())?;
+    put_front(page, bar.asked.as_slice(), LINE_BYTES)?;
     page.fixed(Fixed::LineFeed)?;
-    page.text(bar.answered.as_slice())?;
+    put_front(page, bar.answered.as_slice(), LINE_BYTES)?;
     page.fixed(Fixed::EndTitle)
 }
 
@@ -155,11 +160,7 @@ fn put_label(page: &mut Page, bar: &Bar, drawn: &Drawn) -> Result<(), AllocError
     }
     page.text(bar.procedure.as_bytes())?;
     page.fixed(Fixed::Space)?;
-    let front = front_of(bar.name.as_slice());
-    page.text(front)?;
-    if front.len() < bar.name.len() {
-        page.fixed(Fixed::Dots)?;
-    }
+    put_front(page, bar.name.as_slice(), LABEL_BYTES)?;
     page.fixed(Fixed::EndLabel)
 }
 

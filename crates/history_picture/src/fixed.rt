@@ -66,9 +66,9 @@ pub enum Fixed {
 const BEGINNING: &str = "<!DOCTYPE html>
 <html lang=\"en\">
 <head>
-<meta charset=\"utf-8\">
-<meta name=\"viewport\" content=\"width=device-width\">
-<meta http-equiv=\"Content-Security-Policy\" content=\"default-src 'none'; style-src 'unsafe-inline'\">
+<meta charset=\"utf-8\"/>
+<meta name=\"viewport\" content=\"width=device-width\"/>
+<meta http-equiv=\"Content-Security-Policy\" content=\"default-src 'none'; style-src 'unsafe-inline'\"/>
 <title>";
 
 const STYLE: &str = "</title>
@@ -84,6 +84,7 @@ const STYLE: &str = "</title>
   :root { color-scheme: light; --page: #ffffff; --ink: #000000; --rule: #a0a0a0; --band: #f4f4f4;
     --bar: #d7e3ee; --edge: #4d6680; --fault: #f6bdb6; --fault-edge: #b3261e; --explains: #ffe2a6; --explains-edge: #8a5a00; --crash: #7a3ea8; }
   body { margin: 0; print-color-adjust: exact; -webkit-print-color-adjust: exact; }
+  .scroll { overflow: visible; border: none; }
   .scroll svg { width: 100%; height: auto; }
   tr { break-inside: avoid; }
 }
@@ -108,6 +109,7 @@ g.crash text { fill: var(--crash); }
 .key.fault, tr.fault { background: var(--fault); border-color: var(--fault-edge); }
 .key.explains, tr.explains { background: var(--explains); border-color: var(--explains-edge); }
 .key.taken { background: repeating-linear-gradient(45deg, var(--edge) 0 2px, transparent 2px 6px); }
+.key.down { border: none; border-left: 3px solid var(--crash); background: none; }
 .key.waiting { border-style: dashed; border-right: none; }
 table { margin-top: 1.5rem; border-collapse: collapse; }
 th, td { padding: 0.15rem 0.7rem 0.15rem 0; text-align: left; vertical-align: top; border-bottom: 1px solid var(--rule); }
@@ -121,7 +123,7 @@ const LEGEND: &str = "</h1>
 <p>A bar is a call, from the event of the call to that of its reply. The number in it is its place in the order of the certificate.
 Pointed at, it tells the words of <code>nfsbench show</code>.
 <span class=\"key fault\">at fault</span> <span class=\"key explains\">explains it</span>
-<span class=\"key taken\">lost in a crash</span> <span class=\"key waiting\">no reply</span></p>
+<span class=\"key down\">crash</span> <span class=\"key taken\">lost in it</span> <span class=\"key waiting\">no reply</span></p>
 ";
 
 const HATCH: &str =

@@ -1,6 +1,7 @@
 //! Where each event and each call stands in a picture.
 
 use crate::escaping::escape;
+use crate::fronts::front_of;
 use crate::parts::{Bar, Picture};
 use crate::span::Span;
 use std::alloc::{AllocError, Global};
@@ -18,20 +19,7 @@ const CHARACTER: u64 = 8;
 /// How far two labels are apart at least.
 const GAP: u64 = 12;
 /// How many bytes of a name a bar shows.
-const NAME_BYTES: usize = 32;
-
-/// The front of a name that a bar shows. It ends with a whole character.
-pub fn front_of(name: &[u8]) -> &[u8] {
-    for back in 0..4usize {
-        let length = NAME_BYTES - back;
-        match name.get(length) {
-            None => return name,
-            Some(byte) if (*byte & 0xc0) != 0x80 => return name.get(..length).unwrap_or(name),
-            Some(_) => {}
-        }
-    }
-    name.get(..NAME_BYTES).unwrap_or(name)
-}
+pub const LABEL_BYTES: usize = 32;
 
 /// How many digits a number has.
 fn digits_of(number: u64) -> u64 {
@@ -43,7 +31,7 @@ fn digits_of(number: u64) -> u64 {
 
 /// How wide the label of a call is.
 fn label_width(alloc: Global, bar: &Bar) -> Result<u64, AllocError> {
-    let name = escape(alloc, front_of(bar.name.as_slice()))?;
+    let name = escape(alloc, front_of(bar.name.as_slice(), LABEL_BYTES))?;
     let mut characters = (bar.procedure.len() as u64).saturating_add(name.len() as u64);
     if let Some(place) = bar.place {
         characters = characters.saturating_add(digits_of(place));

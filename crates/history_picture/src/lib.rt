@@ -5,6 +5,7 @@ mod calls;
 mod drawing;
 mod escaping;
 mod fixed;
+mod fronts;
 mod gathering;
 mod layout;
 mod pages;

@@ -2,6 +2,7 @@
 
 ghost use Rattle.std.specs.Prelude.{◌≡◌};
 ghost use Rattle.history_picture.specs.Pages.{IsPage};
+ghost use Rattle.history_picture.specs.Reading.{HasOwnTags};
 
 use crate::escaping::escape;
 use crate::fixed::Fixed;
@@ -66,6 +67,7 @@ impl Page {
     pub fn as_slice(&self) -> &[u8]
         ensures shown { result.now ≡ self.now }
         ensures page { IsPage self.now }
+        ensures own_tags { HasOwnTags self.now }
     {
         self.bytes.as_slice()
     }

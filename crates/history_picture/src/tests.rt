@@ -159,6 +159,25 @@ fn three_calls(alloc: Global) -> Result<Page, AllocError> {
     picture_page(alloc, &picture)
 }
 
+/// The page of a call with a name of so many times two bytes.
+fn page_of_long_name(alloc: Global, count: usize) -> Result<Page, AllocError> {
+    let mut picture = empty_picture(alloc, 2)?;
+    picture.lanes.push(1)?;
+    let mut bar = bar_of(alloc, SAMPLES[0])?;
+    bar.name.clear();
+    for _ in 0..count {
+        bar.name.extend_from_slice("é".as_bytes())?;
+    }
+    picture.bars.push(bar)?;
+    picture_page(alloc, &picture)
+}
+
+/// Whether a name of so many times two bytes is listed, and shown in its bar, as these words with what is ahead and behind.
+fn is_long_name_shown(alloc: Global, count: usize, label: &str, cell: &str) -> Result<bool, AllocError> {
+    let page = page_of_long_name(alloc, count)?;
+    Ok(has(&page, label) && has(&page, cell))
+}
+
 /// Whether a page has such words.
 fn has(page: &Page, words: &str) -> bool {
     match str::from_utf8(page.as_slice()) {
@@ -237,6 +256,17 @@ fn bytes_of_others_are_text(rt: HostRuntime) -> Result<(), Fail> {
 #[test]
 fn calls_are_drawn(rt: HostRuntime) -> Result<(), Fail> {
     assert!(rt; are_three_calls_drawn(rt.alloc())?);
+    Ok(())
+}
+
+#[test]
+fn long_names_are_cut(rt: HostRuntime) -> Result<(), Fail> {
+    let alloc = rt.alloc();
+    // 16 and 127 characters of two bytes are the most in 32 and 255 bytes.
+    let label = "</tspan> CREATE éééééééééééééééé..</text>";
+    let cell = format!(in alloc; "<td>{}..</td>", "é".repeat(alloc, 127)?)?;
+    assert!(rt; is_long_name_shown(alloc, 16, "</tspan> CREATE éééééééééééééééé</text>", "<td>éééééééééééééééé</td>")?);
+    assert!(rt; is_long_name_shown(alloc, 200, label, cell.as_str())?);
     Ok(())
 }
 
