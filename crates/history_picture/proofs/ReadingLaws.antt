@@ -52,7 +52,7 @@ plain_is_seen (b ∷ part) all =
     let seen = no_angle b all.0 in record {
       stays = ap (λ (is : Bool). moved_by (if is then Where.in_tag else Where.in_text) part) seen ∙ later.stays;
       tagless = ap (λ (is : Bool). byte_if is b ++ tags_from (if is then Where.in_tag else Where.in_text) part) seen
-      ∙ later.tagless;
+          ∙ later.tagless;
     }
 
 reference_is_seen : (part : List ℕ) → IsReference part → IsSeen part
@@ -206,8 +206,8 @@ pieces_are_whole (piece ∷ pieces) =
     let behind = flat_map piece_words pieces in record {
       ended = moved_by-append Where.in_text words behind ∙ ap (λ (place : Where). moved_by place behind) first.ended ∙ later.ended;
       tags = tags_from-append Where.in_text words behind
-      ∙ ap₂ (λ (tags : List ℕ) (place : Where). tags ++ tags_from place behind) first.tags first.ended
-      ∙ ap (λ (tags : List ℕ). own_tags piece ++ tags) later.tags;
+          ∙ ap₂ (λ (tags : List ℕ) (place : Where). tags ++ tags_from place behind) first.tags first.ended
+          ∙ ap (λ (tags : List ℕ). own_tags piece ++ tags) later.tags;
     }
 
 pub page_has_own_tags : (bytes : List ℕ) → IsPage bytes → HasOwnTags bytes

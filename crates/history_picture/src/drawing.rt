@@ -1,7 +1,6 @@
 //! The picture: lanes from top to bottom, events from left to right.
 
 use crate::fixed::Fixed;
-use crate::fronts::put_front;
 use crate::layout::{Drawn, LABEL_BYTES, Layout, TOP};
 use crate::pages::Page;
 use crate::parts::{Bar, Mark, Picture};
@@ -14,8 +13,8 @@ const BAR: u64 = 18;
 const TOLD_EVENTS: u64 = 10;
 /// So many events are as wide as the number of the first.
 const FIRST_NUMBER: u64 = 5;
-/// How many bytes of a line of `show` are told.
-const LINE_BYTES: usize = 480;
+/// How many bytes stand for a line of `show` at most.
+const LINE_BYTES: usize = 400;
 
 /// How what belongs to a call looks.
 pub fn class_of(mark: Mark) -> Class {
@@ -106,9 +105,9 @@ fn put_crash(page: &mut Page, layout: &Layout, event: u64) -> Result<(), AllocEr
 /// Appends what a call and its reply say.
 fn put_words(page: &mut Page, bar: &Bar) -> Result<(), AllocError> {
     page.fixed(Fixed::Title)?;
-    put_front(page, bar.asked.as_slice(), LINE_BYTES)?;
+    page.front(bar.asked.as_slice(), LINE_BYTES)?;
     page.fixed(Fixed::LineFeed)?;
-    put_front(page, bar.answered.as_slice(), LINE_BYTES)?;
+    page.front(bar.answered.as_slice(), LINE_BYTES)?;
     page.fixed(Fixed::EndTitle)
 }
 
@@ -160,7 +159,7 @@ fn put_label(page: &mut Page, bar: &Bar, drawn: &Drawn) -> Result<(), AllocError
     }
     page.text(bar.procedure.as_bytes())?;
     page.fixed(Fixed::Space)?;
-    put_front(page, bar.name.as_slice(), LABEL_BYTES)?;
+    page.front(bar.name.as_slice(), LABEL_BYTES)?;
     page.fixed(Fixed::EndLabel)
 }
 

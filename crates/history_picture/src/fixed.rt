@@ -108,7 +108,7 @@ g.crash text { fill: var(--crash); }
 .key { padding: 0 0.5em; border: 1px solid var(--edge); background: var(--bar); }
 .key.fault, tr.fault { background: var(--fault); border-color: var(--fault-edge); }
 .key.explains, tr.explains { background: var(--explains); border-color: var(--explains-edge); }
-.key.taken { background: repeating-linear-gradient(45deg, var(--edge) 0 2px, transparent 2px 6px); }
+.key.taken { background: repeating-linear-gradient(45deg, var(--rule) 0 2px, transparent 2px 6px); }
 .key.down { border: none; border-left: 3px solid var(--crash); background: none; }
 .key.waiting { border-style: dashed; border-right: none; }
 table { margin-top: 1.5rem; border-collapse: collapse; }

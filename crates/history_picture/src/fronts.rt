@@ -1,11 +1,13 @@
 //! The fronts of bytes that are too many for a page.
 
-use crate::fixed::Fixed;
-use crate::pages::Page;
-use std::alloc::AllocError;
+use crate::escaping::escape;
+use std::alloc::{AllocError, Global};
+
+/// How many bytes of a page stand for one byte at most.
+const WIDEST: usize = 6;
 
 /// All of some bytes if there are no more than so many, or else a front of so many at most, which ends with a whole character.
-pub fn front_of(bytes: &[u8], most: usize) -> &[u8] {
+fn front_of(bytes: &[u8], most: usize) -> &[u8] {
     for back in 0..4usize {
         let length = most.saturating_sub(back);
         match bytes.get(length) {
@@ -17,12 +19,16 @@ pub fn front_of(bytes: &[u8], most: usize) -> &[u8] {
     bytes.get(..most).unwrap_or(bytes)
 }
 
-/// Appends bytes that others wrote, or a front of so many at most with two dots behind it.
-pub fn put_front(page: &mut Page, bytes: &[u8], most: usize) -> Result<(), AllocError> {
+/// A front of some bytes, or all of them, for which so many bytes stand in a page at most.
+pub fn shown_front<'b>(
+    alloc: Global,
+    bytes: &'b [u8],
+    most: usize,
+) -> Result<&'b [u8], AllocError> {
     let front = front_of(bytes, most);
-    page.text(front)?;
-    if front.len() < bytes.len() {
-        page.fixed(Fixed::Dots)?;
+    let shown = escape(alloc, front)?;
+    if shown.len() <= most {
+        return Ok(front);
     }
-    Ok(())
+    Ok(front_of(bytes, most / WIDEST))
 }

@@ -1,7 +1,7 @@
 //! Where each event and each call stands in a picture.
 
 use crate::escaping::escape;
-use crate::fronts::front_of;
+use crate::fronts::shown_front;
 use crate::parts::{Bar, Picture};
 use crate::span::Span;
 use std::alloc::{AllocError, Global};
@@ -18,7 +18,7 @@ const ROW: u64 = 26;
 const CHARACTER: u64 = 8;
 /// How far two labels are apart at least.
 const GAP: u64 = 12;
-/// How many bytes of a name a bar shows.
+/// How many bytes stand in a bar for a name at most.
 pub const LABEL_BYTES: usize = 32;
 
 /// How many digits a number has.
@@ -31,7 +31,8 @@ fn digits_of(number: u64) -> u64 {
 
 /// How wide the label of a call is.
 fn label_width(alloc: Global, bar: &Bar) -> Result<u64, AllocError> {
-    let name = escape(alloc, front_of(bar.name.as_slice(), LABEL_BYTES))?;
+    let front = shown_front(alloc, bar.name.as_slice(), LABEL_BYTES)?;
+    let name = escape(alloc, front)?;
     let mut characters = (bar.procedure.len() as u64).saturating_add(name.len() as u64);
     if let Some(place) = bar.place {
         characters = characters.saturating_add(digits_of(place));
@@ -262,13 +263,25 @@ fn happenings_in(
         happenings.push(Happening::Nothing)?;
     }
     for (index, bar) in picture.bars.iter().enumerate() {
-        note(happenings.as_mut_slice(), span.index_of(bar.first), Happening::Call(index));
+        note(
+            happenings.as_mut_slice(),
+            span.index_of(bar.first),
+            Happening::Call(index),
+        );
         if let Some(last) = bar.last {
-            note(happenings.as_mut_slice(), span.index_of(last), Happening::Reply(index));
+            note(
+                happenings.as_mut_slice(),
+                span.index_of(last),
+                Happening::Reply(index),
+            );
         }
     }
     for crash in picture.crashes.iter() {
-        note(happenings.as_mut_slice(), span.index_of(*crash), Happening::Crash);
+        note(
+            happenings.as_mut_slice(),
+            span.index_of(*crash),
+            Happening::Crash,
+        );
     }
     Ok(happenings)
 }

@@ -6,6 +6,7 @@ ghost use Rattle.history_picture.specs.Reading.{HasOwnTags};
 
 use crate::escaping::escape;
 use crate::fixed::Fixed;
+use crate::fronts::shown_front;
 use crate::shapes::Shape;
 use itoa::Buffer;
 use std::alloc::{AllocError, Global};
@@ -61,6 +62,16 @@ impl Page {
     pub(crate) fn text(&mut self, bytes: &[u8]) -> Result<(), AllocError> {
         let shown = escape(self.alloc, bytes)?;
         self.bytes.extend_from_slice(shown.as_slice())
+    }
+
+    /// Appends bytes that others wrote as at most so many bytes of text. Two dots are behind what is cut.
+    pub(crate) fn front(&mut self, bytes: &[u8], most: usize) -> Result<(), AllocError> {
+        let front = shown_front(self.alloc, bytes, most)?;
+        self.text(front)?;
+        if front.len() < bytes.len() {
+            self.fixed(Fixed::Dots)?;
+        }
+        Ok(())
     }
 
     /// Its bytes, in UTF-8.

@@ -2,15 +2,14 @@
 
 use crate::drawing::class_of;
 use crate::fixed::Fixed;
-use crate::fronts::put_front;
 use crate::layout::Layout;
 use crate::pages::Page;
 use crate::parts::{Bar, Mark, Picture};
 use crate::shapes::Shape;
 use std::alloc::AllocError;
 
-/// How many bytes of a name are listed.
-const LISTED_BYTES: usize = 255;
+/// How many bytes stand for a name that is listed at most.
+const LISTED_BYTES: usize = 160;
 
 /// Appends the events of a call.
 fn put_events(page: &mut Page, bar: &Bar) -> Result<(), AllocError> {
@@ -61,7 +60,7 @@ fn put_row(page: &mut Page, bar: &Bar) -> Result<(), AllocError> {
     put_events(page, bar)?;
     page.text(bar.procedure.as_bytes())?;
     page.fixed(Fixed::Cell)?;
-    put_front(page, bar.name.as_slice(), LISTED_BYTES)?;
+    page.front(bar.name.as_slice(), LISTED_BYTES)?;
     page.fixed(Fixed::Cell)?;
     put_reply(page, bar)?;
     put_place(page, bar)?;

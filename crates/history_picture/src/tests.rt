@@ -25,7 +25,8 @@ const HISTORY: &str = "4e46534849535431000000010000000000000006\
 const CERTIFICATE: &[u8] = b"witness 1\nplace 1\nplace 2\ncut 1\nplace 3\nend\n";
 
 /// The picture in the page of `three_calls`, behind the first tag's name.
-const THREE_CALLS: &str = "xmlns=\"http://www.w3.org/2000/svg\" width=\"350\" height=\"80\" viewBox=\"0 0 350 80\">
+const THREE_CALLS: &str =
+    "xmlns=\"http://www.w3.org/2000/svg\" width=\"350\" height=\"80\" viewBox=\"0 0 350 80\">
 <defs><pattern id=\"hatch\" width=\"6\" height=\"6\" patternUnits=\"userSpaceOnUse\" patternTransform=\"rotate(45)\"><rect class=\"hatch\" width=\"2\" height=\"6\"/></pattern></defs>
 <rect class=\"odd\" x=\"0\" y=\"28\" width=\"350\" height=\"26\"/>
 <text class=\"lane\" x=\"6\" y=\"45\">lane 1</text>
@@ -159,23 +160,31 @@ fn three_calls(alloc: Global) -> Result<Page, AllocError> {
     picture_page(alloc, &picture)
 }
 
-/// The page of a call with a name of so many times two bytes.
-fn page_of_long_name(alloc: Global, count: usize) -> Result<Page, AllocError> {
+/// The page of a call with a name that is a part so many times.
+fn page_of_long_name(alloc: Global, part: &str, count: usize) -> Result<Page, AllocError> {
     let mut picture = empty_picture(alloc, 2)?;
     picture.lanes.push(1)?;
     let mut bar = bar_of(alloc, SAMPLES[0])?;
-    bar.name.clear();
-    for _ in 0..count {
-        bar.name.extend_from_slice("é".as_bytes())?;
-    }
+    bar.name = part.repeat(alloc, count)?.into_bytes();
     picture.bars.push(bar)?;
     picture_page(alloc, &picture)
 }
 
-/// Whether a name of so many times two bytes is listed, and shown in its bar, as these words with what is ahead and behind.
-fn is_long_name_shown(alloc: Global, count: usize, label: &str, cell: &str) -> Result<bool, AllocError> {
-    let page = page_of_long_name(alloc, count)?;
-    Ok(has(&page, label) && has(&page, cell))
+/// Whether such a name is shown in the bar, and listed, as a text so many times with these words behind it.
+fn is_long_name_shown(
+    alloc: Global,
+    name: (&str, usize),
+    text: &str,
+    counts: (usize, usize),
+    end: &str,
+) -> Result<bool, AllocError> {
+    let page = page_of_long_name(alloc, name.0, name.1)?;
+    let label = format!(in alloc;
+        "</tspan> CREATE {}{end}</text>",
+        text.repeat(alloc, counts.0)?
+    )?;
+    let cell = format!(in alloc; "<td>{}{end}</td>", text.repeat(alloc, counts.1)?)?;
+    Ok(has(&page, label.as_str()) && has(&page, cell.as_str()))
 }
 
 /// Whether a page has such words.
@@ -244,12 +253,24 @@ fn bytes_of_others_are_text(rt: HostRuntime) -> Result<(), Fail> {
     assert!(rt; is_escaped(alloc, b"", b"")?);
     assert!(rt; is_escaped(alloc, b"<b a=\"'&", b"&lt;b a=&quot;&#39;&amp;")?);
     assert!(rt; is_escaped(alloc, b"x>\x00\x1b\x7f\n", b"x&gt;\\x00\\x1b\\x7f\\x0a")?);
-    assert!(rt; is_escaped(alloc, b"\xc3\xa9\xf0\x9f\x98\x80", b"\xc3\xa9\xf0\x9f\x98\x80")?);
+    assert!(rt;
+        is_escaped(
+            alloc,
+            b"\xc3\xa9\xf0\x9f\x98\x80",
+            b"\xc3\xa9\xf0\x9f\x98\x80"
+        )?
+    );
     assert!(rt; is_escaped(alloc, b"\xff\xc3<\xe2\x82", b"\\xff\\xc3&lt;\\xe2\\x82")?);
     assert!(rt; is_escaped(alloc, b"\xed\xa0\x80", b"\\xed\\xa0\\x80")?);
     assert!(rt; is_escaped(alloc, b"a\xe2\x80\xaeb\xc2\x85", b"a\\u202eb\\u0085")?);
     assert!(rt; is_escaped(alloc, b"\xd8\x9c\xef\xbb\xbf", b"\\u061c\\ufeff")?);
-    assert!(rt; is_escaped(alloc, b"\xef\xbf\xbf\xf0\x9f\xbf\xbe", b"\\uffff\\U0001fffe")?);
+    assert!(rt;
+        is_escaped(
+            alloc,
+            b"\xef\xbf\xbf\xf0\x9f\xbf\xbe",
+            b"\\uffff\\U0001fffe"
+        )?
+    );
     Ok(())
 }
 
@@ -262,18 +283,19 @@ fn calls_are_drawn(rt: HostRuntime) -> Result<(), Fail> {
 #[test]
 fn long_names_are_cut(rt: HostRuntime) -> Result<(), Fail> {
     let alloc = rt.alloc();
-    // 16 and 127 characters of two bytes are the most in 32 and 255 bytes.
-    let label = "</tspan> CREATE éééééééééééééééé..</text>";
-    let cell = format!(in alloc; "<td>{}..</td>", "é".repeat(alloc, 127)?)?;
-    assert!(rt; is_long_name_shown(alloc, 16, "</tspan> CREATE éééééééééééééééé</text>", "<td>éééééééééééééééé</td>")?);
-    assert!(rt; is_long_name_shown(alloc, 200, label, cell.as_str())?);
+    // 32 and 160 bytes are 16 and 80 characters of two bytes; a sixth of them is 5 and 26 references of six bytes.
+    assert!(rt; is_long_name_shown(alloc, ("é", 16), "é", (16, 16), "")?);
+    assert!(rt; is_long_name_shown(alloc, ("é", 200), "é", (16, 80), "..")?);
+    assert!(rt; is_long_name_shown(alloc, ("\"", 200), "&quot;", (5, 26), "..")?);
     Ok(())
 }
 
 #[test]
 fn the_events_are_told(rt: HostRuntime) -> Result<(), Fail> {
     let alloc = rt.alloc();
-    let cut = "<p>Events 1 to 2000 of 2001. A picture has at most 2,000 events: not drawn are those up to 2001.</p>";
+    let cut =
+        "<p>Events 1 to 2000 of 2001. A picture has at most 2,000 events: not drawn are those up to 2001.</p>";
+    assert!(rt; is_told_of_events(alloc, 0, "<p>Events 0 of 0.</p>")?);
     assert!(rt; is_told_of_events(alloc, 2_000, "<p>Events 1 to 2000 of 2000.</p>")?);
     assert!(rt; is_told_of_events(alloc, 2_001, cut)?);
     assert!(rt; is_told_of_events(alloc, 1, "<title>no: Illegal 2 &amp; more</title>")?);

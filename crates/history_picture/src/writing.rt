@@ -12,12 +12,20 @@ use crate::span::Span;
 use crate::table::put_table;
 use std::alloc::{AllocError, Global};
 
+/// Appends the first event that is drawn and the last, or that there are none.
+fn put_ends(page: &mut Page, span: Span) -> Result<(), AllocError> {
+    if span.count() == 0 {
+        return page.number(0);
+    }
+    page.number(span.first)?;
+    page.fixed(Fixed::To)?;
+    page.number(span.last)
+}
+
 /// Appends which events are drawn, and which calls and events aren't.
 fn put_range(page: &mut Page, picture: &Picture, span: Span) -> Result<(), AllocError> {
     page.fixed(Fixed::Range)?;
-    page.number(span.first)?;
-    page.fixed(Fixed::To)?;
-    page.number(span.last)?;
+    put_ends(page, span)?;
     page.fixed(Fixed::Of)?;
     page.number(picture.events)?;
     if span.last < picture.last {
