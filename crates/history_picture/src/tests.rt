@@ -165,7 +165,8 @@ fn page_of_long_name(alloc: Global, part: &str, count: usize) -> Result<Page, Al
     let mut picture = empty_picture(alloc, 2)?;
     picture.lanes.push(1)?;
     let mut bar = bar_of(alloc, SAMPLES[0])?;
-    bar.name = part.repeat(alloc, count)?.into_bytes();
+    let name = part.repeat(alloc, count)?;
+    bar.name = Vec::from_slice(alloc, name.as_bytes())?;
     picture.bars.push(bar)?;
     picture_page(alloc, &picture)
 }
