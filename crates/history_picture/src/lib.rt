@@ -15,8 +15,6 @@ mod show_words;
 mod span;
 mod standings;
 mod table;
-#[cfg(test)]
-mod tests;
 mod writing;
 
 pub use escaping::escape;

@@ -1,7 +1,9 @@
 //! Pictures whose pages are written by hand.
 
-use crate::{Bar, Mark, Page, Picture, Request, Window, escape, picture_of, picture_page};
 use certificate::read_certificate;
+use history_picture::{
+    Bar, Mark, Page, Picture, Request, Window, escape, picture_of, picture_page,
+};
 use std::alloc::{AllocError, Global};
 use std::test::Fail;
 
