@@ -122,6 +122,9 @@ past_number : (n : ℕ) (ys : List ℕ) → moved_by Where.in_quotes (decimal n 
 past_number n ys = quoted (decimal n) ys (decimal_stands n)
 
 past_class : (class : Class) (ys : List ℕ) → moved_by Where.in_quotes (class_words class ++ ys) ≡ moved_by Where.in_quotes ys
+past_class classes.Names ys = refl
+past_class classes.Again ys = refl
+past_class classes.Strip ys = refl
 past_class classes.Lane ys = refl
 past_class classes.Odd ys = refl
 past_class classes.Tick ys = refl
@@ -132,13 +135,14 @@ past_class classes.Unanswered ys = refl
 past_class classes.Lost ys = refl
 past_class classes.Label ys = refl
 past_class classes.Plain ys = refl
+past_class classes.Asked ys = refl
 past_class classes.Fault ys = refl
 past_class classes.Explains ys = refl
 
 -- ---- the program's own
 
 shape_is_whole : (tag : Shape) → moved_by Where.in_text (shape_words tag) ≡ Where.in_text
-shape_is_whole (shapes.Svg width height) = simp past_number
+shape_is_whole (shapes.Svg class left width height) = simp (past_class, past_number)
 shape_is_whole (shapes.Group class) = simp past_class
 shape_is_whole (shapes.Rect class x y width height) = simp (past_class, past_number)
 shape_is_whole (shapes.Open class free top closed bottom) = simp (past_class, past_number)
@@ -156,11 +160,15 @@ fixed_is_whole variants.Of = refl
 fixed_is_whole variants.NotDrawn = refl
 fixed_is_whole variants.LeftOut = refl
 fixed_is_whole variants.EndRange = refl
+fixed_is_whole variants.Names = refl
+fixed_is_whole variants.NamesAgain = refl
+fixed_is_whole variants.EndSvg = refl
 fixed_is_whole variants.Hatch = refl
 fixed_is_whole variants.Title = refl
 fixed_is_whole variants.EndTitle = refl
 fixed_is_whole variants.LineFeed = refl
 fixed_is_whole variants.Lane = refl
+fixed_is_whole variants.Call = refl
 fixed_is_whole variants.Crash = refl
 fixed_is_whole variants.Place = refl
 fixed_is_whole variants.EndPlace = refl
@@ -172,6 +180,7 @@ fixed_is_whole variants.Table = refl
 fixed_is_whole variants.Cell = refl
 fixed_is_whole variants.NoReply = refl
 fixed_is_whole variants.Lost = refl
+fixed_is_whole variants.Asked = refl
 fixed_is_whole variants.AtFault = refl
 fixed_is_whole variants.Explains = refl
 fixed_is_whole variants.EndRow = refl

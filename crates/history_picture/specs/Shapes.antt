@@ -7,6 +7,9 @@ use Rattle.history_picture.specs.declared.shapes.Shape.{Shape}
 use Rattle.history_picture.specs.declared.shapes.Shape.TheVariants as shapes
 
 abbrev pub class_words : Class → List ℕ
+class_words classes.Names = codes "names"
+class_words classes.Again = codes "again"
+class_words classes.Strip = codes "strip"
 class_words classes.Lane = codes "lane"
 class_words classes.Odd = codes "odd"
 class_words classes.Tick = codes "tick"
@@ -17,14 +20,16 @@ class_words classes.Unanswered = codes "unanswered"
 class_words classes.Lost = codes "lost"
 class_words classes.Label = codes "label"
 class_words classes.Plain = codes "plain"
+class_words classes.Asked = codes "asked"
 class_words classes.Fault = codes "fault"
 class_words classes.Explains = codes "explains"
 
 -- each is whole: it begins and ends outside of a tag
 abbrev pub shape_words : Shape → List ℕ
-shape_words (shapes.Svg width height) =
-    codes "<svg xmlns=\"http://www.w3.org/2000/svg\" width=\"" ++ (decimal width ++ (codes "\" height=\"" ++ (decimal height
-    ++ (codes "\" viewBox=\"0 0 " ++ (decimal width ++ (codes " " ++ (decimal height ++ codes "\">\n")))))))
+shape_words (shapes.Svg class left width height) =
+    codes "<svg xmlns=\"http://www.w3.org/2000/svg\" class=\"" ++ (class_words class ++ (codes "\" width=\"" ++ (decimal width
+    ++ (codes "\" height=\"" ++ (decimal height ++ (codes "\" viewBox=\"" ++ (decimal left ++ (codes " 0 " ++ (decimal width
+    ++ (codes " " ++ (decimal height ++ codes "\">\n")))))))))))
 shape_words (shapes.Group class) = codes "<g class=\"" ++ (class_words class ++ codes "\">")
 shape_words (shapes.Rect class x y width height) =
     codes "<rect class=\"" ++ (class_words class ++ (codes "\" x=\"" ++ (decimal x ++ (codes "\" y=\"" ++ (decimal y

@@ -6,8 +6,8 @@ use crate::show_words::put_show_words;
 use crate::span::Span;
 use crate::standings::Standings;
 use certificate::Certificate;
-use history_file::{SeenEvent, read_file};
-use nfs_history::{HistoryFault, KnownCalls, read_calls};
+use history_file::{FileFault, SeenEvent, read_file};
+use nfs_history::KnownCalls;
 use std::alloc::{AllocError, Global};
 
 /// Which events are asked for.
@@ -15,8 +15,10 @@ use std::alloc::{AllocError, Global};
 pub enum Window {
     /// Those from one to another.
     Events { first: u64, last: u64 },
-    /// So many before a call, the events up to its reply, and so many behind it.
-    Around { call: u64, events: u64 },
+    /// From so many before one call, to so many behind the reply to another, or behind that call if none came.
+    Around { first: u64, last: u64, events: u64 },
+    /// So many before a crash, counted from 1, and so many behind it; the last ones if there is no such crash.
+    Crash { crash: u64, events: u64 },
 }
 
 /// What is asked for of a history.
@@ -26,28 +28,12 @@ pub struct Request<'r> {
     pub caption: &'r [u8],
     /// The events.
     pub window: Window,
+    /// The call that is asked for, if one is.
+    pub asked: Option<u64>,
     /// The call at fault, if there is one.
     pub fault: Option<u64>,
     /// The calls that explain the fault.
     pub explaining: &'r [u64],
-}
-
-impl Window {
-    /// The first and the last event, of so many.
-    fn ends(self, known: &KnownCalls<'_>, events: u64) -> (u64, u64) {
-        match self {
-            Window::Events { first, last } => (first.max(1), last.min(events)),
-            Window::Around {
-                call,
-                events: margin,
-            } => {
-                let begin = known.begin(call);
-                let end = known.end(call).unwrap_or(begin);
-                let first = begin.saturating_sub(margin).max(1);
-                (first, end.saturating_add(margin).min(events))
-            }
-        }
-    }
 }
 
 /// A history as it was read.
@@ -72,6 +58,42 @@ impl<'s, 'a> Source<'s, 'a> {
         match self.events.get((event as usize).wrapping_sub(1)) {
             Some(event) => message_in(event),
             None => &[],
+        }
+    }
+
+    /// The event of a crash, counted from 1; the last event if there is no such crash.
+    fn crash_event(self, crash: u64) -> u64 {
+        let mut seen_crashes = 0u64;
+        let mut number = 0u64;
+        for seen in self.events {
+            number = number.saturating_add(1);
+            if matches!(seen, SeenEvent::Crash) {
+                seen_crashes = seen_crashes.saturating_add(1);
+                if seen_crashes == crash {
+                    return number;
+                }
+            }
+        }
+        number
+    }
+
+    /// The first and the last of the events that are asked for.
+    fn ends(self, window: Window) -> (u64, u64) {
+        match window {
+            Window::Events { first, last } => (first, last),
+            Window::Around {
+                first,
+                last,
+                events,
+            } => {
+                let begin = self.known.begin(first);
+                let end = self.known.end(last).unwrap_or(self.known.begin(last));
+                (begin.saturating_sub(events), end.saturating_add(events))
+            }
+            Window::Crash { crash, events } => {
+                let at = self.crash_event(crash);
+                (at.saturating_sub(events), at.saturating_add(events))
+            }
         }
     }
 
@@ -217,6 +239,9 @@ fn standings_of(
     if let Some(certificate) = certificate {
         standings.put_places(certificate);
     }
+    if let Some(call) = request.asked {
+        standings.mark(call, Mark::Asked);
+    }
     for call in request.explaining {
         standings.mark(*call, Mark::Explains);
     }
@@ -235,7 +260,8 @@ fn bare_picture(
 ) -> Result<Picture, AllocError> {
     let standings = standings_of(alloc, source.known.count(), certificate, request)?;
     let events = source.events.len() as u64;
-    let (first, last) = request.window.ends(source.known, events);
+    let (from, to) = source.ends(request.window);
+    let (first, last) = (from.max(1), to.min(events));
     let span = Span::of(first, last);
     let choice = Choice {
         source,
@@ -258,18 +284,18 @@ fn bare_picture(
     })
 }
 
-/// The picture of a history file, with the places of a certificate if there is one. Nothing in the certificate is trusted: a place of a
-/// call that there isn't is passed over.
+/// The picture of a history file with these calls, and with the places of a certificate if there is one. Nothing in the certificate is
+/// trusted: a place of a call that there isn't is passed over.
 pub fn picture_of(
     alloc: Global,
     file: &[u8],
+    known: &KnownCalls<'_>,
     certificate: Option<&Certificate>,
     request: &Request<'_>,
-) -> Result<Picture, HistoryFault> {
-    let known = read_calls(alloc, file)?;
+) -> Result<Picture, FileFault> {
     let recording = read_file(alloc, file)?;
     let source = Source {
-        known: &known,
+        known,
         events: recording.events.as_slice(),
     };
     let mut picture = bare_picture(alloc, source, certificate, request)?;

@@ -6,8 +6,10 @@ use crate::parts::{Bar, Picture};
 use crate::span::Span;
 use std::alloc::{AllocError, Global};
 
-/// The names of lanes stand to the left of this.
-const LEFT: u64 = 96;
+/// How wide the names of lanes are.
+pub const NAMES: u64 = 96;
+/// How wide a strip is. Beside names it is as wide as a sheet.
+pub const STRIP: u64 = 1_104;
 /// The numbers of events stand above this.
 pub const TOP: u64 = 28;
 /// How far two events are apart at least.
@@ -18,6 +20,8 @@ const ROW: u64 = 26;
 const CHARACTER: u64 = 8;
 /// How far two labels are apart at least.
 const GAP: u64 = 12;
+/// How far a label is from an edge.
+const INSET: u64 = 5;
 /// How many bytes stand in a bar for a name at most.
 pub const LABEL_BYTES: usize = 32;
 
@@ -37,7 +41,16 @@ fn label_width(alloc: Global, bar: &Bar) -> Result<u64, AllocError> {
     if let Some(place) = bar.place {
         characters = characters.saturating_add(digits_of(place));
     }
-    Ok(characters.saturating_add(4).saturating_mul(CHARACTER))
+    Ok(characters.saturating_add(3).saturating_mul(CHARACTER))
+}
+
+/// Where a label that is so wide begins: in its bar if that is as wide, or else behind it.
+fn label_of(left: u64, right: u64, width: u64) -> u64 {
+    if right.saturating_sub(left) < width {
+        right.saturating_add(INSET)
+    } else {
+        left.saturating_add(INSET)
+    }
 }
 
 /// What an event is.
@@ -106,6 +119,8 @@ struct Placing {
     left: Option<u64>,
     /// Where its reply stands, or the crash behind it, if that is drawn.
     right: Option<u64>,
+    /// How wide its label is.
+    width: u64,
 }
 
 /// Where the bar of this index is drawn, if it is.
@@ -132,7 +147,7 @@ struct Sweep {
 impl Sweep {
     fn new(alloc: Global, lanes: usize, bars: usize) -> Result<Sweep, AllocError> {
         let mut sweep = Sweep {
-            at: LEFT,
+            at: 0,
             lanes: Vec::with_capacity(alloc, lanes)?,
             placings: Vec::with_capacity(alloc, bars)?,
             unanswered: Vec::new(alloc),
@@ -193,6 +208,7 @@ impl Sweep {
             row,
             left,
             right: None,
+            width,
         };
         self.put(index, placing);
         if bar.last.is_none() {
@@ -208,8 +224,13 @@ impl Sweep {
         };
         placing.right = Some(self.at);
         self.put(index, placing);
+        let label = label_of(placing.left.unwrap_or(0), self.at, placing.width);
         match self.lanes.get_mut(placing.lane) {
-            Some(rows) => rows.give(placing.row),
+            Some(rows) => {
+                let end = label.saturating_add(placing.width);
+                rows.set_end(placing.row, end.saturating_add(GAP));
+                rows.give(placing.row)
+            }
             None => Ok(()),
         }
     }
@@ -346,18 +367,36 @@ pub struct Drawn {
     pub left: u64,
     pub right: u64,
     pub top: u64,
+    /// Where its label begins.
+    pub label: u64,
+    /// How far it reaches to the right, with its label.
+    pub end: u64,
     /// Whether its call isn't drawn.
     pub is_open_left: bool,
     /// Whether its reply isn't drawn.
     pub is_open_right: bool,
 }
 
+/// A strip of a picture, from above to below. Strips stand side by side, and in print one below the other.
+#[derive(Clone, Copy)]
+pub struct Strip {
+    pub left: u64,
+}
+
+impl Strip {
+    /// Whether something is seen in it that reaches from one place to another.
+    pub fn shows(self, from: u64, to: u64) -> bool {
+        self.left <= to && from < self.left.saturating_add(STRIP)
+    }
+}
+
 /// Where everything stands in a picture.
 #[derive(Drop)]
 pub struct Layout {
     pub span: Span,
-    pub width: u64,
     pub height: u64,
+    /// How many strips there are.
+    pub strips: u64,
     bands: Vec<Band>,
     columns: Vec<u64>,
     placings: Vec<Option<Placing>>,
@@ -380,14 +419,15 @@ impl Layout {
         } = sweep;
         drop(unanswered);
         let width = edge.max(labels_end(lanes.as_slice()));
+        let strips = (width / STRIP).saturating_add(1);
         let height = match bands.last() {
             Some(band) => band.top.saturating_add(band.height),
             None => TOP,
         };
         Ok(Layout {
             span,
-            width,
             height,
+            strips,
             bands,
             columns,
             placings,
@@ -411,11 +451,18 @@ impl Layout {
         let placing = placing_of(self.placings.as_slice(), index)?;
         let band = self.bands.get(placing.lane).copied()?;
         let below = (placing.row as u64).saturating_mul(ROW);
-        let right = placing.right.unwrap_or(self.edge);
+        let left = placing.left.unwrap_or(0);
+        let right = match placing.right {
+            Some(right) => right,
+            None => self.edge.max(left.saturating_add(placing.width)),
+        };
+        let label = label_of(left, right, placing.width);
         Some(Drawn {
-            left: placing.left.unwrap_or(LEFT),
+            left,
             right,
             top: band.top.saturating_add(below).saturating_add(4),
+            label,
+            end: right.max(label.saturating_add(placing.width)),
             is_open_left: placing.left.is_none(),
             is_open_right: placing.right.is_none() || bar.last.is_none(),
         })

@@ -3,11 +3,13 @@
 /// How many events a picture has at most.
 pub const PICTURE_EVENTS: u64 = 2_000;
 
-/// What a call has to do with a fault.
+/// Why a call is marked.
 #[derive(Clone, Copy, PartialEq, Eq)]
 pub enum Mark {
-    /// Nothing.
+    /// It isn't.
     Plain,
+    /// It is asked for.
+    Asked,
     /// It is at fault.
     AtFault,
     /// It explains the fault.

@@ -5,6 +5,12 @@ use std::fmt;
 /// How a shape looks.
 #[derive(Clone, Copy)]
 pub enum Class {
+    /// The names of the lanes.
+    Names,
+    /// The names of the lanes once more.
+    Again,
+    /// A strip of the picture.
+    Strip,
     /// The rows of a lane.
     Lane,
     /// The rows of every second lane.
@@ -25,6 +31,8 @@ pub enum Class {
     Label,
     /// A call without a mark.
     Plain,
+    /// The call that is asked for.
+    Asked,
     /// The call at fault.
     Fault,
     /// A call that explains the fault.
@@ -39,6 +47,9 @@ impl fmt::Display for Class {
 
     fn fmt<W: fmt::Write>(&self, f: &mut fmt::Formatter<W>) -> fmt::Result {
         match self {
+            Class::Names => f.write_str("names"),
+            Class::Again => f.write_str("again"),
+            Class::Strip => f.write_str("strip"),
             Class::Lane => f.write_str("lane"),
             Class::Odd => f.write_str("odd"),
             Class::Tick => f.write_str("tick"),
@@ -49,6 +60,7 @@ impl fmt::Display for Class {
             Class::Lost => f.write_str("lost"),
             Class::Label => f.write_str("label"),
             Class::Plain => f.write_str("plain"),
+            Class::Asked => f.write_str("asked"),
             Class::Fault => f.write_str("fault"),
             Class::Explains => f.write_str("explains"),
         }
@@ -58,8 +70,10 @@ impl fmt::Display for Class {
 /// A tag. Lengths are in pixels, from the upper left corner.
 #[derive(Clone, Copy)]
 pub enum Shape {
-    /// The picture.
+    /// The beginning of a part of the picture, from one place on.
     Svg {
+        class: Class,
+        left: u64,
         width: u64,
         height: u64,
     },
@@ -106,9 +120,14 @@ impl fmt::Display for Shape {
 
     fn fmt<W: fmt::Write>(&self, f: &mut fmt::Formatter<W>) -> fmt::Result {
         match self {
-            Shape::Svg { width, height } => writeln!(
+            Shape::Svg {
+                class,
+                left,
+                width,
+                height,
+            } => writeln!(
                 f,
-                "<svg xmlns=\"http://www.w3.org/2000/svg\" width=\"{width}\" height=\"{height}\" viewBox=\"0 0 {width} {height}\">"
+                "<svg xmlns=\"http://www.w3.org/2000/svg\" class=\"{class}\" width=\"{width}\" height=\"{height}\" viewBox=\"{left} 0 {width} {height}\">"
             ),
             Shape::Group(class) => write!(f, "<g class=\"{class}\">"),
             Shape::Rect {

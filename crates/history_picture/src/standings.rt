@@ -1,4 +1,4 @@
-//! Where the calls stand in the order of a certificate, and what they have to do with a fault.
+//! Where the calls stand in the order of a certificate, and which are marked.
 
 use crate::parts::Mark;
 use certificate::{Certificate, EraPlan};
@@ -11,7 +11,7 @@ pub struct Standing {
     pub place: Option<u64>,
     /// Whether the crash behind its era took it away.
     pub is_lost: bool,
-    /// What it has to do with the fault.
+    /// Why it is marked.
     pub mark: Mark,
 }
 

@@ -41,10 +41,11 @@ fn put_place(page: &mut Page, bar: &Bar) -> Result<(), AllocError> {
     page.fixed(Fixed::Cell)
 }
 
-/// Appends what a call has to do with the fault.
+/// Appends why a call is marked.
 fn put_mark(page: &mut Page, bar: &Bar) -> Result<(), AllocError> {
     match bar.mark {
         Mark::Plain => Ok(()),
+        Mark::Asked => page.fixed(Fixed::Asked),
         Mark::AtFault => page.fixed(Fixed::AtFault),
         Mark::Explains => page.fixed(Fixed::Explains),
     }

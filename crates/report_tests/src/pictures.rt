@@ -4,6 +4,7 @@ use certificate::read_certificate;
 use history_picture::{
     Bar, Mark, Page, Picture, Request, Window, escape, picture_of, picture_page,
 };
+use nfs_history::read_calls;
 use std::alloc::{AllocError, Global};
 use std::test::Fail;
 
@@ -28,32 +29,41 @@ const CERTIFICATE: &[u8] = b"witness 1\nplace 1\nplace 2\ncut 1\nplace 3\nend\n"
 
 /// The picture in the page of `three_calls`, behind the first tag's name.
 const THREE_CALLS: &str =
-    "xmlns=\"http://www.w3.org/2000/svg\" width=\"350\" height=\"80\" viewBox=\"0 0 350 80\">
-<defs><pattern id=\"hatch\" width=\"6\" height=\"6\" patternUnits=\"userSpaceOnUse\" patternTransform=\"rotate(45)\"><rect class=\"hatch\" width=\"2\" height=\"6\"/></pattern></defs>
-<rect class=\"odd\" x=\"0\" y=\"28\" width=\"350\" height=\"26\"/>
+    "xmlns=\"http://www.w3.org/2000/svg\" class=\"names\" width=\"96\" height=\"80\" viewBox=\"0 0 96 80\">
+<g id=\"names\">
+<rect class=\"odd\" x=\"0\" y=\"28\" width=\"96\" height=\"26\"/>
+<rect class=\"lane\" x=\"0\" y=\"54\" width=\"96\" height=\"26\"/>
 <text class=\"lane\" x=\"6\" y=\"45\">lane 1</text>
-<rect class=\"lane\" x=\"0\" y=\"54\" width=\"350\" height=\"26\"/>
 <text class=\"lane\" x=\"6\" y=\"71\">lane 7</text>
-<line class=\"tick\" x1=\"110\" y1=\"22\" x2=\"110\" y2=\"80\"/>
-<text class=\"tick\" x=\"110\" y=\"18\">1</text>
+</g>
+</svg>
+<svg xmlns=\"http://www.w3.org/2000/svg\" class=\"again\" width=\"96\" height=\"80\" viewBox=\"0 0 96 80\">
+<use href=\"#names\"/>
+</svg>
+<svg xmlns=\"http://www.w3.org/2000/svg\" class=\"strip\" width=\"1104\" height=\"80\" viewBox=\"0 0 1104 80\">
+<defs><pattern id=\"hatch\" width=\"6\" height=\"6\" patternUnits=\"userSpaceOnUse\" patternTransform=\"rotate(45)\"><rect class=\"hatch\" width=\"2\" height=\"6\"/></pattern></defs>
+<rect class=\"odd\" x=\"0\" y=\"28\" width=\"1104\" height=\"26\"/>
+<rect class=\"lane\" x=\"0\" y=\"54\" width=\"1104\" height=\"26\"/>
+<line class=\"tick\" x1=\"14\" y1=\"22\" x2=\"14\" y2=\"80\"/>
+<text class=\"tick\" x=\"14\" y=\"18\">1</text>
+<g class=\"crash\"><title>crash, event 6</title>
+<line class=\"crash\" x1=\"215\" y1=\"22\" x2=\"215\" y2=\"80\"/>
+</g>
 <g class=\"plain\"><title>asked &quot;1&quot;
 answered</title>
-<rect class=\"bar\" x=\"110\" y=\"32\" width=\"14\" height=\"18\"/>
-<text class=\"label\" x=\"115\" y=\"45\"><tspan class=\"place\">1</tspan> CREATE a&lt;b</text>
+<rect class=\"bar\" x=\"14\" y=\"32\" width=\"14\" height=\"18\"/>
+<text class=\"label\" x=\"33\" y=\"45\"><tspan class=\"place\">1</tspan> CREATE a&lt;b</text>
 </g>
 <g class=\"fault\"><title>asked &quot;1&quot;
 answered</title>
-<rect class=\"bar\" x=\"258\" y=\"32\" width=\"28\" height=\"18\"/>
-<rect class=\"lost\" x=\"258\" y=\"32\" width=\"28\" height=\"18\"/>
-<text class=\"label\" x=\"263\" y=\"45\"><tspan class=\"place\">2</tspan> WRITE </text>
+<rect class=\"bar\" x=\"173\" y=\"32\" width=\"28\" height=\"18\"/>
+<rect class=\"lost\" x=\"173\" y=\"32\" width=\"28\" height=\"18\"/>
+<text class=\"label\" x=\"206\" y=\"45\"><tspan class=\"place\">2</tspan> WRITE </text>
 </g>
 <g class=\"explains\"><title>asked &quot;1&quot;
 </title>
-<path class=\"unanswered\" d=\"M300 58H272V76H300\"/>
-<text class=\"label\" x=\"277\" y=\"71\">READ </text>
-</g>
-<g class=\"crash\"><title>crash, event 6</title>
-<line class=\"crash\" x1=\"300\" y1=\"22\" x2=\"300\" y2=\"80\"/>
+<path class=\"unanswered\" d=\"M215 58H187V76H215\"/>
+<text class=\"label\" x=\"220\" y=\"71\">READ </text>
 </g>
 </svg>
 </div>
@@ -225,13 +235,17 @@ fn history_page(alloc: Global, window: Window) -> Result<Option<Page>, AllocErro
     let Ok(certificate) = read_certificate(alloc, CERTIFICATE) else {
         return Ok(None);
     };
+    let Ok(known) = read_calls(alloc, file.as_slice()) else {
+        return Ok(None);
+    };
     let request = Request {
         caption: b"history",
         window,
+        asked: Some(2),
         fault: Some(3),
         explaining: &[1],
     };
-    let Ok(picture) = picture_of(alloc, file.as_slice(), Some(&certificate), &request) else {
+    let Ok(picture) = picture_of(alloc, file.as_slice(), &known, Some(&certificate), &request) else {
         return Ok(None);
     };
     Ok(Some(picture_page(alloc, &picture)?))
@@ -314,7 +328,7 @@ fn a_history_is_drawn(rt: HostRuntime) -> Result<(), Fail> {
     let all = [
         "<p>Events 1 to 6 of 6.</p>",
         "<tr class=\"explains\"><td>1</td><td>1</td><td>1 to 2</td><td>CREATE</td><td>&lt;</td><td>NFS3_OK</td><td>1</td><td>explains it</td></tr>",
-        "<tr class=\"plain\"><td>2</td><td>1</td><td>3 to 4</td><td>WRITE</td><td>handle aa</td><td>NFS3_OK</td><td>2, lost</td><td></td></tr>",
+        "<tr class=\"asked\"><td>2</td><td>1</td><td>3 to 4</td><td>WRITE</td><td>handle aa</td><td>NFS3_OK</td><td>2, lost</td><td>asked for</td></tr>",
         "<tr class=\"fault\"><td>3</td><td>2</td><td>5 to 6</td><td>READ</td><td>handle aa</td><td>NFS3_OK</td><td>3</td><td>at fault</td></tr>",
         "<title>1 call 1 lane 1 xid 0x00000001 CREATE directory 00 name &quot;&lt;&quot; UNCHECKED\n2 reply to call 1 lane 1 xid 0x00000001 CREATE NFS3_OK object aa</title>",
         "<tspan class=\"place\">1</tspan> CREATE &lt;</text>",
@@ -325,10 +339,14 @@ fn a_history_is_drawn(rt: HostRuntime) -> Result<(), Fail> {
 
 #[test]
 fn a_call_is_drawn_with_what_is_around_it(rt: HostRuntime) -> Result<(), Fail> {
-    let around = Window::Around { call: 2, events: 1 };
+    let around = Window::Around {
+        first: 2,
+        last: 2,
+        events: 1,
+    };
     let all = [
         "<p>Events 2 to 5 of 6.</p>",
-        "<path class=\"cut\" d=\"M96 32H110V50H96\"/>",
+        "<path class=\"cut\" d=\"M0 32H14V50H0\"/>",
         "<title>1 call 1 lane 1 xid 0x00000001 CREATE",
     ];
     assert!(rt; is_history_drawn(rt.alloc(), around, all.as_slice())?);
