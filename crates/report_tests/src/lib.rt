@@ -8,4 +8,6 @@ mod json;
 #[cfg(test)]
 mod looks;
 #[cfg(test)]
+mod pages;
+#[cfg(test)]
 mod pictures;
