@@ -10,6 +10,7 @@ ghost use Rattle.program_streams.specs.Streams.{AppendsFront, GivesAll, HasRoom}
 ghost use Rattle.program_streams.specs.Told.{Tells, memory_line};
 ghost use Rattle.witness_check.specs.declared.fault.Fault.{Fault};
 
+use crate::draw::draw_path;
 use crate::files::{
     check_paths, check_paths_as_json, read_history_file, report_paths, report_paths_as_json,
 };
@@ -22,6 +23,7 @@ use deciding_command::{
     DecideRequest, PrefixRequest, decide_command, decide_history, decide_request, prefix_command,
     prefix_history, prefix_request,
 };
+use drawing_command::{DrawRequest, draw_command, draw_request};
 use import_command::{ImportRequest, import_command, import_request, run_import};
 use judging_commands::{
     SearchRequest, json_option, refused_as_json, run_bundle, search_command, search_history,
@@ -58,6 +60,8 @@ enum Request<'a> {
     Report(FilesRequest<'a>),
     /// The events of a history.
     Show(ShowRequest<'a>),
+    /// A picture of a history.
+    Draw(DrawRequest<'a>),
     /// A certificate.
     Search(SearchRequest<'a>),
     /// Whether there is a certificate.
@@ -137,6 +141,7 @@ fn command<'a>(alloc: Global) -> Result<Command<'a>, AllocError> {
         .subcommand(check_command(alloc)?)?
         .subcommand(report_command(alloc)?)?
         .subcommand(show_command(alloc)?)?
+        .subcommand(draw_command(alloc)?)?
         .subcommand(search_command(alloc)?)?
         .subcommand(decide_command(alloc)?)?
         .subcommand(prefix_command(alloc)?)?
@@ -180,6 +185,7 @@ fn read_words<'a, S: AsStr>(alloc: Global, words: &'a [S]) -> Result<Request<'a>
         Some(("mend", mend)) => Ok(Request::Mend(mend_request(mend))),
         Some(("import", import)) => Ok(Request::Import(import_request(import))),
         Some(("show", show)) => Ok(Request::Show(show_request(show))),
+        Some(("draw", draw)) => Ok(Request::Draw(draw_request(draw))),
         Some(("search", search)) => Ok(Request::Search(search_request(search))),
         Some(("decide", decide)) => Ok(Request::Decide(decide_request(decide))),
         Some(("prefix", prefix)) => Ok(Request::Prefix(prefix_request(prefix))),
@@ -372,6 +378,7 @@ pub(crate) fn judge_words<'a, R: Files + AllocGlobal, S: AsStr, I: Input, O: Out
         Ok(Request::Check(request)) => Ok(tell_answer(output, check_files_at(rt, &request))),
         Ok(Request::Report(request)) => Ok(tell_answer(output, report_files_at(rt, &request))),
         Ok(Request::Show(request)) => Ok(show_path(rt, &request, output)),
+        Ok(Request::Draw(request)) => Ok(draw_path(rt, &request, output)),
         Ok(Request::Prefix(request)) => Ok(prefix_path(rt, &request, output)),
         Ok(Request::Mend(request)) => Err(Waiting::Mend(request)),
         Ok(Request::Import(request)) => Err(Waiting::Import(request)),
@@ -392,8 +399,8 @@ pub(crate) fn judge_words<'a, R: Files + AllocGlobal, S: AsStr, I: Input, O: Out
 ///
 /// Without further words it is `run_bundle`. With `check` and two paths both files are read, in this order, before
 /// anything is judged, and what is said is what `judge_read` gives; with `report` and two paths it is what `report_read`
-/// gives; with `show` and a path a line for each event, and the first fault of the history; with `prefix`, a path, a number of events and
-/// a path to write what `prefix_history` gives; with `mend`, of a file and a path to write, what [`run_mend`] gives, and with
+/// gives; with `show` and a path a line for each event, and the first fault of the history; with `draw` and one path or two what
+/// `draw_history` gives; with `prefix`, a path, a number of events and a path to write what `prefix_history` gives; with `mend`, of a file and a path to write, what [`run_mend`] gives, and with
 /// `import` what [`run_import`] gives; which words ask for that, which files are opened and what the parser's texts are no clause
 /// says. With `search` and a path it is what `search_history` gives, with `decide` and a path what
 /// `decide_history` gives; with `run`, a path and two

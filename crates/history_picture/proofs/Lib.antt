@@ -1,0 +1,4 @@
+pub mod EscapingLaws
+pub mod PageLaws
+pub mod ReadingLaws
+pub mod TextLaws
