@@ -161,16 +161,17 @@ impl LineMaker {
         ensures printable { IfOk result (λ shown. IfSome shown.1 IsLine) }
         ensures shown { IfOk result (λ shown. IsShownAs self.now.look number shown.1) }
     {
-        if !self
+        let is_selected = self
             .look
             .selection
-            .has(number, about_call(call, lane, read))
-        {
+            .has(number, about_call(call, lane, read));
+        if !is_selected && self.look.sought.is_nothing() {
             return Ok((false, None));
         }
         let text = call_text(self.alloc, &self.look, number, call, lane, message, read)?;
-        if !self.look.sought.is_met(text.found()) {
-            return Ok((false, None));
+        let is_met = self.look.sought.is_met(text.found());
+        if !is_selected || !is_met {
+            return Ok((is_met, None));
         }
         Ok((true, Some(text.into_line()?)))
     }
