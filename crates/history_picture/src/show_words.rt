@@ -2,7 +2,7 @@
 
 use crate::parts::Bar;
 use history_file::FileFault;
-use history_lines::{EventLines, Line, Selection};
+use history_lines::{EventLines, Line, Look, Selection};
 use indexmap::IndexMap;
 use std::alloc::{AllocError, Global};
 use text_words::{number_of, split_at_byte};
@@ -96,12 +96,10 @@ fn take_line(
 /// Gives each bar the lines of its call and its reply in a history file.
 pub fn put_show_words(alloc: Global, file: &[u8], bars: &mut [Bar]) -> Result<(), FileFault> {
     let speakers = Speakers::of(alloc, bars)?;
-    let selection = Selection {
-        from: speakers.first,
-        to: speakers.last,
-        call: None,
-    };
-    let mut lines = EventLines::new(alloc, file, selection)?;
+    let mut selection = Selection::all();
+    selection.from = speakers.first;
+    selection.to = speakers.last;
+    let mut lines = EventLines::new(alloc, file, Look::at(selection))?;
     for _ in 0..u64::MAX {
         let Some(line) = lines.next_line()? else {
             break;
