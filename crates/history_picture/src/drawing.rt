@@ -208,7 +208,7 @@ fn put_hatching(page: &mut Page, drawn: &Drawn) -> Result<(), AllocError> {
 
 /// Appends a call, if it is seen in a strip.
 fn put_bar(page: &mut Page, strip: Strip, bar: &Bar, drawn: &Drawn) -> Result<(), AllocError> {
-    if !strip.shows(drawn.left, drawn.end) {
+    if !strip.shows(drawn.left, drawn.right.max(drawn.label_end)) {
         return Ok(());
     }
     page.shape(Shape::Group(class_of(bar.mark)))?;
@@ -217,7 +217,9 @@ fn put_bar(page: &mut Page, strip: Strip, bar: &Bar, drawn: &Drawn) -> Result<()
     if bar.is_lost {
         put_hatching(page, drawn)?;
     }
-    put_label(page, bar, drawn)?;
+    if strip.shows(drawn.label, drawn.label_end) {
+        put_label(page, bar, drawn)?;
+    }
     page.fixed(Fixed::EndGroup)
 }
 

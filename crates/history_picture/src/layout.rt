@@ -369,8 +369,8 @@ pub struct Drawn {
     pub top: u64,
     /// Where its label begins.
     pub label: u64,
-    /// How far it reaches to the right, with its label.
-    pub end: u64,
+    /// Where its label ends.
+    pub label_end: u64,
     /// Whether its call isn't drawn.
     pub is_open_left: bool,
     /// Whether its reply isn't drawn.
@@ -462,7 +462,7 @@ impl Layout {
             right,
             top: band.top.saturating_add(below).saturating_add(4),
             label,
-            end: right.max(label.saturating_add(placing.width)),
+            label_end: label.saturating_add(placing.width),
             is_open_left: placing.left.is_none(),
             is_open_right: placing.right.is_none() || bar.last.is_none(),
         })
