@@ -1,0 +1,113 @@
+//! The tree at a place of a plan: from what stood at first, by what the eras ahead kept, and by the places ahead in its era.
+
+ghost use Rattle.std.specs.Prelude.{◌≡◌, IfOk, IfSome, OnOk, OnErr, Some, Err, None, map, take, length};
+ghost use Rattle.std.specs.Option.{option_to_list};
+ghost use Rattle.replay_law.specs.Run.{state_after, kept_steps};
+ghost use Rattle.replay_law.specs.declared.replay.StepFault.TheVariants.{NotAllowed};
+ghost use Rattle.tree_starts.specs.Start.{object_made};
+ghost use Rattle.witness_check.specs.Run.{step_at, steps_of, era_of};
+ghost use Rattle.certificate.specs.Plan.{cut_of};
+ghost use Rattle.fault_reasons.specs.Reason.{steps_behind};
+ghost use Rattle.fault_reasons.specs.Running.{next_by, first_tree};
+
+use crate::placed::{Placed, placed_at};
+use certificate::{Certificate, EraPlan, Place};
+use file_tree::FileTree;
+use nfs_history::KnownCalls;
+use replay_law::StepFault;
+use std::alloc::Global;
+use tree_handles::Binds;
+
+/// What steps are taken by.
+#[derive(Clone, Copy)]
+pub(crate) struct Rule<'h, 'a> {
+    pub(crate) alloc: Global,
+    pub(crate) history: &'h KnownCalls<'a>,
+    /// Whose binds these are.
+    pub(crate) plan: &'h Certificate,
+    pub(crate) binds: &'h Binds,
+}
+
+/// The number of the object that a call makes. A history has too few calls and starting objects for a sum past 64 bits.
+pub(crate) fn object_made(rule: &Rule<'_, '_>, number: u64) -> Option<u64>
+    ensures { IfSome result (λ object. object ≡ object_made (length rule.now.history.now.head.start) number) }
+{
+    number.checked_add(rule.history.start().count() as u64)
+}
+
+/// Takes a step.
+pub(crate) fn take_step(
+    tree: &mut FileTree,
+    rule: &Rule<'_, '_>,
+    step: &Placed,
+) -> Result<(), StepFault>
+    ensures next { OnOk result (next_by rule.now tree.old step.now.number step.now.call step.now.outcome ≡ Some tree.new) }
+    ensures not_allowed { result ≡ Err NotAllowed → next_by rule.now tree.old step.now.number step.now.call step.now.outcome ≡ None }
+    ensures err { OnErr result (tree.new ≡ tree.old) }
+{
+    let Some(object) = object_made(rule, step.number) else {
+        return Err(StepFault::NoMemory);
+    };
+    let profile = rule.history.profile();
+    drop(tree.step_under(profile, rule.binds, object, &step.call, &step.outcome)?);
+    Ok(())
+}
+
+/// Takes the step of a place, where it has one.
+fn run_place(tree: &mut FileTree, rule: &Rule<'_, '_>, place: Place) -> Result<(), StepFault>
+    ensures { OnOk result (state_after (next_by rule.now) tree.old (option_to_list (step_at rule.now.history.now.calls place)) ≡ Some tree.new) }
+{
+    match placed_at(rule.alloc, rule.history, place)? {
+        Some(placed) => take_step(tree, rule, &placed),
+        None => Ok(()),
+    }
+}
+
+/// Takes the steps of places.
+fn run_places(
+    tree: &mut FileTree,
+    rule: &Rule<'_, '_>,
+    places: &[Place],
+) -> Result<(), StepFault>
+    ensures { OnOk result (state_after (next_by rule.now) tree.old (steps_of rule.now.history.now.calls places.now) ≡ Some tree.new) }
+{
+    for place in places {
+        run_place(tree, rule, *place)?;
+    }
+    Ok(())
+}
+
+/// The places of an era that the crash at its end leaves.
+fn kept_places(era: &EraPlan) -> &[Place]
+    ensures { result.now ≡ take (cut_of era.now) era.now.places }
+{
+    let places = era.places.as_slice();
+    match era.cut {
+        Some(cut) if (cut as usize) < places.len() => &places[..cut as usize],
+        _ => places,
+    }
+}
+
+/// Takes the steps that eras keep.
+fn run_kept(tree: &mut FileTree, rule: &Rule<'_, '_>, eras: &[EraPlan]) -> Result<(), StepFault>
+    ensures { OnOk result (state_after (next_by rule.now) tree.old (kept_steps (map (era_of rule.now.history.now.calls) eras.now)) ≡ Some tree.new) }
+{
+    for era in eras {
+        run_places(tree, rule, kept_places(era))?;
+    }
+    Ok(())
+}
+
+/// The tree behind what these eras kept, and behind these places of the next one.
+pub(crate) fn tree_behind(
+    rule: &Rule<'_, '_>,
+    ahead: &[EraPlan],
+    front: &[Place],
+) -> Result<FileTree, StepFault>
+    ensures { IfOk result (λ tree. state_after (next_by rule.now) (first_tree rule.now) (steps_behind rule.now.history.now.calls ahead.now front.now) ≡ Some tree) }
+{
+    let mut tree = FileTree::of_start(rule.alloc, rule.history.start())?;
+    run_kept(&mut tree, rule, ahead)?;
+    run_places(&mut tree, rule, front)?;
+    Ok(tree)
+}
