@@ -1,6 +1,6 @@
 -- Believed.
 -- What the reasons say that are given for a certificate which is no witness (words of this project's own).
-use Rattle.std.specs.Prelude.{◌≡◌, ◌×◌, ◌+◌, ℕ, List, [], ◌∷◌, ◌++◌, length, map, Option, Some, None, IsSome, IfSome}
+use Rattle.std.specs.Prelude.{◌≡◌, ◌+◌, ℕ, List, ◌∷◌, ◌++◌, length, map, Option, Some, None, IsSome, IfSome}
 use Rattle.nfs3_types.specs.declared.calls.NfsCall.{NfsCall}
 use Rattle.nfs3_types.specs.declared.replies.Outcome.{Outcome}
 use Rattle.nfs3_types.specs.declared.replies.Outcome.TheVariants.{Received}

@@ -1,9 +1,10 @@
 //! Explaining a verdict.
 
-ghost use Rattle.std.specs.Prelude.{◌≡◌, ◌×◌, IfOk, IfSome, MatchOption, MatchBool, None};
+ghost use Rattle.std.specs.Prelude.{◌≡◌, IfOk, IfSome, MatchOption, MatchBool, None, ⊤};
 ghost use Rattle.nfs_history.specs.declared.knowing.KnownCalls.{KnownCalls};
 ghost use Rattle.certificate.specs.declared.plan.Certificate.{Certificate};
 ghost use Rattle.witness_check.specs.declared.fault.Fault.TheVariants as faults;
+ghost use Rattle.cut_check.specs.Places.{bindings_of};
 ghost use Rattle.witness_check.specs.Witness.{IsWitness};
 ghost use Rattle.witness_check.specs.Verdict.{IsPlanFault};
 ghost use Rattle.fault_reasons.specs.Reason.{IsReasonOf, IsIllegalIn, IsIllegalPlace, IsSpot};
@@ -20,6 +21,7 @@ use nfs_history::KnownCalls;
 use nfs3_types::NfsReply;
 use replay_law::StepFault;
 use std::alloc::{AllocError, Global};
+use tree_handles::Binds;
 use witness_check::{Fault, Verdict, check_calls};
 
 /// Where a call is placed.
@@ -34,6 +36,7 @@ struct Spot<'p> {
 }
 
 /// The place of a call in its era, with the places ahead of it.
+#[tactic(auto, using(crate::proofs::Told::stands_behind))]
 fn spot_in<'p>(ahead: &'p [EraPlan], era: &'p EraPlan, number: u64) -> Option<Spot<'p>>
     ensures { IfSome result (λ spot. (spot.ahead.now ≡ ahead.now) × StandsBehind era.now.places spot.front.now spot.place) }
 {
@@ -49,6 +52,7 @@ fn spot_in<'p>(ahead: &'p [EraPlan], era: &'p EraPlan, number: u64) -> Option<Sp
 }
 
 /// The place of a call of this era in a plan.
+#[tactic(auto, using(crate::proofs::Told::is_spot))]
 fn spot_of(eras: &[EraPlan], era: u64, number: u64) -> Option<Spot<'_>>
     ensures { IfSome result (λ spot. IsSpot eras.now spot.ahead.now spot.front.now spot.place) }
 {
@@ -61,7 +65,7 @@ fn spot_of(eras: &[EraPlan], era: u64, number: u64) -> Option<Spot<'_>>
 /// Whether a tree doesn't take a step. Then it is as it was.
 fn stops(tree: &mut FileTree, rule: &Rule<'_, '_>, step: &Placed) -> Result<bool, AllocError>
     ensures { IfOk result (λ stops. MatchBool stops
-        ((next_by rule.now tree.old step.now.number step.now.call step.now.outcome ≡ None) × (tree.new ≡ tree.old)) (Unit {0})) }
+        ((next_by rule.now tree.old step.now.number step.now.call step.now.outcome ≡ None) × (tree.new ≡ tree.old)) ⊤) }
 {
     match take_step(tree, rule, step) {
         Ok(()) => Ok(false),
@@ -90,6 +94,7 @@ fn illegal_step(spot: &Spot<'_>, step: Placed, right: Option<NfsReply>) -> Illeg
 }
 
 /// What is told of a place, where its tree doesn't take its step.
+#[tactic(auto, using(crate::proofs::Told::told))]
 fn illegal_at(rule: &Rule<'_, '_>, spot: &Spot<'_>) -> Result<Option<IllegalPlace>, StepFault>
     requires { IsSpot rule.now.plan.now.eras spot.now.ahead.now spot.now.front.now spot.now.place }
     ensures { IfOk result (λ found. IfSome found
@@ -106,7 +111,19 @@ fn illegal_at(rule: &Rule<'_, '_>, spot: &Spot<'_>) -> Result<Option<IllegalPlac
     Ok(Some(illegal_step(spot, step, right)))
 }
 
+/// What the handles of a history name, as a plan has it.
+fn binds_of(
+    alloc: Global,
+    history: &KnownCalls<'_>,
+    certificate: &Certificate,
+) -> Result<Binds, AllocError>
+    ensures { IfOk result (λ binds. binds ≡ bindings_of history.now.head.root certificate.now.binds) }
+{
+    bindings_of_plan(alloc, &history.lend(), certificate)
+}
+
 /// What is told of the place of a call, where the tree there doesn't take its outcome.
+#[tactic(auto, using(crate::proofs::Told::same_binds))]
 fn illegal_place(
     alloc: Global,
     history: &KnownCalls<'_>,
@@ -121,7 +138,7 @@ fn illegal_place(
     let Some(spot) = spot_of(certificate.eras.as_slice(), era, number) else {
         return Ok(None);
     };
-    let binds = bindings_of_plan(alloc, &history.lend(), certificate)?;
+    let binds = binds_of(alloc, history, certificate)?;
     let rule = Rule {
         alloc,
         history,
@@ -140,9 +157,13 @@ fn reason_of_illegal(number: u64, found: Option<IllegalPlace>) -> Reason
     ensures { (history : KnownCalls) (plan : Certificate) → IsPlanFault history plan (faults.Illegal number)
         → IfSome found (IsIllegalPlace history plan) → IsReasonOf history plan result }
 {
-    match found {
-        Some(place) if place.number == number => Reason::Illegal(place),
-        _ => Reason::Other(Fault::Illegal(number)),
+    let Some(place) = found else {
+        return Reason::Other(Fault::Illegal(number));
+    };
+    if place.number == number {
+        Reason::Illegal(place)
+    } else {
+        Reason::Other(Fault::Illegal(number))
     }
 }
 

@@ -11,8 +11,6 @@ mod looks;
 mod placed;
 mod reason;
 mod running;
-#[cfg(test)]
-mod tests;
 
 pub use explaining::explain;
 pub use reason::{IllegalPlace, Reason};

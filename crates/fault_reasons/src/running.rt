@@ -49,11 +49,17 @@ pub(crate) fn take_step(
         return Err(StepFault::NoMemory);
     };
     let profile = rule.history.profile();
-    drop(tree.step_under(profile, rule.binds, object, &step.call, &step.outcome)?);
-    Ok(())
+    match tree.step_under(profile, rule.binds, object, &step.call, &step.outcome) {
+        Ok(undo) => {
+            drop(undo);
+            Ok(())
+        }
+        Err(fault) => Err(fault),
+    }
 }
 
 /// Takes the step of a place, where it has one.
+#[tactic(auto, using(crate::proofs::Behind::one_step, crate::proofs::Behind::no_step))]
 fn run_place(tree: &mut FileTree, rule: &Rule<'_, '_>, place: Place) -> Result<(), StepFault>
     ensures { OnOk result (state_after (next_by rule.now) tree.old (option_to_list (step_at rule.now.history.now.calls place)) ≡ Some tree.new) }
 {
@@ -82,10 +88,11 @@ fn kept_places(era: &EraPlan) -> &[Place]
     ensures { result.now ≡ take (cut_of era.now) era.now.places }
 {
     let places = era.places.as_slice();
-    match era.cut {
-        Some(cut) if (cut as usize) < places.len() => &places[..cut as usize],
-        _ => places,
-    }
+    let (kept, _) = match era.cut {
+        Some(cut) if (cut as usize) < places.len() => places.split_at(cut as usize),
+        _ => places.split_at(places.len()),
+    };
+    kept
 }
 
 /// Takes the steps that eras keep.
@@ -99,6 +106,7 @@ fn run_kept(tree: &mut FileTree, rule: &Rule<'_, '_>, eras: &[EraPlan]) -> Resul
 }
 
 /// The tree behind what these eras kept, and behind these places of the next one.
+#[tactic(auto, using(crate::proofs::Behind::started))]
 pub(crate) fn tree_behind(
     rule: &Rule<'_, '_>,
     ahead: &[EraPlan],

@@ -1,0 +1,66 @@
+-- Where a call is placed, and what is told of it.
+use Rattle.std.proofs.Common.{◌≡◌, ℕ, List, ◌∷◌, ◌++◌, take, drop, map, option_map, Option, Some, None, length, refl, ap, sym, ◌∙◌, subst}
+use Rattle.std.specs.Prelude.{IsSome, IfSome}
+use Rattle.core.specs.List.{IsSplitAt, IsFirstAndRest}
+use Rattle.std.proofs.lemmas.List.{take-append-drop}
+use Rattle.nfs3_types.specs.declared.calls.NfsCall.{NfsCall}
+use Rattle.nfs3_types.specs.declared.replies.NfsReply.{NfsReply}
+use Rattle.nfs3_types.specs.declared.replies.Outcome.{Outcome}
+use Rattle.nfs3_types.specs.declared.replies.Outcome.TheVariants.{Received}
+use Rattle.nfs_history.specs.declared.recorded.RecordedCall.{RecordedCall}
+use Rattle.certificate.specs.declared.plan.Place.{Place}
+use Rattle.certificate.specs.declared.plan.EraPlan.{EraPlan}
+use Rattle.replay_law.specs.Run.{state_after}
+use Rattle.tree_starts.specs.declared.profile.Profile.{Profile}
+use Rattle.tree_nodes.specs.Tree.{Tree}
+use Rattle.tree_handles.specs.Binding.{Bindings}
+use Rattle.file_tree.specs.Setting.{next_in}
+use Rattle.witness_check.specs.Run.{step_at}
+use Rattle.fault_reasons.specs.declared.placed.Placed.{Placed}
+use Rattle.fault_reasons.specs.declared.explaining.Spot.{Spot}
+use Rattle.fault_reasons.specs.declared.reason.IllegalPlace.{IllegalPlace}
+use Rattle.fault_reasons.specs.Reason.{IsSpot, steps_behind, IsIllegalIn}
+use Rattle.fault_reasons.specs.Running.{placed_step, StandsBehind, illegal_of}
+
+-- the first of what is left stands behind the front
+pub stands_behind : {A : Type 0} (all front rest back : List A) (x : A) (i : ℕ) → IsSplitAt all i front rest → IsFirstAndRest rest x back → StandsBehind all front x
+stands_behind all front rest back x i split first =
+    (back, sym (take-append-drop i all) ∙ ap (λ ys. ys ++ drop i all) (sym split.1.0) ∙ ap (λ ys. front ++ ys) (sym split.1.1.0 ∙ first.0))
+
+-- the place of an era, in a plan
+pub is_spot : (eras ahead rest behind : List EraPlan) (era : EraPlan) (i : ℕ) (spot : Spot) → IsSplitAt eras i ahead rest → IsFirstAndRest rest era behind
+    → (spot.ahead.now ≡ ahead) × StandsBehind era.places spot.front.now spot.place → IsSpot eras spot.ahead.now spot.front.now spot.place
+is_spot eras ahead rest behind era i spot split first stands = record {
+  era = era;
+  behind = behind;
+  back = stands.1.0;
+  eras_are = (stands_behind eras ahead rest behind era i split first).1 ∙ ap (λ xs. xs ++ era ∷ behind) (sym stands.0);
+  places_are = stands.1.1;
+}
+
+-- what is told of a step that its tree doesn't take
+pub told : (next : Tree → ℕ → NfsCall → Outcome → Option Tree) (base : Tree) (calls : List RecordedCall) (eras : List EraPlan) (spot : Spot) (step : Placed) (found : Option Placed)
+    (right : Option NfsReply) (tree after : Tree) (given : IllegalPlace) → given ≡ illegal_of spot step right → IsSpot eras spot.ahead.now spot.front.now spot.place
+    → found ≡ Some step → option_map placed_step found ≡ step_at calls spot.place → state_after next base (steps_behind calls spot.ahead.now spot.front.now) ≡ Some tree
+    → next tree step.number step.call step.outcome ≡ None → after ≡ tree → IfSome right (λ reply. IsSome (next after step.number step.call (Received reply)))
+    → IsIllegalIn next base calls eras given
+told next base calls eras spot step found right tree after given is stands some placed reached refused same taken =
+    subst (λ (p : IllegalPlace). IsIllegalIn next base calls eras p) (sym is) (record {
+      ahead = spot.ahead.now;
+      front = spot.front.now;
+      place = spot.place;
+      spot = stands;
+      era = refl;
+      position = refl;
+      step = sym placed ∙ ap (option_map placed_step) some;
+      tree = tree;
+      reached = reached;
+      refused = refused;
+      right = subst (λ (t : Tree). IfSome right (λ reply. IsSome (next t step.number step.call (Received reply)))) same taken;
+    })
+
+-- the same under equal binds
+pub same_binds : (profile : Profile) (first : ℕ) (base : Tree) (calls : List RecordedCall) (eras : List EraPlan) (b d : Bindings) (found : Option IllegalPlace) → b ≡ d
+    → IfSome found (IsIllegalIn (next_in profile first b) base calls eras) → IfSome found (IsIllegalIn (next_in profile first d) base calls eras)
+same_binds profile first base calls eras b d found is told_by =
+    subst (λ (x : Bindings). IfSome found (IsIllegalIn (next_in profile first x) base calls eras)) is told_by
