@@ -48,4 +48,4 @@ module _ {State : Type 0} (next : State → ℕ → NfsCall → Outcome → Opti
       let so_far = map (era_of calls) (take i eras) in
       ap (state_after next s) (ap kept_steps (map_more (era_of calls) eras i era inside is) ∙ kept_one_more so_far (era_of calls era))
       ∙ runs_on s t u (kept_steps so_far) (take (era_of calls era).kept (era_of calls era).steps) first
-        (ap (state_after next t) (kept (step_at calls) (cut_of era) era.places) ∙ behind)
+      (ap (state_after next t) (kept (step_at calls) (cut_of era) era.places) ∙ behind)

@@ -1,7 +1,7 @@
 -- Where a call is placed, and what is told of it.
 use Rattle.std.proofs.Common.{◌≡◌, ℕ, List, ◌∷◌, ◌++◌, take, drop, map, option_map, Option, Some, None, length, refl, ap, sym, ◌∙◌, subst}
 use Rattle.std.specs.Prelude.{IsSome, IfSome}
-use Rattle.core.specs.List.{IsSplitAt, IsFirstAndRest}
+use Rattle.std.specs.List.{IsSplitAt, IsFirstAndRest}
 use Rattle.std.proofs.lemmas.List.{take-append-drop}
 use Rattle.nfs3_types.specs.declared.calls.NfsCall.{NfsCall}
 use Rattle.nfs3_types.specs.declared.replies.NfsReply.{NfsReply}
@@ -25,7 +25,7 @@ use Rattle.fault_reasons.specs.Running.{placed_step, StandsBehind, illegal_of}
 -- the first of what is left stands behind the front
 pub stands_behind : {A : Type 0} (all front rest back : List A) (x : A) (i : ℕ) → IsSplitAt all i front rest → IsFirstAndRest rest x back → StandsBehind all front x
 stands_behind all front rest back x i split first =
-    (back, sym (take-append-drop i all) ∙ ap (λ ys. ys ++ drop i all) (sym split.1.0) ∙ ap (λ ys. front ++ ys) (sym split.1.1.0 ∙ first.0))
+    record { back = back; is = sym (take-append-drop i all) ∙ ap (λ ys. ys ++ drop i all) (sym split.1) ∙ ap (λ ys. front ++ ys) (sym split.2 ∙ first.0) }
 
 -- the place of an era, in a plan
 pub is_spot : (eras ahead rest behind : List EraPlan) (era : EraPlan) (i : ℕ) (spot : Spot) → IsSplitAt eras i ahead rest → IsFirstAndRest rest era behind
@@ -33,9 +33,9 @@ pub is_spot : (eras ahead rest behind : List EraPlan) (era : EraPlan) (i : ℕ) 
 is_spot eras ahead rest behind era i spot split first stands = record {
   era = era;
   behind = behind;
-  back = stands.1.0;
-  eras_are = (stands_behind eras ahead rest behind era i split first).1 ∙ ap (λ xs. xs ++ era ∷ behind) (sym stands.0);
-  places_are = stands.1.1;
+  back = stands.1.back;
+  eras_are = (stands_behind eras ahead rest behind era i split first).is ∙ ap (λ xs. xs ++ era ∷ behind) (sym stands.0);
+  places_are = stands.1.is;
 }
 
 -- what is told of a step that its tree doesn't take

@@ -25,8 +25,9 @@ abbrev pub placed_step : Placed → TakenStep NfsCall Outcome
 placed_step placed = record { number = placed.number; call = placed.call; outcome = placed.outcome }
 
 -- these stand ahead of this one
-abbrev pub StandsBehind : {A : Type 0} → List A → List A → A → Type 0
-StandsBehind {A} all front x = (back : List A) × (all ≡ front ++ x ∷ back)
+pub record StandsBehind {A : Type 0} (all front : List A) (x : A) : Type 0 where
+  pub back : List A
+  pub is : all ≡ front ++ x ∷ back
 
 -- what is told of a step
 abbrev pub illegal_of : Spot → Placed → Option NfsReply → IllegalPlace

@@ -1,8 +1,6 @@
 //! Successes that a tree may give. Nothing is proved of them but that they are safe to make: the tree is asked about each.
 
-use crate::changes;
-use crate::lists;
-use crate::looks;
+use crate::{changes, lists, looks};
 use certificate::Bind;
 use nfs3_types::{FileHandle, NfsCall, NfsReply};
 use std::alloc::{AllocError, Global};

@@ -54,7 +54,10 @@ pub(crate) fn attributes(
     Ok(Some(NfsReply::GetAttr(Answer::Done(attributes))))
 }
 
-pub(crate) fn found(site: &Site<'_>, place: &DirectoryName) -> Result<Option<NfsReply>, AllocError> {
+pub(crate) fn found(
+    site: &Site<'_>,
+    place: &DirectoryName,
+) -> Result<Option<NfsReply>, AllocError> {
     let Some(directory) = directory_of(&site.view, &place.directory) else {
         return Ok(None);
     };
@@ -96,10 +99,7 @@ fn part(bytes: &[u8], offset: u64, count: usize) -> &[u8]
     &behind[..behind.len().min(count)]
 }
 
-pub(crate) fn bytes(
-    site: &Site<'_>,
-    call: &ReadArguments,
-) -> Result<Option<NfsReply>, AllocError> {
+pub(crate) fn bytes(site: &Site<'_>, call: &ReadArguments) -> Result<Option<NfsReply>, AllocError> {
     let Some(entry) = file_of(&site.view, &call.file) else {
         return Ok(None);
     };

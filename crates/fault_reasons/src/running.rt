@@ -70,11 +70,7 @@ fn run_place(tree: &mut FileTree, rule: &Rule<'_, '_>, place: Place) -> Result<(
 }
 
 /// Takes the steps of places.
-fn run_places(
-    tree: &mut FileTree,
-    rule: &Rule<'_, '_>,
-    places: &[Place],
-) -> Result<(), StepFault>
+fn run_places(tree: &mut FileTree, rule: &Rule<'_, '_>, places: &[Place]) -> Result<(), StepFault>
     ensures { OnOk result (state_after (next_by rule.now) tree.old (steps_of rule.now.history.now.calls places.now) ≡ Some tree.new) }
 {
     for place in places {
