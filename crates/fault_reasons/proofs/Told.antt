@@ -23,19 +23,21 @@ use Rattle.fault_reasons.specs.Reason.{IsSpot, steps_behind, IsIllegalIn}
 use Rattle.fault_reasons.specs.Running.{placed_step, StandsBehind, illegal_of}
 
 -- the first of what is left stands behind the front
-pub stands_behind : {A : Type 0} (all front rest back : List A) (x : A) (i : ℕ) → IsSplitAt all i front rest → IsFirstAndRest rest x back → StandsBehind all front x
-stands_behind all front rest back x i split first =
-    record { back = back; is = sym (take-append-drop i all) ∙ ap (λ ys. ys ++ drop i all) (sym split.1) ∙ ap (λ ys. front ++ ys) (sym split.2 ∙ first.0) }
+pub stands_behind : {A : Type 0} (whole all front rest back : List A) (x : A) (i : ℕ) → all ≡ whole → IsSplitAt all i front rest → IsFirstAndRest rest x back → StandsBehind whole front x
+stands_behind whole all front rest back x i same split first =
+    record { back = back; is = sym same ∙ sym (take-append-drop i all) ∙ ap (λ ys. ys ++ drop i all) (sym split.1) ∙ ap (λ ys. front ++ ys) (sym split.2 ∙ first.0) }
 
 -- the place of an era, in a plan
-pub is_spot : (eras ahead rest behind : List EraPlan) (era : EraPlan) (i : ℕ) (spot : Spot) → IsSplitAt eras i ahead rest → IsFirstAndRest rest era behind
-    → (spot.ahead.now ≡ ahead) × StandsBehind era.places spot.front.now spot.place → IsSpot eras spot.ahead.now spot.front.now spot.place
-is_spot eras ahead rest behind era i spot split first stands = record {
+pub is_spot : (eras ahead rest behind : List EraPlan) (era : EraPlan) (i : ℕ) (found : Option Spot) → IsSplitAt eras i ahead rest → IsFirstAndRest rest era behind
+    → IfSome found (λ spot. spot.ahead.now ≡ ahead) → IfSome found (λ spot. StandsBehind era.places spot.front.now spot.place)
+    → IfSome found (λ spot. IsSpot eras spot.ahead.now spot.front.now spot.place)
+is_spot eras ahead rest behind era i None split first same stands = same
+is_spot eras ahead rest behind era i (Some spot) split first same stands = record {
   era = era;
   behind = behind;
-  back = stands.1.back;
-  eras_are = (stands_behind eras ahead rest behind era i split first).is ∙ ap (λ xs. xs ++ era ∷ behind) (sym stands.0);
-  places_are = stands.1.is;
+  back = stands.back;
+  eras_are = (stands_behind eras eras ahead rest behind era i refl split first).is ∙ ap (λ xs. xs ++ era ∷ behind) (sym same);
+  places_are = stands.is;
 }
 
 -- what is told of a step that its tree doesn't take

@@ -15,6 +15,7 @@ use std::alloc::AllocError;
 use tree_handles::View;
 
 /// Whether a tree takes a reply to the call of a step. Where it does, the step is taken; else the tree is as it was.
+#[tactic(auto, using(crate::proofs::Taken::is_taken))]
 fn takes(
     tree: &mut FileTree,
     rule: &Rule<'_, '_>,

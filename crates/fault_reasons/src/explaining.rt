@@ -38,7 +38,8 @@ struct Spot<'p> {
 /// The place of a call in its era, with the places ahead of it.
 #[tactic(auto, using(crate::proofs::Told::stands_behind))]
 fn spot_in<'p>(ahead: &'p [EraPlan], era: &'p EraPlan, number: u64) -> Option<Spot<'p>>
-    ensures { IfSome result (λ spot. (spot.ahead.now ≡ ahead.now) × StandsBehind era.now.places spot.front.now spot.place) }
+    ensures ahead { IfSome result (λ spot. spot.ahead.now ≡ ahead.now) }
+    ensures stands { IfSome result (λ spot. StandsBehind era.now.places spot.front.now spot.place) }
 {
     let places = era.places.as_slice();
     let index = places.iter().position(|place| place.number() == number)?;

@@ -36,6 +36,7 @@ pub(crate) fn object_made(rule: &Rule<'_, '_>, number: u64) -> Option<u64>
 }
 
 /// Takes a step.
+#[tactic(auto, using(crate::proofs::Taken::step_is))]
 pub(crate) fn take_step(
     tree: &mut FileTree,
     rule: &Rule<'_, '_>,
