@@ -65,8 +65,8 @@ fn spot_of(eras: &[EraPlan], era: u64, number: u64) -> Option<Spot<'_>>
 
 /// Whether a tree doesn't take a step. Then it is as it was.
 fn stops(tree: &mut FileTree, rule: &Rule<'_, '_>, step: &Placed) -> Result<bool, AllocError>
-    ensures { IfOk result (λ stops. MatchBool stops
-        ((next_by rule.now tree.old step.now.number step.now.call step.now.outcome ≡ None) × (tree.new ≡ tree.old)) ⊤) }
+    ensures refused { IfOk result (λ stops. MatchBool stops (next_by rule.now tree.old step.now.number step.now.call step.now.outcome ≡ None) ⊤) }
+    ensures stays { IfOk result (λ stops. MatchBool stops (tree.new ≡ tree.old) ⊤) }
 {
     match take_step(tree, rule, step) {
         Ok(()) => Ok(false),
