@@ -11,6 +11,8 @@ mod looks;
 mod placed;
 mod reason;
 mod running;
+#[cfg(test)]
+mod tests;
 
 pub use explaining::explain;
 pub use reason::{IllegalPlace, Reason};
