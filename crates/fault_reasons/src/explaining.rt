@@ -14,6 +14,7 @@ use crate::asking::right_reply;
 use crate::placed::{Placed, placed_at};
 use crate::reason::{IllegalPlace, Reason};
 use crate::running::{Rule, take_step, tree_behind};
+use crate::telling::{early, short_cut};
 use certificate::{Certificate, EraPlan, Place};
 use cut_check::bindings_of_plan;
 use file_tree::FileTree;
@@ -182,6 +183,10 @@ fn reason_of(
         Fault::Illegal(number) => {
             let found = illegal_place(alloc, history, certificate, number)?;
             Ok(reason_of_illegal(number, found))
+        }
+        Fault::Early { call, ended } => Ok(early(history, call, ended)),
+        Fault::ShortCut { era, needed } => {
+            Ok(short_cut(certificate.eras.as_slice(), era, needed))
         }
         _ => Ok(Reason::Other(fault)),
     }

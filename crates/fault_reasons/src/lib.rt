@@ -11,8 +11,9 @@ mod looks;
 mod placed;
 mod reason;
 mod running;
+mod telling;
 #[cfg(test)]
 mod tests;
 
 pub use explaining::explain;
-pub use reason::{IllegalPlace, Reason};
+pub use reason::{CallSpan, IllegalPlace, LostPlace, Reason};

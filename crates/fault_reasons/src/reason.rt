@@ -35,11 +35,44 @@ impl Drop for IllegalPlace {
     }
 }
 
+/// A call with its events.
+#[derive(Clone, Copy)]
+pub struct CallSpan {
+    /// The call's number.
+    pub number: u64,
+    /// The number of its event.
+    pub begun: u64,
+    /// The number of the event of its reply, where one came.
+    pub ended: Option<u64>,
+}
+
+/// A place that a crash may not take away, and that the cut of its era loses.
+#[derive(Clone, Copy)]
+pub struct LostPlace {
+    /// The era.
+    pub era: u64,
+    /// How many places the cut keeps.
+    pub cut: u64,
+    /// The position of the place.
+    pub position: u64,
+    /// The number of its call.
+    pub number: u64,
+}
+
 /// Why a certificate is no witness of a history.
 #[derive(Drop)]
 pub enum Reason {
     /// A call can't have come out so at its place.
     Illegal(IllegalPlace),
+    /// A call is placed ahead of another one, which had ended when it began.
+    Early {
+        /// The call that is placed too early.
+        call: CallSpan,
+        /// The other call.
+        other: CallSpan,
+    },
+    /// A cut loses a place that may not be lost.
+    ShortCut(LostPlace),
     /// Another fault, of which no more is told.
     Other(Fault),
 }
