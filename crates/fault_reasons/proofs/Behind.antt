@@ -12,6 +12,10 @@ use Rattle.replay_law.specs.Run.{TakenStep, state_after, kept_steps}
 use Rattle.replay_law.proofs.Runs.{state_after-append, map_more}
 use Rattle.replay_law.proofs.Crashes.{kept_one_more}
 use Rattle.witness_check.specs.Run.{step_at, steps_of, era_of}
+use Rattle.tree_starts.specs.declared.profile.Profile.{Profile}
+use Rattle.tree_nodes.specs.Tree.{Tree}
+use Rattle.tree_handles.specs.Binding.{Bindings}
+use Rattle.file_tree.specs.Setting.{next_in}
 use Rattle.witness_check.proofs.Steps.{more, kept}
 
 module _ {State : Type 0} (next : State → ℕ → NfsCall → Outcome → Option State) where
@@ -49,3 +53,8 @@ module _ {State : Type 0} (next : State → ℕ → NfsCall → Outcome → Opti
       ap (state_after next s) (ap kept_steps (map_more (era_of calls) eras i era inside is) ∙ kept_one_more so_far (era_of calls era))
       ∙ runs_on s t u (kept_steps so_far) (take (era_of calls era).kept (era_of calls era).steps) first
       (ap (state_after next t) (kept (step_at calls) (cut_of era) era.places) ∙ behind)
+
+-- the same run under equal binds
+pub same_run : (profile : Profile) (first : ℕ) (base tree : Tree) (steps : List (TakenStep NfsCall Outcome)) (b d : Bindings) → b ≡ d
+    → state_after (next_in profile first b) base steps ≡ Some tree → state_after (next_in profile first d) base steps ≡ Some tree
+same_run profile first base tree steps b d is ran = subst (λ (x : Bindings). state_after (next_in profile first x) base steps ≡ Some tree) is ran

@@ -4,7 +4,6 @@ ghost use Rattle.std.specs.Prelude.{◌≡◌, IfOk, IfSome, MatchOption, MatchB
 ghost use Rattle.nfs_history.specs.declared.knowing.KnownCalls.{KnownCalls};
 ghost use Rattle.certificate.specs.declared.plan.Certificate.{Certificate};
 ghost use Rattle.witness_check.specs.declared.fault.Fault.TheVariants as faults;
-ghost use Rattle.cut_check.specs.Places.{bindings_of};
 ghost use Rattle.witness_check.specs.Witness.{IsWitness};
 ghost use Rattle.witness_check.specs.Verdict.{IsPlanFault};
 ghost use Rattle.fault_reasons.specs.Reason.{IsReasonOf, IsIllegalIn, IsIllegalPlace, IsSpot};
@@ -13,16 +12,14 @@ ghost use Rattle.fault_reasons.specs.Running.{next_by, first_tree, StandsBehind,
 use crate::asking::right_reply;
 use crate::placed::{Placed, placed_at};
 use crate::reason::{IllegalPlace, Reason};
-use crate::running::{Rule, take_step, tree_behind};
+use crate::running::{Rule, binds_of, take_step, tree_behind};
 use crate::telling::{early, short_cut};
 use certificate::{Certificate, EraPlan, Place};
-use cut_check::bindings_of_plan;
 use file_tree::FileTree;
 use nfs_history::KnownCalls;
 use nfs3_types::NfsReply;
 use replay_law::StepFault;
 use std::alloc::{AllocError, Global};
-use tree_handles::Binds;
 use witness_check::{Fault, Verdict, check_calls};
 
 /// Where a call is placed.
@@ -111,17 +108,6 @@ fn illegal_at(rule: &Rule<'_, '_>, spot: &Spot<'_>) -> Result<Option<IllegalPlac
     }
     let right = right_reply(&mut tree, rule, &step)?;
     Ok(Some(illegal_step(spot, step, right)))
-}
-
-/// What the handles of a history name, as a plan has it.
-fn binds_of(
-    alloc: Global,
-    history: &KnownCalls<'_>,
-    certificate: &Certificate,
-) -> Result<Binds, AllocError>
-    ensures { IfOk result (λ binds. binds ≡ bindings_of history.now.head.root certificate.now.binds) }
-{
-    bindings_of_plan(alloc, &history.lend(), certificate)
 }
 
 /// What is told of the place of a call, where the tree there doesn't take its outcome.

@@ -17,3 +17,4 @@ mod tests;
 
 pub use explaining::explain;
 pub use reason::{CallSpan, IllegalPlace, LostPlace, Reason};
+pub use running::tree_after;

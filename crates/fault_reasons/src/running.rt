@@ -5,17 +5,19 @@ ghost use Rattle.std.specs.Option.{option_to_list};
 ghost use Rattle.replay_law.specs.Run.{state_after, kept_steps};
 ghost use Rattle.replay_law.specs.declared.replay.StepFault.TheVariants.{NotAllowed};
 ghost use Rattle.tree_starts.specs.Start.{object_made};
-ghost use Rattle.witness_check.specs.Run.{step_at, steps_of, era_of};
+ghost use Rattle.witness_check.specs.Run.{step_at, steps_of, era_of, next_of, base_of};
 ghost use Rattle.certificate.specs.Plan.{cut_of};
+ghost use Rattle.cut_check.specs.Places.{bindings_of};
 ghost use Rattle.fault_reasons.specs.Reason.{steps_behind};
 ghost use Rattle.fault_reasons.specs.Running.{next_by, first_tree};
 
 use crate::placed::{Placed, placed_at};
 use certificate::{Certificate, EraPlan, Place};
+use cut_check::bindings_of_plan;
 use file_tree::FileTree;
 use nfs_history::KnownCalls;
 use replay_law::StepFault;
-use std::alloc::Global;
+use std::alloc::{AllocError, Global};
 use tree_handles::Binds;
 
 /// What steps are taken by.
@@ -26,6 +28,17 @@ pub(crate) struct Rule<'h, 'a> {
     /// Whose binds these are.
     pub(crate) plan: &'h Certificate,
     pub(crate) binds: &'h Binds,
+}
+
+/// What the handles of a history name, as a plan has it.
+pub(crate) fn binds_of(
+    alloc: Global,
+    history: &KnownCalls<'_>,
+    certificate: &Certificate,
+) -> Result<Binds, AllocError>
+    ensures { IfOk result (λ binds. binds ≡ bindings_of history.now.head.root certificate.now.binds) }
+{
+    bindings_of_plan(alloc, &history.lend(), certificate)
 }
 
 /// The number of the object that a call makes. A history has too few calls and starting objects for a sum past 64 bits.
@@ -115,4 +128,32 @@ pub(crate) fn tree_behind(
     run_kept(&mut tree, rule, ahead)?;
     run_places(&mut tree, rule, front)?;
     Ok(tree)
+}
+
+/// The tree behind what these eras of a plan keep, and behind these places of the next one; nothing where one of the steps can't have come
+/// out so. An `Err` means that memory ran out.
+#[tactic(auto, using(crate::proofs::Behind::same_run))]
+pub fn tree_after(
+    alloc: Global,
+    history: &KnownCalls<'_>,
+    certificate: &Certificate,
+    ahead: &[EraPlan],
+    front: &[Place],
+) -> Result<Option<FileTree>, AllocError>
+    // It is the tree of the verdict's own steps.
+    ensures { IfOk result (λ found. IfSome found (λ tree.
+        state_after (next_of history.now certificate.now) (base_of history.now) (steps_behind history.now.calls ahead.now front.now) ≡ Some tree)) }
+{
+    let binds = binds_of(alloc, history, certificate)?;
+    let rule = Rule {
+        alloc,
+        history,
+        plan: certificate,
+        binds: &binds,
+    };
+    match tree_behind(&rule, ahead, front) {
+        Ok(tree) => Ok(Some(tree)),
+        Err(StepFault::NotAllowed) => Ok(None),
+        Err(StepFault::NoMemory) => Err(AllocError),
+    }
 }
