@@ -12,8 +12,6 @@ mod placed;
 mod reason;
 mod running;
 mod telling;
-#[cfg(test)]
-mod tests;
 
 pub use explaining::explain;
 pub use reason::{CallSpan, IllegalPlace, LostPlace, Reason};

@@ -1,4 +1,4 @@
-//! Tests of what is said of a history: as JSON, at a first look, and by the causes of its failures.
+//! Tests of what is said of a history: as JSON, at a first look, by the causes of its failures, and of a certificate that is no witness.
 #![tactic(auto)]
 
 #[cfg(test)]
@@ -7,3 +7,5 @@ mod failures;
 mod json;
 #[cfg(test)]
 mod looks;
+#[cfg(test)]
+mod reasons;

@@ -1,7 +1,7 @@
-//! What no clause says: which replies are found right.
+//! Which replies are found right.
 
-use crate::{Reason, explain};
 use certificate::read_certificate;
+use fault_reasons::{Reason, explain};
 use nfs_history::read_calls;
 use nfs3_types::{Answer, NfsReply};
 use std::alloc::{AllocError, Global};
