@@ -11,6 +11,8 @@ mod results;
 mod start_lines;
 mod text;
 
+pub use arguments::push_arguments;
 pub use lines::{EventLines, Selection};
 pub use names::{procedure_name, status_name};
-pub use text::Line;
+pub use results::push_result;
+pub use text::{Line, Text};

@@ -3,6 +3,7 @@
 ghost use Rattle.std.specs.Prelude.{◌≡◌, ◌<◌, [], IfOk};
 ghost use Rattle.history_lines.specs.Printable.{IsPrintable, IsLine};
 
+use indexmap::IndexMap;
 use itoa::Buffer;
 use std::alloc::{AllocError, Global};
 use std::marker::Model;
@@ -41,6 +42,8 @@ impl Line {
 #[derive(Drop)]
 pub struct Text {
     content: Vec<u8>,
+    /// What stands for handles in place of their bytes.
+    handles: IndexMap<Vec<u8>, Vec<u8>>,
 }
 
 impl Model for Text {
@@ -71,6 +74,28 @@ impl Text {
     pub fn new(alloc: Global) -> Text {
         Text {
             content: Vec::new(alloc),
+            handles: IndexMap::new(alloc),
+        }
+    }
+
+    /// Its bytes so far.
+    pub fn as_slice(&self) -> &[u8] {
+        self.content.as_slice()
+    }
+
+    /// Lets a text stand for a handle from now on.
+    pub fn name_handle(&mut self, handle: Vec<u8>, name: Text) -> Result<(), AllocError> {
+        let Text { content, handles } = name;
+        drop(handles);
+        self.handles.insert(handle, content)?;
+        Ok(())
+    }
+
+    /// What stands for a handle, where it isn't its bytes.
+    fn name_of(&self, handle: &[u8]) -> Result<Option<Vec<u8>>, AllocError> {
+        match self.handles.get(handle) {
+            Some(name) => Ok(Some(name.clone()?)),
+            None => Ok(None),
         }
     }
 
@@ -98,12 +123,17 @@ impl Text {
         self.push_hex_byte(byte)
     }
 
-    /// Appends words.
-    pub fn push_words(&mut self, words: &str) -> Result<(), AllocError> {
-        for byte in words.as_bytes() {
+    /// Appends bytes, each as it stands where it is printable.
+    fn push_all_shown(&mut self, bytes: &[u8]) -> Result<(), AllocError> {
+        for byte in bytes {
             self.push_shown(*byte)?;
         }
         Ok(())
+    }
+
+    /// Appends words.
+    pub fn push_words(&mut self, words: &str) -> Result<(), AllocError> {
+        self.push_all_shown(words.as_bytes())
     }
 
     /// Appends a number in decimal.
@@ -151,9 +181,12 @@ impl Text {
         self.push_hex(number.to_be_bytes().as_slice())
     }
 
-    /// Appends words and a handle in hexadecimal; one of no bytes as `empty`.
+    /// Appends words and a handle: by its name, where it has one, else in hexadecimal; one of no bytes as `empty`.
     pub fn push_handle(&mut self, words: &str, handle: &[u8]) -> Result<(), AllocError> {
         self.push_words(words)?;
+        if let Some(name) = self.name_of(handle)? {
+            return self.push_all_shown(name.as_slice());
+        }
         if handle.is_empty() {
             return self.push_words("empty");
         }
@@ -200,7 +233,8 @@ impl Text {
     pub fn into_line(self) -> Result<Line, AllocError>
         ensures { IfOk result IsLine }
     {
-        let Text { content } = self;
+        let Text { content, handles } = self;
+        drop(handles);
         let mut bytes = content;
         bytes.push(b'\n')?;
         Ok(Line { bytes })
