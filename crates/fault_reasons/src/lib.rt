@@ -14,5 +14,6 @@ mod running;
 mod telling;
 
 pub use explaining::explain;
+pub use placed::{Placed, placed_at};
 pub use reason::{CallSpan, IllegalPlace, LostPlace, Reason};
 pub use running::tree_after;

@@ -12,10 +12,13 @@ use std::alloc::{AllocError, Global};
 
 /// A call at a place, and how it came out.
 #[derive(Drop)]
-pub(crate) struct Placed {
-    pub(crate) number: u64,
-    pub(crate) call: NfsCall,
-    pub(crate) outcome: Outcome,
+pub struct Placed {
+    /// The call's number.
+    pub number: u64,
+    /// The call.
+    pub call: NfsCall,
+    /// With the reply that the history has, or as taken.
+    pub outcome: Outcome,
 }
 
 /// The outcome at a place of a call that came out so, where it has one.
@@ -42,12 +45,13 @@ fn step_of_call(place: Place, recorded: RecordedCall) -> Option<Placed>
     })
 }
 
-/// The call at a place with its outcome, where it has one.
-pub(crate) fn placed_at(
+/// The call at a place with its outcome, where it has one. An `Err` means that memory ran out.
+pub fn placed_at(
     alloc: Global,
     history: &KnownCalls<'_>,
     place: Place,
 ) -> Result<Option<Placed>, AllocError>
+    // It is the step of the verdict.
     ensures { IfOk result (λ found. option_map placed_step found ≡ step_at history.now.calls place) }
 {
     let (Place::Answered(number) | Place::Taken(number, _)) = place;
