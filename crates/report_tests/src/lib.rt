@@ -2,6 +2,8 @@
 #![tactic(auto)]
 
 #[cfg(test)]
+mod explained;
+#[cfg(test)]
 mod failures;
 #[cfg(test)]
 mod json;
@@ -9,3 +11,5 @@ mod json;
 mod looks;
 #[cfg(test)]
 mod reasons;
+#[cfg(test)]
+mod words;

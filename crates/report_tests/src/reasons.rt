@@ -1,70 +1,16 @@
 //! Which replies are found right.
 
+use crate::explained::{
+    GETATTR_OF_NOTHING, IN_ORDER, LOOKUP_OF_AN_ABSENT_NAME, LOOKUP_THAT_FAILS, ONE_KEPT,
+    ONE_LEFT_OUT, OVER_A_CRASH, READ_OF_ANOTHER_BYTE, READ_OF_THE_BYTES, READDIR_OF_ANOTHER_NAME,
+    RMDIR_OF_A_FILE, history_with,
+};
 use certificate::read_certificate;
 use fault_reasons::{Reason, explain};
 use nfs_history::read_calls;
 use nfs3_types::{Answer, NfsReply};
 use std::alloc::{AllocError, Global};
 use std::test::Fail;
-
-/// CREATE of `f` in the root, and a WRITE of `abc` to it: what a history of three calls begins with.
-const FRONT: &[u8] = b"NFSHIST1\0\0\0\x01\0\0\0\0\0\0\0\x06\
-      \0\0\0\0\0\0\0\x01\0\0\0T\0\0\0\x01\0\0\0\0\0\0\0\x02\0\x01\x86\xa3\0\0\0\x03\0\0\0\x08\0\0\0\0\0\0\0\0\0\0\0\0\0\0\0\0\0\0\0\x01\0\0\0\0\0\0\0\x01f\0\0\0\0\0\0\0\0\0\0\0\0\0\0\0\0\0\0\0\0\0\0\0\0\0\0\0\0\0\0\0\
-      \0\0\0\x01\0\0\0\x01\0\0\04\0\0\0\x01\0\0\0\x01\0\0\0\0\0\0\0\0\0\0\0\0\0\0\0\0\0\0\0\0\0\0\0\x01\0\0\0\x01\x01\0\0\0\0\0\0\0\0\0\0\0\0\0\0\0\
-      \0\0\0\0\0\0\0\x01\0\0\0H\0\0\0\x02\0\0\0\0\0\0\0\x02\0\x01\x86\xa3\0\0\0\x03\0\0\0\x07\0\0\0\0\0\0\0\0\0\0\0\0\0\0\0\0\0\0\0\x01\x01\0\0\0\0\0\0\0\0\0\0\0\0\0\0\x03\0\0\0\x02\0\0\0\x03abc\0\
-      \0\0\0\x01\0\0\0\x01\0\0\04\0\0\0\x02\0\0\0\x01\0\0\0\0\0\0\0\0\0\0\0\0\0\0\0\0\0\0\0\0\0\0\0\0\0\0\0\0\0\0\0\x03\0\0\0\x02\0\0\0\0\0\0\0\x01";
-
-/// A READ of `f` that gives `abd`.
-const READ_OF_ANOTHER_BYTE: &[u8] =
-    b"\0\0\0\0\0\0\0\x01\0\0\0\x3c\0\0\0\x03\0\0\0\0\0\0\0\x02\0\x01\x86\xa3\0\0\0\x03\0\0\0\x06\0\0\0\0\0\0\0\0\0\0\0\0\0\0\0\0\0\0\0\x01\x01\0\0\0\0\0\0\0\0\0\0\0\0\0\0d\
-      \0\0\0\x01\0\0\0\x01\0\0\00\0\0\0\x03\0\0\0\x01\0\0\0\0\0\0\0\0\0\0\0\0\0\0\0\0\0\0\0\0\0\0\0\0\0\0\0\x03\0\0\0\x01\0\0\0\x03abd\0";
-
-/// A LOOKUP of `f` that fails with NOENT.
-const LOOKUP_THAT_FAILS: &[u8] =
-    b"\0\0\0\0\0\0\0\x01\0\0\08\0\0\0\x03\0\0\0\0\0\0\0\x02\0\x01\x86\xa3\0\0\0\x03\0\0\0\x03\0\0\0\0\0\0\0\0\0\0\0\0\0\0\0\0\0\0\0\x01\0\0\0\0\0\0\0\x01f\0\0\0\
-      \0\0\0\x01\0\0\0\x01\0\0\0\x20\0\0\0\x03\0\0\0\x01\0\0\0\0\0\0\0\0\0\0\0\0\0\0\0\0\0\0\0\x02\0\0\0\0";
-
-/// A LOOKUP of `g` that gives the handle of `f`.
-const LOOKUP_OF_AN_ABSENT_NAME: &[u8] =
-    b"\0\0\0\0\0\0\0\x01\0\0\08\0\0\0\x03\0\0\0\0\0\0\0\x02\0\x01\x86\xa3\0\0\0\x03\0\0\0\x03\0\0\0\0\0\0\0\0\0\0\0\0\0\0\0\0\0\0\0\x01\0\0\0\0\0\0\0\x01g\0\0\0\
-      \0\0\0\x01\0\0\0\x01\0\0\0\x2c\0\0\0\x03\0\0\0\x01\0\0\0\0\0\0\0\0\0\0\0\0\0\0\0\0\0\0\0\0\0\0\0\x01\x01\0\0\0\0\0\0\0\0\0\0\0";
-
-/// A GETATTR of a handle that names nothing, which succeeds.
-const GETATTR_OF_NOTHING: &[u8] =
-    b"\0\0\0\0\0\0\0\x01\0\0\00\0\0\0\x03\0\0\0\0\0\0\0\x02\0\x01\x86\xa3\0\0\0\x03\0\0\0\x01\0\0\0\0\0\0\0\0\0\0\0\0\0\0\0\0\0\0\0\x01c\0\0\0\
-      \0\0\0\x01\0\0\0\x01\0\0\0p\0\0\0\x03\0\0\0\x01\0\0\0\0\0\0\0\0\0\0\0\0\0\0\0\0\0\0\0\0\0\0\0\x01\0\0\x01\xa4\0\0\0\x01\0\0\0\0\0\0\0\0\0\0\0\0\0\0\0\x03\0\0\0\0\0\0\0\x03\0\0\0\0\0\0\0\0\0\0\0\0\0\0\0\0\0\0\0\0\0\0\0\x01\0\0\0\0\0\0\0\0\0\0\0\0\0\0\0\0\0\0\0\0\0\0\0\0";
-
-/// A READDIR of the root that lists `g`.
-const READDIR_OF_ANOTHER_NAME: &[u8] =
-    b"\0\0\0\0\0\0\0\x01\0\0\0D\0\0\0\x03\0\0\0\0\0\0\0\x02\0\x01\x86\xa3\0\0\0\x03\0\0\0\x10\0\0\0\0\0\0\0\0\0\0\0\0\0\0\0\0\0\0\0\x01\0\0\0\0\0\0\0\0\0\0\0\0\0\0\0\0\0\0\0\0\0\0\x03\xe8\
-      \0\0\0\x01\0\0\0\x01\0\0\0L\0\0\0\x03\0\0\0\x01\0\0\0\0\0\0\0\0\0\0\0\0\0\0\0\0\0\0\0\0\0\0\0\0\0\0\0\0\0\0\0\0\0\0\0\x01\0\0\0\0\0\0\0\x01\0\0\0\x01g\0\0\0\0\0\0\0\0\0\0\x01\0\0\0\0\0\0\0\x01";
-
-/// An RMDIR of `f` that succeeds.
-const RMDIR_OF_A_FILE: &[u8] =
-    b"\0\0\0\0\0\0\0\x01\0\0\08\0\0\0\x03\0\0\0\0\0\0\0\x02\0\x01\x86\xa3\0\0\0\x03\0\0\0\x0d\0\0\0\0\0\0\0\0\0\0\0\0\0\0\0\0\0\0\0\x01\0\0\0\0\0\0\0\x01f\0\0\0\
-      \0\0\0\x01\0\0\0\x01\0\0\0\x24\0\0\0\x03\0\0\0\x01\0\0\0\0\0\0\0\0\0\0\0\0\0\0\0\0\0\0\0\0\0\0\0\0\0\0\0\0";
-
-/// A READ of `f` that gives `abc`.
-const READ_OF_THE_BYTES: &[u8] =
-    b"\0\0\0\0\0\0\0\x01\0\0\0\x3c\0\0\0\x03\0\0\0\0\0\0\0\x02\0\x01\x86\xa3\0\0\0\x03\0\0\0\x06\0\0\0\0\0\0\0\0\0\0\0\0\0\0\0\0\0\0\0\x01\x01\0\0\0\0\0\0\0\0\0\0\0\0\0\0d\
-      \0\0\0\x01\0\0\0\x01\0\0\00\0\0\0\x03\0\0\0\x01\0\0\0\0\0\0\0\0\0\0\0\0\0\0\0\0\0\0\0\0\0\0\0\0\0\0\0\x03\0\0\0\x01\0\0\0\x03abc\0";
-
-/// CREATE of `f`, an UNSTABLE WRITE of `abc` to it, a crash, and a READ that gives `abc`.
-const OVER_A_CRASH: &[u8] = b"NFSHIST1\0\0\0\x01\0\0\0\0\0\0\0\x07\
-      \0\0\0\0\0\0\0\x01\0\0\0T\0\0\0\x01\0\0\0\0\0\0\0\x02\0\x01\x86\xa3\0\0\0\x03\0\0\0\x08\0\0\0\0\0\0\0\0\0\0\0\0\0\0\0\0\0\0\0\x01\0\0\0\0\0\0\0\x01f\0\0\0\0\0\0\0\0\0\0\0\0\0\0\0\0\0\0\0\0\0\0\0\0\0\0\0\0\0\0\0\
-      \0\0\0\x01\0\0\0\x01\0\0\04\0\0\0\x01\0\0\0\x01\0\0\0\0\0\0\0\0\0\0\0\0\0\0\0\0\0\0\0\0\0\0\0\x01\0\0\0\x01\x01\0\0\0\0\0\0\0\0\0\0\0\0\0\0\0\
-      \0\0\0\0\0\0\0\x01\0\0\0H\0\0\0\x02\0\0\0\0\0\0\0\x02\0\x01\x86\xa3\0\0\0\x03\0\0\0\x07\0\0\0\0\0\0\0\0\0\0\0\0\0\0\0\0\0\0\0\x01\x01\0\0\0\0\0\0\0\0\0\0\0\0\0\0\x03\0\0\0\0\0\0\0\x03abc\0\
-      \0\0\0\x01\0\0\0\x01\0\0\04\0\0\0\x02\0\0\0\x01\0\0\0\0\0\0\0\0\0\0\0\0\0\0\0\0\0\0\0\0\0\0\0\0\0\0\0\0\0\0\0\x03\0\0\0\0\0\0\0\0\0\0\0\x01\
-      \0\0\0\x03\
-      \0\0\0\0\0\0\0\x02\0\0\0\x3c\0\0\0\x03\0\0\0\0\0\0\0\x02\0\x01\x86\xa3\0\0\0\x03\0\0\0\x06\0\0\0\0\0\0\0\0\0\0\0\0\0\0\0\0\0\0\0\x01\x01\0\0\0\0\0\0\0\0\0\0\0\0\0\0d\
-      \0\0\0\x01\0\0\0\x02\0\0\00\0\0\0\x03\0\0\0\x01\0\0\0\0\0\0\0\0\0\0\0\0\0\0\0\0\0\0\0\0\0\0\0\0\0\0\0\x03\0\0\0\x01\0\0\0\x03abc\0";
-
-/// The three calls in their order. The handle 1 is that of `f`.
-const IN_ORDER: &[u8] = b"witness 1\nbind 01 1\nplace 1\nplace 2\nplace 3\nend\n";
-/// The crash loses the WRITE.
-const ONE_KEPT: &[u8] = b"witness 1\nbind 01 1\nplace 1\nplace 2\ncut 1\nplace 3\nend\n";
-/// The third call has no place.
-const ONE_LACKS: &[u8] = b"witness 1\nbind 01 1\nplace 1\nplace 2\nend\n";
 
 /// What is told of a history and a certificate.
 #[derive(Clone, Copy, Debug, PartialEq, Eq)]
@@ -114,13 +60,6 @@ fn told(alloc: Global, history: &[u8], certificate: &[u8]) -> Result<Told, Alloc
     };
     let reason = explain(alloc, &history, &certificate)?;
     Ok(told_by(&reason))
-}
-
-/// A history of three calls, of which this is the third.
-fn history_with(alloc: Global, third: &[u8]) -> Result<Vec<u8>, AllocError> {
-    let mut history = Vec::from_slice(alloc, FRONT)?;
-    history.extend_from_slice(third)?;
-    Ok(history)
 }
 
 fn told_of_third(alloc: Global, third: &[u8]) -> Result<Told, AllocError> {
@@ -212,6 +151,6 @@ fn a_witness_has_no_reason(rt: HostRuntime) -> Result<(), Fail> {
     let alloc = rt.alloc();
     assert_eq!(rt; told_of_third(alloc, READ_OF_THE_BYTES)?, Told::Witness);
     let history = history_with(alloc, READ_OF_THE_BYTES)?;
-    assert_eq!(rt; told(alloc, &history, ONE_LACKS)?, Told::Other);
+    assert_eq!(rt; told(alloc, &history, ONE_LEFT_OUT)?, Told::Other);
     Ok(())
 }
