@@ -13,8 +13,10 @@ mod short;
 mod start_lines;
 mod text;
 
+pub use arguments::push_arguments;
 pub use lines::EventLines;
 pub use look::{Look, Marks, Selection, Sought, SoughtHandle};
 pub use names::{procedure_name, status_name};
+pub use results::push_result;
 pub use short::{ShortHandle, short_of};
-pub use text::Line;
+pub use text::{Line, Text};

@@ -5,6 +5,7 @@ ghost use Rattle.history_lines.specs.Printable.{IsPrintable, IsLine};
 
 use crate::look::{Found, Look, Sought};
 use crate::short::short_of;
+use indexmap::IndexMap;
 use itoa::Buffer;
 use std::alloc::{AllocError, Global};
 use std::marker::Model;
@@ -46,6 +47,8 @@ pub struct Text<'a> {
     sought: Option<&'a Sought>,
     found: Found,
     has_short_handles: bool,
+    /// What stands for handles in place of their bytes.
+    handles: IndexMap<Vec<u8>, Vec<u8>>,
 }
 
 impl<'a> Model for Text<'a> {
@@ -82,11 +85,35 @@ impl<'a> Text<'a> {
                 has_name: false,
             },
             has_short_handles: false,
+            handles: IndexMap::new(alloc),
+        }
+    }
+
+    /// Its bytes so far.
+    pub fn as_slice(&self) -> &[u8] {
+        self.content.as_slice()
+    }
+
+    /// Lets a text stand for a handle from now on.
+    pub fn name_handle(&mut self, handle: Vec<u8>, name: Text<'_>) -> Result<(), AllocError> {
+        let Text {
+            content, handles, ..
+        } = name;
+        drop(handles);
+        self.handles.insert(handle, content)?;
+        Ok(())
+    }
+
+    /// What stands for a handle, where it isn't its bytes.
+    fn name_of(&self, handle: &[u8]) -> Result<Option<Vec<u8>>, AllocError> {
+        match self.handles.get(handle) {
+            Some(name) => Ok(Some(name.clone()?)),
+            None => Ok(None),
         }
     }
 
     /// No text, in which is looked for what a look is for.
-    pub fn of_look(alloc: Global, look: &'a Look) -> Text<'a> {
+    pub(crate) fn of_look(alloc: Global, look: &'a Look) -> Text<'a> {
         let mut text = Text::new(alloc);
         text.sought = Some(&look.sought);
         text.has_short_handles = look.has_short_handles;
@@ -94,7 +121,7 @@ impl<'a> Text<'a> {
     }
 
     /// What it names of that which is looked for.
-    pub fn found(&self) -> Found {
+    pub(crate) fn found(&self) -> Found {
         self.found
     }
 
@@ -122,12 +149,17 @@ impl<'a> Text<'a> {
         self.push_hex_byte(byte)
     }
 
-    /// Appends words.
-    pub fn push_words(&mut self, words: &str) -> Result<(), AllocError> {
-        for byte in words.as_bytes() {
+    /// Appends bytes, each as it stands where it is printable.
+    fn push_all_shown(&mut self, bytes: &[u8]) -> Result<(), AllocError> {
+        for byte in bytes {
             self.push_shown(*byte)?;
         }
         Ok(())
+    }
+
+    /// Appends words.
+    pub fn push_words(&mut self, words: &str) -> Result<(), AllocError> {
+        self.push_all_shown(words.as_bytes())
     }
 
     /// Appends a number in decimal.
@@ -189,10 +221,13 @@ impl<'a> Text<'a> {
         }
     }
 
-    /// Appends words and a handle in hexadecimal, or its short form; one of no bytes as `empty`.
+    /// Appends words and a handle: by its name, where it has one, else in hexadecimal or by its short form; one of no bytes as `empty`.
     pub fn push_handle(&mut self, words: &str, handle: &[u8]) -> Result<(), AllocError> {
         self.push_words(words)?;
         self.note_handle(handle);
+        if let Some(name) = self.name_of(handle)? {
+            return self.push_all_shown(name.as_slice());
+        }
         if handle.is_empty() {
             return self.push_words("empty");
         }
@@ -249,7 +284,10 @@ impl<'a> Text<'a> {
     pub fn into_line(self) -> Result<Line, AllocError>
         ensures { IfOk result IsLine }
     {
-        let Text { content, .. } = self;
+        let Text {
+            content, handles, ..
+        } = self;
+        drop(handles);
         let mut bytes = content;
         bytes.push(b'\n')?;
         Ok(Line { bytes })

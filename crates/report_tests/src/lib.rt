@@ -1,6 +1,9 @@
-//! Tests of what is said of a history: as JSON, at a first look, by the causes of its failures, and as a picture.
+//! Tests of what is said of a history: as JSON, at a first look, by the causes of its failures, as a picture, and of a certificate that is no
+//! witness.
 #![tactic(auto)]
 
+#[cfg(test)]
+mod explained;
 #[cfg(test)]
 mod failures;
 #[cfg(test)]
@@ -11,3 +14,7 @@ mod looks;
 mod pages;
 #[cfg(test)]
 mod pictures;
+#[cfg(test)]
+mod reasons;
+#[cfg(test)]
+mod words;

@@ -1,0 +1,98 @@
+-- Where a call is placed, and what is told of it.
+use Rattle.std.proofs.Common.{◌≡◌, ℕ, List, ◌∷◌, ◌++◌, take, drop, map, option_map, Option, Some, None, length, refl, ap, sym, ◌∙◌, subst}
+use Rattle.std.specs.Prelude.{IsSome, IfSome}
+use Rattle.std.specs.List.{IsSplitAt, IsFirstAndRest}
+use Rattle.std.proofs.lemmas.List.{take-append-drop}
+use Rattle.nfs3_types.specs.declared.calls.NfsCall.{NfsCall}
+use Rattle.nfs3_types.specs.declared.replies.NfsReply.{NfsReply}
+use Rattle.nfs3_types.specs.declared.replies.Outcome.{Outcome}
+use Rattle.nfs3_types.specs.declared.replies.Outcome.TheVariants.{Received}
+use Rattle.nfs_history.specs.declared.knowing.KnownCalls.{KnownCalls}
+use Rattle.nfs_history.specs.declared.recorded.RecordedCall.{RecordedCall}
+use Rattle.certificate.specs.declared.plan.Place.{Place}
+use Rattle.certificate.specs.declared.plan.EraPlan.{EraPlan}
+use Rattle.certificate.specs.declared.plan.Certificate.{Certificate}
+use Rattle.certificate.specs.Plan.{call_of, cut_of}
+use Rattle.cut_check.specs.Places.{era_at}
+use Rattle.replay_law.specs.Run.{state_after}
+use Rattle.tree_starts.specs.declared.profile.Profile.{Profile}
+use Rattle.tree_nodes.specs.Tree.{Tree}
+use Rattle.tree_handles.specs.Binding.{Bindings}
+use Rattle.file_tree.specs.Setting.{next_in}
+use Rattle.witness_check.specs.declared.fault.Fault.TheVariants as faults
+use Rattle.witness_check.specs.Run.{step_at}
+use Rattle.witness_check.specs.Verdict.{IsPlanFault}
+use Rattle.fault_reasons.specs.declared.placed.Placed.{Placed}
+use Rattle.fault_reasons.specs.declared.explaining.Spot.{Spot}
+use Rattle.fault_reasons.specs.declared.reason.IllegalPlace.{IllegalPlace}
+use Rattle.fault_reasons.specs.declared.reason.CallSpan.{CallSpan}
+use Rattle.fault_reasons.specs.declared.reason.LostPlace.{LostPlace}
+use Rattle.fault_reasons.specs.declared.reason.Reason.TheVariants as reasons
+use Rattle.fault_reasons.specs.Reason.{IsSpot, steps_behind, IsIllegalIn, span_of, place_at, IsLostIn, IsReasonOf}
+use Rattle.fault_reasons.specs.Running.{placed_step, StandsBehind, illegal_of}
+
+-- the first of what is left stands behind the front
+pub stands_behind : {A : Type 0} (whole all front rest back : List A) (x : A) (i : ℕ) → all ≡ whole → IsSplitAt all i front rest → IsFirstAndRest rest x back → StandsBehind whole front x
+stands_behind whole all front rest back x i same split first =
+    record { back = back; is = sym same ∙ sym (take-append-drop i all) ∙ ap (λ ys. ys ++ drop i all) (sym split.1) ∙ ap (λ ys. front ++ ys) (sym split.2 ∙ first.0) }
+
+-- the place of an era, in a plan
+pub is_spot : (eras ahead rest behind : List EraPlan) (era : EraPlan) (i : ℕ) (found : Option Spot) → IsSplitAt eras i ahead rest → IsFirstAndRest rest era behind
+    → IfSome found (λ spot. spot.ahead.now ≡ ahead) → IfSome found (λ spot. StandsBehind era.places spot.front.now spot.place)
+    → IfSome found (λ spot. IsSpot eras spot.ahead.now spot.front.now spot.place)
+is_spot eras ahead rest behind era i None split first same stands = same
+is_spot eras ahead rest behind era i (Some spot) split first same stands = record {
+  era = era;
+  behind = behind;
+  back = stands.back;
+  eras_are = (stands_behind eras eras ahead rest behind era i refl split first).is ∙ ap (λ xs. xs ++ era ∷ behind) (sym same);
+  places_are = stands.is;
+}
+
+-- what is told of a step that its tree doesn't take
+pub told : (next : Tree → ℕ → NfsCall → Outcome → Option Tree) (base : Tree) (calls : List RecordedCall) (eras : List EraPlan) (spot : Spot) (step : Placed) (found : Option Placed)
+    (right : Option NfsReply) (tree after : Tree) (given : IllegalPlace) → given ≡ illegal_of spot step right → IsSpot eras spot.ahead.now spot.front.now spot.place
+    → found ≡ Some step → option_map placed_step found ≡ step_at calls spot.place → state_after next base (steps_behind calls spot.ahead.now spot.front.now) ≡ Some tree
+    → next tree step.number step.call step.outcome ≡ None → after ≡ tree → IfSome right (λ reply. IsSome (next after step.number step.call (Received reply)))
+    → IsIllegalIn next base calls eras given
+told next base calls eras spot step found right tree after given is stands some placed reached refused same taken =
+    subst (λ (p : IllegalPlace). IsIllegalIn next base calls eras p) (sym is) (record {
+      ahead = spot.ahead.now;
+      front = spot.front.now;
+      place = spot.place;
+      spot = stands;
+      era = refl;
+      position = refl;
+      step = sym placed ∙ ap (option_map placed_step) some;
+      tree = tree;
+      reached = reached;
+      refused = refused;
+      right = subst (λ (t : Tree). IfSome right (λ reply. IsSome (next t step.number step.call (Received reply)))) same taken;
+    })
+
+-- the same under equal binds
+pub same_binds : (profile : Profile) (first : ℕ) (base : Tree) (calls : List RecordedCall) (eras : List EraPlan) (b d : Bindings) (found : Option IllegalPlace) → b ≡ d
+    → IfSome found (IsIllegalIn (next_in profile first b) base calls eras) → IfSome found (IsIllegalIn (next_in profile first d) base calls eras)
+same_binds profile first base calls eras b d found is told_by =
+    subst (λ (x : Bindings). IfSome found (IsIllegalIn (next_in profile first x) base calls eras)) is told_by
+
+-- what is told of a place that a cut loses
+pub is_lost : (eras : List EraPlan) (era : EraPlan) (place : Place) (given : LostPlace) → era_at eras given.era ≡ Some era → given.cut ≡ cut_of era
+    → place_at era.places given.position ≡ Some place → given.number ≡ call_of place → IsLostIn eras given
+is_lost eras era place given there cut stands named =
+    record { era = era; there = there; cut = cut; place = place; stands = stands; named = named }
+
+-- what is told of a call that is placed too early, and of the other one
+pub early_told : (history : KnownCalls) (one other : CallSpan) (i j : ℕ) → one ≡ span_of history.calls i → other ≡ span_of history.calls j
+    → (plan : Certificate) → IsPlanFault history plan (faults.Early i j) → IsReasonOf history plan (reasons.Early one other)
+early_told history one other i j first second plan fault =
+    subst (λ (s : CallSpan). IsReasonOf history plan (reasons.Early s other)) (sym first)
+    (subst (λ (s : CallSpan). IsReasonOf history plan (reasons.Early (span_of history.calls i) s)) (sym second) (fault, refl, refl))
+
+-- what is told of a cut that is too short
+pub short_told : (eras : List EraPlan) (lost : LostPlace) (e needed : ℕ) → IsLostIn eras lost → lost.era ≡ e → lost.position ≡ needed
+    → (history : KnownCalls) (plan : Certificate) → plan.eras ≡ eras → IsPlanFault history plan (faults.ShortCut e needed) → IsReasonOf history plan (reasons.ShortCut lost)
+short_told eras lost e needed told is_era is_position history plan same fault = (
+  subst (λ n. IsPlanFault history plan (faults.ShortCut lost.era n)) (sym is_position) (subst (λ n. IsPlanFault history plan (faults.ShortCut n needed)) (sym is_era) fault),
+  subst (λ (es : List EraPlan). IsLostIn es lost) (sym same) told,
+)

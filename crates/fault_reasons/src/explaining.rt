@@ -1,0 +1,199 @@
+//! Explaining a verdict.
+
+ghost use Rattle.std.specs.Prelude.{◌≡◌, IfOk, IfSome, MatchOption, MatchBool, None, ⊤};
+ghost use Rattle.nfs_history.specs.declared.knowing.KnownCalls.{KnownCalls};
+ghost use Rattle.certificate.specs.declared.plan.Certificate.{Certificate};
+ghost use Rattle.witness_check.specs.declared.fault.Fault.TheVariants as faults;
+ghost use Rattle.witness_check.specs.Witness.{IsWitness};
+ghost use Rattle.witness_check.specs.Verdict.{IsPlanFault};
+ghost use Rattle.fault_reasons.specs.Reason.{IsReasonOf, IsIllegalIn, IsIllegalPlace, IsSpot};
+ghost use Rattle.fault_reasons.specs.Running.{next_by, first_tree, StandsBehind, illegal_of};
+
+use crate::asking::right_reply;
+use crate::placed::{Placed, placed_at};
+use crate::reason::{IllegalPlace, Reason};
+use crate::running::{Rule, binds_of, take_step, tree_behind};
+use crate::telling::{early, short_cut};
+use certificate::{Certificate, EraPlan, Place};
+use file_tree::FileTree;
+use nfs_history::KnownCalls;
+use nfs3_types::NfsReply;
+use replay_law::StepFault;
+use std::alloc::{AllocError, Global};
+use witness_check::{Fault, Verdict, check_calls};
+
+/// Where a call is placed.
+#[derive(Clone, Copy)]
+struct Spot<'p> {
+    /// The eras ahead of its own.
+    ahead: &'p [EraPlan],
+    /// The places ahead of its own in its era.
+    front: &'p [Place],
+    /// Its place.
+    place: Place,
+}
+
+/// The place of a call in its era, with the places ahead of it.
+#[tactic(auto, using(crate::proofs::Told::stands_behind))]
+fn spot_in<'p>(ahead: &'p [EraPlan], era: &'p EraPlan, number: u64) -> Option<Spot<'p>>
+    ensures ahead { IfSome result (λ spot. spot.ahead.now ≡ ahead.now) }
+    ensures stands { IfSome result (λ spot. StandsBehind era.now.places spot.front.now spot.place) }
+{
+    let places = era.places.as_slice();
+    let index = places.iter().position(|place| place.number() == number)?;
+    let (front, rest) = places.split_at_checked(index)?;
+    let (place, _) = rest.split_first()?;
+    Some(Spot {
+        ahead,
+        front,
+        place: *place,
+    })
+}
+
+/// The place of a call of this era in a plan.
+#[tactic(auto, using(crate::proofs::Told::is_spot))]
+fn spot_of(eras: &[EraPlan], era: u64, number: u64) -> Option<Spot<'_>>
+    ensures { IfSome result (λ spot. IsSpot eras.now spot.ahead.now spot.front.now spot.place) }
+{
+    let index = era.checked_sub(1)?;
+    let (ahead, rest) = eras.split_at_checked(index as usize)?;
+    let (era, _) = rest.split_first()?;
+    spot_in(ahead, era, number)
+}
+
+/// Whether a tree doesn't take a step. Then it is as it was.
+fn stops(tree: &mut FileTree, rule: &Rule<'_, '_>, step: &Placed) -> Result<bool, AllocError>
+    ensures refused { IfOk result (λ stops. MatchBool stops (next_by rule.now tree.old step.now.number step.now.call step.now.outcome ≡ None) ⊤) }
+    ensures stays { IfOk result (λ stops. MatchBool stops (tree.new ≡ tree.old) ⊤) }
+{
+    match take_step(tree, rule, step) {
+        Ok(()) => Ok(false),
+        Err(StepFault::NotAllowed) => Ok(true),
+        Err(StepFault::NoMemory) => Err(AllocError),
+    }
+}
+
+/// What is told of a step that its tree doesn't take.
+fn illegal_step(spot: &Spot<'_>, step: Placed, right: Option<NfsReply>) -> IllegalPlace
+    ensures { result ≡ illegal_of spot.now step right }
+{
+    let Placed {
+        number,
+        call,
+        outcome,
+    } = step;
+    IllegalPlace {
+        era: spot.ahead.len() as u64 + 1,
+        position: spot.front.len() as u64 + 1,
+        number,
+        call,
+        outcome,
+        right,
+    }
+}
+
+/// What is told of a place, where its tree doesn't take its step.
+#[tactic(auto, using(crate::proofs::Told::told))]
+fn illegal_at(rule: &Rule<'_, '_>, spot: &Spot<'_>) -> Result<Option<IllegalPlace>, StepFault>
+    requires { IsSpot rule.now.plan.now.eras spot.now.ahead.now spot.now.front.now spot.now.place }
+    ensures { IfOk result (λ found. IfSome found
+        (IsIllegalIn (next_by rule.now) (first_tree rule.now) rule.now.history.now.calls rule.now.plan.now.eras)) }
+{
+    let Some(step) = placed_at(rule.alloc, rule.history, spot.place)? else {
+        return Ok(None);
+    };
+    let mut tree = tree_behind(rule, spot.ahead, spot.front)?;
+    if !stops(&mut tree, rule, &step)? {
+        return Ok(None);
+    }
+    let right = right_reply(&mut tree, rule, &step)?;
+    Ok(Some(illegal_step(spot, step, right)))
+}
+
+/// What is told of the place of a call, where the tree there doesn't take its outcome.
+#[tactic(auto, using(crate::proofs::Told::same_binds))]
+fn illegal_place(
+    alloc: Global,
+    history: &KnownCalls<'_>,
+    certificate: &Certificate,
+    number: u64,
+) -> Result<Option<IllegalPlace>, AllocError>
+    ensures { IfOk result (λ found. IfSome found (IsIllegalPlace history.now certificate.now)) }
+{
+    let Some(era) = history.era(number) else {
+        return Ok(None);
+    };
+    let Some(spot) = spot_of(certificate.eras.as_slice(), era, number) else {
+        return Ok(None);
+    };
+    let binds = binds_of(alloc, history, certificate)?;
+    let rule = Rule {
+        alloc,
+        history,
+        plan: certificate,
+        binds: &binds,
+    };
+    match illegal_at(&rule, &spot) {
+        Ok(found) => Ok(found),
+        Err(StepFault::NotAllowed) => Ok(None),
+        Err(StepFault::NoMemory) => Err(AllocError),
+    }
+}
+
+/// The reason by what is told of the call's place.
+fn reason_of_illegal(number: u64, found: Option<IllegalPlace>) -> Reason
+    ensures { (history : KnownCalls) (plan : Certificate) → IsPlanFault history plan (faults.Illegal number)
+        → IfSome found (IsIllegalPlace history plan) → IsReasonOf history plan result }
+{
+    let Some(place) = found else {
+        return Reason::Other(Fault::Illegal(number));
+    };
+    if place.number == number {
+        Reason::Illegal(place)
+    } else {
+        Reason::Other(Fault::Illegal(number))
+    }
+}
+
+/// The reason for a fault of a plan.
+fn reason_of(
+    alloc: Global,
+    history: &KnownCalls<'_>,
+    certificate: &Certificate,
+    fault: Fault,
+) -> Result<Reason, AllocError>
+    requires { IsPlanFault history.now certificate.now fault }
+    ensures { IfOk result (IsReasonOf history.now certificate.now) }
+{
+    match fault {
+        Fault::Illegal(number) => {
+            let found = illegal_place(alloc, history, certificate, number)?;
+            Ok(reason_of_illegal(number, found))
+        }
+        Fault::Early { call, ended } => Ok(early(history, call, ended)),
+        Fault::ShortCut { era, needed } => {
+            Ok(short_cut(certificate.eras.as_slice(), era, needed))
+        }
+        _ => Ok(Reason::Other(fault)),
+    }
+}
+
+/// Why a certificate is no witness of a history; nothing where it is one. An `Err` means that memory ran out.
+///
+/// It takes as long as `check_calls`, and for an `Illegal` as long again, and the time of a look at the tree there.
+pub fn explain(
+    alloc: Global,
+    history: &KnownCalls<'_>,
+    certificate: &Certificate,
+) -> Result<Option<Reason>, AllocError>
+    // There is a reason exactly if there is a fault, and what it says is true of the two.
+    ensures { IfOk result (λ found. MatchOption found (IsWitness history.now certificate.now) (IsReasonOf history.now certificate.now)) }
+{
+    match check_calls(alloc, history, certificate)? {
+        Verdict::Yes => Ok(None),
+        Verdict::No(fault) => {
+            let reason = reason_of(alloc, history, certificate, fault)?;
+            Ok(Some(reason))
+        }
+    }
+}

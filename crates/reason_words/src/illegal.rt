@@ -1,0 +1,105 @@
+//! The words of a call that can't have come out so at its place.
+
+use crate::calls::{push_call, push_outcome, push_reply, push_span};
+use crate::differences::push_differences;
+use crate::scene::{Scene, push_line};
+use crate::standing::push_standing;
+use certificate::{EraPlan, Place};
+use fault_reasons::{IllegalPlace, tree_after};
+use history_lines::Text;
+use nfs3_types::NfsReply;
+use std::alloc::AllocError;
+use tree_nodes::Nodes;
+
+/// What is ahead of a position of an era: the eras ahead, and the places ahead in its own.
+fn ahead_of(eras: &[EraPlan], era: u64, position: u64) -> Option<(&[EraPlan], &[Place])> {
+    let index = era.checked_sub(1)?;
+    let count = position.checked_sub(1)?;
+    let (ahead, rest) = eras.split_at_checked(index as usize)?;
+    let (own, _) = rest.split_first()?;
+    let (front, _) = own.places.as_slice().split_at_checked(count as usize)?;
+    Some((ahead, front))
+}
+
+/// A line of a place.
+fn push_position(
+    lines: &mut Vec<u8>,
+    scene: &Scene<'_, '_>,
+    era: u64,
+    position: u64,
+) -> Result<(), AllocError> {
+    let mut text = Text::new(scene.alloc);
+    text.push_number("  placed at position ", position)?;
+    text.push_number(" of era ", era)?;
+    push_line(lines, text)
+}
+
+/// A line of the reply that would be right.
+fn push_right(
+    lines: &mut Vec<u8>,
+    scene: &Scene<'_, '_>,
+    right: &Option<NfsReply>,
+) -> Result<(), AllocError> {
+    match right {
+        Some(reply) => push_reply(lines, scene, "  right there:", reply),
+        None => {
+            let mut text = Text::new(scene.alloc);
+            text.push_words("  no right reply was found")?;
+            push_line(lines, text)
+        }
+    }
+}
+
+/// The lines of a call, with what is known where it is placed.
+fn push_at(
+    lines: &mut Vec<u8>,
+    scene: &Scene<'_, '_>,
+    told: &IllegalPlace,
+) -> Result<(), AllocError> {
+    push_call(lines, scene, told.number, &told.call)?;
+    push_outcome(lines, scene, &told.outcome)?;
+    push_span(lines, scene, told.number)?;
+    push_position(lines, scene, told.era, told.position)?;
+    if let Some(nodes) = scene.nodes {
+        push_standing(lines, scene, nodes, &told.call)?;
+        push_differences(lines, scene, nodes, &told.call, &told.outcome)?;
+    }
+    push_right(lines, scene, &told.right)
+}
+
+/// The same with the tree there.
+fn push_in_tree(
+    lines: &mut Vec<u8>,
+    scene: &Scene<'_, '_>,
+    nodes: &Nodes,
+    ahead: &[EraPlan],
+    front: &[Place],
+    told: &IllegalPlace,
+) -> Result<(), AllocError> {
+    let there = Scene {
+        alloc: scene.alloc,
+        history: scene.history,
+        certificate: scene.certificate,
+        binds: scene.binds,
+        nodes: Some(nodes),
+        ahead,
+        front,
+    };
+    push_at(lines, &there, told)
+}
+
+/// Lines of a call that can't have come out so at its place.
+pub(crate) fn push_illegal(
+    lines: &mut Vec<u8>,
+    scene: &Scene<'_, '_>,
+    told: &IllegalPlace,
+) -> Result<(), AllocError> {
+    let eras = scene.certificate.eras.as_slice();
+    let Some((ahead, front)) = ahead_of(eras, told.era, told.position) else {
+        return push_at(lines, scene, told);
+    };
+    match tree_after(scene.alloc, scene.history, scene.certificate, ahead, front)? {
+        Some(tree) => push_in_tree(lines, scene, tree.nodes(), ahead, front, told),
+        None => push_at(lines, scene, told),
+    }
+}

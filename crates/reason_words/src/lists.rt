@@ -1,0 +1,182 @@
+//! Where a list of names and its directory differ (RFC 1813, sections 3.3.16 and 3.3.17).
+
+use crate::scene::{Scene, push_line};
+use history_lines::Text;
+use nfs3_types::{
+    FileHandle, ReadDirArguments, ReadDirPlusArguments, ReadDirPlusSuccess, ReadDirSuccess,
+};
+use std::alloc::AllocError;
+use std::collections::BTreeSet;
+use tree_answers::object_named;
+use tree_handles::{View, directory_of};
+use tree_nodes::Nodes;
+
+/// How many names a line has at most.
+const MOST: u64 = 10;
+
+/// A line of names, which is there once it has one.
+struct NameLine {
+    text: Text,
+    count: u64,
+}
+
+impl NameLine {
+    /// Words, and no names yet.
+    fn new(scene: &Scene<'_, '_>, words: &str) -> Result<NameLine, AllocError> {
+        let mut text = Text::new(scene.alloc);
+        text.push_words(words)?;
+        Ok(NameLine { text, count: 0 })
+    }
+
+    /// Appends a name, where there is room for it.
+    fn push(&mut self, name: &[u8]) -> Result<(), AllocError> {
+        if self.count < MOST {
+            self.text.push_quoted(" ", name)?;
+        }
+        self.count = self.count.saturating_add(1);
+        Ok(())
+    }
+
+    /// Appends the line, where it has a name.
+    fn end(self, lines: &mut Vec<u8>) -> Result<(), AllocError> {
+        let NameLine { text, count } = self;
+        if count == 0 {
+            return Ok(());
+        }
+        let mut text = text;
+        if count > MOST {
+            text.push_number(" and more: ", count - MOST)?;
+        }
+        push_line(lines, text)
+    }
+}
+
+impl Drop for NameLine {
+    fn drop(self) {
+        let NameLine { text, count: _ } = self;
+        drop(text);
+    }
+}
+
+/// A line of the listed names that the directory doesn't have.
+fn push_strange(
+    lines: &mut Vec<u8>,
+    scene: &Scene<'_, '_>,
+    nodes: &Nodes,
+    directory: u64,
+    listed: &[&[u8]],
+) -> Result<(), AllocError> {
+    let mut line = NameLine::new(scene, "  listed and not there:")?;
+    for name in listed {
+        if object_named(nodes, directory, *name).is_none() {
+            line.push(*name)?;
+        }
+    }
+    line.end(lines)
+}
+
+/// A line of the names that are listed once more. It gives all that are listed.
+fn push_again<'n>(
+    lines: &mut Vec<u8>,
+    scene: &Scene<'_, '_>,
+    listed: &[&'n [u8]],
+) -> Result<BTreeSet<&'n [u8]>, AllocError> {
+    let mut line = NameLine::new(scene, "  listed once more:")?;
+    let mut names = BTreeSet::new(scene.alloc);
+    for name in listed {
+        if !names.insert(*name)? {
+            line.push(*name)?;
+        }
+    }
+    line.end(lines)?;
+    Ok(names)
+}
+
+/// A line of the directory's names that aren't listed.
+fn push_missing(
+    lines: &mut Vec<u8>,
+    scene: &Scene<'_, '_>,
+    nodes: &Nodes,
+    directory: u64,
+    listed: &BTreeSet<&[u8]>,
+) -> Result<(), AllocError> {
+    let mut line = NameLine::new(scene, "  there and not listed:")?;
+    if let Some(names) = nodes.names(directory) {
+        for (name, _) in names {
+            if !listed.contains(&name) {
+                line.push(name)?;
+            }
+        }
+    }
+    line.end(lines)
+}
+
+/// Lines of where a list differs from the directory of a handle. A whole list has all names.
+fn push_listed(
+    lines: &mut Vec<u8>,
+    scene: &Scene<'_, '_>,
+    nodes: &Nodes,
+    handle: &FileHandle,
+    listed: &[&[u8]],
+    is_whole: bool,
+) -> Result<(), AllocError> {
+    let view = View {
+        binds: scene.binds,
+        nodes,
+    };
+    let Some(directory) = directory_of(&view, handle) else {
+        return Ok(());
+    };
+    push_strange(lines, scene, nodes, directory, listed)?;
+    let names = push_again(lines, scene, listed)?;
+    if is_whole {
+        return push_missing(lines, scene, nodes, directory, &names);
+    }
+    Ok(())
+}
+
+/// Lines of a READDIR.
+pub(crate) fn push_names(
+    lines: &mut Vec<u8>,
+    scene: &Scene<'_, '_>,
+    nodes: &Nodes,
+    call: &ReadDirArguments,
+    success: &ReadDirSuccess,
+) -> Result<(), AllocError> {
+    let mut listed = Vec::new(scene.alloc);
+    for entry in success.entries.as_slice() {
+        listed.push(entry.name.as_slice())?;
+    }
+    let is_whole = call.cookie == 0 && success.eof;
+    push_listed(
+        lines,
+        scene,
+        nodes,
+        &call.directory,
+        listed.as_slice(),
+        is_whole,
+    )
+}
+
+/// Lines of a READDIRPLUS.
+pub(crate) fn push_names_plus(
+    lines: &mut Vec<u8>,
+    scene: &Scene<'_, '_>,
+    nodes: &Nodes,
+    call: &ReadDirPlusArguments,
+    success: &ReadDirPlusSuccess,
+) -> Result<(), AllocError> {
+    let mut listed = Vec::new(scene.alloc);
+    for entry in success.entries.as_slice() {
+        listed.push(entry.name.as_slice())?;
+    }
+    let is_whole = call.cookie == 0 && success.eof;
+    push_listed(
+        lines,
+        scene,
+        nodes,
+        &call.directory,
+        listed.as_slice(),
+        is_whole,
+    )
+}
