@@ -15,14 +15,14 @@ use tree_nodes::Nodes;
 const MOST: u64 = 10;
 
 /// A line of names, which is there once it has one.
-struct NameLine {
-    text: Text,
+struct NameLine<'a> {
+    text: Text<'a>,
     count: u64,
 }
 
-impl NameLine {
+impl<'a> NameLine<'a> {
     /// Words, and no names yet.
-    fn new(scene: &Scene<'_, '_>, words: &str) -> Result<NameLine, AllocError> {
+    fn new(scene: &Scene<'_, '_>, words: &str) -> Result<NameLine<'a>, AllocError> {
         let mut text = Text::new(scene.alloc);
         text.push_words(words)?;
         Ok(NameLine { text, count: 0 })
@@ -51,7 +51,7 @@ impl NameLine {
     }
 }
 
-impl Drop for NameLine {
+impl<'a> Drop for NameLine<'a> {
     fn drop(self) {
         let NameLine { text, count: _ } = self;
         drop(text);

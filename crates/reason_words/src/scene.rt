@@ -23,7 +23,7 @@ pub(crate) struct Scene<'s, 'a> {
 }
 
 /// Appends a line.
-pub(crate) fn push_line(lines: &mut Vec<u8>, text: Text) -> Result<(), AllocError> {
+pub(crate) fn push_line(lines: &mut Vec<u8>, text: Text<'_>) -> Result<(), AllocError> {
     let line = text.into_line()?;
     lines.extend_from_slice(line.as_slice())?;
     Ok(())
