@@ -1,6 +1,7 @@
 //! The engine behind the program `nfsbench`: it does what a command line asks for.
 #![tactic(auto)]
 
+mod explaining;
 mod files;
 mod process;
 mod runs;
