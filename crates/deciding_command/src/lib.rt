@@ -15,5 +15,7 @@ pub use file_decision::{FileDecision, decide_file};
 pub use prefix_words::{PrefixRequest, prefix_command, prefix_request};
 pub use prefixing::prefix_history;
 pub use rounds::Effort;
-pub use telling::reason_line;
-pub use words::{DecideRequest, decide_command, decide_request};
+pub use telling::{reason_line, report_of};
+pub use words::{
+    DecideRequest, decide_command, decide_request, effort_of, seconds_option, states_option,
+};

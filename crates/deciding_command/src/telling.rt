@@ -34,7 +34,7 @@ pub fn reason_line(alloc: Global, reason: Undecided) -> Result<String, AllocErro
 }
 
 /// The line and the status of a decision.
-pub(crate) fn report_of(alloc: Global, decision: &FileDecision) -> Result<Report, AllocError>
+pub fn report_of(alloc: Global, decision: &FileDecision) -> Result<Report, AllocError>
     ensures yes { IfOk result (λ report. report.status ≡ 0 → IsYes decision.now) }
     ensures no { IfOk result (λ report. report.status ≡ 1 → IsNo decision.now) }
     ensures told { IfOk result (λ report. report.status ≡ 1 → report.line ≡ line_of_no decision.now) }

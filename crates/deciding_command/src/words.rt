@@ -42,14 +42,16 @@ fn certificate_option<'a>(alloc: Global) -> Arg<'a> {
         .help("Writes the certificate of a yes to this file")
 }
 
-fn states_option<'a>(alloc: Global) -> Arg<'a> {
+/// Bounds the states of a decision.
+pub fn states_option<'a>(alloc: Global) -> Arg<'a> {
     Arg::new(alloc, "states")
         .long("states")
         .value_parser(ValueParser::unsigned(1, MOST))
         .help("How many states may stand at once, 10000 if not said")
 }
 
-fn seconds_option<'a>(alloc: Global) -> Arg<'a> {
+/// Bounds the time of a decision.
+pub fn seconds_option<'a>(alloc: Global) -> Arg<'a> {
     Arg::new(alloc, "seconds")
         .long("seconds")
         .value_parser(ValueParser::unsigned(1, MOST))
@@ -75,16 +77,21 @@ pub fn decide_command<'a>(alloc: Global) -> Result<Command<'a>, AllocError> {
         .arg(history_path(alloc))
 }
 
+/// What a decision may cost, by these two options.
+pub fn effort_of(words: &ArgMatches<'_>) -> Effort {
+    Effort {
+        states: words.get_one("states").unwrap_or(STATES),
+        seconds: words.get_one("seconds").unwrap_or(SECONDS),
+    }
+}
+
 /// What the words behind `decide` ask for.
 pub fn decide_request<'a>(decide: &ArgMatches<'a>) -> DecideRequest<'a> {
     DecideRequest {
         // The parser asks for it.
         history: decide.get_str("HISTORY").unwrap_or(""),
         certificate: decide.get_str("certificate"),
-        effort: Effort {
-            states: decide.get_one("states").unwrap_or(STATES),
-            seconds: decide.get_one("seconds").unwrap_or(SECONDS),
-        },
+        effort: effort_of(decide),
         go_on: decide.get_one("go-on").unwrap_or(0),
     }
 }

@@ -4,7 +4,9 @@ ghost use Rattle.std.specs.Prelude.{◌≡◌, ℕ, List, IfOk, Option};
 ghost use Rattle.judging_commands.specs.Report.{IsSaidOfRead};
 ghost use Rattle.judging_commands.specs.Reported.{IsReportedOfRead};
 ghost use Rattle.judging_commands.specs.Objects.{HasStatusOfRead};
+ghost use Rattle.explaining_command.specs.Explained.{IsExplained};
 
+use explaining_command::explain_read;
 use history_file::HISTORY_LIMIT;
 use judging_commands::{judge_read, judge_read_as_json, report_read, report_read_as_json};
 use program_streams::{InputFault, Report, Stream, read_all};
@@ -133,4 +135,19 @@ pub(crate) fn report_paths_as_json<R: Files + AllocGlobal>(
     let history = read_history_file(rt, history)?;
     let certificate = read_certificate_file(rt, certificate)?;
     report_read_as_json(rt.alloc(), history.as_deref(), certificate.as_deref())
+}
+
+/// What is said of the files at two paths, and behind a no its reason. Both are read, in this order, before anything is judged.
+pub(crate) fn explain_paths<R: Files + AllocGlobal>(
+    rt: &R,
+    history: &str,
+    certificate: &str,
+) -> Result<Report, AllocError>
+    // It begins with what is said of what was read.
+    ensures said { IfOk result (λ report. (history_read : Option (List ℕ)) × (certificate_read : Option (List ℕ))
+        × IsExplained history_read certificate_read report.status report.line) }
+{
+    let history = read_history_file(rt, history)?;
+    let certificate = read_file(rt, certificate, u64::MAX)?;
+    explain_read(rt.alloc(), history.as_deref(), certificate.as_deref())
 }

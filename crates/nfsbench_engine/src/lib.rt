@@ -2,6 +2,7 @@
 #![tactic(auto)]
 
 mod draw;
+mod explaining;
 mod files;
 mod process;
 mod runs;

@@ -11,6 +11,7 @@ ghost use Rattle.program_streams.specs.Told.{Tells, memory_line};
 ghost use Rattle.witness_check.specs.declared.fault.Fault.{Fault};
 
 use crate::draw::draw_path;
+use crate::explaining::explain_path;
 use crate::files::{
     check_paths, check_paths_as_json, read_certificate_file, read_history_file, report_paths,
     report_paths_as_json,
@@ -23,6 +24,7 @@ use deciding_command::{
     prefix_history, prefix_request,
 };
 use drawing_command::{DrawRequest, draw_command, draw_request};
+use explaining_command::{ExplainRequest, explain_command, explain_request};
 use import_command::{ImportRequest, import_command, import_request, run_import};
 use judging_commands::{
     SearchRequest, json_option, refused_as_json, run_bundle, search_command, search_history,
@@ -68,6 +70,8 @@ enum Request<'a> {
     Search(SearchRequest<'a>),
     /// Whether there is a certificate.
     Decide(DecideRequest<'a>),
+    /// Why a certificate is no witness.
+    Explain(ExplainRequest<'a>),
     /// The first events of a history, in a file.
     Prefix(PrefixRequest<'a>),
     /// A history of what a recorder left on disk.
@@ -91,6 +95,7 @@ pub(crate) enum Waiting<'a> {
     Import(ImportRequest<'a>),
     Search(SearchRequest<'a>),
     Decide(DecideRequest<'a>),
+    Explain(ExplainRequest<'a>),
     Tap(TapRequest<'a>),
     Run(RunRequest<'a>),
     Serve(ServeRequest<'a>),
@@ -146,6 +151,7 @@ fn command<'a>(alloc: Global) -> Result<Command<'a>, AllocError> {
         .subcommand(draw_command(alloc)?)?
         .subcommand(search_command(alloc)?)?
         .subcommand(decide_command(alloc)?)?
+        .subcommand(explain_command(alloc)?)?
         .subcommand(prefix_command(alloc)?)?
         .subcommand(run_command(alloc)?)?
         .subcommand(serve_command(alloc)?)?
@@ -196,6 +202,7 @@ fn read_words<'a, S: AsStr>(alloc: Global, words: &'a [S]) -> Result<Request<'a>
         Some(("draw", draw)) => Ok(Request::Draw(draw_request(draw))),
         Some(("search", search)) => Ok(Request::Search(search_request(search))),
         Some(("decide", decide)) => Ok(Request::Decide(decide_request(decide))),
+        Some(("explain", explain)) => Ok(Request::Explain(explain_request(explain))),
         Some(("prefix", prefix)) => Ok(Request::Prefix(prefix_request(prefix))),
         Some(("run", run)) => Ok(Request::Run(run_request(run))),
         Some(("serve", serve)) => Ok(Request::Serve(serve_request(serve))),
@@ -425,6 +432,7 @@ pub(crate) fn judge_words<'a, R: Files + AllocGlobal, S: AsStr, I: Input, O: Out
         Ok(Request::Import(request)) => Err(Waiting::Import(request)),
         Ok(Request::Search(request)) => Err(Waiting::Search(request)),
         Ok(Request::Decide(request)) => Err(Waiting::Decide(request)),
+        Ok(Request::Explain(request)) => Err(Waiting::Explain(request)),
         Ok(Request::Tap(request)) => Err(Waiting::Tap(request)),
         Ok(Request::Run(request)) => Err(Waiting::Run(request)),
         Ok(Request::Serve(request)) => Err(Waiting::Serve(request)),
@@ -444,9 +452,9 @@ pub(crate) fn judge_words<'a, R: Files + AllocGlobal, S: AsStr, I: Input, O: Out
 /// `draw_history` gives; with `prefix`, a path, a number of events and a path to write what `prefix_history` gives; with `mend`, of a file and a path to write, what [`run_mend`] gives, and with
 /// `import` what [`run_import`] gives; which words ask for that, which files are opened and what the parser's texts are no clause
 /// says. With `search` and a path it is what `search_history` gives, with `decide` and a path what
-/// `decide_history` gives; with `run`, a path and two
-/// paths to write it runs a text, with `serve` it serves connections, with `tap` it records, and with `test` it drives a server, as
-/// [`run_test`]: these six may wait or take long, the last three for as long as they are let.
+/// `decide_history` gives; with `explain` and two paths what `explain_read` gives, and with one what `explain_history` gives; with `run`, a
+/// path and two paths to write it runs a text, with `serve` it serves connections, with `tap` it records, and with `test` it drives a server,
+/// as [`run_test`]: these seven may wait or take long, the last three for as long as they are let.
 pub fn run_words<R: RecordingRuntime, S: AsStr, I: Input, O: Output>(
     rt: &R,
     words: &[S],
@@ -476,6 +484,7 @@ pub fn run_words<R: RecordingRuntime, S: AsStr, I: Input, O: Output>(
         Ok(status) => status,
         Err(Waiting::Search(request)) => search_path(rt, &request, output),
         Err(Waiting::Decide(request)) => decide_path(rt, &request, output),
+        Err(Waiting::Explain(request)) => explain_path(rt, &request, output),
         Err(Waiting::Mend(request)) => run_mend(rt, &request, output),
         Err(Waiting::Import(request)) => run_import(rt, &request, output),
         Err(Waiting::Tap(request)) => run_tap(rt, &request, input, output),

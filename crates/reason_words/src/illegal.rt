@@ -7,7 +7,7 @@ use crate::standing::push_standing;
 use certificate::{EraPlan, Place};
 use fault_reasons::{IllegalPlace, tree_after};
 use history_lines::Text;
-use nfs3_types::NfsReply;
+use nfs3_types::{Answer, NfsReply};
 use std::alloc::AllocError;
 use tree_nodes::Nodes;
 
@@ -34,6 +34,16 @@ fn push_position(
     push_line(lines, text)
 }
 
+/// What a right reply stands behind. Of some the tree judges a part alone.
+fn right_words(reply: &NfsReply) -> &'static str {
+    match reply {
+        NfsReply::GetAttr(Answer::Done(_))
+        | NfsReply::Write(Answer::Done(_))
+        | NfsReply::Commit(Answer::Done(_)) => "  right there, with 0 for what isn't judged:",
+        _ => "  right there:",
+    }
+}
+
 /// A line of the reply that would be right.
 fn push_right(
     lines: &mut Vec<u8>,
@@ -41,7 +51,7 @@ fn push_right(
     right: &Option<NfsReply>,
 ) -> Result<(), AllocError> {
     match right {
-        Some(reply) => push_reply(lines, scene, "  right there:", reply),
+        Some(reply) => push_reply(lines, scene, right_words(reply), reply),
         None => {
             let mut text = Text::new(scene.alloc);
             text.push_words("  no right reply was found")?;

@@ -1,0 +1,33 @@
+-- What is said with words behind it.
+use Rattle.std.proofs.Common.{◌≡◌, ◌++◌, ◌<◌, ℕ, List, Option, Result, Ok, Err, sym, ◌∙◌, subst}
+use Rattle.std.specs.Prelude.{IfOk}
+use Rattle.witness_check.specs.Witness.{AreAccepted}
+use Rattle.program_streams.specs.Told.{Answer}
+use Rattle.judging_commands.specs.Report.{IsSaidOfRead}
+use Rattle.deciding_command.specs.declared.file_decision.FileDecision.{FileDecision}
+use Rattle.deciding_command.specs.FileDecision.{IsWithoutWitness, IsNeverAccepted, Decides, IsYes, IsNo}
+use Rattle.deciding_command.proofs.NoText.{text_of_yes, never_of_no}
+use Rattle.explaining_command.specs.Explained.{IsExplained}
+
+-- a verdict
+pub explained : {E : Type 0} (history certificate : Option (List ℕ)) (told : Answer) (words : List ℕ) (r : Result Answer E) → IsSaidOfRead history certificate told.status told.line
+    → IfOk r (λ report. report.status ≡ told.status) → IfOk r (λ report. report.line ≡ told.line ++ words)
+    → IfOk r (λ report. IsExplained history certificate report.status report.line)
+explained history certificate told words (Ok report) said status line =
+    (told.line, words, subst (λ s. IsSaidOfRead history certificate s told.line) (sym status) said, line)
+explained history certificate told words (Err e) said status line = tt
+
+-- a decision
+pub yes_behind : {E : Type 0} (bytes : List ℕ) (decision : FileDecision) (told : Answer) (r : Result Answer E) → Decides bytes decision → (told.status ≡ 0 → IsYes decision)
+    → IfOk r (λ report. report.status ≡ told.status) → IfOk r (λ report. report.status ≡ 0 → (text : List ℕ) × AreAccepted bytes text)
+yes_behind bytes decision told (Ok report) decides yes same = λ is. text_of_yes bytes decision decides (yes (sym same ∙ is))
+yes_behind bytes decision told (Err e) decides yes same = tt
+
+pub no_behind : {E : Type 0} (bytes : List ℕ) (decision : FileDecision) (told : Answer) (r : Result Answer E) → Decides bytes decision → (told.status ≡ 1 → IsNo decision)
+    → IfOk r (λ report. report.status ≡ told.status) → IfOk r (λ report. report.status ≡ 1 → IsWithoutWitness bytes × IsNeverAccepted bytes)
+no_behind bytes decision told (Ok report) decides no same = λ is. never_of_no bytes decision decides (no (sym same ∙ is))
+no_behind bytes decision told (Err e) decides no same = tt
+
+pub known_behind : {E : Type 0} (told : Answer) (r : Result Answer E) → told.status < 3 → IfOk r (λ report. report.status ≡ told.status) → IfOk r (λ report. report.status < 3)
+known_behind told (Ok report) known same = subst (λ s. s < 3) (sym same) known
+known_behind told (Err e) known same = tt
