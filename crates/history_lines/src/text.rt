@@ -97,7 +97,9 @@ impl<'a> Text<'a> {
     /// Lets a text stand for a handle from now on.
     pub fn name_handle(&mut self, handle: Vec<u8>, name: Text<'_>) -> Result<(), AllocError> {
         let Text {
-            content, handles, ..
+            content,
+            handles,
+            ..
         } = name;
         drop(handles);
         self.handles.insert(handle, content)?;
@@ -285,7 +287,9 @@ impl<'a> Text<'a> {
         ensures { IfOk result IsLine }
     {
         let Text {
-            content, handles, ..
+            content,
+            handles,
+            ..
         } = self;
         drop(handles);
         let mut bytes = content;
