@@ -33,10 +33,8 @@ pub(crate) fn is_of_shape(fault: Fault) -> bool {
         | Fault::NotToPlace(_)
         | Fault::Missing(_)
         | Fault::BadCut(_) => true,
-        Fault::Early { .. }
-        | Fault::Illegal(_)
-        | Fault::ShortCut { .. }
-        | Fault::Verifier(_) => false,
+        Fault::Early { .. } | Fault::Illegal(_) | Fault::ShortCut { .. } | Fault::Verifier(_) =>
+            false,
     }
 }
 

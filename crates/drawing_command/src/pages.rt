@@ -219,8 +219,13 @@ fn page_for(
         fault: call_at(subject.place),
         explaining: explaining.as_slice(),
     };
-    let Ok(picture) = picture_of(alloc, source.file, source.known, source.certificate, &wanted)
-    else {
+    let Ok(picture) = picture_of(
+        alloc,
+        source.file,
+        source.known,
+        source.certificate,
+        &wanted,
+    ) else {
         // The bytes were read before, so it is for want of memory.
         return Err(Absent::Memory);
     };

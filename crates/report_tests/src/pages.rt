@@ -29,7 +29,13 @@ fn drawn(
         wanted,
     };
     let mut output = Vec::new(alloc);
-    let status = draw_history(alloc, &request, file.as_slice(), Some(certificate), &mut output);
+    let status = draw_history(
+        alloc,
+        &request,
+        file.as_slice(),
+        Some(certificate),
+        &mut output,
+    );
     Ok(Some((output, status)))
 }
 
@@ -78,7 +84,10 @@ fn a_fault_is_drawn_with_what_explains_it(rt: HostRuntime) -> Result<(), Fail> {
 #[test]
 fn a_yes_is_drawn(rt: HostRuntime) -> Result<(), Fail> {
     let alloc = rt.alloc();
-    let all = ["<title>&lt;h&gt;: yes</title>", "<p>Events 1 to 6 of 6.</p>"];
+    let all = [
+        "<title>&lt;h&gt;: yes</title>",
+        "<p>Events 1 to 6 of 6.</p>",
+    ];
     let asked = ["<tr class=\"asked\"><td>2</td>"];
     let some = ["<p>Events 2 to 4 of 6.</p>"];
     let from = Wanted::Events {

@@ -245,7 +245,8 @@ fn history_page(alloc: Global, window: Window) -> Result<Option<Page>, AllocErro
         fault: Some(3),
         explaining: &[1],
     };
-    let Ok(picture) = picture_of(alloc, file.as_slice(), &known, Some(&certificate), &request) else {
+    let Ok(picture) = picture_of(alloc, file.as_slice(), &known, Some(&certificate), &request)
+    else {
         return Ok(None);
     };
     Ok(Some(picture_page(alloc, &picture)?))
