@@ -289,11 +289,11 @@ fn judge(alloc: Global, known: &KnownCalls<'_>, text: &[u8]) -> Result<Judged, S
 }
 
 /// The page of the calls of a history file.
-fn page_of_calls(
+fn page_of_calls<'a>(
     alloc: Global,
     request: &DrawRequest<'_>,
-    file: &[u8],
-    known: &KnownCalls<'_>,
+    file: &'a [u8],
+    known: &KnownCalls<'a>,
     certificate: Option<&[u8]>,
 ) -> Result<Page, Stop>
     requires { IsCallsFile file.now known.now }
