@@ -89,7 +89,7 @@ struct Subject {
 /// A history as it was read, with the certificate if there is one.
 #[derive(Clone, Copy)]
 struct Source<'s, 'a> {
-    file: &'s [u8],
+    file: &'a [u8],
     known: &'s KnownCalls<'a>,
     certificate: Option<&'s Certificate>,
 }
@@ -234,11 +234,11 @@ fn page_for(
 }
 
 /// The page of a history with a certificate.
-fn judged_page(
+fn judged_page<'a>(
     alloc: Global,
     request: &DrawRequest<'_>,
-    file: &[u8],
-    known: &KnownCalls<'_>,
+    file: &'a [u8],
+    known: &KnownCalls<'a>,
     judged: &Judged,
 ) -> Result<Page, Absent> {
     let subject = subject_of_judged(alloc, request.history, known, judged)?;
@@ -251,11 +251,11 @@ fn judged_page(
 }
 
 /// The page of a history without one.
-fn bare_page(
+fn bare_page<'a>(
     alloc: Global,
     request: &DrawRequest<'_>,
-    file: &[u8],
-    known: &KnownCalls<'_>,
+    file: &'a [u8],
+    known: &KnownCalls<'a>,
 ) -> Result<Page, Absent> {
     let subject = subject_of_history(alloc, request.history, known)?;
     let source = Source {
@@ -289,11 +289,11 @@ fn judge(alloc: Global, known: &KnownCalls<'_>, text: &[u8]) -> Result<Judged, S
 }
 
 /// The page of the calls of a history file.
-fn page_of_calls(
+fn page_of_calls<'a>(
     alloc: Global,
     request: &DrawRequest<'_>,
-    file: &[u8],
-    known: &KnownCalls<'_>,
+    file: &'a [u8],
+    known: &KnownCalls<'a>,
     certificate: Option<&[u8]>,
 ) -> Result<Page, Stop>
     requires { IsCallsFile file.now known.now }

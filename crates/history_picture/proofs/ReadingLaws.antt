@@ -1,6 +1,6 @@
 -- A browser reads no tag in a page but the program's own.
 use Rattle.std.proofs.Common.{◌≡◌, ⊎_elim, ℕ, zero, suc, ◌+◌, ◌/◌, ◌%◌, ◌<◌, Bool, true, false, nat_lt, List, [], ◌∷◌, ◌++◌, refl, sym, ap, ap₂, subst, ◌∙◌, arith, lt-ltb, append_assoc}
-use Rattle.std.specs.Prelude.{◌==◌, if◌then◌else◌, decimal}
+use Rattle.std.specs.Prelude.{◌==◌, if◌then◌else◌, codes, decimal}
 use Rattle.std.proofs.lemmas.Bool.Decides.{nat_tests}
 use Rattle.std.proofs.lemmas.Bool.{cond-true}
 use Rattle.std.specs.Fmt.{digits, digits_onto, digit_glyph}
@@ -141,8 +141,23 @@ past_class classes.Explains ys = refl
 
 -- ---- the program's own
 
+-- a tag in two parts
+in_two : (xs ys : List ℕ) → moved_by Where.in_text xs ≡ Where.in_tag → moved_by Where.in_tag ys ≡ Where.in_text → moved_by Where.in_text (xs ++ ys) ≡ Where.in_text
+in_two xs ys front back = moved_by-append Where.in_text xs ys ∙ ap (λ (place : Where). moved_by place ys) front ∙ back
+
+svg_begins : (class : Class) (width height : ℕ)
+    → moved_by Where.in_text (codes "<svg class=\"" ++ (class_words class ++ (codes "\" width=\"" ++ (decimal width ++ (codes "\" height=\"" ++ (decimal height ++ codes "\"")))))) ≡ Where.in_tag
+svg_begins class width height = simp (past_class, past_number)
+
+svg_ends : (left width height : ℕ)
+    → moved_by Where.in_tag (codes " viewBox=\"" ++ (decimal left ++ (codes " 0 " ++ (decimal width ++ (codes " " ++ (decimal height ++ codes "\">\n")))))) ≡ Where.in_text
+svg_ends left width height = simp past_number
+
 shape_is_whole : (tag : Shape) → moved_by Where.in_text (shape_words tag) ≡ Where.in_text
-shape_is_whole (shapes.Svg class left width height) = simp (past_class, past_number)
+shape_is_whole (shapes.Svg class left width height) =
+    in_two (codes "<svg class=\"" ++ (class_words class ++ (codes "\" width=\"" ++ (decimal width ++ (codes "\" height=\"" ++ (decimal height ++ codes "\""))))))
+    (codes " viewBox=\"" ++ (decimal left ++ (codes " 0 " ++ (decimal width ++ (codes " " ++ (decimal height ++ codes "\">\n"))))))
+    (svg_begins class width height) (svg_ends left width height)
 shape_is_whole (shapes.Group class) = simp past_class
 shape_is_whole (shapes.Rect class x y width height) = simp (past_class, past_number)
 shape_is_whole (shapes.Open class free top closed bottom) = simp (past_class, past_number)

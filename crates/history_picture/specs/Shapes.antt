@@ -27,9 +27,8 @@ class_words classes.Explains = codes "explains"
 -- each is whole: it begins and ends outside of a tag
 abbrev pub shape_words : Shape → List ℕ
 shape_words (shapes.Svg class left width height) =
-    codes "<svg xmlns=\"http://www.w3.org/2000/svg\" class=\"" ++ (class_words class ++ (codes "\" width=\"" ++ (decimal width
-    ++ (codes "\" height=\"" ++ (decimal height ++ (codes "\" viewBox=\"" ++ (decimal left ++ (codes " 0 " ++ (decimal width
-    ++ (codes " " ++ (decimal height ++ codes "\">\n")))))))))))
+    (codes "<svg class=\"" ++ (class_words class ++ (codes "\" width=\"" ++ (decimal width ++ (codes "\" height=\"" ++ (decimal height ++ codes "\""))))))
+    ++ (codes " viewBox=\"" ++ (decimal left ++ (codes " 0 " ++ (decimal width ++ (codes " " ++ (decimal height ++ codes "\">\n"))))))
 shape_words (shapes.Group class) = codes "<g class=\"" ++ (class_words class ++ codes "\">")
 shape_words (shapes.Rect class x y width height) =
     codes "<rect class=\"" ++ (class_words class ++ (codes "\" x=\"" ++ (decimal x ++ (codes "\" y=\"" ++ (decimal y

@@ -286,10 +286,10 @@ fn bare_picture(
 
 /// The picture of a history file with these calls, and with the places of a certificate if there is one. Nothing in the certificate is
 /// trusted: a place of a call that there isn't is passed over.
-pub fn picture_of(
+pub fn picture_of<'a>(
     alloc: Global,
-    file: &[u8],
-    known: &KnownCalls<'_>,
+    file: &'a [u8],
+    known: &KnownCalls<'a>,
     certificate: Option<&Certificate>,
     request: &Request<'_>,
 ) -> Result<Picture, FileFault> {

@@ -125,10 +125,13 @@ impl fmt::Display for Shape {
                 left,
                 width,
                 height,
-            } => writeln!(
-                f,
-                "<svg xmlns=\"http://www.w3.org/2000/svg\" class=\"{class}\" width=\"{width}\" height=\"{height}\" viewBox=\"{left} 0 {width} {height}\">"
-            ),
+            } => {
+                write!(
+                    f,
+                    "<svg class=\"{class}\" width=\"{width}\" height=\"{height}\""
+                )?;
+                writeln!(f, " viewBox=\"{left} 0 {width} {height}\">")
+            }
             Shape::Group(class) => write!(f, "<g class=\"{class}\">"),
             Shape::Rect {
                 class,

@@ -29,7 +29,7 @@ const CERTIFICATE: &[u8] = b"witness 1\nplace 1\nplace 2\ncut 1\nplace 3\nend\n"
 
 /// The picture in the page of `three_calls`, behind the first tag's name.
 const THREE_CALLS: &str =
-    "xmlns=\"http://www.w3.org/2000/svg\" class=\"names\" width=\"96\" height=\"80\" viewBox=\"0 0 96 80\">
+    "class=\"names\" width=\"96\" height=\"80\" viewBox=\"0 0 96 80\">
 <g id=\"names\">
 <rect class=\"odd\" x=\"0\" y=\"28\" width=\"96\" height=\"26\"/>
 <rect class=\"lane\" x=\"0\" y=\"54\" width=\"96\" height=\"26\"/>
@@ -37,10 +37,10 @@ const THREE_CALLS: &str =
 <text class=\"lane\" x=\"6\" y=\"71\">lane 7</text>
 </g>
 </svg>
-<svg xmlns=\"http://www.w3.org/2000/svg\" class=\"again\" width=\"96\" height=\"80\" viewBox=\"0 0 96 80\">
+<svg class=\"again\" width=\"96\" height=\"80\" viewBox=\"0 0 96 80\">
 <use href=\"#names\"/>
 </svg>
-<svg xmlns=\"http://www.w3.org/2000/svg\" class=\"strip\" width=\"1104\" height=\"80\" viewBox=\"0 0 1104 80\">
+<svg class=\"strip\" width=\"1104\" height=\"80\" viewBox=\"0 0 1104 80\">
 <defs><pattern id=\"hatch\" width=\"6\" height=\"6\" patternUnits=\"userSpaceOnUse\" patternTransform=\"rotate(45)\"><rect class=\"hatch\" width=\"2\" height=\"6\"/></pattern></defs>
 <rect class=\"odd\" x=\"0\" y=\"28\" width=\"1104\" height=\"26\"/>
 <rect class=\"lane\" x=\"0\" y=\"54\" width=\"1104\" height=\"26\"/>
