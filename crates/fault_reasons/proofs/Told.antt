@@ -1,6 +1,6 @@
 -- Where a call is placed, and what is told of it.
-use Rattle.std.proofs.Common.{◌≡◌, ℕ, List, ◌∷◌, ◌++◌, take, drop, map, option_map, Option, Some, None, length, refl, ap, sym, ◌∙◌, subst}
-use Rattle.std.specs.Prelude.{IsSome, IfSome}
+use Rattle.std.proofs.Common.{◌≡◌, ℕ, Bool, true, List, ◌∷◌, ◌++◌, take, drop, map, option_map, Option, Some, None, length, refl, ap, sym, ◌∙◌, subst}
+use Rattle.std.specs.Prelude.{IsSome, IfSome, MatchBool, ⊤}
 use Rattle.std.specs.List.{IsSplitAt, IsFirstAndRest}
 use Rattle.std.proofs.lemmas.List.{take-append-drop}
 use Rattle.nfs3_types.specs.declared.calls.NfsCall.{NfsCall}
@@ -40,6 +40,7 @@ stands_behind whole all front rest back x i same split first =
 pub is_spot : (eras ahead rest behind : List EraPlan) (era : EraPlan) (i : ℕ) (found : Option Spot) → IsSplitAt eras i ahead rest → IsFirstAndRest rest era behind
     → IfSome found (λ spot. spot.ahead.now ≡ ahead) → IfSome found (λ spot. StandsBehind era.places spot.front.now spot.place)
     → IfSome found (λ spot. IsSpot eras spot.ahead.now spot.front.now spot.place)
+unfolding stands_behind
 is_spot eras ahead rest behind era i None split first same stands = same
 is_spot eras ahead rest behind era i (Some spot) split first same stands = record {
   era = era;
@@ -51,11 +52,14 @@ is_spot eras ahead rest behind era i (Some spot) split first same stands = recor
 
 -- what is told of a step that its tree doesn't take
 pub told : (next : Tree → ℕ → NfsCall → Outcome → Option Tree) (base : Tree) (calls : List RecordedCall) (eras : List EraPlan) (spot : Spot) (step : Placed) (found : Option Placed)
-    (right : Option NfsReply) (tree after : Tree) (given : IllegalPlace) → given ≡ illegal_of spot step right → IsSpot eras spot.ahead.now spot.front.now spot.place
-    → found ≡ Some step → option_map placed_step found ≡ step_at calls spot.place → state_after next base (steps_behind calls spot.ahead.now spot.front.now) ≡ Some tree
-    → next tree step.number step.call step.outcome ≡ None → after ≡ tree → IfSome right (λ reply. IsSome (next after step.number step.call (Received reply)))
-    → IsIllegalIn next base calls eras given
-told next base calls eras spot step found right tree after given is stands some placed reached refused same taken =
+    (right : Option NfsReply) (tree after : Tree) (given : IllegalPlace) (stops : Bool) → given ≡ illegal_of spot step right
+    → IsSpot eras spot.ahead.now spot.front.now spot.place → found ≡ Some step → option_map placed_step found ≡ step_at calls spot.place
+    → state_after next base (steps_behind calls spot.ahead.now spot.front.now) ≡ Some tree → stops ≡ true
+    → MatchBool stops (next tree step.number step.call step.outcome ≡ None) ⊤ → MatchBool stops (after ≡ tree) ⊤
+    → IfSome right (λ reply. IsSome (next after step.number step.call (Received reply))) → IsIllegalIn next base calls eras given
+told next base calls eras spot step found right tree after given stops is stands some placed reached stopped may_refuse may_stay taken =
+    let refused : next tree step.number step.call step.outcome ≡ None = subst (λ (b : Bool). MatchBool b (next tree step.number step.call step.outcome ≡ None) ⊤) stopped may_refuse in
+    let same : after ≡ tree = subst (λ (b : Bool). MatchBool b (after ≡ tree) ⊤) stopped may_stay in
     subst (λ (p : IllegalPlace). IsIllegalIn next base calls eras p) (sym is) (record {
       ahead = spot.ahead.now;
       front = spot.front.now;

@@ -103,11 +103,13 @@ fn illegal_at(rule: &Rule<'_, '_>, spot: &Spot<'_>) -> Result<Option<IllegalPlac
         return Ok(None);
     };
     let mut tree = tree_behind(rule, spot.ahead, spot.front)?;
-    if !stops(&mut tree, rule, &step)? {
-        return Ok(None);
+    let is_stuck = stops(&mut tree, rule, &step)?;
+    if is_stuck {
+        let right = right_reply(&mut tree, rule, &step)?;
+        Ok(Some(illegal_step(spot, step, right)))
+    } else {
+        Ok(None)
     }
-    let right = right_reply(&mut tree, rule, &step)?;
-    Ok(Some(illegal_step(spot, step, right)))
 }
 
 /// What is told of the place of a call, where the tree there doesn't take its outcome.

@@ -116,7 +116,6 @@ fn run_kept(tree: &mut FileTree, rule: &Rule<'_, '_>, eras: &[EraPlan]) -> Resul
 }
 
 /// The tree behind what these eras kept, and behind these places of the next one.
-#[tactic(auto, using(crate::proofs::Behind::started))]
 pub(crate) fn tree_behind(
     rule: &Rule<'_, '_>,
     ahead: &[EraPlan],
