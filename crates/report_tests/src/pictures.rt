@@ -28,8 +28,7 @@ pub(crate) const HISTORY: &str = "4e46534849535431000000010000000000000006\
 const CERTIFICATE: &[u8] = b"witness 1\nplace 1\nplace 2\ncut 1\nplace 3\nend\n";
 
 /// The picture in the page of `three_calls`, behind the first tag's name.
-const THREE_CALLS: &str =
-    "class=\"names\" width=\"96\" height=\"80\" viewBox=\"0 0 96 80\">
+const THREE_CALLS: &str = "class=\"names\" width=\"96\" height=\"80\" viewBox=\"0 0 96 80\">
 <g id=\"names\">
 <rect class=\"odd\" x=\"0\" y=\"28\" width=\"96\" height=\"26\"/>
 <rect class=\"lane\" x=\"0\" y=\"54\" width=\"96\" height=\"26\"/>
