@@ -3,7 +3,7 @@
 use Rattle.std.specs.Prelude.{◌≡◌, ◌⊎◌, ℕ, ◌+◌, ◌-◌, ◌<◌, ◌≤◌, if◌then◌else◌, List, Option, Some, None, Result, Ok, Err}
 use Rattle.history_file.specs.declared.fault.FileFault.{FileFault}
 use Rattle.history_lines.specs.declared.lines.EventLines.{EventLines}
-use Rattle.history_lines.specs.declared.lines.Selection.{Selection}
+use Rattle.history_lines.specs.declared.look.Look.{Look}
 use Rattle.history_lines.specs.declared.lines.ShownEvents.{ShownEvents}
 use Rattle.history_lines.specs.Left.{IsLeft, IsWhole}
 use Rattle.history_lines.specs.StartShown.{start_lines, lines_left, asks_start}
@@ -19,9 +19,9 @@ IsWholeAtEnd bytes (Ok None) = IsWhole bytes
 IsWholeAtEnd bytes (Ok (Some line)) = Unit {0}
 IsWholeAtEnd bytes (Err fault) = Unit {0}
 
--- which events are shown
-abbrev pub selection_of : EventLines → Selection
-selection_of lines = lines.behind.maker.selection
+-- which events are shown, and how
+abbrev pub look_of : EventLines → Look
+look_of lines = lines.behind.maker.look
 
 -- the number of the last event that was read
 abbrev pub last_read : EventLines → ℕ
@@ -32,18 +32,18 @@ abbrev pub starts_left : EventLines → ℕ
 starts_left lines = lines_left lines.ahead
 
 -- how many of them are asked for
-abbrev pub starts_asked : Selection → EventLines → ℕ
-starts_asked selection lines = if asks_start selection then start_lines lines.ahead.start lines.ahead.profile else 0
+abbrev pub starts_asked : Look → EventLines → ℕ
+starts_asked look lines = if asks_start look then start_lines lines.ahead.start lines.ahead.profile else 0
 
--- of the events that were read meanwhile none is to be shown, where no call is named
+-- of the events that were read meanwhile none is to be shown, where nothing narrows the choice
 abbrev pub NoneMissed : ShownEvents → ShownEvents → Type 0
-NoneMissed old new = ArePassedOver old.maker.selection old.unread.read new.unread.read
+NoneMissed old new = ArePassedOver old.maker.look old.unread.read new.unread.read
 
 -- a line is that of the event that was read last, and none ahead of it is missed; where there is no line the last event is
 -- read, and none is missed; nor is one at an error
 abbrev pub IsNextEvent : {X F : Type 0} → ShownEvents → ShownEvents → Result (Option X) F → Type 0
 IsNextEvent old new (Ok (Some line)) =
-    (old.unread.read < new.unread.read) × ArePassedOver old.maker.selection old.unread.read (new.unread.read - 1) × IsAsked old.maker.selection new.unread.read
+    (old.unread.read < new.unread.read) × ArePassedOver old.maker.look old.unread.read (new.unread.read - 1) × IsAsked old.maker.look.selection new.unread.read
 IsNextEvent old new (Ok None) = (new.unread.count ≤ new.unread.read) × NoneMissed old new
 IsNextEvent old new (Err fault) = NoneMissed old new
 

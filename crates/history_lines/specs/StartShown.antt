@@ -5,8 +5,9 @@ use Rattle.std.specs.Prelude.{◌≡◌, ℕ, ◌+◌, ◌-◌, nat_le, Bool, tr
 use Rattle.tree_starts.specs.declared.object.StartObject.{StartObject}
 use Rattle.tree_starts.specs.declared.profile.Profile.{Profile}
 use Rattle.tree_starts.specs.declared.profile.Profile.TheVariants.{Plain, Strict}
-use Rattle.history_lines.specs.declared.lines.Selection.{Selection}
+use Rattle.history_lines.specs.declared.look.Look.{Look}
 use Rattle.history_lines.specs.declared.start_lines.StartLines.{StartLines}
+use Rattle.history_lines.specs.Shown.{is_wide, is_nothing}
 
 abbrev pub is_strict : Profile → Bool
 is_strict Plain = false
@@ -20,13 +21,9 @@ start_lines start profile = (if is_strict profile then 1 else 0) + length start
 abbrev pub lines_left : StartLines → ℕ
 lines_left lines = (if lines.is_strict_left then 1 else 0) + (length lines.start - lines.shown)
 
--- they are asked for where no call is named and the first event is
-abbrev pub asks_no_call : Option ℕ → Bool
-asks_no_call None = true
-asks_no_call (Some call) = false
-
-abbrev pub asks_start : Selection → Bool
-asks_start selection = asks_no_call selection.call && nat_le selection.from 1
+-- they are asked for where nothing narrows the choice and the first event is
+abbrev pub asks_start : Look → Bool
+asks_start look = is_wide look.selection && is_nothing look.sought && nat_le look.selection.from 1
 
 -- of the same start
 abbrev pub IsSameStart : StartLines → StartLines → Type 0

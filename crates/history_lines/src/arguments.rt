@@ -10,14 +10,14 @@ use nfs3_types::{
 use std::alloc::AllocError;
 
 /// Appends a moment, as seconds and nanoseconds.
-fn push_time(text: &mut Text, words: &str, time: Time) -> Result<(), AllocError> {
+fn push_time(text: &mut Text<'_>, words: &str, time: Time) -> Result<(), AllocError> {
     text.push_number(words, u64::from(time.seconds))?;
     text.push_number(" s ", u64::from(time.nanoseconds))?;
     text.push_words(" ns")
 }
 
 /// Appends how a time is set, where it is.
-fn push_set_time(text: &mut Text, words: &str, time: SetTime) -> Result<(), AllocError> {
+fn push_set_time(text: &mut Text<'_>, words: &str, time: SetTime) -> Result<(), AllocError> {
     match time {
         SetTime::Keep => Ok(()),
         SetTime::ServerTime => {
@@ -29,7 +29,7 @@ fn push_set_time(text: &mut Text, words: &str, time: SetTime) -> Result<(), Allo
 }
 
 /// Appends a number, where it is there.
-fn push_optional(text: &mut Text, words: &str, number: Option<u64>) -> Result<(), AllocError> {
+fn push_optional(text: &mut Text<'_>, words: &str, number: Option<u64>) -> Result<(), AllocError> {
     match number {
         Some(number) => text.push_number(words, number),
         None => Ok(()),
@@ -37,7 +37,7 @@ fn push_optional(text: &mut Text, words: &str, number: Option<u64>) -> Result<()
 }
 
 /// Appends the attributes that are set.
-fn push_set_attributes(text: &mut Text, set: &SetAttributes) -> Result<(), AllocError> {
+fn push_set_attributes(text: &mut Text<'_>, set: &SetAttributes) -> Result<(), AllocError> {
     if let Some(mode) = set.mode {
         text.push_octal(" mode 0", mode)?;
     }
@@ -49,12 +49,12 @@ fn push_set_attributes(text: &mut Text, set: &SetAttributes) -> Result<(), Alloc
 }
 
 /// Appends a name in a directory.
-fn push_place(text: &mut Text, words: &str, place: &DirectoryName) -> Result<(), AllocError> {
+fn push_place(text: &mut Text<'_>, words: &str, place: &DirectoryName) -> Result<(), AllocError> {
     text.push_handle(words, place.directory.as_slice())?;
-    text.push_quoted(" name ", place.name.as_slice())
+    text.push_name(" name ", place.name.as_slice())
 }
 
-fn push_setattr(text: &mut Text, call: &SetAttrArguments) -> Result<(), AllocError> {
+fn push_setattr(text: &mut Text<'_>, call: &SetAttrArguments) -> Result<(), AllocError> {
     text.push_handle(" object ", call.object.as_slice())?;
     push_set_attributes(text, &call.attributes)?;
     match call.guard {
@@ -64,12 +64,12 @@ fn push_setattr(text: &mut Text, call: &SetAttrArguments) -> Result<(), AllocErr
 }
 
 /// Appends which bytes of a file are meant.
-fn push_range(text: &mut Text, offset: u64, count: u32) -> Result<(), AllocError> {
+fn push_range(text: &mut Text<'_>, offset: u64, count: u32) -> Result<(), AllocError> {
     text.push_number(" offset ", offset)?;
     text.push_number(" count ", u64::from(count))
 }
 
-fn push_write(text: &mut Text, call: &WriteArguments) -> Result<(), AllocError> {
+fn push_write(text: &mut Text<'_>, call: &WriteArguments) -> Result<(), AllocError> {
     text.push_handle(" file ", call.file.as_slice())?;
     push_range(text, call.offset, call.count)?;
     text.push_words(" ")?;
@@ -77,7 +77,7 @@ fn push_write(text: &mut Text, call: &WriteArguments) -> Result<(), AllocError> 
     text.push_bytes(" data ", call.bytes.as_slice())
 }
 
-fn push_create(text: &mut Text, call: &CreateArguments) -> Result<(), AllocError> {
+fn push_create(text: &mut Text<'_>, call: &CreateArguments) -> Result<(), AllocError> {
     push_place(text, " directory ", &call.place)?;
     match &call.mode {
         CreateMode::Unchecked(attributes) => {
@@ -92,25 +92,25 @@ fn push_create(text: &mut Text, call: &CreateArguments) -> Result<(), AllocError
     }
 }
 
-fn push_mkdir(text: &mut Text, call: &MkDirArguments) -> Result<(), AllocError> {
+fn push_mkdir(text: &mut Text<'_>, call: &MkDirArguments) -> Result<(), AllocError> {
     push_place(text, " directory ", &call.place)?;
     push_set_attributes(text, &call.attributes)
 }
 
-fn push_symlink(text: &mut Text, call: &SymLinkArguments) -> Result<(), AllocError> {
+fn push_symlink(text: &mut Text<'_>, call: &SymLinkArguments) -> Result<(), AllocError> {
     push_place(text, " directory ", &call.place)?;
     text.push_quoted(" target ", call.target.as_slice())?;
     push_set_attributes(text, &call.attributes)
 }
 
-fn push_readdir(text: &mut Text, call: &ReadDirArguments) -> Result<(), AllocError> {
+fn push_readdir(text: &mut Text<'_>, call: &ReadDirArguments) -> Result<(), AllocError> {
     text.push_handle(" directory ", call.directory.as_slice())?;
     text.push_number(" cookie ", call.cookie)?;
     text.push_long(" verifier ", call.verifier.value)?;
     text.push_number(" count ", u64::from(call.count))
 }
 
-fn push_readdirplus(text: &mut Text, call: &ReadDirPlusArguments) -> Result<(), AllocError> {
+fn push_readdirplus(text: &mut Text<'_>, call: &ReadDirPlusArguments) -> Result<(), AllocError> {
     text.push_handle(" directory ", call.directory.as_slice())?;
     text.push_number(" cookie ", call.cookie)?;
     text.push_long(" verifier ", call.verifier.value)?;
@@ -119,7 +119,7 @@ fn push_readdirplus(text: &mut Text, call: &ReadDirPlusArguments) -> Result<(), 
 }
 
 /// Appends the arguments of a call.
-pub fn push_arguments(text: &mut Text, call: &NfsCall) -> Result<(), AllocError> {
+pub fn push_arguments(text: &mut Text<'_>, call: &NfsCall) -> Result<(), AllocError> {
     match call {
         NfsCall::GetAttr(object) => text.push_handle(" object ", object.as_slice()),
         NfsCall::SetAttr(call) => push_setattr(text, call),

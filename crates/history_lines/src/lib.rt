@@ -5,12 +5,16 @@ mod arguments;
 mod events;
 mod items;
 mod lines;
+mod look;
 mod messages;
 mod names;
 mod results;
+mod short;
 mod start_lines;
 mod text;
 
-pub use lines::{EventLines, Selection};
+pub use lines::EventLines;
+pub use look::{Look, Marks, Selection, Sought, SoughtHandle};
 pub use names::{procedure_name, status_name};
+pub use short::{ShortHandle, short_of};
 pub use text::Line;

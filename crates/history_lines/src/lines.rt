@@ -5,6 +5,7 @@ ghost use Rattle.history_file.specs.FileFaults.{IsFileFault, IsErrorOf};
 ghost use Rattle.history_lines.specs.Printable.{IsLine};
 
 use crate::events::{BegunFile, UnreadEvents};
+use crate::look::{About, Look};
 use crate::messages::{Asked, push_call, push_reply};
 use crate::start_lines::StartLines;
 use crate::text::{Line, Text};
@@ -13,66 +14,40 @@ use indexmap::IndexMap;
 use rpc_reader::{CallHead, ReplyHead, RpcFault, read_call, read_reply};
 use std::alloc::{AllocError, Global};
 
-/// Which events are shown. What the server held at first is shown before the first event, where no call is named.
-#[derive(Clone, Copy)]
-pub struct Selection {
-    /// The number of the first event.
-    pub from: u64,
-    /// The number of the last event.
-    pub to: u64,
-    /// Where it is there, of these events only the call of this number and the reply to it.
-    pub call: Option<u64>,
-}
-
-impl Selection {
-    ghost use Rattle.history_lines.specs.Shown.{IsAsked, IsPassedOver};
-    ghost use Rattle.history_lines.specs.StartShown.{asks_start};
-
-    /// Whether what the server held at first is shown.
-    fn has_start(&self) -> bool
-        ensures { result ≡ asks_start self.now }
-    {
-        self.call.is_none() && self.from <= 1
-    }
-
-    /// Whether an event is shown, which is a call or the reply to one.
-    fn has(&self, event: u64, call: Option<u64>) -> bool
-        ensures { MatchBool result (IsAsked self.now event) (IsPassedOver self.now event) }
-    {
-        if event < self.from || self.to < event {
-            return false;
-        }
-        match self.call {
-            Some(number) => call == Some(number),
-            None => true,
-        }
-    }
-}
-
 /// The text of a line, as far as it is the same for each event.
-fn begin_text(alloc: Global, number: u64) -> Result<Text, AllocError> {
-    let mut text = Text::new(alloc);
+fn begin_text<'a>(alloc: Global, look: &'a Look, number: u64) -> Result<Text<'a>, AllocError> {
+    let mut text = Text::of_look(alloc, look);
     text.push_decimal(number)?;
     Ok(text)
 }
 
 /// Appends the connection of an event.
-fn push_lane(text: &mut Text, lane: u32) -> Result<(), AllocError> {
+fn push_lane(text: &mut Text<'_>, lane: u32) -> Result<(), AllocError> {
     text.push_number(" lane ", u64::from(lane))
 }
 
-/// The line of a call, which is event `number`.
-fn call_line(
+/// Appends what a verdict says of a call.
+fn push_mark(text: &mut Text<'_>, look: &Look, call: u64) -> Result<(), AllocError> {
+    if look.marks.fault == Some(call) {
+        return text.push_words(" <- the call at fault");
+    }
+    if look.marks.other == Some(call) {
+        return text.push_words(" <- at fault with this one");
+    }
+    Ok(())
+}
+
+/// The text of a call, which is event `number`.
+fn call_text<'a>(
     alloc: Global,
+    look: &'a Look,
     number: u64,
     call: u64,
     lane: u32,
     message: &[u8],
     read: &Result<CallHead<'_>, RpcFault>,
-) -> Result<Line, AllocError>
-    ensures { IfOk result IsLine }
-{
-    let mut text = begin_text(alloc, number)?;
+) -> Result<Text<'a>, AllocError> {
+    let mut text = begin_text(alloc, look, number)?;
     text.push_number(" call ", call)?;
     push_lane(&mut text, lane)?;
     match read {
@@ -82,21 +57,21 @@ fn call_line(
         }
         Err(_) => text.push_bytes(" no RPC call ", message)?,
     }
-    text.into_line()
+    push_mark(&mut text, look, call)?;
+    Ok(text)
 }
 
-/// The line of a reply, which is event `number`.
-fn reply_line(
+/// The text of a reply, which is event `number`.
+fn reply_text<'a>(
     alloc: Global,
+    look: &'a Look,
     number: u64,
     asked: Option<Asked>,
     lane: u32,
     message: &[u8],
     read: &Result<ReplyHead<'_>, RpcFault>,
-) -> Result<Line, AllocError>
-    ensures { IfOk result IsLine }
-{
-    let mut text = begin_text(alloc, number)?;
+) -> Result<Text<'a>, AllocError> {
+    let mut text = begin_text(alloc, look, number)?;
     match asked {
         Some(asked) => text.push_number(" reply to call ", asked.number)?,
         None => text.push_words(" reply to no call")?,
@@ -109,39 +84,72 @@ fn reply_line(
         }
         Err(_) => text.push_bytes(" no RPC reply ", message)?,
     }
-    text.into_line()
+    Ok(text)
 }
 
-fn close_line(alloc: Global, number: u64, lane: u32) -> Result<Line, AllocError>
+fn close_line(alloc: Global, look: &Look, number: u64, lane: u32) -> Result<Line, AllocError>
     ensures { IfOk result IsLine }
 {
-    let mut text = begin_text(alloc, number)?;
+    let mut text = begin_text(alloc, look, number)?;
     text.push_words(" close")?;
     push_lane(&mut text, lane)?;
     text.into_line()
 }
 
-fn crash_line(alloc: Global, number: u64) -> Result<Line, AllocError>
+fn crash_line(alloc: Global, look: &Look, number: u64) -> Result<Line, AllocError>
     ensures { IfOk result IsLine }
 {
-    let mut text = begin_text(alloc, number)?;
+    let mut text = begin_text(alloc, look, number)?;
     text.push_words(" crash")?;
     text.into_line()
+}
+
+/// A call that is unanswered.
+#[derive(Clone, Copy)]
+struct Unanswered {
+    asked: Asked,
+    /// Whether its line names what is looked for.
+    is_met: bool,
 }
 
 /// What makes lines of the events that are shown. Of the events so far it keeps the calls that are unanswered.
 #[derive(Drop)]
 struct LineMaker {
     alloc: Global,
-    selection: Selection,
+    look: Look,
     /// The calls that are unanswered, by lane and transaction number.
-    unanswered: IndexMap<(u32, u32), Asked>,
+    unanswered: IndexMap<(u32, u32), Unanswered>,
+}
+
+/// What a call is of.
+fn about_call(call: u64, lane: u32, read: &Result<CallHead<'_>, RpcFault>) -> About {
+    let procedure = match read {
+        Ok(head) => Asked::of_head(call, head).procedure(),
+        Err(_) => None,
+    };
+    About {
+        call: Some(call),
+        lane: Some(lane),
+        procedure,
+    }
+}
+
+/// What a reply is of.
+fn about_reply(lane: u32, answered: Option<Unanswered>) -> About {
+    About {
+        call: answered.map(|call| call.asked.number),
+        lane: Some(lane),
+        procedure: match answered {
+            Some(call) => call.asked.procedure(),
+            None => None,
+        },
+    }
 }
 
 impl LineMaker {
-    ghost use Rattle.history_lines.specs.Shown.{IsShownAs};
+    ghost use Rattle.history_lines.specs.Shown.{IsShownAs, is_nothing};
 
-    /// The line of a call, where it is shown.
+    /// Whether the text of a call names what is looked for, and its line, where that is shown.
     fn line_of_call(
         &self,
         number: u64,
@@ -149,14 +157,23 @@ impl LineMaker {
         lane: u32,
         message: &[u8],
         read: &Result<CallHead<'_>, RpcFault>,
-    ) -> Result<Option<Line>, AllocError>
-        ensures printable { IfOk result (λ shown. IfSome shown IsLine) }
-        ensures shown { IfOk result (IsShownAs self.now.selection number) }
+    ) -> Result<(bool, Option<Line>), AllocError>
+        ensures printable { IfOk result (λ shown. IfSome shown.1 IsLine) }
+        ensures shown { IfOk result (λ shown. IsShownAs self.now.look number shown.1) }
     {
-        if !self.selection.has(number, Some(call)) {
-            return Ok(None);
+        let is_selected = self
+            .look
+            .selection
+            .has(number, about_call(call, lane, read));
+        if !is_selected && self.look.sought.is_nothing() {
+            return Ok((false, None));
         }
-        Ok(Some(call_line(self.alloc, number, call, lane, message, read)?))
+        let text = call_text(self.alloc, &self.look, number, call, lane, message, read)?;
+        let is_met = self.look.sought.is_met(text.found());
+        if !is_selected || !is_met {
+            return Ok((is_met, None));
+        }
+        Ok((true, Some(text.into_line()?)))
     }
 
     /// Takes in call `call`, which is event `number`, and gives its line where it is shown.
@@ -168,20 +185,21 @@ impl LineMaker {
         message: &[u8],
     ) -> Result<Option<Line>, AllocError>
         ensures printable { IfOk result (λ shown. IfSome shown IsLine) }
-        ensures shown { IfOk result (IsShownAs self.old.selection number) }
-        ensures kept { self.new.selection ≡ self.old.selection }
+        ensures shown { IfOk result (IsShownAs self.old.look number) }
+        ensures kept { self.new.look ≡ self.old.look }
     {
         let read = read_call(message);
-        let line = self.line_of_call(number, call, lane, message, &read)?;
+        let (is_met, line) = self.line_of_call(number, call, lane, message, &read)?;
         if let Ok(head) = read {
             let asked = Asked::of_head(call, &head);
-            self.unanswered.insert((lane, head.xid), asked)?;
+            self.unanswered
+                .insert((lane, head.xid), Unanswered { asked, is_met })?;
         }
         Ok(line)
     }
 
     /// The call that a reply answers.
-    fn answered(&self, lane: u32, read: &Result<ReplyHead<'_>, RpcFault>) -> Option<Asked> {
+    fn answered(&self, lane: u32, read: &Result<ReplyHead<'_>, RpcFault>) -> Option<Unanswered> {
         match read {
             Ok(head) => self.unanswered.get(&(lane, head.xid)).copied(),
             Err(_) => None,
@@ -197,13 +215,19 @@ impl LineMaker {
         read: &Result<ReplyHead<'_>, RpcFault>,
     ) -> Result<Option<Line>, AllocError>
         ensures printable { IfOk result (λ shown. IfSome shown IsLine) }
-        ensures shown { IfOk result (IsShownAs self.now.selection number) }
+        ensures shown { IfOk result (IsShownAs self.now.look number) }
     {
-        let asked = self.answered(lane, read);
-        if !self.selection.has(number, asked.map(|asked| asked.number)) {
+        let answered = self.answered(lane, read);
+        if !self.look.selection.has(number, about_reply(lane, answered)) {
             return Ok(None);
         }
-        Ok(Some(reply_line(self.alloc, number, asked, lane, message, read)?))
+        let asked = answered.map(|call| call.asked);
+        let text = reply_text(self.alloc, &self.look, number, asked, lane, message, read)?;
+        let is_met_before = answered.map_or(false, |call| call.is_met);
+        if !is_met_before && !self.look.sought.is_met(text.found()) {
+            return Ok(None);
+        }
+        Ok(Some(text.into_line()?))
     }
 
     /// Takes in a reply, which is event `number`, and gives its line where it is shown.
@@ -214,8 +238,8 @@ impl LineMaker {
         message: &[u8],
     ) -> Result<Option<Line>, AllocError>
         ensures printable { IfOk result (λ shown. IfSome shown IsLine) }
-        ensures shown { IfOk result (IsShownAs self.old.selection number) }
-        ensures kept { self.new.selection ≡ self.old.selection }
+        ensures shown { IfOk result (IsShownAs self.old.look number) }
+        ensures kept { self.new.look ≡ self.old.look }
     {
         let read = read_reply(message);
         let line = self.line_of_reply(number, lane, message, &read)?;
@@ -225,21 +249,26 @@ impl LineMaker {
         Ok(line)
     }
 
-    /// The line of a close or a crash, where it is shown.
+    /// The line of a close or a crash, where it is shown. A crash is of each lane.
     fn line_beside_calls(
         &self,
         number: u64,
         closed: Option<u32>,
     ) -> Result<Option<Line>, AllocError>
         ensures printable { IfOk result (λ shown. IfSome shown IsLine) }
-        ensures shown { IfOk result (IsShownAs self.now.selection number) }
+        ensures shown { IfOk result (IsShownAs self.now.look number) }
     {
-        if !self.selection.has(number, None) {
+        let about = About {
+            call: None,
+            lane: closed.or(self.look.selection.lane),
+            procedure: None,
+        };
+        if !self.look.selection.has(number, about) || !self.look.sought.is_nothing() {
             return Ok(None);
         }
         match closed {
-            Some(lane) => Ok(Some(close_line(self.alloc, number, lane)?)),
-            None => Ok(Some(crash_line(self.alloc, number)?)),
+            Some(lane) => Ok(Some(close_line(self.alloc, &self.look, number, lane)?)),
+            None => Ok(Some(crash_line(self.alloc, &self.look, number)?)),
         }
     }
 
@@ -251,8 +280,8 @@ impl LineMaker {
         event: &SeenEvent<'_>,
     ) -> Result<Option<Line>, AllocError>
         ensures printable { IfOk result (λ shown. IfSome shown IsLine) }
-        ensures shown { IfOk result (IsShownAs self.old.selection number) }
-        ensures kept { self.new.selection ≡ self.old.selection }
+        ensures shown { IfOk result (IsShownAs self.old.look number) }
+        ensures kept { self.new.look ≡ self.old.look }
     {
         match event {
             SeenEvent::Call { lane, message } => self.take_call(number, call, *lane, *message),
@@ -281,7 +310,7 @@ impl<'a> ShownEvents<'a> {
     fn next_line(&mut self) -> Result<Option<Line>, FileFault>
         ensures printable { IfOk result (λ shown. IfSome shown IsLine) }
         ensures shown { IsNextEvent self.old self.new result }
-        ensures kept { self.new.maker.selection ≡ self.old.maker.selection }
+        ensures kept { self.new.maker.look ≡ self.old.maker.look }
         ensures goes_on { (bytes : List ℕ) (start : List StartObject) (profile : Profile) → IsLeft bytes start profile self.old.unread → IsLeft bytes start profile self.new.unread }
         ensures fault { (bytes : List ℕ) (start : List StartObject) (profile : Profile) → IsLeft bytes start profile self.old.unread → IsErrorOf (IsFileFault bytes) result }
         ensures ended { (bytes : List ℕ) (start : List StartObject) (profile : Profile) → IsLeft bytes start profile self.old.unread → IsWholeAtEnd bytes result }
@@ -310,18 +339,14 @@ pub struct EventLines<'a> {
 }
 
 impl<'a> EventLines<'a> {
-    ghost use Rattle.history_lines.specs.Lines.{AreLinesOf, IsWholeAtEnd, IsNextShown, selection_of, last_read, starts_left, starts_asked};
+    ghost use Rattle.history_lines.specs.Lines.{AreLinesOf, IsWholeAtEnd, IsNextShown, look_of, last_read, starts_left, starts_asked};
 
     /// Before the first line of a file.
-    pub fn new(
-        alloc: Global,
-        bytes: &'a [u8],
-        selection: Selection,
-    ) -> Result<EventLines<'a>, FileFault>
+    pub fn new(alloc: Global, bytes: &'a [u8], look: Look) -> Result<EventLines<'a>, FileFault>
         ensures found { IfOk result (AreLinesOf bytes.now) }
-        ensures first { IfOk result (λ lines. (selection_of lines ≡ selection) × (last_read lines ≡ 0)) }
+        ensures first { IfOk result (λ lines. (look_of lines ≡ look) × (last_read lines ≡ 0)) }
         // The lines of the start that are asked for are all still to come.
-        ensures starts { IfOk result (λ lines. starts_left lines ≡ starts_asked selection lines) }
+        ensures starts { IfOk result (λ lines. starts_left lines ≡ starts_asked look lines) }
         ensures fault { IsErrorOf (IsFileFault bytes.now) result }
     {
         let BegunFile {
@@ -329,13 +354,14 @@ impl<'a> EventLines<'a> {
             profile,
             unread,
         } = BegunFile::of_file(alloc, bytes)?;
+        let has_start = look.has_start();
         let maker = LineMaker {
             alloc,
-            selection,
+            look,
             unanswered: IndexMap::new(alloc),
         };
         Ok(EventLines {
-            ahead: StartLines::new(start, profile, selection.has_start()),
+            ahead: StartLines::new(start, profile, has_start),
             behind: ShownEvents { maker, unread },
         })
     }
@@ -347,10 +373,10 @@ impl<'a> EventLines<'a> {
         // Printable bytes, and one line feed, at the end.
         ensures printable { IfOk result (λ shown. IfSome shown IsLine) }
 
-        // It is a line of the start, of which none is left out, or else that of an event between the two numbers, and where no call is
-        // named none of these is left out, whatever fails.
+        // It is a line of the start, of which none is left out, or else that of an event between the two numbers, and where nothing
+        // narrows the choice none of these is left out, whatever fails.
         ensures shown { IsNextShown self.old self.new result }
-        ensures kept { selection_of self.new ≡ selection_of self.old }
+        ensures kept { look_of self.new ≡ look_of self.old }
 
         // Of a file they are its lines still, also where it is at fault, which is its first fault.
         ensures goes_on { (bytes : List ℕ) → AreLinesOf bytes self.old → AreLinesOf bytes self.new }

@@ -35,6 +35,15 @@ impl Asked {
         }
     }
 
+    /// Its procedure, where it is one of NFS version 3.
+    pub fn procedure(&self) -> Option<Procedure> {
+        if self.is_of_nfs() {
+            Procedure::from_number(self.procedure)
+        } else {
+            None
+        }
+    }
+
     /// Whether it is of NFS version 3.
     fn is_of_nfs(&self) -> bool {
         self.program == NFS_PROGRAM && self.version == NFS_VERSION
@@ -47,7 +56,7 @@ impl Asked {
 }
 
 /// Appends which procedure a call is of.
-fn push_procedure(text: &mut Text, asked: &Asked) -> Result<(), AllocError> {
+fn push_procedure(text: &mut Text<'_>, asked: &Asked) -> Result<(), AllocError> {
     if asked.is_of_nfs() {
         if let Some(procedure) = Procedure::from_number(asked.procedure) {
             text.push_words(" ")?;
@@ -71,7 +80,7 @@ fn has_handle_and_status(procedure: u32) -> bool {
 
 /// Appends the arguments of a procedure whose messages aren't read: those that have any begin with a handle.
 fn push_other_arguments(
-    text: &mut Text,
+    text: &mut Text<'_>,
     procedure: u32,
     arguments: &[u8],
 ) -> Result<(), AllocError> {
@@ -85,7 +94,7 @@ fn push_other_arguments(
 }
 
 /// Appends bytes that are no arguments, or no results, with the place of the first item at fault.
-fn push_bad(text: &mut Text, words: &str, bytes: &[u8], at: usize) -> Result<(), AllocError> {
+fn push_bad(text: &mut Text<'_>, words: &str, bytes: &[u8], at: usize) -> Result<(), AllocError> {
     text.push_bytes(words, bytes)?;
     text.push_number(" fault at byte ", at as u64)
 }
@@ -93,7 +102,7 @@ fn push_bad(text: &mut Text, words: &str, bytes: &[u8], at: usize) -> Result<(),
 /// Appends what a call asks for.
 pub fn push_call(
     alloc: Global,
-    text: &mut Text,
+    text: &mut Text<'_>,
     asked: &Asked,
     arguments: &[u8],
 ) -> Result<(), AllocError> {
@@ -121,7 +130,11 @@ pub fn push_call(
 }
 
 /// Appends a result of which only the status is read, where there is one.
-fn push_other_results(text: &mut Text, procedure: u32, results: &[u8]) -> Result<(), AllocError> {
+fn push_other_results(
+    text: &mut Text<'_>,
+    procedure: u32,
+    results: &[u8],
+) -> Result<(), AllocError> {
     if !has_handle_and_status(procedure) || results.len() < 4 {
         text.push_words(" SUCCESS")?;
         return text.push_any_bytes(" results ", results);
@@ -133,7 +146,7 @@ fn push_other_results(text: &mut Text, procedure: u32, results: &[u8]) -> Result
 /// Appends what the result of a call says.
 fn push_results(
     alloc: Global,
-    text: &mut Text,
+    text: &mut Text<'_>,
     asked: &Asked,
     results: &[u8],
 ) -> Result<(), AllocError> {
@@ -159,14 +172,14 @@ fn push_results(
 }
 
 /// Appends a range of versions.
-fn push_versions(text: &mut Text, words: &str, low: u32, high: u32) -> Result<(), AllocError> {
+fn push_versions(text: &mut Text<'_>, words: &str, low: u32, high: u32) -> Result<(), AllocError> {
     text.push_words(words)?;
     text.push_number(" low ", u64::from(low))?;
     text.push_number(" high ", u64::from(high))
 }
 
 /// Appends why a caller isn't believed.
-fn push_refusal(text: &mut Text, number: u32) -> Result<(), AllocError> {
+fn push_refusal(text: &mut Text<'_>, number: u32) -> Result<(), AllocError> {
     match refusal_name(number) {
         Some(name) => {
             text.push_words(" AUTH_ERROR ")?;
@@ -179,7 +192,7 @@ fn push_refusal(text: &mut Text, number: u32) -> Result<(), AllocError> {
 /// Appends what a reply says to a call, which isn't known where it answers none.
 pub fn push_reply(
     alloc: Global,
-    text: &mut Text,
+    text: &mut Text<'_>,
     asked: Option<Asked>,
     body: &ReplyBody<'_>,
 ) -> Result<(), AllocError> {

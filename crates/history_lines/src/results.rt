@@ -10,7 +10,7 @@ use nfs3_types::{
 use std::alloc::AllocError;
 
 /// Appends a status by its name, or by its number where it has none.
-pub fn push_status(text: &mut Text, number: u32) -> Result<(), AllocError> {
+pub fn push_status(text: &mut Text<'_>, number: u32) -> Result<(), AllocError> {
     match status_name(number) {
         Some(name) => {
             text.push_words(" ")?;
@@ -21,7 +21,7 @@ pub fn push_status(text: &mut Text, number: u32) -> Result<(), AllocError> {
 }
 
 /// Appends the attributes of an object.
-fn push_attributes(text: &mut Text, attributes: &FileAttributes) -> Result<(), AllocError> {
+fn push_attributes(text: &mut Text<'_>, attributes: &FileAttributes) -> Result<(), AllocError> {
     text.push_words(" ")?;
     text.push_words(type_name(attributes.file_type))?;
     text.push_octal(" mode 0", attributes.mode)?;
@@ -33,41 +33,44 @@ fn push_attributes(text: &mut Text, attributes: &FileAttributes) -> Result<(), A
 }
 
 /// Appends the attributes of an object, where they are there.
-fn push_if_there(text: &mut Text, attributes: &Optional<FileAttributes>) -> Result<(), AllocError> {
+fn push_if_there(
+    text: &mut Text<'_>,
+    attributes: &Optional<FileAttributes>,
+) -> Result<(), AllocError> {
     match attributes.as_ref() {
         Some(attributes) => push_attributes(text, attributes),
         None => Ok(()),
     }
 }
 
-fn push_lookup(text: &mut Text, success: &LookupSuccess) -> Result<(), AllocError> {
+fn push_lookup(text: &mut Text<'_>, success: &LookupSuccess) -> Result<(), AllocError> {
     text.push_handle(" object ", success.object.as_slice())?;
     push_if_there(text, &success.attributes)
 }
 
-fn push_readlink(text: &mut Text, success: &ReadLinkSuccess) -> Result<(), AllocError> {
+fn push_readlink(text: &mut Text<'_>, success: &ReadLinkSuccess) -> Result<(), AllocError> {
     text.push_quoted(" target ", success.target.as_slice())
 }
 
 /// Appends whether a list or a file ends here.
-fn push_end(text: &mut Text, eof: bool) -> Result<(), AllocError> {
+fn push_end(text: &mut Text<'_>, eof: bool) -> Result<(), AllocError> {
     if eof { text.push_words(" eof") } else { Ok(()) }
 }
 
-fn push_read(text: &mut Text, success: &ReadSuccess) -> Result<(), AllocError> {
+fn push_read(text: &mut Text<'_>, success: &ReadSuccess) -> Result<(), AllocError> {
     text.push_number(" count ", u64::from(success.count))?;
     push_end(text, success.eof)?;
     text.push_bytes(" data ", success.bytes.as_slice())
 }
 
-fn push_write(text: &mut Text, success: &WriteSuccess) -> Result<(), AllocError> {
+fn push_write(text: &mut Text<'_>, success: &WriteSuccess) -> Result<(), AllocError> {
     text.push_number(" count ", u64::from(success.count))?;
     text.push_words(" ")?;
     text.push_words(level_name(success.level))?;
     text.push_long(" verifier ", success.verifier.value)
 }
 
-fn push_create(text: &mut Text, success: &CreateSuccess) -> Result<(), AllocError> {
+fn push_create(text: &mut Text<'_>, success: &CreateSuccess) -> Result<(), AllocError> {
     match &success.object {
         Some(object) => text.push_handle(" object ", object.as_slice())?,
         None => text.push_words(" no object")?,
@@ -75,19 +78,19 @@ fn push_create(text: &mut Text, success: &CreateSuccess) -> Result<(), AllocErro
     push_if_there(text, &success.attributes)
 }
 
-fn push_entry(text: &mut Text, entry: &DirectoryEntry) -> Result<(), AllocError> {
-    text.push_quoted(" ", entry.name.as_slice())
+fn push_entry(text: &mut Text<'_>, entry: &DirectoryEntry) -> Result<(), AllocError> {
+    text.push_name(" ", entry.name.as_slice())
 }
 
-fn push_entry_plus(text: &mut Text, entry: &DirectoryEntryPlus) -> Result<(), AllocError> {
-    text.push_quoted(" ", entry.name.as_slice())?;
+fn push_entry_plus(text: &mut Text<'_>, entry: &DirectoryEntryPlus) -> Result<(), AllocError> {
+    text.push_name(" ", entry.name.as_slice())?;
     match &entry.object {
         Some(object) => text.push_handle(" object ", object.as_slice()),
         None => Ok(()),
     }
 }
 
-fn push_readdir(text: &mut Text, success: &ReadDirSuccess) -> Result<(), AllocError> {
+fn push_readdir(text: &mut Text<'_>, success: &ReadDirSuccess) -> Result<(), AllocError> {
     let entries = success.entries.as_slice();
     text.push_number(" entries ", entries.len() as u64)?;
     for entry in entries {
@@ -96,7 +99,7 @@ fn push_readdir(text: &mut Text, success: &ReadDirSuccess) -> Result<(), AllocEr
     push_end(text, success.eof)
 }
 
-fn push_readdirplus(text: &mut Text, success: &ReadDirPlusSuccess) -> Result<(), AllocError> {
+fn push_readdirplus(text: &mut Text<'_>, success: &ReadDirPlusSuccess) -> Result<(), AllocError> {
     let entries = success.entries.as_slice();
     text.push_number(" entries ", entries.len() as u64)?;
     for entry in entries {
@@ -106,7 +109,7 @@ fn push_readdirplus(text: &mut Text, success: &ReadDirPlusSuccess) -> Result<(),
 }
 
 /// Appends what a successful reply gives.
-fn push_success(text: &mut Text, reply: &NfsReply) -> Result<(), AllocError> {
+fn push_success(text: &mut Text<'_>, reply: &NfsReply) -> Result<(), AllocError> {
     match reply {
         NfsReply::GetAttr(Answer::Done(attributes)) => push_attributes(text, attributes),
         NfsReply::Lookup(Answer::Done(success)) => push_lookup(text, success),
@@ -126,7 +129,7 @@ fn push_success(text: &mut Text, reply: &NfsReply) -> Result<(), AllocError> {
 }
 
 /// Appends the status of a reply, and what it gives.
-pub fn push_result(text: &mut Text, reply: &NfsReply) -> Result<(), AllocError> {
+pub fn push_result(text: &mut Text<'_>, reply: &NfsReply) -> Result<(), AllocError> {
     match reply.failure() {
         Some(failure) => push_status(text, failure.number()),
         None => {

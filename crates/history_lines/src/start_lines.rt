@@ -17,7 +17,7 @@ fn profile_line(alloc: Global) -> Result<Line, AllocError>
 }
 
 /// Appends what an object is.
-fn push_node(text: &mut Text, name: &[u8], node: &SeenNode<'_>) -> Result<(), AllocError> {
+fn push_node(text: &mut Text<'_>, name: &[u8], node: &SeenNode<'_>) -> Result<(), AllocError> {
     match node {
         SeenNode::File(bytes) => {
             text.push_quoted(" file ", name)?;

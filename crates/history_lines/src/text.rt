@@ -3,6 +3,8 @@
 ghost use Rattle.std.specs.Prelude.{◌≡◌, ◌<◌, [], IfOk};
 ghost use Rattle.history_lines.specs.Printable.{IsPrintable, IsLine};
 
+use crate::look::{Found, Look, Sought};
+use crate::short::short_of;
 use itoa::Buffer;
 use std::alloc::{AllocError, Global};
 use std::marker::Model;
@@ -37,13 +39,16 @@ impl Line {
     }
 }
 
-/// The text of a line that is being made.
+/// The text of a line that is being made, and what it names of that which is looked for.
 #[derive(Drop)]
-pub struct Text {
+pub struct Text<'a> {
     content: Vec<u8>,
+    sought: Option<&'a Sought>,
+    found: Found,
+    has_short_handles: bool,
 }
 
-impl Model for Text {
+impl<'a> Model for Text<'a> {
     ghost use Rattle.std.specs.Prelude.{List, ℕ, All};
     ghost use Rattle.history_lines.specs.Printable.{IsPrintable};
 
@@ -66,12 +71,31 @@ fn hex_digit(value: u8) -> u8
     }
 }
 
-impl Text {
-    /// No text.
-    pub fn new(alloc: Global) -> Text {
+impl<'a> Text<'a> {
+    /// No text, in which nothing is looked for.
+    pub fn new(alloc: Global) -> Text<'a> {
         Text {
             content: Vec::new(alloc),
+            sought: None,
+            found: Found {
+                has_handle: false,
+                has_name: false,
+            },
+            has_short_handles: false,
         }
+    }
+
+    /// No text, in which is looked for what a look is for.
+    pub fn of_look(alloc: Global, look: &'a Look) -> Text<'a> {
+        let mut text = Text::new(alloc);
+        text.sought = Some(&look.sought);
+        text.has_short_handles = look.has_short_handles;
+        text
+    }
+
+    /// What it names of that which is looked for.
+    pub fn found(&self) -> Found {
+        self.found
     }
 
     /// Appends a printable byte.
@@ -151,13 +175,38 @@ impl Text {
         self.push_hex(number.to_be_bytes().as_slice())
     }
 
-    /// Appends words and a handle in hexadecimal; one of no bytes as `empty`.
+    // Notes whether a handle is looked for.
+    fn note_handle(&mut self, handle: &[u8]) {
+        if let Some(sought) = self.sought {
+            self.found.has_handle = self.found.has_handle || sought.is_handle(handle);
+        }
+    }
+
+    // Notes whether a name is looked for.
+    fn note_name(&mut self, name: &[u8]) {
+        if let Some(sought) = self.sought {
+            self.found.has_name = self.found.has_name || sought.is_name(name);
+        }
+    }
+
+    /// Appends words and a handle in hexadecimal, or its short form; one of no bytes as `empty`.
     pub fn push_handle(&mut self, words: &str, handle: &[u8]) -> Result<(), AllocError> {
         self.push_words(words)?;
+        self.note_handle(handle);
         if handle.is_empty() {
             return self.push_words("empty");
         }
+        if self.has_short_handles {
+            self.push_words("#")?;
+            return self.push_hex(short_of(handle).bytes().as_slice());
+        }
         self.push_hex(handle)
+    }
+
+    /// Appends words and a name in a directory, as [`Text::push_quoted`] does a text.
+    pub fn push_name(&mut self, words: &str, name: &[u8]) -> Result<(), AllocError> {
+        self.note_name(name);
+        self.push_quoted(words, name)
     }
 
     /// Appends words and a text between quotes, in which a quote and a backslash stand behind a backslash.
@@ -200,7 +249,7 @@ impl Text {
     pub fn into_line(self) -> Result<Line, AllocError>
         ensures { IfOk result IsLine }
     {
-        let Text { content } = self;
+        let Text { content, .. } = self;
         let mut bytes = content;
         bytes.push(b'\n')?;
         Ok(Line { bytes })

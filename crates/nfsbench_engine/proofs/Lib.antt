@@ -1,3 +1,2 @@
-pub mod ShownLines
 pub mod Yes
 mod Objects

@@ -56,6 +56,14 @@ pub(crate) fn read_history_file<R: Files + AllocGlobal>(
     read_file(rt, path, HISTORY_READ)
 }
 
+/// The bytes of a certificate's text, or none where it can't be read.
+pub(crate) fn read_certificate_file<R: Files + AllocGlobal>(
+    rt: &R,
+    path: &str,
+) -> Result<Option<Vec<u8>>, AllocError> {
+    read_file(rt, path, u64::MAX)
+}
+
 /// How many bytes of a run's text are read. It has at most 10,000 lines of less than 200 bytes, so the first bad line of a longer one begins in these.
 const PLAN_READ: u64 = 2_097_152;
 
@@ -78,7 +86,7 @@ pub(crate) fn check_paths<R: Files + AllocGlobal>(
         × IsSaidOfRead history_read certificate_read report.status report.line) }
 {
     let history = read_history_file(rt, history)?;
-    let certificate = read_file(rt, certificate, u64::MAX)?;
+    let certificate = read_certificate_file(rt, certificate)?;
     judge_read(rt.alloc(), history.as_deref(), certificate.as_deref())
 }
 
@@ -93,7 +101,7 @@ pub(crate) fn report_paths<R: Files + AllocGlobal>(
         × IsReportedOfRead history_read certificate_read report.status report.line) }
 {
     let history = read_history_file(rt, history)?;
-    let certificate = read_file(rt, certificate, u64::MAX)?;
+    let certificate = read_certificate_file(rt, certificate)?;
     report_read(rt.alloc(), history.as_deref(), certificate.as_deref())
 }
 
@@ -108,7 +116,7 @@ pub(crate) fn check_paths_as_json<R: Files + AllocGlobal>(
         × HasStatusOfRead history_read certificate_read report.status) }
 {
     let history = read_history_file(rt, history)?;
-    let certificate = read_file(rt, certificate, u64::MAX)?;
+    let certificate = read_certificate_file(rt, certificate)?;
     judge_read_as_json(rt.alloc(), history.as_deref(), certificate.as_deref())
 }
 
@@ -123,6 +131,6 @@ pub(crate) fn report_paths_as_json<R: Files + AllocGlobal>(
         × HasStatusOfRead history_read certificate_read report.status) }
 {
     let history = read_history_file(rt, history)?;
-    let certificate = read_file(rt, certificate, u64::MAX)?;
+    let certificate = read_certificate_file(rt, certificate)?;
     report_read_as_json(rt.alloc(), history.as_deref(), certificate.as_deref())
 }

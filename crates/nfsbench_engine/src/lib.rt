@@ -4,8 +4,6 @@
 mod files;
 mod process;
 mod runs;
-mod show_words;
-mod showing;
 mod words;
 
 pub use history_report::{lost_of, report_of};

@@ -11,11 +11,10 @@ ghost use Rattle.program_streams.specs.Told.{Tells, memory_line};
 ghost use Rattle.witness_check.specs.declared.fault.Fault.{Fault};
 
 use crate::files::{
-    check_paths, check_paths_as_json, read_history_file, report_paths, report_paths_as_json,
+    check_paths, check_paths_as_json, read_certificate_file, read_history_file, report_paths,
+    report_paths_as_json,
 };
 use crate::runs::{run_path, serve_words, tell_known};
-use crate::show_words::{ShowRequest, show_command, show_request};
-use crate::showing::show_bytes;
 use clap::error::ErrorKind;
 use clap::{Arg, ArgMatches, Command};
 use deciding_command::{
@@ -33,6 +32,9 @@ use program_streams::{Input, Output, Report, tell, tell_answer, tell_want_of_mem
 use recording_command::{RecordingRuntime, TapRequest, run_tap, tap_command, tap_request};
 use serving_commands::{
     RunRequest, ServeRequest, run_command, run_request, serve_command, serve_request,
+};
+use showing_command::{
+    LookFault, ShowRequest, look_of, show_bytes, show_command, show_judged, show_request,
 };
 use std::alloc::{AllocError, Global};
 use std::convert::AsStr;
@@ -179,7 +181,13 @@ fn read_words<'a, S: AsStr>(alloc: Global, words: &'a [S]) -> Result<Request<'a>
         },
         Some(("mend", mend)) => Ok(Request::Mend(mend_request(mend))),
         Some(("import", import)) => Ok(Request::Import(import_request(import))),
-        Some(("show", show)) => Ok(Request::Show(show_request(show))),
+        Some(("show", show)) => match show_request(show) {
+            Some(request) => Ok(Request::Show(request)),
+            None => {
+                let message = "the value of --procedure is no procedure of NFS version 3";
+                Err(command(alloc)?.error(ErrorKind::ValueValidation, message)?)
+            }
+        },
         Some(("search", search)) => Ok(Request::Search(search_request(search))),
         Some(("decide", decide)) => Ok(Request::Decide(decide_request(decide))),
         Some(("prefix", prefix)) => Ok(Request::Prefix(prefix_request(prefix))),
@@ -251,7 +259,29 @@ fn report_files_at<R: Files + AllocGlobal>(
     }
 }
 
-/// Shows the events of the history at a path, as [`show_bytes`].
+/// Shows the events of a history as [`show_bytes`], or as [`show_judged`] where there is a certificate's text.
+fn show_history<O: Output>(
+    alloc: Global,
+    request: &ShowRequest<'_>,
+    history: &[u8],
+    certificate: Option<&[u8]>,
+    output: &mut O,
+) -> u8
+    ensures memory_line { result ≡ 3
+        → Appends (O.contents output.old) (O.contents output.new) memory_line }
+    ensures known { result < 4 }
+{
+    match look_of(alloc, request) {
+        Ok(look) => match certificate {
+            Some(text) => show_judged(alloc, history, text, look, output),
+            None => show_bytes(alloc, history, look, output),
+        },
+        Err(LookFault::BadHandle) => tell(output, b"refused: bad handle\n", 2),
+        Err(LookFault::NoMemory) => tell_want_of_memory(output),
+    }
+}
+
+/// Shows the events of the history at a path, as [`show_history`], by the certificate at another where one is said.
 fn show_path<R: Files + AllocGlobal, O: Output>(
     rt: &R,
     request: &ShowRequest<'_>,
@@ -261,9 +291,20 @@ fn show_path<R: Files + AllocGlobal, O: Output>(
         → Appends (O.contents output.old) (O.contents output.new) memory_line }
     ensures known { result < 4 }
 {
-    match read_history_file(rt, request.history) {
-        Ok(Some(bytes)) => show_bytes(rt.alloc(), bytes.as_slice(), request.selection, output),
-        Ok(None) => tell(output, b"refused: unreadable history\n", 2),
+    let history = match read_history_file(rt, request.history) {
+        Ok(Some(bytes)) => bytes,
+        Ok(None) => return tell(output, b"refused: unreadable history\n", 2),
+        Err(AllocError) => return tell_want_of_memory(output),
+    };
+    let Some(path) = request.certificate else {
+        return show_history(rt.alloc(), request, history.as_slice(), None, output);
+    };
+    match read_certificate_file(rt, path) {
+        Ok(Some(text)) => {
+            let certificate = Some(text.as_slice());
+            show_history(rt.alloc(), request, history.as_slice(), certificate, output)
+        }
+        Ok(None) => tell(output, b"refused: unreadable certificate\n", 2),
         Err(AllocError) => tell_want_of_memory(output),
     }
 }

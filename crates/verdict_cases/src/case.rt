@@ -77,11 +77,10 @@ fn split_selection(line: &str) -> Result<(Asked, &str)> {
     let (from, rest) = split_number(line)?;
     let (to, rest) = split_number(rest)?;
     let (call, digits) = split_number(rest)?;
-    let selection = Selection {
-        from,
-        to,
-        call: if call == 0 { None } else { Some(call) },
-    };
+    let mut selection = Selection::all();
+    selection.from = from;
+    selection.to = to;
+    selection.call = if call == 0 { None } else { Some(call) };
     Ok((Asked::Lines(selection), digits))
 }
 

@@ -1,7 +1,7 @@
 //! The lines of a history file.
 
 use anyhow::Result;
-use history_lines::{EventLines, Selection};
+use history_lines::{EventLines, Look, Selection};
 use std::alloc::Global;
 use std::io::Write;
 
@@ -27,7 +27,7 @@ pub fn tell_lines<W: Write>(
     bytes: &[u8],
     selection: Selection,
 ) -> Result<()> {
-    match EventLines::new(alloc, bytes, selection) {
+    match EventLines::new(alloc, bytes, Look::at(selection)) {
         Ok(lines) => {
             let mut lines = lines;
             tell_left(output, &mut lines)

@@ -6,7 +6,7 @@ use Rattle.std.proofs.Math.Seq.{take-append-add}
 use Rattle.std.proofs.lemmas.List.Elements.{All-nil, All-push}
 use Rattle.xdr_records.proofs.Marks.{length-concat-push}
 use Rattle.history_lines.specs.Printable.{IsLine}
-use Rattle.nfsbench_engine.specs.Shown.{AreLines}
+use Rattle.showing_command.specs.Shown.{AreLines}
 use Rattle.program_streams.specs.Streams.{AppendsFront}
 use Rattle.program_streams.proofs.Fronts.{both}
 

@@ -1,7 +1,7 @@
 use Rattle.std.proofs.Common.{sym, subst}
 use Rattle.history_lines.specs.Printable.{IsLine}
-use Rattle.nfsbench_engine.proofs.ShownLines.{one_shown, part_shown, whole_shown}
-use Rattle.nfsbench_engine.proofs.showing.put_lines.Goals as goal
+use Rattle.showing_command.proofs.ShownLines.{one_shown, part_shown, whole_shown}
+use Rattle.showing_command.proofs.showing.put_lines.Goals as goal
 
 pub returns-in-Err-write_text-clause-lines : goal.returns-in-Err-write_text-clause-lines
 returns-in-Err-write_text-clause-lines g c =

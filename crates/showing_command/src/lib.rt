@@ -1,0 +1,11 @@
+//! The command `show`: a line for each event of a history, and the verdict where a certificate is given.
+#![tactic(auto)]
+
+mod looking;
+mod marks;
+mod showing;
+mod words;
+
+pub use looking::{LookFault, look_of};
+pub use showing::{show_bytes, show_judged};
+pub use words::{ShowRequest, show_command, show_request};
