@@ -1,5 +1,7 @@
 //! What the words of `show` look for.
 
+ghost use Rattle.std.specs.Prelude.{◌<◌, IfSome};
+
 use crate::words::ShowRequest;
 use hex::FromHexError;
 use history_lines::{Look, ShortHandle, Sought, SoughtHandle, procedure_name};
@@ -50,7 +52,9 @@ fn sought_handle(alloc: Global, text: &str) -> Result<SoughtHandle, LookFault> {
 }
 
 /// The number that a hexadecimal digit is.
-fn digit_of(byte: u8) -> Option<u8> {
+fn digit_of(byte: u8) -> Option<u8>
+    ensures { IfSome result (λ digit. digit < 16) }
+{
     match byte {
         b'0'..=b'9' => Some(byte - b'0'),
         b'a'..=b'f' => Some(byte - b'a' + 10),
