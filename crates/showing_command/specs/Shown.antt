@@ -1,4 +1,4 @@
--- For the prover.
+-- For the prover, and for callers.
 -- What is shown of a history: lines that a terminal shows as they stand (words of this project's own).
 use Rattle.std.specs.Prelude.{◌≡◌, ℕ, List, All}
 use Rattle.std.specs.List.{concat}
