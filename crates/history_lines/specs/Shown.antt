@@ -3,6 +3,7 @@
 use Rattle.std.specs.Prelude.{◌≡◌, ℕ, ◌<◌, ◌≤◌, Bool, true, false, ◌&&◌, Option, Some, None}
 use Rattle.history_lines.specs.declared.look.Selection.{Selection}
 use Rattle.history_lines.specs.declared.look.Sought.{Sought}
+use Rattle.history_lines.specs.declared.look.Marks.{Marks}
 use Rattle.history_lines.specs.declared.look.Look.{Look}
 
 -- the number is between those of the first and the last event
@@ -20,6 +21,10 @@ is_wide selection = is_none selection.call && is_none selection.lane && is_none 
 -- neither a handle nor a name is looked for
 abbrev pub is_nothing : Sought → Bool
 is_nothing sought = is_none sought.handle && is_none sought.name
+
+-- no call is marked
+abbrev pub marks_none : Marks → Bool
+marks_none marks = is_none marks.fault && is_none marks.other
 
 -- where nothing narrows the choice, the number isn't between them
 abbrev pub IsPassedOver : Look → ℕ → Type 0

@@ -1,6 +1,6 @@
 //! Which events of a history are shown, and how.
 
-ghost use Rattle.std.specs.Prelude.{◌≡◌, true, MatchBool};
+ghost use Rattle.std.specs.Prelude.{◌≡◌, ◌+◌, ◌^◌, true, false, MatchBool};
 ghost use Rattle.history_lines.specs.Shown.{is_none};
 
 use crate::short::{ShortHandle, short_of};
@@ -94,7 +94,11 @@ impl Selection {
     ghost use Rattle.history_lines.specs.Shown.{IsAsked, is_wide};
 
     /// All events.
-    pub fn all() -> Selection {
+    pub fn all() -> Selection
+        ensures from { result.from ≡ 1 }
+        ensures to { result.to + 1 ≡ 2 ^ 64 }
+        ensures wide { is_wide result ≡ true }
+    {
         Selection {
             from: 1,
             to: u64::MAX,
@@ -179,13 +183,15 @@ impl Sought {
 }
 
 impl Look {
-    ghost use Rattle.history_lines.specs.Shown.{is_nothing};
+    ghost use Rattle.history_lines.specs.Shown.{is_nothing, marks_none};
     ghost use Rattle.history_lines.specs.StartShown.{asks_start};
 
     /// The events of a selection, as they are.
     pub fn at(selection: Selection) -> Look
         ensures selection { result.selection ≡ selection }
         ensures sought { is_nothing result.sought ≡ true }
+        ensures marks { marks_none result.marks ≡ true }
+        ensures whole { result.has_short_handles ≡ false }
     {
         Look {
             selection,
