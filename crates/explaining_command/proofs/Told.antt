@@ -10,12 +10,17 @@ use Rattle.deciding_command.proofs.NoText.{text_of_yes, never_of_no}
 use Rattle.explaining_command.specs.Explained.{IsExplained}
 
 -- a verdict
-pub explained : {E : Type 0} (history certificate : Option (List ℕ)) (told : Answer) (words : List ℕ) (r : Result Answer E) → IsSaidOfRead history certificate told.status told.line
-    → IfOk r (λ report. report.status ≡ told.status) → IfOk r (λ report. report.line ≡ told.line ++ words)
+pub explained : {E : Type 0} (history certificate : Option (List ℕ)) (told : Answer) (r : Result Answer E) → IsSaidOfRead history certificate told.status told.line
+    → IfOk r (λ report. report.status ≡ told.status) → IfOk r (λ report. (words : List ℕ) × (report.line ≡ told.line ++ words))
     → IfOk r (λ report. IsExplained history certificate report.status report.line)
-explained history certificate told words (Ok report) said status line =
-    (told.line, words, subst (λ s. IsSaidOfRead history certificate s told.line) (sym status) said, line)
-explained history certificate told words (Err e) said status line = tt
+explained history certificate told (Ok report) said status line =
+    (told.line, line.0, subst (λ s. IsSaidOfRead history certificate s told.line) (sym status) said, line.1)
+explained history certificate told (Err e) said status line = tt
+
+pub object : {E : Type 0} (history certificate : Option (List ℕ)) (told : Answer) (r : Result Answer E) → IsSaidOfRead history certificate told.status told.line
+    → IfOk r (λ report. report.status ≡ told.status) → IfOk r (λ report. (line : List ℕ) × IsSaidOfRead history certificate report.status line)
+object history certificate told (Ok report) said status = (told.line, subst (λ s. IsSaidOfRead history certificate s told.line) (sym status) said)
+object history certificate told (Err e) said status = tt
 
 -- a decision
 pub yes_behind : {E : Type 0} (bytes : List ℕ) (decision : FileDecision) (told : Answer) (r : Result Answer E) → Decides bytes decision → (told.status ≡ 0 → IsYes decision)

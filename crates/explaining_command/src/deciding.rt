@@ -4,41 +4,48 @@ ghost use Rattle.std.specs.Prelude.{◌≡◌, ◌<◌, ℕ, List, IfOk};
 ghost use Rattle.witness_check.specs.Witness.{AreAccepted};
 ghost use Rattle.deciding_command.specs.FileDecision.{IsWithoutWitness, IsNeverAccepted};
 
-use crate::telling::{text_of, with_words};
+use crate::behind::{Behind, behind_fault};
+use crate::telling::with_behind;
+use crate::unexplained::behind_no;
 use deciding_command::{Effort, FileDecision, decide_file, report_of};
-use nfs_history::read_calls;
 use program_streams::Report;
-use reason_words::unexplained_text;
 use std::alloc::{AllocError, Global};
 use std::time::Clock;
 
-/// The words of a call that no order explains.
-fn words_of_call(alloc: Global, history: &[u8], call: u64) -> Result<String, AllocError> {
-    let Ok(history) = read_calls(alloc, history) else {
-        return Ok(String::new(alloc));
-    };
-    let lines = unexplained_text(alloc, &history, call)?;
-    text_of(alloc, lines.as_slice())
-}
-
-/// The words behind a decision.
-fn words_of_decision(
-    alloc: Global,
+/// What is known behind a decision.
+fn behind_decision<R: Clock + AllocGlobal>(
+    rt: &R,
     history: &[u8],
     decision: &FileDecision,
-) -> Result<String, AllocError> {
+    effort: Effort,
+) -> Result<Behind, AllocError> {
     match decision {
-        FileDecision::NoWitness { event: _, call } => words_of_call(alloc, history, *call),
-        _ => Ok(String::new(alloc)),
+        FileDecision::NoWitness { event, call } => behind_no(rt, history, *event, *call, effort),
+        FileDecision::BadHistory(fault) => behind_fault(rt.alloc(), history, *fault),
+        _ => Ok(Behind::nothing(rt.alloc())),
     }
 }
 
-/// What `decide` says of the bytes of a history file, and behind a no the call that it names. That memory runs out is no answer.
+/// What is known behind a decision on the bytes of a history file, as lines of printable bytes: of a reply that no order explains the call,
+/// and what the orders come to in which it is placed. None where there is a certificate, or none is known.
+pub fn decision_text<R: Clock + AllocGlobal>(
+    rt: &R,
+    history: &[u8],
+    decision: &FileDecision,
+    effort: Effort,
+) -> Result<Vec<u8>, AllocError> {
+    let Behind { lines, .. } = behind_decision(rt, history, decision, effort)?;
+    Ok(lines)
+}
+
+/// What `decide` says of the bytes of a history file, and behind a no or a refusal what is known of it; with `is_json` as an object of JSON.
+/// That memory runs out is no answer.
 #[tactic(auto, using(crate::proofs::Told::yes_behind, crate::proofs::Told::no_behind, crate::proofs::Told::known_behind))]
 pub fn explain_history<R: Clock + AllocGlobal>(
     rt: &R,
     history: &[u8],
     effort: Effort,
+    is_json: bool,
 ) -> Result<Report, AllocError>
     // With status 0 the bytes are accepted with some certificate, with status 1 with none.
     ensures yes { IfOk result (λ report. report.status ≡ 0 → (text : List ℕ) × AreAccepted history.now text) }
@@ -47,6 +54,14 @@ pub fn explain_history<R: Clock + AllocGlobal>(
 {
     let decision = decide_file(rt, history, effort)?;
     let told = report_of(rt.alloc(), &decision)?;
-    let words = words_of_decision(rt.alloc(), history, &decision)?;
-    with_words(rt.alloc(), &told, words.as_str())
+    let behind = behind_decision(rt, history, &decision, effort)?;
+    with_behind(rt.alloc(), &told, &behind, is_json)
+}
+
+/// What is said where a history can't be read.
+pub fn explain_unreadable(alloc: Global, is_json: bool) -> Result<Report, AllocError>
+    ensures { IfOk result (λ report. report.status ≡ 2) }
+{
+    let told = Report::refused(alloc, "unreadable history")?;
+    with_behind(alloc, &told, &Behind::nothing(alloc), is_json)
 }

@@ -2,6 +2,7 @@
 
 use clap::{Arg, ArgMatches, Command};
 use deciding_command::{Effort, effort_of, seconds_option, states_option};
+use judging_commands::json_option;
 use std::alloc::{AllocError, Global};
 
 /// What is explained, and how much that may cost.
@@ -13,6 +14,8 @@ pub struct ExplainRequest<'a> {
     pub certificate: Option<&'a str>,
     /// What it may cost to decide where there is none.
     pub effort: Effort,
+    /// Whether what is said is printed as a JSON object.
+    pub is_json: bool,
 }
 
 fn history_path<'a>(alloc: Global) -> Arg<'a> {
@@ -31,6 +34,7 @@ pub fn explain_command<'a>(alloc: Global) -> Result<Command<'a>, AllocError> {
         .about("Judges as check does, and says why not; without a certificate, as decide does")
         .arg(states_option(alloc))?
         .arg(seconds_option(alloc))?
+        .arg(json_option(alloc))?
         .arg(history_path(alloc))?
         .arg(certificate_path(alloc))
 }
@@ -42,5 +46,6 @@ pub fn explain_request<'a>(explain: &ArgMatches<'a>) -> ExplainRequest<'a> {
         history: explain.get_str("HISTORY").unwrap_or(""),
         certificate: explain.get_str("CERTIFICATE"),
         effort: effort_of(explain),
+        is_json: explain.get_flag("json"),
     }
 }

@@ -1,12 +1,14 @@
-//! Words behind a line.
+//! What is said, with what is known behind it.
 
-ghost use Rattle.std.specs.Prelude.{◌≡◌, ◌++◌, IfOk};
+ghost use Rattle.std.specs.Prelude.{◌≡◌, ◌++◌, ℕ, List, false, IfOk};
 
+use crate::behind::Behind;
+use crate::objects::object_line;
 use program_streams::Report;
 use std::alloc::{AllocError, Global};
 
 /// What is said, and words behind it.
-pub(crate) fn with_words(alloc: Global, told: &Report, words: &str) -> Result<Report, AllocError>
+fn with_words(alloc: Global, told: &Report, words: &str) -> Result<Report, AllocError>
     ensures status { IfOk result (λ report. report.status ≡ told.now.status) }
     ensures line { IfOk result (λ report. report.line ≡ told.now.line ++ words.now) }
 {
@@ -15,10 +17,28 @@ pub(crate) fn with_words(alloc: Global, told: &Report, words: &str) -> Result<Re
     Ok(Report::new(told.status(), line))
 }
 
-/// Lines as text.
-pub(crate) fn text_of(alloc: Global, lines: &[u8]) -> Result<String, AllocError> {
-    match str::from_utf8(lines) {
-        Ok(text) => String::from_str(alloc, text),
-        Err(_) => Ok(String::new(alloc)),
+/// What is said as an object of JSON, with its status.
+fn as_object(alloc: Global, told: &Report, behind: &Behind) -> Result<Report, AllocError>
+    ensures { IfOk result (λ report. report.status ≡ told.now.status) }
+{
+    let line = object_line(alloc, told, behind)?;
+    Ok(Report::new(told.status(), line))
+}
+
+/// What is said, and what is known behind it: lines, or an object of JSON.
+pub(crate) fn with_behind(
+    alloc: Global,
+    told: &Report,
+    behind: &Behind,
+    is_json: bool,
+) -> Result<Report, AllocError>
+    ensures status { IfOk result (λ report. report.status ≡ told.now.status) }
+    ensures line { is_json ≡ false → IfOk result (λ report. (words : List ℕ) × (report.line ≡ told.now.line ++ words)) }
+{
+    if is_json {
+        return as_object(alloc, told, behind);
     }
+    // All bytes are printable.
+    let words = str::from_utf8(behind.lines.as_slice()).unwrap_or("");
+    with_words(alloc, told, words)
 }

@@ -1,6 +1,6 @@
 //! The events of a history file, one after the other. Nothing is copied, and nothing is kept of those that are read.
 
-ghost use Rattle.std.specs.Prelude.{◌≡◌, ◌+◌, ◌-◌, ◌≤◌, ◌<◌, ℕ, List, IfOk, IfErr, OnOk, Some, Err};
+ghost use Rattle.std.specs.Prelude.{◌≡◌, ◌+◌, ◌-◌, ◌≤◌, ◌<◌, ℕ, List, length, IfOk, IfErr, OnOk, Some, Err};
 ghost use Rattle.tree_starts.specs.declared.object.StartObject.{StartObject};
 ghost use Rattle.tree_starts.specs.declared.profile.Profile.{Profile};
 
@@ -133,6 +133,13 @@ impl<'a> UnreadEvents<'a> {
     /// The number of the last call that was read.
     pub fn calls(&self) -> u64 {
         self.calls
+    }
+
+    /// How many bytes of the file are left.
+    pub fn left_bytes(&self) -> u64
+        ensures { result ≡ length self.now.rest.now }
+    {
+        self.rest.len() as u64
     }
 
     /// How many events are left.

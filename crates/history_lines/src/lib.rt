@@ -14,6 +14,7 @@ mod start_lines;
 mod text;
 
 pub use arguments::push_arguments;
+pub use events::{BegunFile, UnreadEvents};
 pub use lines::EventLines;
 pub use look::{Look, Marks, Selection, Sought, SoughtHandle};
 pub use names::{procedure_name, status_name};

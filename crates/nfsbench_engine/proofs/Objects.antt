@@ -7,7 +7,6 @@ use Rattle.witness_check.specs.declared.verdict.FileVerdict.TheVariants.{Yes, No
 use Rattle.judging_commands.specs.Report.{status_of, IsSaidOfRead}
 use Rattle.judging_commands.specs.Reported.{IsReportedOfRead}
 use Rattle.judging_commands.specs.Objects.{HasStatusOfRead}
-use Rattle.explaining_command.specs.Explained.{IsExplained}
 
 verdict_below : (verdict : FileVerdict) → status_of verdict < 3
 verdict_below Yes = omega arith
@@ -52,7 +51,7 @@ pub known_report : {E : Type 0} (r : Result Answer E) → IfOk r (λ report. (hi
 known_report (Ok report) is = reported_below is.0 is.1 report.status report.line is.2
 known_report (Err e) is = tt
 
-pub known_explained : {E : Type 0} (r : Result Answer E) → IfOk r (λ report. (history_read : Option (List ℕ)) × (certificate_read : Option (List ℕ)) × IsExplained history_read certificate_read report.status report.line)
+pub known_explained : {E : Type 0} (r : Result Answer E) → IfOk r (λ report. (history_read : Option (List ℕ)) × (certificate_read : Option (List ℕ)) × (line : List ℕ) × IsSaidOfRead history_read certificate_read report.status line)
     → IfOk r (λ report. report.status < 3)
-known_explained (Ok report) is = said_below is.0 is.1 report.status is.2.0 is.2.2
+known_explained (Ok report) is = said_below is.0 is.1 report.status is.2 is.3
 known_explained (Err e) is = tt

@@ -6,7 +6,7 @@ ghost use Rattle.program_streams.specs.Told.{memory_line};
 
 use crate::files::{explain_paths, read_history_file};
 use crate::runs::tell_known;
-use explaining_command::{ExplainRequest, explain_history};
+use explaining_command::{ExplainRequest, explain_history, explain_unreadable};
 use program_streams::{Output, Report};
 use recording_command::RecordingRuntime;
 use std::alloc::AllocError;
@@ -19,8 +19,8 @@ fn explain_alone<R: RecordingRuntime>(
     ensures { IfOk result (λ report. report.status < 3) }
 {
     match read_history_file(rt, request.history)? {
-        Some(bytes) => explain_history(rt, bytes.as_slice(), request.effort),
-        None => Report::refused(rt.alloc(), "unreadable history"),
+        Some(bytes) => explain_history(rt, bytes.as_slice(), request.effort, request.is_json),
+        None => explain_unreadable(rt.alloc(), request.is_json),
     }
 }
 
@@ -33,7 +33,7 @@ fn explained<R: RecordingRuntime>(
     ensures { IfOk result (λ report. report.status < 3) }
 {
     match request.certificate {
-        Some(certificate) => explain_paths(rt, request.history, certificate),
+        Some(certificate) => explain_paths(rt, request.history, certificate, request.is_json),
         None => explain_alone(rt, request),
     }
 }

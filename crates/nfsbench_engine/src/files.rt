@@ -142,12 +142,21 @@ pub(crate) fn explain_paths<R: Files + AllocGlobal>(
     rt: &R,
     history: &str,
     certificate: &str,
+    is_json: bool,
 ) -> Result<Report, AllocError>
     // It begins with what is said of what was read.
-    ensures said { IfOk result (λ report. (history_read : Option (List ℕ)) × (certificate_read : Option (List ℕ))
+    ensures said { is_json ≡ false → IfOk result (λ report. (history_read : Option (List ℕ)) × (certificate_read : Option (List ℕ))
         × IsExplained history_read certificate_read report.status report.line) }
+    // As an object too, the status is that of what is said of what was read.
+    ensures object { IfOk result (λ report. (history_read : Option (List ℕ)) × (certificate_read : Option (List ℕ))
+        × (line : List ℕ) × IsSaidOfRead history_read certificate_read report.status line) }
 {
     let history = read_history_file(rt, history)?;
     let certificate = read_file(rt, certificate, u64::MAX)?;
-    explain_read(rt.alloc(), history.as_deref(), certificate.as_deref())
+    explain_read(
+        rt.alloc(),
+        history.as_deref(),
+        certificate.as_deref(),
+        is_json,
+    )
 }

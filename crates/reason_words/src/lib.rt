@@ -17,4 +17,4 @@ mod standing;
 mod verifiers;
 mod words;
 
-pub use words::{reason_text, unexplained_text};
+pub use words::{call_text, plan_text, reason_text, unexplained_text};

@@ -1,14 +1,14 @@
 //! The words of a reason.
 
-use crate::calls::push_unexplained;
+use crate::calls::{push_recorded, push_unexplained};
 use crate::early::push_early;
 use crate::faults::push_fault;
 use crate::illegal::push_illegal;
 use crate::lost::push_lost;
 use crate::scene::Scene;
-use certificate::Certificate;
+use certificate::{Certificate, TextFault, read_certificate};
 use cut_check::bindings_of_plan;
-use fault_reasons::Reason;
+use fault_reasons::{Reason, explain};
 use nfs_history::KnownCalls;
 use nfs3_types::ItemList;
 use std::alloc::{AllocError, Global};
@@ -50,11 +50,46 @@ pub fn reason_text(
     Ok(lines)
 }
 
-/// The words of a call whose reply no order of the calls before it explains, as lines of printable bytes. An `Err` means that memory ran out.
-pub fn unexplained_text(
+/// The words of the reason why a certificate is no witness of a history; none where it is one. An `Err` means that memory ran out.
+fn certificate_text(
+    alloc: Global,
+    history: &KnownCalls<'_>,
+    certificate: &Certificate,
+) -> Result<Vec<u8>, AllocError> {
+    match explain(alloc, history, certificate)? {
+        Some(reason) => reason_text(alloc, history, certificate, &reason),
+        None => Ok(Vec::new(alloc)),
+    }
+}
+
+/// The same of a certificate's text; none where it is the text of none.
+pub fn plan_text(
+    alloc: Global,
+    history: &KnownCalls<'_>,
+    text: &[u8],
+) -> Result<Vec<u8>, AllocError> {
+    match read_certificate(alloc, text) {
+        Ok(certificate) => certificate_text(alloc, history, &certificate),
+        Err(TextFault::NoMemory) => Err(AllocError),
+        Err(TextFault::BadLine(_)) => Ok(Vec::new(alloc)),
+    }
+}
+
+/// What lines are of where nothing is placed.
+#[derive(Clone, Copy)]
+enum Told {
+    /// A call with its reply.
+    Recorded,
+    /// The same, of a reply that no order explains.
+    Unexplained,
+}
+
+/// Lines of a call over no certificate.
+fn told_text(
     alloc: Global,
     history: &KnownCalls<'_>,
     call: u64,
+    told: Told,
 ) -> Result<Vec<u8>, AllocError> {
     let nothing = Certificate {
         binds: ItemList::new(Vec::new(alloc)),
@@ -71,6 +106,27 @@ pub fn unexplained_text(
         front: &[],
     };
     let mut lines = Vec::new(alloc);
-    push_unexplained(&mut lines, &scene, call)?;
+    match told {
+        Told::Recorded => push_recorded(&mut lines, &scene, call)?,
+        Told::Unexplained => push_unexplained(&mut lines, &scene, call)?,
+    }
     Ok(lines)
+}
+
+/// The words of a call with its reply, as lines of printable bytes; none where there is no such call. An `Err` means that memory ran out.
+pub fn call_text(
+    alloc: Global,
+    history: &KnownCalls<'_>,
+    call: u64,
+) -> Result<Vec<u8>, AllocError> {
+    told_text(alloc, history, call, Told::Recorded)
+}
+
+/// The words of a call whose reply no order of the calls before it explains, as lines of printable bytes. An `Err` means that memory ran out.
+pub fn unexplained_text(
+    alloc: Global,
+    history: &KnownCalls<'_>,
+    call: u64,
+) -> Result<Vec<u8>, AllocError> {
+    told_text(alloc, history, call, Told::Unexplained)
 }

@@ -1,0 +1,104 @@
+//! What is known of a reply that no order explains.
+
+use crate::behind::{Behind, Told};
+use deciding_command::{Effort, FileDecision, decide_file};
+use nfs_history::{HistoryFault, KnownCalls, read_calls};
+use order_words::{events_front, order_text};
+use reason_words::unexplained_text;
+use std::alloc::{AllocError, Global};
+use std::time::Clock;
+
+/// A line of a crash that no order explains.
+fn crash_line(alloc: Global, event: u64) -> Result<Vec<u8>, AllocError> {
+    let line = format!(in alloc;
+        "event {event} is a crash: no order of the calls before it can be cut there\n"
+    )?;
+    Vec::from_slice(alloc, line.as_bytes())
+}
+
+/// Lines of the call; of a crash where the history has no such call.
+fn call_lines(
+    alloc: Global,
+    history: &KnownCalls<'_>,
+    event: u64,
+    call: u64,
+) -> Result<Vec<u8>, AllocError> {
+    match history.kind(call) {
+        Some(_) => unexplained_text(alloc, history, call),
+        None => crash_line(alloc, event),
+    }
+}
+
+/// The same of a history file.
+fn lines_of_file(
+    alloc: Global,
+    history: &[u8],
+    event: u64,
+    call: u64,
+) -> Result<Vec<u8>, AllocError> {
+    match read_calls(alloc, history) {
+        Ok(known) => call_lines(alloc, &known, event, call),
+        Err(HistoryFault::NoMemory) => Err(AllocError),
+        Err(_) => Ok(Vec::new(alloc)),
+    }
+}
+
+/// The file of so many first events, where there are so many.
+fn front(alloc: Global, history: &[u8], events: u64) -> Result<Option<Vec<u8>>, AllocError> {
+    match u32::try_from(events) {
+        Ok(events) => events_front(alloc, history, events),
+        Err(_) => Ok(None),
+    }
+}
+
+/// A certificate of the events before one, where one is found.
+fn plan_before<R: Clock + AllocGlobal>(
+    rt: &R,
+    history: &[u8],
+    event: u64,
+    effort: Effort,
+) -> Result<Option<Vec<u8>>, AllocError> {
+    let Some(before) = front(rt.alloc(), history, event.saturating_sub(1))? else {
+        return Ok(None);
+    };
+    match decide_file(rt, before.as_slice(), effort)? {
+        FileDecision::Yes(certificate) => Ok(Some(certificate)),
+        _ => Ok(None),
+    }
+}
+
+/// Lines of what the orders come to in which the call is placed.
+fn order_lines<R: Clock + AllocGlobal>(
+    rt: &R,
+    history: &[u8],
+    event: u64,
+    call: u64,
+    effort: Effort,
+) -> Result<Vec<u8>, AllocError> {
+    let alloc = rt.alloc();
+    let Some(plan) = plan_before(rt, history, event, effort)? else {
+        return Ok(Vec::new(alloc));
+    };
+    match front(alloc, history, event)? {
+        Some(upto) => order_text(alloc, upto.as_slice(), plan.as_slice(), call),
+        None => Ok(Vec::new(alloc)),
+    }
+}
+
+/// What is known of a reply, or of a crash, that no order explains.
+pub(crate) fn behind_no<R: Clock + AllocGlobal>(
+    rt: &R,
+    history: &[u8],
+    event: u64,
+    call: u64,
+    effort: Effort,
+) -> Result<Behind, AllocError> {
+    let mut lines = lines_of_file(rt.alloc(), history, event, call)?;
+    let orders = order_lines(rt, history, event, call, effort)?;
+    lines.extend_from_slice(orders.as_slice())?;
+    Ok(Behind {
+        told: Some(Told::NoWitness { event, call }),
+        right: None,
+        lines,
+    })
+}

@@ -1,0 +1,210 @@
+//! What each order comes to.
+
+use crate::open::{OpenCall, open_calls};
+use crate::orders::{count_orders, orders_of};
+use crate::plans::{Made, plan_with};
+use certificate::{Certificate, TextFault, read_certificate};
+use history_lines::Text;
+use nfs_history::{HistoryFault, KnownCalls, read_calls};
+use nfs3_types::{Answer, FileHandle, NfsReply, Outcome};
+use reason_words::{call_text, plan_text};
+use std::alloc::{AllocError, Global};
+
+/// How many orders are tried at most.
+const MOST_ORDERS: usize = 16;
+
+/// How many calls are placed at most over all orders.
+const MOST_PLACED: usize = 1_000_000;
+
+/// How many open calls are told at most.
+const MOST_OPEN: usize = 10;
+
+/// A history up to a reply, a certificate of what is ahead of that reply, and the call that got it.
+#[derive(Clone, Copy)]
+struct Scene<'s, 'a> {
+    alloc: Global,
+    history: &'s KnownCalls<'a>,
+    certificate: &'s [u8],
+    call: u64,
+    /// The handle of what the call made, where its reply gives one.
+    made: Option<Made<'s>>,
+}
+
+/// Appends a line of words and numbers.
+fn push_line(lines: &mut Vec<u8>, text: Text<'_>) -> Result<(), AllocError> {
+    let line = text.into_line()?;
+    lines.extend_from_slice(line.as_slice())?;
+    Ok(())
+}
+
+/// The handle that a reply gives to what its call made.
+fn made_handle(reply: &NfsReply) -> Option<&FileHandle> {
+    match reply {
+        NfsReply::Create(Answer::Done(made))
+        | NfsReply::MkDir(Answer::Done(made))
+        | NfsReply::SymLink(Answer::Done(made)) => made.object.as_ref(),
+        _ => None,
+    }
+}
+
+/// The bytes of the handle that a call got for what it made; none where it made nothing, or got no handle, or one that is bound.
+fn made_by(
+    alloc: Global,
+    history: &KnownCalls<'_>,
+    plan: &Certificate,
+    call: u64,
+) -> Result<Option<Vec<u8>>, AllocError> {
+    let Some(recorded) = history.call(alloc, call)? else {
+        return Ok(None);
+    };
+    let Some((_, Some(Outcome::Received(reply)))) = recorded.into_judged() else {
+        return Ok(None);
+    };
+    let Some(handle) = made_handle(&reply) else {
+        return Ok(None);
+    };
+    let bytes = handle.as_slice();
+    if plan
+        .binds
+        .as_slice()
+        .iter()
+        .any(|bind| bind.handle.as_slice() == bytes)
+    {
+        return Ok(None);
+    }
+    Ok(Some(Vec::from_slice(alloc, bytes)?))
+}
+
+/// Lines of the calls that are open.
+fn push_open(
+    lines: &mut Vec<u8>,
+    scene: &Scene<'_, '_>,
+    open: &[OpenCall],
+) -> Result<(), AllocError> {
+    if open.is_empty() {
+        return Ok(());
+    }
+    let mut text = Text::new(scene.alloc);
+    text.push_number("calls that were open then and may have been done: ", open.len() as u64)?;
+    push_line(lines, text)?;
+    for call in open.iter().take(MOST_OPEN) {
+        lines.extend_from_slice(
+            call_text(scene.alloc, scene.history, call.number)?.as_slice(),
+        )?;
+    }
+    Ok(())
+}
+
+/// A line of the order that is tried.
+fn push_order(
+    lines: &mut Vec<u8>,
+    scene: &Scene<'_, '_>,
+    order: &[OpenCall],
+) -> Result<(), AllocError> {
+    let mut text = Text::new(scene.alloc);
+    match order {
+        [] => text.push_words(
+            "in an order that explains all before, and with none of the other open calls:",
+        )?,
+        [first, others @ ..] => {
+            text.push_number("with call ", first.number)?;
+            for call in others {
+                text.push_number(", call ", call.number)?;
+            }
+            text.push_words(" done before it:")?;
+        }
+    }
+    push_line(lines, text)
+}
+
+/// Lines of what an order comes to.
+fn push_tried(
+    lines: &mut Vec<u8>,
+    scene: &Scene<'_, '_>,
+    order: &[OpenCall],
+) -> Result<(), AllocError> {
+    push_order(lines, scene, order)?;
+    let plan = plan_with(scene.alloc, scene.certificate, order, scene.call, scene.made)?;
+    let told = plan_text(scene.alloc, scene.history, plan.as_slice())?;
+    lines.extend_from_slice(told.as_slice())?;
+    Ok(())
+}
+
+/// How many orders are tried.
+fn most_orders(history: &KnownCalls<'_>) -> usize {
+    let most = match MOST_PLACED.checked_div(history.count()) {
+        Some(most) => most,
+        None => MOST_ORDERS,
+    };
+    most.clamp(1, MOST_ORDERS)
+}
+
+/// Lines of what each order comes to that is tried, and of how many aren't.
+fn push_orders(
+    lines: &mut Vec<u8>,
+    scene: &Scene<'_, '_>,
+    open: &[OpenCall],
+) -> Result<(), AllocError> {
+    let orders = orders_of(scene.alloc, open, most_orders(scene.history))?;
+    for order in orders.iter() {
+        push_tried(lines, scene, order.as_slice())?;
+    }
+    let left = count_orders(open.len()).saturating_sub(orders.len() as u64);
+    if left == 0 {
+        return Ok(());
+    }
+    let mut text = Text::new(scene.alloc);
+    text.push_number("orders of the open calls that aren't told: ", left)?;
+    push_line(lines, text)
+}
+
+/// The lines of a history that was read, and of a certificate.
+fn text_of(
+    alloc: Global,
+    history: &KnownCalls<'_>,
+    certificate: &[u8],
+    plan: &Certificate,
+    call: u64,
+) -> Result<Vec<u8>, AllocError> {
+    let open = open_calls(alloc, history, plan, call)?;
+    let handle = made_by(alloc, history, plan, call)?;
+    let object = call.saturating_add(history.start().count() as u64);
+    let scene = Scene {
+        alloc,
+        history,
+        certificate,
+        call,
+        made: match &handle {
+            Some(handle) => Some(Made {
+                handle: handle.as_slice(),
+                object,
+            }),
+            None => None,
+        },
+    };
+    let mut lines = Vec::new(alloc);
+    push_open(&mut lines, &scene, open.as_slice())?;
+    push_orders(&mut lines, &scene, open.as_slice())?;
+    Ok(lines)
+}
+
+/// What the orders come to in which a call is placed that no order explains, as lines of printable bytes: over `history`, a file that ends
+/// with the call's reply, and the text of a certificate of the events before. Each open call may be done before that call, in each order, up
+/// to 16 of them; of more than is told here the number is. Nothing where either can't be read. An `Err` means that memory ran out.
+pub fn order_text(
+    alloc: Global,
+    history: &[u8],
+    certificate: &[u8],
+    call: u64,
+) -> Result<Vec<u8>, AllocError> {
+    let history = match read_calls(alloc, history) {
+        Ok(history) => history,
+        Err(HistoryFault::NoMemory) => return Err(AllocError),
+        Err(_) => return Ok(Vec::new(alloc)),
+    };
+    match read_certificate(alloc, certificate) {
+        Ok(plan) => text_of(alloc, &history, certificate, &plan, call),
+        Err(TextFault::NoMemory) => Err(AllocError),
+        Err(TextFault::BadLine(_)) => Ok(Vec::new(alloc)),
+    }
+}

@@ -1,0 +1,11 @@
+//! Why a file is refused, in words: the event at fault with its bytes, where it is in the file, and what is wanted there.
+#![tactic(auto)]
+
+mod history;
+mod lanes;
+mod places;
+mod plan;
+mod wanted;
+
+pub use history::refused_history;
+pub use plan::refused_certificate;
