@@ -112,7 +112,7 @@ fn put_line<'a>(
             is_placed: true,
         });
     }
-    if line == b"end" {
+    if line == b"end".as_slice() {
         put_order(text, wanted)?;
     }
     text.extend_from_slice(line)?;

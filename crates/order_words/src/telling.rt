@@ -47,7 +47,25 @@ fn made_handle(reply: &NfsReply) -> Option<&FileHandle> {
     }
 }
 
-/// The bytes of the handle that a call got for what it made; none where it made nothing, or got no handle, or one that is bound.
+/// The bytes of the handle that a reply gives to what its call made, unless a plan binds it.
+fn unbound_handle(
+    alloc: Global,
+    plan: &Certificate,
+    reply: &NfsReply,
+) -> Result<Option<Vec<u8>>, AllocError> {
+    let Some(handle) = made_handle(reply) else {
+        return Ok(None);
+    };
+    let bytes = handle.as_slice();
+    for bind in plan.binds.as_slice() {
+        if bind.handle.as_slice() == bytes {
+            return Ok(None);
+        }
+    }
+    Ok(Some(Vec::from_slice(alloc, bytes)?))
+}
+
+/// The same of a call and its reply.
 fn made_by(
     alloc: Global,
     history: &KnownCalls<'_>,
@@ -57,22 +75,13 @@ fn made_by(
     let Some(recorded) = history.call(alloc, call)? else {
         return Ok(None);
     };
-    let Some((_, Some(Outcome::Received(reply)))) = recorded.into_judged() else {
+    let Some((_, outcome)) = recorded.into_judged() else {
         return Ok(None);
     };
-    let Some(handle) = made_handle(&reply) else {
-        return Ok(None);
-    };
-    let bytes = handle.as_slice();
-    if plan
-        .binds
-        .as_slice()
-        .iter()
-        .any(|bind| bind.handle.as_slice() == bytes)
-    {
-        return Ok(None);
+    match &outcome {
+        Some(Outcome::Received(reply)) => unbound_handle(alloc, plan, reply),
+        _ => Ok(None),
     }
-    Ok(Some(Vec::from_slice(alloc, bytes)?))
 }
 
 /// Lines of the calls that are open.
