@@ -3,12 +3,13 @@
 use crate::folder::Folder;
 use crate::opening::WALK_LANE;
 use crate::running::Ran;
+use crate::why::{Grounds, write_why};
 use crate::words::TestRequest;
 use deciding_command::FileDecision;
 use history_file::Event;
 use nfs_tap::TapLog;
 use night_lanes::Troubles;
-use night_report::{Finding, NightReport, Numbers, Request, explanation, junit_xml, report_json};
+use night_report::{Finding, NightReport, Numbers, Request, junit_xml, report_json};
 use night_verdict::{Judgement, NightVerdict, Reasons};
 use recording_command::RecordingRuntime;
 use std::alloc::{AllocError, Global};
@@ -136,26 +137,25 @@ pub(crate) fn reason_lines(alloc: Global, reasons: &Reasons) -> Result<Vec<Strin
     Ok(lines)
 }
 
-/// Writes the files of a night into its folder, but for its history, which is there or not. Whether each is there now.
+/// Writes the files of a night into its folder, but for its history. Whether each is there now.
 pub(crate) fn write_files<R: RecordingRuntime>(
     rt: &R,
     path: &str,
-    is_kept: bool,
-    judged: &Judgement,
+    grounds: Grounds<'_>,
+    verdict: NightVerdict,
     report: &NightReport<'_>,
 ) -> Result<bool, AllocError> {
     let (alloc, folder) = (rt.alloc(), Folder { path });
-    let mut all = is_kept;
-    if let FileDecision::Yes(certificate) = &judged.decision {
+    let mut all = true;
+    if let FileDecision::Yes(certificate) = grounds.decision {
         all &= folder.write(rt, "certificate", certificate.as_slice())?;
     }
     let json = report_json(alloc, report)?;
     all &= folder.write(rt, "report.json", json.as_bytes())?;
     let junit = junit_xml(alloc, report)?;
     all &= folder.write(rt, "junit.xml", junit.as_bytes())?;
-    if !matches!(judged.verdict, NightVerdict::Yes) {
-        let told = explanation(alloc, report)?;
-        all &= folder.write(rt, "explanation", told.as_bytes())?;
+    if !matches!(verdict, NightVerdict::Yes) {
+        all &= write_why(rt, folder, grounds, report)?;
     }
     Ok(all)
 }

@@ -9,6 +9,7 @@ mod refusal;
 mod running;
 mod summing;
 mod test;
+mod why;
 mod words;
 
 pub use test::run_test;

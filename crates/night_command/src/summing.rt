@@ -9,6 +9,7 @@ use crate::folder::Folder;
 use crate::opening::profile_of;
 use crate::refusal::NightRefusal;
 use crate::running::Ran;
+use crate::why::Grounds;
 use crate::words::TestRequest;
 use deciding_command::{Effort, FileDecision};
 use failure_causes::{CauseCounts, count_causes};
@@ -142,6 +143,7 @@ fn written_report<'n, R: RecordingRuntime>(
     told: &'n Told,
     counts: &'n Counts,
     troubles: &'n Troubles,
+    history: &'n [u8],
     is_kept: bool,
 ) -> Result<Report, AllocError>
     requires known { told.now.last.status < 3 }
@@ -163,14 +165,14 @@ fn written_report<'n, R: RecordingRuntime>(
         order,
         enough,
     };
-    let is_written = write_files(rt, request.folder, is_kept, &told.judged, &report)?;
-    said_of(
-        rt.alloc(),
-        request,
-        told.judged.verdict,
-        &report,
-        is_written,
-    )
+    let grounds = Grounds {
+        history,
+        decision: &told.judged.decision,
+        effort: effort_of(request),
+    };
+    let verdict = told.judged.verdict;
+    let is_written = write_files(rt, request.folder, grounds, verdict, &report)?;
+    said_of(rt.alloc(), request, verdict, &report, is_kept && is_written)
 }
 
 /// Judges a night by the bytes of its history.
@@ -214,7 +216,9 @@ fn judged_report<R: RecordingRuntime>(
     let troubles = ran.night.troubles().lock(rt);
     let counts = ran.night.counts().lock(rt);
     let told = judged(rt, request, ran.end, &troubles, noted, history)?;
-    written_report(rt, request, ran, &told, &counts, &troubles, is_kept)
+    written_report(
+        rt, request, ran, &told, &counts, &troubles, history, is_kept,
+    )
 }
 
 /// Judges a night, writes its files, and gives its lines and its status.
