@@ -212,6 +212,8 @@ About rights:
 What to do next:
   nfsbench show night/7/history
     prints each call and each reply, with the number of its event
+  nfsbench draw night/7/history > picture.html
+    draws them as a page for a browser; --call N and --from N choose where
   nfsbench decide night/7/history --go-on 3
     names the event that no order explains, leaves its call out, and goes on, three times
   night/7/report.json
