@@ -21,8 +21,8 @@ fn with_words(alloc: Global, told: &Report, words: &str) -> Result<Report, Alloc
 fn as_object(alloc: Global, told: &Report, behind: &Behind) -> Result<Report, AllocError>
     ensures { IfOk result (λ report. report.status ≡ told.now.status) }
 {
-    let line = object_line(alloc, told, behind)?;
-    Ok(Report::new(told.status(), line))
+    let status = told.status();
+    Ok(Report::new(status, object_line(alloc, told, behind)?))
 }
 
 /// What is said, and what is known behind it: lines, or an object of JSON.

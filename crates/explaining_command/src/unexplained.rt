@@ -29,20 +29,6 @@ fn call_lines(
     }
 }
 
-/// The same of a history file.
-fn lines_of_file(
-    alloc: Global,
-    history: &[u8],
-    event: u64,
-    call: u64,
-) -> Result<Vec<u8>, AllocError> {
-    match read_calls(alloc, history) {
-        Ok(known) => call_lines(alloc, &known, event, call),
-        Err(HistoryFault::NoMemory) => Err(AllocError),
-        Err(_) => Ok(Vec::new(alloc)),
-    }
-}
-
 /// The file of so many first events, where there are so many.
 fn front(alloc: Global, history: &[u8], events: u64) -> Result<Option<Vec<u8>>, AllocError> {
     match u32::try_from(events) {
@@ -71,6 +57,7 @@ fn plan_before<R: Clock + AllocGlobal>(
 fn order_lines<R: Clock + AllocGlobal>(
     rt: &R,
     history: &[u8],
+    known: &KnownCalls<'_>,
     event: u64,
     call: u64,
     effort: Effort,
@@ -80,9 +67,24 @@ fn order_lines<R: Clock + AllocGlobal>(
         return Ok(Vec::new(alloc));
     };
     match front(alloc, history, event)? {
-        Some(upto) => order_text(alloc, upto.as_slice(), plan.as_slice(), call),
+        Some(upto) => order_text(alloc, known, upto.as_slice(), plan.as_slice(), call),
         None => Ok(Vec::new(alloc)),
     }
+}
+
+/// Lines of what is known of a reply, or of a crash, of a history that was read.
+fn lines_behind<R: Clock + AllocGlobal>(
+    rt: &R,
+    history: &[u8],
+    known: &KnownCalls<'_>,
+    event: u64,
+    call: u64,
+    effort: Effort,
+) -> Result<Vec<u8>, AllocError> {
+    let mut lines = call_lines(rt.alloc(), known, event, call)?;
+    let orders = order_lines(rt, history, known, event, call, effort)?;
+    lines.extend_from_slice(orders.as_slice())?;
+    Ok(lines)
 }
 
 /// What is known of a reply, or of a crash, that no order explains.
@@ -93,9 +95,11 @@ pub(crate) fn behind_no<R: Clock + AllocGlobal>(
     call: u64,
     effort: Effort,
 ) -> Result<Behind, AllocError> {
-    let mut lines = lines_of_file(rt.alloc(), history, event, call)?;
-    let orders = order_lines(rt, history, event, call, effort)?;
-    lines.extend_from_slice(orders.as_slice())?;
+    let lines = match read_calls(rt.alloc(), history) {
+        Ok(known) => lines_behind(rt, history, &known, event, call, effort)?,
+        Err(HistoryFault::NoMemory) => return Err(AllocError),
+        Err(_) => Vec::new(rt.alloc()),
+    };
     Ok(Behind {
         told: Some(Told::NoWitness { event, call }),
         right: None,

@@ -24,6 +24,8 @@ const MOST_OPEN: usize = 10;
 struct Scene<'s, 'a> {
     alloc: Global,
     history: &'s KnownCalls<'a>,
+    /// The whole history, which has the later replies too.
+    whole: &'s KnownCalls<'a>,
     certificate: &'s [u8],
     call: u64,
     /// The handle of what the call made, where its reply gives one.
@@ -98,7 +100,7 @@ fn push_open(
     push_line(lines, text)?;
     for call in open.iter().take(MOST_OPEN) {
         lines.extend_from_slice(
-            call_text(scene.alloc, scene.history, call.number)?.as_slice(),
+            call_text(scene.alloc, scene.whole, call.number)?.as_slice(),
         )?;
     }
     Ok(())
@@ -108,13 +110,13 @@ fn push_open(
 fn push_order(
     lines: &mut Vec<u8>,
     scene: &Scene<'_, '_>,
+    open: &[OpenCall],
     order: &[OpenCall],
 ) -> Result<(), AllocError> {
     let mut text = Text::new(scene.alloc);
     match order {
-        [] => text.push_words(
-            "in an order that explains all before, and with none of the other open calls:",
-        )?,
+        [] if open.is_empty() => text.push_words("in an order that explains all before it:")?,
+        [] => text.push_words("in an order that explains all before it, with no open call done:")?,
         [first, others @ ..] => {
             text.push_number("with call ", first.number)?;
             for call in others {
@@ -130,9 +132,10 @@ fn push_order(
 fn push_tried(
     lines: &mut Vec<u8>,
     scene: &Scene<'_, '_>,
+    open: &[OpenCall],
     order: &[OpenCall],
 ) -> Result<(), AllocError> {
-    push_order(lines, scene, order)?;
+    push_order(lines, scene, open, order)?;
     let plan = plan_with(scene.alloc, scene.certificate, order, scene.call, scene.made)?;
     let told = plan_text(scene.alloc, scene.history, plan.as_slice())?;
     lines.extend_from_slice(told.as_slice())?;
@@ -156,7 +159,7 @@ fn push_orders(
 ) -> Result<(), AllocError> {
     let orders = orders_of(scene.alloc, open, most_orders(scene.history))?;
     for order in orders.iter() {
-        push_tried(lines, scene, order.as_slice())?;
+        push_tried(lines, scene, open, order.as_slice())?;
     }
     let left = count_orders(open.len()).saturating_sub(orders.len() as u64);
     if left == 0 {
@@ -168,9 +171,10 @@ fn push_orders(
 }
 
 /// The lines of a history that was read, and of a certificate.
-fn text_of(
+fn text_of<'a>(
     alloc: Global,
-    history: &KnownCalls<'_>,
+    whole: &KnownCalls<'a>,
+    history: &KnownCalls<'a>,
     certificate: &[u8],
     plan: &Certificate,
     call: u64,
@@ -181,6 +185,7 @@ fn text_of(
     let scene = Scene {
         alloc,
         history,
+        whole,
         certificate,
         call,
         made: match &handle {
@@ -198,11 +203,12 @@ fn text_of(
 }
 
 /// What the orders come to in which a call is placed that no order explains, as lines of printable bytes: over `history`, a file that ends
-/// with the call's reply, and the text of a certificate of the events before. Each open call may be done before that call, in each order, up
+/// with the call's reply, and the text of a certificate of the events before. `whole` is the history with the later replies. Each open call may be done before that call, in each order, up
 /// to 16 of them; of more than is told here the number is. Nothing where either can't be read. An `Err` means that memory ran out.
-pub fn order_text(
+pub fn order_text<'a>(
     alloc: Global,
-    history: &[u8],
+    whole: &KnownCalls<'a>,
+    history: &'a [u8],
     certificate: &[u8],
     call: u64,
 ) -> Result<Vec<u8>, AllocError> {
@@ -212,7 +218,7 @@ pub fn order_text(
         Err(_) => return Ok(Vec::new(alloc)),
     };
     match read_certificate(alloc, certificate) {
-        Ok(plan) => text_of(alloc, &history, certificate, &plan, call),
+        Ok(plan) => text_of(alloc, whole, &history, certificate, &plan, call),
         Err(TextFault::NoMemory) => Err(AllocError),
         Err(TextFault::BadLine(_)) => Ok(Vec::new(alloc)),
     }
