@@ -21,11 +21,11 @@ const MOST_OPEN: usize = 10;
 
 /// A history up to a reply, a certificate of what is ahead of that reply, and the call that got it.
 #[derive(Clone, Copy)]
-struct Scene<'s, 'a> {
+struct Scene<'s, 'a, 'w> {
     alloc: Global,
     history: &'s KnownCalls<'a>,
     /// The whole history, which has the later replies too.
-    whole: &'s KnownCalls<'a>,
+    whole: &'s KnownCalls<'w>,
     certificate: &'s [u8],
     call: u64,
     /// The handle of what the call made, where its reply gives one.
@@ -89,7 +89,7 @@ fn made_by(
 /// Lines of the calls that are open.
 fn push_open(
     lines: &mut Vec<u8>,
-    scene: &Scene<'_, '_>,
+    scene: &Scene<'_, '_, '_>,
     open: &[OpenCall],
 ) -> Result<(), AllocError> {
     if open.is_empty() {
@@ -109,7 +109,7 @@ fn push_open(
 /// A line of the order that is tried.
 fn push_order(
     lines: &mut Vec<u8>,
-    scene: &Scene<'_, '_>,
+    scene: &Scene<'_, '_, '_>,
     open: &[OpenCall],
     order: &[OpenCall],
 ) -> Result<(), AllocError> {
@@ -131,7 +131,7 @@ fn push_order(
 /// Lines of what an order comes to.
 fn push_tried(
     lines: &mut Vec<u8>,
-    scene: &Scene<'_, '_>,
+    scene: &Scene<'_, '_, '_>,
     open: &[OpenCall],
     order: &[OpenCall],
 ) -> Result<(), AllocError> {
@@ -154,7 +154,7 @@ fn most_orders(history: &KnownCalls<'_>) -> usize {
 /// Lines of what each order comes to that is tried, and of how many aren't.
 fn push_orders(
     lines: &mut Vec<u8>,
-    scene: &Scene<'_, '_>,
+    scene: &Scene<'_, '_, '_>,
     open: &[OpenCall],
 ) -> Result<(), AllocError> {
     let orders = orders_of(scene.alloc, open, most_orders(scene.history))?;
@@ -171,10 +171,10 @@ fn push_orders(
 }
 
 /// The lines of a history that was read, and of a certificate.
-fn text_of<'a>(
+fn text_of(
     alloc: Global,
-    whole: &KnownCalls<'a>,
-    history: &KnownCalls<'a>,
+    whole: &KnownCalls<'_>,
+    history: &KnownCalls<'_>,
     certificate: &[u8],
     plan: &Certificate,
     call: u64,
@@ -203,12 +203,13 @@ fn text_of<'a>(
 }
 
 /// What the orders come to in which a call is placed that no order explains, as lines of printable bytes: over `history`, a file that ends
-/// with the call's reply, and the text of a certificate of the events before. `whole` is the history with the later replies. Each open call may be done before that call, in each order, up
-/// to 16 of them; of more than is told here the number is. Nothing where either can't be read. An `Err` means that memory ran out.
-pub fn order_text<'a>(
+/// with the call's reply, and the text of a certificate of the events before. `whole` is the history with the later replies. Each open call
+/// may be done before that call, in each order, up to 16 orders; of those that aren't told the number is. Nothing where either can't be read.
+/// An `Err` means that memory ran out.
+pub fn order_text(
     alloc: Global,
-    whole: &KnownCalls<'a>,
-    history: &'a [u8],
+    whole: &KnownCalls<'_>,
+    history: &[u8],
     certificate: &[u8],
     call: u64,
 ) -> Result<Vec<u8>, AllocError> {
