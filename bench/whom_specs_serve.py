@@ -32,6 +32,9 @@ ROOTS = {
     "decision_walk": "new deeds bound",
     "decide": "",
     "deciding_command": "decide_file decide_history",
+    # a reason
+    "fault_reasons": "explain",
+    "explaining_command": "explain_read explain_history",
     # what stood at first
     "night_start": "finish",
 }

@@ -1,4 +1,4 @@
--- For the prover.
+-- For the prover, and for callers.
 -- What the functions that go to a place say to the prover.
 use Rattle.std.specs.Prelude.{◌≡◌, ◌+◌, ℕ, List, ◌∷◌, ◌++◌, length, Option}
 use Rattle.nfs3_types.specs.declared.calls.NfsCall.{NfsCall}
