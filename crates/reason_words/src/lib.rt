@@ -12,6 +12,7 @@ mod lists;
 mod lost;
 mod objects;
 mod paths;
+mod places;
 mod scene;
 mod standing;
 mod verifiers;

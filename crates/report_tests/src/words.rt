@@ -196,7 +196,7 @@ fn a_call_without_a_place_is_told(rt: HostRuntime) -> Result<(), Fail> {
 call 3 READ file 01 (made by call 1) offset 0 count 100
   its reply: NFS3_OK count 3 eof data 3 bytes 616263
   begun by event 5, answered by event 6
-it was answered and has no place
+it was answered and has no place: it has to have one in era 1
 "
     );
     Ok(())
