@@ -181,7 +181,7 @@ fn a_place_that_a_cut_loses_is_told(rt: HostRuntime) -> Result<(), Fail> {
 call 1 CREATE directory \"/\" name \"f\" UNCHECKED
   its reply: NFS3_OK object 01 (made by call 1)
   begun by event 1, answered by event 2
-it has to survive the end of era 1 and is placed at position 1, and the cut keeps 0 places
+call 1 has to survive the end of era 1, as its reply promised; it is placed at position 1, and the cut keeps 0 places
 "
     );
     Ok(())
