@@ -1,6 +1,7 @@
 //! The words of a call that can't have come out so at its place.
 
 use crate::calls::{push_call, push_outcome, push_reply, push_span};
+use crate::claims::push_claim;
 use crate::differences::push_differences;
 use crate::scene::{Scene, push_line};
 use crate::standing::push_standing;
@@ -73,6 +74,7 @@ fn push_at(
     if let Some(nodes) = scene.nodes {
         push_standing(lines, scene, nodes, &told.call)?;
         push_differences(lines, scene, nodes, &told.call, &told.outcome)?;
+        push_claim(lines, scene, nodes, &told.call, &told.outcome)?;
     }
     push_right(lines, scene, &told.right)
 }

@@ -3,6 +3,7 @@
 
 mod calls;
 mod changes;
+mod claims;
 mod differences;
 mod early;
 mod faults;
