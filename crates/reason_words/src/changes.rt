@@ -1,7 +1,8 @@
 //! Which call changed something last, of those ahead of a place.
 
+use crate::places::cut_places;
 use crate::scene::Scene;
-use certificate::{EraPlan, Place};
+use certificate::Place;
 use fault_reasons::placed_at;
 use history_lines::{Text, procedure_name};
 use nfs3_types::{DirectoryName, NfsCall, Outcome, Procedure};
@@ -107,18 +108,6 @@ fn last_in(
     Ok(None)
 }
 
-/// The places of an era that the crash at its end leaves.
-fn kept_places(era: &EraPlan) -> &[Place] {
-    let places = era.places.as_slice();
-    match era.cut {
-        Some(cut) => match places.split_at_checked(cut as usize) {
-            Some((kept, _)) => kept,
-            None => places,
-        },
-        None => places,
-    }
-}
-
 /// The last call ahead of the place that changed something: of its era, else of what the eras ahead kept.
 fn last_change(scene: &Scene<'_, '_>, changed: Changed<'_>) -> Result<Option<Change>, AllocError> {
     let found = last_in(scene, scene.front, changed)?;
@@ -126,7 +115,8 @@ fn last_change(scene: &Scene<'_, '_>, changed: Changed<'_>) -> Result<Option<Cha
         return Ok(found);
     }
     for era in scene.ahead.iter().rev() {
-        let found = last_in(scene, kept_places(era), changed)?;
+        let (kept, _) = cut_places(era);
+        let found = last_in(scene, kept, changed)?;
         if found.is_some() {
             return Ok(found);
         }

@@ -1,12 +1,13 @@
 //! The words of faults of which no more is told: what the certificate has, and what the history has.
 
-use crate::calls::push_recorded;
 use crate::early::push_early;
 use crate::objects::push_count;
+use crate::places::{first_place_of, push_placed, push_places};
 use crate::scene::{Scene, push_line};
 use crate::verifiers::push_verifiers;
-use certificate::EraPlan;
+use certificate::Place;
 use history_lines::Text;
+use nfs3_types::{NfsCall, Outcome};
 use std::alloc::AllocError;
 use witness_check::Fault;
 
@@ -30,75 +31,74 @@ fn push_words(lines: &mut Vec<u8>, scene: &Scene<'_, '_>, words: &str) -> Result
     push_line(lines, text)
 }
 
-/// A line for each place of a call in an era.
-fn push_places_in(
+/// Lines of a place of a call that isn't there.
+fn push_unknown(lines: &mut Vec<u8>, scene: &Scene<'_, '_>, number: u64) -> Result<(), AllocError> {
+    push_places(lines, scene, number)?;
+    let first = ("calls of the history: ", scene.history.count() as u64);
+    push_numbers(lines, scene, first, (", so there is no call ", number))
+}
+
+/// Lines of a call, and of the era in which it began.
+fn push_with_era(
     lines: &mut Vec<u8>,
     scene: &Scene<'_, '_>,
     number: u64,
-    index: u64,
-    era: &EraPlan,
+    words: &str,
 ) -> Result<(), AllocError> {
-    let mut position: u64 = 0;
-    for place in era.places.as_slice() {
-        position = position.saturating_add(1);
-        if place.number() == number {
-            let first = ("  placed at position ", position);
-            push_numbers(lines, scene, first, (" of era ", index))?;
+    push_placed(lines, scene, number)?;
+    let mut text = Text::new(scene.alloc);
+    text.push_number(words, scene.history.era(number).unwrap_or(0))?;
+    push_line(lines, text)
+}
+
+/// A line of a cut that keeps more places than its era has.
+fn push_bad_cut(lines: &mut Vec<u8>, scene: &Scene<'_, '_>, era: u64) -> Result<(), AllocError> {
+    let eras = scene.certificate.eras.as_slice();
+    let Some(plan) = eras.get(era.saturating_sub(1) as usize) else {
+        return Ok(());
+    };
+    let count = plan.places.as_slice().len() as u64;
+    let mut text = Text::new(scene.alloc);
+    text.push_number("era ", era)?;
+    push_count(&mut text, " has ", count, " place", " places")?;
+    text.push_number(", and its cut keeps ", plan.cut.unwrap_or(count))?;
+    push_line(lines, text)
+}
+
+/// What is wrong with a place of a judged call.
+fn wrong_place(place: Place, call: &NfsCall, outcome: &Option<Outcome>) -> &'static str {
+    if outcome.is_some() {
+        return "it was answered, so it is placed with its reply";
+    }
+    if !call.procedure().changes_the_tree() {
+        return "it has no reply and changes nothing, so it has no place";
+    }
+    match (place, call) {
+        (Place::Answered(_), _) => "it has no reply, so it is taken as done or has no place",
+        (Place::Taken(_, _), NfsCall::Write(_)) => {
+            "a WRITE is taken with a count, at most that of its bytes"
         }
+        (Place::Taken(_, _), _) => "no call but a WRITE is taken with a count",
     }
-    Ok(())
 }
 
-/// A line for each place of a call in a plan.
-fn push_places(lines: &mut Vec<u8>, scene: &Scene<'_, '_>, number: u64) -> Result<(), AllocError> {
-    let mut index: u64 = 0;
-    for era in scene.certificate.eras.as_slice() {
-        index = index.saturating_add(1);
-        push_places_in(lines, scene, number, index, era)?;
-    }
-    Ok(())
-}
-
-/// Lines of a call and of all its places.
-fn push_placed(lines: &mut Vec<u8>, scene: &Scene<'_, '_>, number: u64) -> Result<(), AllocError> {
-    push_recorded(lines, scene, number)?;
-    push_places(lines, scene, number)
-}
-
-/// Lines of a call that isn't of the era in which it is placed.
-fn push_wrong_era(
+/// Lines of a call that may not be placed so. Of one that isn't judged the first says why.
+fn push_not_to_place(
     lines: &mut Vec<u8>,
     scene: &Scene<'_, '_>,
     number: u64,
 ) -> Result<(), AllocError> {
     push_placed(lines, scene, number)?;
-    let mut text = Text::new(scene.alloc);
-    text.push_number("it began in era ", scene.history.era(number).unwrap_or(0))?;
-    push_line(lines, text)
-}
-
-/// How many places an era of a plan has.
-fn count_places(scene: &Scene<'_, '_>, era: u64) -> u64 {
-    let eras = scene.certificate.eras.as_slice();
-    match eras.get(era.saturating_sub(1) as usize) {
-        Some(era) => era.places.as_slice().len() as u64,
-        None => 0,
+    let Some(place) = first_place_of(scene, number) else {
+        return Ok(());
+    };
+    let Some(recorded) = scene.history.call(scene.alloc, number)? else {
+        return Ok(());
+    };
+    match recorded.into_judged() {
+        Some((call, outcome)) => push_words(lines, scene, wrong_place(place, &call, &outcome)),
+        None => Ok(()),
     }
-}
-
-/// A line of a cut that keeps more places than its era has.
-fn push_bad_cut(lines: &mut Vec<u8>, scene: &Scene<'_, '_>, era: u64) -> Result<(), AllocError> {
-    let mut text = Text::new(scene.alloc);
-    text.push_number("era ", era)?;
-    push_count(
-        &mut text,
-        " has ",
-        count_places(scene, era),
-        " place",
-        " places",
-    )?;
-    text.push_words(", and its cut keeps more")?;
-    push_line(lines, text)
 }
 
 /// Lines of a call that is at fault, and of what is wrong with it.
@@ -124,23 +124,14 @@ pub(crate) fn push_fault(
             let first = ("eras of the history: ", scene.history.eras());
             push_numbers(lines, scene, first, (", of the certificate: ", count))
         }
-        Fault::Unknown(call) => {
-            let first = ("calls of the history: ", scene.history.count() as u64);
-            push_numbers(lines, scene, first, (", so there is no call ", call))
-        }
-        Fault::WrongEra(call) => push_wrong_era(lines, scene, call),
+        Fault::Unknown(call) => push_unknown(lines, scene, call),
+        Fault::WrongEra(call) => push_with_era(lines, scene, call, "it began in era "),
         Fault::Twice(call) => push_at_fault(lines, scene, call, "a call has one place"),
-        Fault::NotToPlace(call) => {
-            let words =
-                "it may not be placed so: with a reply that it doesn't have, or as taken though one came";
-            push_at_fault(lines, scene, call, words)
+        Fault::NotToPlace(call) => push_not_to_place(lines, scene, call),
+        Fault::Missing(call) => {
+            let words = "it was answered and has no place: it has to have one in era ";
+            push_with_era(lines, scene, call, words)
         }
-        Fault::Missing(call) => push_at_fault(
-            lines,
-            scene,
-            call,
-            "it was answered and has no place",
-        ),
         Fault::BadCut(era) => push_bad_cut(lines, scene, era),
         Fault::Illegal(call) => push_at_fault(
             lines,

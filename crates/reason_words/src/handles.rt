@@ -1,6 +1,6 @@
 //! How handles are called: by the path of their object, or by their last bytes.
 
-use crate::objects::push_origin;
+use crate::objects::{fate_of, push_origin};
 use crate::paths::{ROOT, path_of};
 use crate::scene::Scene;
 use history_lines::Text;
@@ -63,7 +63,7 @@ fn push_without_path(
     text.push_words(" (")?;
     push_origin(text, scene, object)?;
     if scene.nodes.is_some() {
-        text.push_words(", gone")?;
+        text.push_words(fate_of(scene, object))?;
     }
     text.push_words(")")
 }

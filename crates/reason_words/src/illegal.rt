@@ -1,15 +1,17 @@
 //! The words of a call that can't have come out so at its place.
 
 use crate::calls::{push_call, push_outcome, push_reply, push_span};
+use crate::claims::push_claim;
 use crate::differences::push_differences;
 use crate::scene::{Scene, push_line};
 use crate::standing::push_standing;
 use certificate::{EraPlan, Place};
 use fault_reasons::{IllegalPlace, tree_after};
 use history_lines::Text;
-use nfs3_types::{Answer, NfsReply};
+use nfs3_types::{Answer, NfsReply, Outcome};
 use std::alloc::AllocError;
 use tree_nodes::Nodes;
+use tree_starts::Profile;
 
 /// What is ahead of a position of an era: the eras ahead, and the places ahead in its own.
 fn ahead_of(eras: &[EraPlan], era: u64, position: u64) -> Option<(&[EraPlan], &[Place])> {
@@ -60,6 +62,24 @@ fn push_right(
     }
 }
 
+/// A line that the attributes in a reply are judged, where they are: the words of a reply leave most of them out.
+fn push_profile(
+    lines: &mut Vec<u8>,
+    scene: &Scene<'_, '_>,
+    outcome: &Outcome,
+) -> Result<(), AllocError> {
+    match (scene.history.profile(), outcome) {
+        (Profile::Strict, Outcome::Received(_)) => {
+            let mut text = Text::new(scene.alloc);
+            let words =
+                "  the profile is strict: types and sizes in its attributes are judged too";
+            text.push_words(words)?;
+            push_line(lines, text)
+        }
+        _ => Ok(()),
+    }
+}
+
 /// The lines of a call, with what is known where it is placed.
 fn push_at(
     lines: &mut Vec<u8>,
@@ -73,7 +93,9 @@ fn push_at(
     if let Some(nodes) = scene.nodes {
         push_standing(lines, scene, nodes, &told.call)?;
         push_differences(lines, scene, nodes, &told.call, &told.outcome)?;
+        push_claim(lines, scene, nodes, &told.call, &told.outcome)?;
     }
+    push_profile(lines, scene, &told.outcome)?;
     push_right(lines, scene, &told.right)
 }
 

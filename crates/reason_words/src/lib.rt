@@ -3,6 +3,7 @@
 
 mod calls;
 mod changes;
+mod claims;
 mod differences;
 mod early;
 mod faults;
@@ -12,6 +13,7 @@ mod lists;
 mod lost;
 mod objects;
 mod paths;
+mod places;
 mod scene;
 mod standing;
 mod verifiers;

@@ -3,7 +3,8 @@
 use crate::scene::{Scene, push_line};
 use history_lines::Text;
 use nfs3_types::{
-    FileHandle, ReadDirArguments, ReadDirPlusArguments, ReadDirPlusSuccess, ReadDirSuccess,
+    DirectoryEntryPlus, FileHandle, ReadDirArguments, ReadDirPlusArguments, ReadDirPlusSuccess,
+    ReadDirSuccess,
 };
 use std::alloc::AllocError;
 use std::collections::BTreeSet;
@@ -111,6 +112,47 @@ fn push_missing(
     line.end(lines)
 }
 
+/// Whether an entry has a handle that isn't that of the object which its directory has by that name. Of `.` and `..` handles aren't judged.
+fn has_wrong_handle(
+    scene: &Scene<'_, '_>,
+    nodes: &Nodes,
+    directory: u64,
+    entry: &DirectoryEntryPlus,
+) -> bool {
+    let name = entry.name.as_slice();
+    if name == b".".as_slice() || name == b"..".as_slice() {
+        return false;
+    }
+    match (&entry.object, object_named(nodes, directory, name)) {
+        (Some(handle), Some(object)) => scene.binds.object(handle.as_slice()) != Some(object),
+        _ => false,
+    }
+}
+
+/// A line of the entries that have wrong handles.
+fn push_wrong_handles(
+    lines: &mut Vec<u8>,
+    scene: &Scene<'_, '_>,
+    nodes: &Nodes,
+    handle: &FileHandle,
+    entries: &[DirectoryEntryPlus],
+) -> Result<(), AllocError> {
+    let view = View {
+        binds: scene.binds,
+        nodes,
+    };
+    let Some(directory) = directory_of(&view, handle) else {
+        return Ok(());
+    };
+    let mut line = NameLine::new(scene, "  listed with a wrong handle:")?;
+    for entry in entries {
+        if has_wrong_handle(scene, nodes, directory, entry) {
+            line.push(entry.name.as_slice())?;
+        }
+    }
+    line.end(lines)
+}
+
 /// Lines of where a list differs from the directory of a handle. A whole list has all names.
 fn push_listed(
     lines: &mut Vec<u8>,
@@ -178,5 +220,7 @@ pub(crate) fn push_names_plus(
         &call.directory,
         listed.as_slice(),
         is_whole,
-    )
+    )?;
+    let entries = success.entries.as_slice();
+    push_wrong_handles(lines, scene, nodes, &call.directory, entries)
 }

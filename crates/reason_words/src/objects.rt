@@ -1,9 +1,50 @@
 //! What an object is, and where it comes from.
 
+use crate::places::cut_places;
 use crate::scene::Scene;
+use certificate::Place;
 use history_lines::Text;
 use std::alloc::AllocError;
 use tree_nodes::{Content, Node, Nodes};
+
+/// The call that makes an object, if any.
+fn maker_of(scene: &Scene<'_, '_>, object: u64) -> Option<u64> {
+    let starts = scene.history.start().count() as u64;
+    match object.checked_sub(starts) {
+        Some(call) if call > 0 => Some(call),
+        _ => None,
+    }
+}
+
+/// Whether a call has one of these places.
+fn has_place(places: &[Place], number: u64) -> bool {
+    for place in places {
+        if place.number() == number {
+            return true;
+        }
+    }
+    false
+}
+
+/// What became of an object that isn't in the tree at a place: nothing yet, where no place ahead made it.
+pub(crate) fn fate_of(scene: &Scene<'_, '_>, object: u64) -> &'static str {
+    let Some(number) = maker_of(scene, object) else {
+        return ", gone";
+    };
+    if has_place(scene.front, number) {
+        return ", gone";
+    }
+    for era in scene.ahead {
+        let (kept, lost) = cut_places(era);
+        if has_place(kept, number) {
+            return ", gone";
+        }
+        if has_place(lost, number) {
+            return ", lost";
+        }
+    }
+    ""
+}
 
 /// Appends where an object comes from: the start, or the call that made it.
 pub(crate) fn push_origin(
@@ -11,10 +52,9 @@ pub(crate) fn push_origin(
     scene: &Scene<'_, '_>,
     object: u64,
 ) -> Result<(), AllocError> {
-    let starts = scene.history.start().count() as u64;
-    match object.checked_sub(starts) {
-        Some(call) if call > 0 => text.push_number("made by call ", call),
-        _ => text.push_words("there from the start"),
+    match maker_of(scene, object) {
+        Some(call) => text.push_number("made by call ", call),
+        None => text.push_words("there from the start"),
     }
 }
 

@@ -76,6 +76,7 @@ call 3 LOOKUP directory \"/\" name \"f\"
   begun by event 5, answered by event 6
   placed at position 3 of era 1
   there \"/f\" is a file of 3 bytes, made by call 1, written last by call 2 WRITE, the name changed last by call 1 CREATE
+  NFS3ERR_NOENT claims a name that has to be there and isn't: there is none
   right there: NFS3_OK object \"/f\"
 "
     );
@@ -181,7 +182,7 @@ fn a_place_that_a_cut_loses_is_told(rt: HostRuntime) -> Result<(), Fail> {
 call 1 CREATE directory \"/\" name \"f\" UNCHECKED
   its reply: NFS3_OK object 01 (made by call 1)
   begun by event 1, answered by event 2
-it has to survive the end of era 1 and is placed at position 1, and the cut keeps 0 places
+call 1 has to survive the end of era 1, as its reply promised; it is placed at position 1, and the cut keeps 0 places
 "
     );
     Ok(())
@@ -196,7 +197,7 @@ fn a_call_without_a_place_is_told(rt: HostRuntime) -> Result<(), Fail> {
 call 3 READ file 01 (made by call 1) offset 0 count 100
   its reply: NFS3_OK count 3 eof data 3 bytes 616263
   begun by event 5, answered by event 6
-it was answered and has no place
+it was answered and has no place: it has to have one in era 1
 "
     );
     Ok(())
