@@ -28,7 +28,8 @@ def documents():
     yield "README.md"
     yield "bench/README.md"
     for name in sorted(os.listdir(f"{TOP}/docs")):
-        yield f"docs/{name}"
+        if name.endswith(".md"):
+            yield f"docs/{name}"
     for name in CRATES:
         yield f"crates/{name}/README.md"
 
