@@ -16,10 +16,10 @@ use std::alloc::{AllocError, Global};
 use witness_check::{Fault, FileVerdict, Verdict, check_calls};
 
 /// How many events are drawn ahead of what a picture is around, and behind it.
-const MARGIN: u64 = 40;
+const MARGIN: u64 = 12;
 
 /// At most so many events lie between two calls that are drawn together because one explains the fault of the other.
-const REACH: u64 = 400;
+const REACH: u64 = 100;
 
 /// What isn't there.
 #[derive(Clone, Copy)]

@@ -7,6 +7,9 @@ use nfs3_types::{NFS_PROGRAM, NFS_VERSION, NfsCall, Procedure};
 use rpc_reader::{CallHead, ReplyBody, read_call, read_reply};
 use std::alloc::{AllocError, Global};
 
+/// How many bytes of a handle are told at most.
+const HANDLE_BYTES: usize = 8;
+
 /// The procedure of a call, if it is one of NFS version 3.
 fn procedure_in(head: &CallHead<'_>) -> Option<Procedure> {
     if head.program != NFS_PROGRAM || head.version != NFS_VERSION {
@@ -88,7 +91,18 @@ fn subject_of(call: &NfsCall) -> Subject<'_> {
     }
 }
 
-/// The words for what a call asks for: its name, its two names, or its handle in hexadecimal.
+/// The words for a handle: its last bytes in hexadecimal, which differ most often.
+fn handle_words(alloc: Global, handle: &[u8]) -> Result<Vec<u8>, AllocError> {
+    let cut = handle.len().saturating_sub(HANDLE_BYTES);
+    let end = handle.get(cut..).unwrap_or(handle);
+    let digits = hex::encode(alloc, end)?;
+    let words = if cut == 0 { "handle " } else { "handle .." };
+    let mut words = Vec::from_slice(alloc, words.as_bytes())?;
+    words.extend_from_slice(digits.as_bytes())?;
+    Ok(words)
+}
+
+/// The words for what a call asks for: its name, its two names, or the end of its handle.
 fn subject_words(alloc: Global, subject: Subject<'_>) -> Result<Vec<u8>, AllocError> {
     match subject {
         Subject::Name(name) => Vec::from_slice(alloc, name),
@@ -98,12 +112,7 @@ fn subject_words(alloc: Global, subject: Subject<'_>) -> Result<Vec<u8>, AllocEr
             words.extend_from_slice(to)?;
             Ok(words)
         }
-        Subject::Handle(handle) => {
-            let digits = hex::encode(alloc, handle)?;
-            let mut words = Vec::from_slice(alloc, b"handle ")?;
-            words.extend_from_slice(digits.as_bytes())?;
-            Ok(words)
-        }
+        Subject::Handle(handle) => handle_words(alloc, handle),
     }
 }
 

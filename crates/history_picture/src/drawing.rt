@@ -15,6 +15,8 @@ const TOLD_EVENTS: u64 = 10;
 const FIRST_NUMBER: u64 = 5;
 /// How wide the number of an event is at most.
 const NUMBER: u64 = 160;
+/// How far the number of an event is from that of the call at fault at least.
+const NEAR: u64 = 40;
 /// How wide a crash is to either side.
 const CRASH: u64 = 2;
 /// How many bytes stand for a line of `show` at most.
@@ -96,11 +98,46 @@ fn put_tick(page: &mut Page, layout: &Layout, strip: Strip, event: u64) -> Resul
     page.fixed(Fixed::EndLabel)
 }
 
+/// The event of the call at fault, if there is one.
+fn fault_event(picture: &Picture) -> Option<u64> {
+    for bar in picture.bars.iter() {
+        if bar.mark == Mark::AtFault {
+            return Some(bar.first);
+        }
+    }
+    None
+}
+
+/// Whether the number of an event would be too near to that of the call at fault.
+fn is_near(layout: &Layout, fault: Option<u64>, event: u64) -> bool {
+    let Some(fault) = fault else {
+        return false;
+    };
+    match (layout.column_of(fault), layout.column_of(event)) {
+        (Some(one), Some(other)) => one.max(other).saturating_sub(one.min(other)) < NEAR,
+        _ => false,
+    }
+}
+
+/// Whether the number of an event is told: of the first, of each tenth, and of the call at fault.
+fn is_told(layout: &Layout, fault: Option<u64>, index: u64, event: u64) -> bool {
+    if fault == Some(event) {
+        return true;
+    }
+    let is_tenth = index >= FIRST_NUMBER && event % TOLD_EVENTS == 0;
+    (index == 0 || is_tenth) && !is_near(layout, fault, event)
+}
+
 /// Appends the numbers of some events.
-fn put_ticks(page: &mut Page, layout: &Layout, strip: Strip) -> Result<(), AllocError> {
+fn put_ticks(
+    page: &mut Page,
+    layout: &Layout,
+    strip: Strip,
+    fault: Option<u64>,
+) -> Result<(), AllocError> {
     for index in 0..layout.span.count() {
         let event = layout.span.first.saturating_add(index);
-        if index == 0 || (index >= FIRST_NUMBER && event % TOLD_EVENTS == 0) {
+        if is_told(layout, fault, index, event) {
             put_tick(page, layout, strip, event)?;
         }
     }
@@ -252,7 +289,7 @@ fn put_strip(
         page.fixed(Fixed::Hatch)?;
     }
     put_bands(page, layout, strip.left, STRIP)?;
-    put_ticks(page, layout, strip)?;
+    put_ticks(page, layout, strip, fault_event(picture))?;
     for crash in picture.crashes.iter() {
         put_crash(page, layout, strip, *crash)?;
     }

@@ -29,7 +29,7 @@ pub struct Bar {
     pub last: Option<u64>,
     /// The procedure.
     pub procedure: &'static str,
-    /// The name that it asks for, or the handle, as it was sent.
+    /// The name that it asks for, as it was sent, or words for the handle.
     pub name: Vec<u8>,
     /// What the reply says first; empty if none came.
     pub reply: &'static str,

@@ -10,7 +10,7 @@ use recording_command::RecordingRuntime;
 use std::alloc::{AllocError, Global};
 
 /// How many events are drawn ahead of what no order explains, and behind it.
-const MARGIN: u64 = 40;
+const MARGIN: u64 = 12;
 
 /// What a night was judged by.
 #[derive(Clone, Copy)]

@@ -45,6 +45,8 @@ const THREE_CALLS: &str = "class=\"names\" width=\"96\" height=\"80\" viewBox=\"
 <rect class=\"lane\" x=\"0\" y=\"54\" width=\"1104\" height=\"26\"/>
 <line class=\"tick\" x1=\"14\" y1=\"22\" x2=\"14\" y2=\"80\"/>
 <text class=\"tick\" x=\"14\" y=\"18\">1</text>
+<line class=\"tick\" x1=\"173\" y1=\"22\" x2=\"173\" y2=\"80\"/>
+<text class=\"tick\" x=\"173\" y=\"18\">3</text>
 <g class=\"crash\"><title>crash, event 6</title>
 <line class=\"crash\" x1=\"215\" y1=\"22\" x2=\"215\" y2=\"80\"/>
 </g>
