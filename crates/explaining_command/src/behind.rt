@@ -13,9 +13,16 @@ use std::alloc::{AllocError, Global};
 #[derive(Clone, Copy)]
 pub(crate) enum Told {
     /// A call can't have come out so at its place.
-    Illegal { call: u64, era: u64, position: u64 },
+    Illegal {
+        call: u64,
+        era: u64,
+        position: u64,
+    },
     /// A call is placed ahead of another one, which had ended when it began.
-    Early { call: u64, other: u64 },
+    Early {
+        call: u64,
+        other: u64,
+    },
     /// A cut loses a place that may not be lost.
     ShortCut {
         call: u64,
@@ -24,7 +31,10 @@ pub(crate) enum Told {
         cut: u64,
     },
     /// No order explains the reply to a call.
-    NoWitness { event: u64, call: u64 },
+    NoWitness {
+        event: u64,
+        call: u64,
+    },
 }
 
 /// What is known behind a no or a refusal.
@@ -57,12 +67,14 @@ impl Behind {
 /// The numbers of a reason.
 fn told_of(reason: &Reason) -> Option<Told> {
     match reason {
-        Reason::Illegal(IllegalPlace {
-            era,
-            position,
-            number,
-            ..
-        }) => Some(Told::Illegal {
+        Reason::Illegal(
+            IllegalPlace {
+                era,
+                position,
+                number,
+                ..
+            },
+        ) => Some(Told::Illegal {
             call: *number,
             era: *era,
             position: *position,
@@ -128,11 +140,7 @@ fn behind_plan(
 }
 
 /// Why a certificate's text is no witness of a history, or is refused.
-fn behind_text(
-    alloc: Global,
-    history: &KnownCalls<'_>,
-    text: &[u8],
-) -> Result<Behind, AllocError> {
+fn behind_text(alloc: Global, history: &KnownCalls<'_>, text: &[u8]) -> Result<Behind, AllocError> {
     match read_certificate(alloc, text) {
         Ok(certificate) => behind_plan(alloc, history, &certificate),
         Err(TextFault::NoMemory) => Err(AllocError),

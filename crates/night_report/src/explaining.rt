@@ -70,7 +70,9 @@ impl fmt::Display for Steps<'_> {
         writeln!(f, "  nfsbench show {folder}/history")?;
         f.write_str("    prints each call and each reply, with the number of its event\n")?;
         writeln!(f, "  nfsbench draw {folder}/history > picture.html")?;
-        f.write_str("    draws them as a page for a browser; --call N and --from N choose where\n")?;
+        f.write_str(
+            "    draws them as a page for a browser; --call N and --from N choose where\n",
+        )?;
         writeln!(f, "  nfsbench decide {folder}/history --go-on 3")?;
         f.write_str(
             "    names the event that no order explains, leaves its call out, and goes on, three times\n",

@@ -22,12 +22,7 @@ fn behind<'a>(unread: UnreadEvents<'a>, events: u32) -> Option<UnreadEvents<'a>>
 }
 
 /// A file of what is ahead of the number of events, of this number, and of these events.
-fn joined(
-    alloc: Global,
-    ahead: &[u8],
-    number: u32,
-    events: &[u8],
-) -> Result<Vec<u8>, AllocError> {
+fn joined(alloc: Global, ahead: &[u8], number: u32, events: &[u8]) -> Result<Vec<u8>, AllocError> {
     let mut file = Vec::from_slice(alloc, ahead)?;
     file.extend_from_slice(number.to_be_bytes().as_slice())?;
     file.extend_from_slice(events)?;

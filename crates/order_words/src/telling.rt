@@ -96,12 +96,13 @@ fn push_open(
         return Ok(());
     }
     let mut text = Text::new(scene.alloc);
-    text.push_number("calls that were open then and may have been done: ", open.len() as u64)?;
+    text.push_number(
+        "calls that were open then and may have been done: ",
+        open.len() as u64,
+    )?;
     push_line(lines, text)?;
     for call in open.iter().take(MOST_OPEN) {
-        lines.extend_from_slice(
-            call_text(scene.alloc, scene.whole, call.number)?.as_slice(),
-        )?;
+        lines.extend_from_slice(call_text(scene.alloc, scene.whole, call.number)?.as_slice())?;
     }
     Ok(())
 }
@@ -136,7 +137,13 @@ fn push_tried(
     order: &[OpenCall],
 ) -> Result<(), AllocError> {
     push_order(lines, scene, open, order)?;
-    let plan = plan_with(scene.alloc, scene.certificate, order, scene.call, scene.made)?;
+    let plan = plan_with(
+        scene.alloc,
+        scene.certificate,
+        order,
+        scene.call,
+        scene.made,
+    )?;
     let told = plan_text(scene.alloc, scene.history, plan.as_slice())?;
     lines.extend_from_slice(told.as_slice())?;
     Ok(())

@@ -71,8 +71,7 @@ fn push_profile(
     match (scene.history.profile(), outcome) {
         (Profile::Strict, Outcome::Received(_)) => {
             let mut text = Text::new(scene.alloc);
-            let words =
-                "  the profile is strict: types and sizes in its attributes are judged too";
+            let words = "  the profile is strict: types and sizes in its attributes are judged too";
             text.push_words(words)?;
             push_line(lines, text)
         }

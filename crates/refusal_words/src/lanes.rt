@@ -16,9 +16,8 @@ pub(crate) enum Earlier {
 /// The lane of an event; none of a crash.
 pub(crate) fn lane_of(event: &SeenEvent<'_>) -> Option<u32> {
     match event {
-        SeenEvent::Call { lane, .. } | SeenEvent::Reply { lane, .. } | SeenEvent::Close { lane } => {
-            Some(*lane)
-        }
+        SeenEvent::Call { lane, .. } | SeenEvent::Reply { lane, .. } | SeenEvent::Close { lane } =>
+            { Some(*lane) }
         SeenEvent::Crash => None,
     }
 }

@@ -26,7 +26,8 @@ pub(crate) fn wanted(fault: HistoryFault) -> &'static str {
             "a starting object in directory 0 or in a starting directory before it, with a name that is neither empty nor `.` nor `..` nor given there, and a kind word: 1 file, 2 directory, 5 link"
         }
         HistoryFault::BadProfile => "the profile word: 0 plain, 1 strict",
-        HistoryFault::LaneClosed(_) => "a lane that is neither closed nor older than the last crash",
+        HistoryFault::LaneClosed(_) =>
+            "a lane that is neither closed nor older than the last crash",
         HistoryFault::BadRpc(_) => {
             "the head of an RPC message (RFC 5531, section 9), of a call where the event is a call, and of a reply where it is a reply"
         }
@@ -39,7 +40,8 @@ pub(crate) fn wanted(fault: HistoryFault) -> &'static str {
         HistoryFault::Sealed(_) => {
             "a credential that doesn't hide the arguments, such as AUTH_SYS: that of the call is of RPCSEC_GSS (RFC 2203)"
         }
-        HistoryFault::BadArgs(_) => "the arguments of the procedure, and nothing after them (RFC 1813, section 3.3)",
+        HistoryFault::BadArgs(_) =>
+            "the arguments of the procedure, and nothing after them (RFC 1813, section 3.3)",
         HistoryFault::BadResult(_) => {
             "a status of RFC 1813, section 2.6, with the result of the procedure, and nothing after it (section 3.3)"
         }
