@@ -94,12 +94,12 @@ fn push_again<'n>(
 }
 
 /// A line of the directory's names that aren't listed.
-fn push_missing(
+fn push_missing<'n>(
     lines: &mut Vec<u8>,
     scene: &Scene<'_, '_>,
-    nodes: &Nodes,
+    nodes: &'n Nodes,
     directory: u64,
-    listed: &BTreeSet<&[u8]>,
+    listed: &BTreeSet<&'n [u8]>,
 ) -> Result<(), AllocError> {
     let mut line = NameLine::new(scene, "  there and not listed:")?;
     if let Some(names) = nodes.names(directory) {
@@ -154,12 +154,12 @@ fn push_wrong_handles(
 }
 
 /// Lines of where a list differs from the directory of a handle. A whole list has all names.
-fn push_listed(
+fn push_listed<'n>(
     lines: &mut Vec<u8>,
     scene: &Scene<'_, '_>,
-    nodes: &Nodes,
+    nodes: &'n Nodes,
     handle: &FileHandle,
-    listed: &[&[u8]],
+    listed: &[&'n [u8]],
     is_whole: bool,
 ) -> Result<(), AllocError> {
     let view = View {
@@ -178,12 +178,12 @@ fn push_listed(
 }
 
 /// Lines of a READDIR.
-pub(crate) fn push_names(
+pub(crate) fn push_names<'n>(
     lines: &mut Vec<u8>,
     scene: &Scene<'_, '_>,
-    nodes: &Nodes,
+    nodes: &'n Nodes,
     call: &ReadDirArguments,
-    success: &ReadDirSuccess,
+    success: &'n ReadDirSuccess,
 ) -> Result<(), AllocError> {
     let mut listed = Vec::new(scene.alloc);
     for entry in success.entries.as_slice() {
@@ -201,12 +201,12 @@ pub(crate) fn push_names(
 }
 
 /// Lines of a READDIRPLUS.
-pub(crate) fn push_names_plus(
+pub(crate) fn push_names_plus<'n>(
     lines: &mut Vec<u8>,
     scene: &Scene<'_, '_>,
-    nodes: &Nodes,
+    nodes: &'n Nodes,
     call: &ReadDirPlusArguments,
-    success: &ReadDirPlusSuccess,
+    success: &'n ReadDirPlusSuccess,
 ) -> Result<(), AllocError> {
     let mut listed = Vec::new(scene.alloc);
     for entry in success.entries.as_slice() {

@@ -12,6 +12,7 @@ use fault_reasons::{Reason, explain};
 use nfs_history::KnownCalls;
 use nfs3_types::ItemList;
 use std::alloc::{AllocError, Global};
+use tree_handles::Binds;
 
 /// Lines of a reason.
 fn push_reason(
@@ -27,6 +28,28 @@ fn push_reason(
     }
 }
 
+/// Lines of a reason, where it is known what the handles name.
+fn reason_lines<'s>(
+    alloc: Global,
+    history: &'s KnownCalls<'_>,
+    certificate: &'s Certificate,
+    binds: &'s Binds,
+    reason: &Reason,
+) -> Result<Vec<u8>, AllocError> {
+    let scene = Scene {
+        alloc,
+        history,
+        certificate,
+        binds,
+        nodes: None,
+        ahead: &[],
+        front: &[],
+    };
+    let mut lines = Vec::new(alloc);
+    push_reason(&mut lines, &scene, reason)?;
+    Ok(lines)
+}
+
 /// The words of a reason that `fault_reasons::explain` gave of this history and this certificate, as lines of printable bytes. An `Err` means
 /// that memory ran out.
 pub fn reason_text(
@@ -36,18 +59,7 @@ pub fn reason_text(
     reason: &Reason,
 ) -> Result<Vec<u8>, AllocError> {
     let binds = bindings_of_plan(alloc, &history.lend(), certificate)?;
-    let scene = Scene {
-        alloc,
-        history,
-        certificate,
-        binds: &binds,
-        nodes: None,
-        ahead: &[],
-        front: &[],
-    };
-    let mut lines = Vec::new(alloc);
-    push_reason(&mut lines, &scene, reason)?;
-    Ok(lines)
+    reason_lines(alloc, history, certificate, &binds, reason)
 }
 
 /// The words of the reason why a certificate is no witness of a history; none where it is one. An `Err` means that memory ran out.
@@ -84,7 +96,33 @@ enum Told {
     Unexplained,
 }
 
-/// Lines of a call over no certificate.
+/// Lines of a call, over a certificate of nothing.
+fn told_lines<'s>(
+    alloc: Global,
+    history: &'s KnownCalls<'_>,
+    certificate: &'s Certificate,
+    binds: &'s Binds,
+    call: u64,
+    told: Told,
+) -> Result<Vec<u8>, AllocError> {
+    let scene = Scene {
+        alloc,
+        history,
+        certificate,
+        binds,
+        nodes: None,
+        ahead: &[],
+        front: &[],
+    };
+    let mut lines = Vec::new(alloc);
+    match told {
+        Told::Recorded => push_recorded(&mut lines, &scene, call)?,
+        Told::Unexplained => push_unexplained(&mut lines, &scene, call)?,
+    }
+    Ok(lines)
+}
+
+/// Lines of a call where there is no certificate.
 fn told_text(
     alloc: Global,
     history: &KnownCalls<'_>,
@@ -96,21 +134,7 @@ fn told_text(
         eras: ItemList::new(Vec::new(alloc)),
     };
     let binds = bindings_of_plan(alloc, &history.lend(), &nothing)?;
-    let scene = Scene {
-        alloc,
-        history,
-        certificate: &nothing,
-        binds: &binds,
-        nodes: None,
-        ahead: &[],
-        front: &[],
-    };
-    let mut lines = Vec::new(alloc);
-    match told {
-        Told::Recorded => push_recorded(&mut lines, &scene, call)?,
-        Told::Unexplained => push_unexplained(&mut lines, &scene, call)?,
-    }
-    Ok(lines)
+    told_lines(alloc, history, &nothing, &binds, call, told)
 }
 
 /// The words of a call with its reply, as lines of printable bytes; none where there is no such call. An `Err` means that memory ran out.
