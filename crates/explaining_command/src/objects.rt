@@ -112,31 +112,41 @@ impl Serialize for Object<'_> {
     }
 }
 
+/// The object of what is said, with the result that would be right in hexadecimal, on one line.
+fn line_of<'a>(
+    alloc: Global,
+    said: &'a Report,
+    behind: &'a Behind,
+    right: Option<&'a str>,
+) -> Result<String, AllocError> {
+    let object = Object {
+        line: said.line().trim_end(),
+        status: said.status(),
+        told: behind.told,
+        right,
+        // All bytes are printable.
+        words: str::from_utf8(behind.lines.as_slice()).unwrap_or(""),
+    };
+    let Ok(text) = serde_json::to_string(alloc, &object) else {
+        // Each value here can be written, so that this is for memory.
+        return Err(AllocError);
+    };
+    let mut line = text;
+    line.push_str("\n")?;
+    Ok(line)
+}
+
 /// The object of what is said, and of what is known behind it, on one line.
 pub(crate) fn object_line(
     alloc: Global,
     said: &Report,
     behind: &Behind,
 ) -> Result<String, AllocError> {
-    let right = match &behind.right {
-        Some(result) => Some(hex::encode(alloc, result.as_slice())?),
-        None => None,
-    };
-    let object = Object {
-        line: said.line().trim_end(),
-        status: said.status(),
-        told: behind.told,
-        right: match &right {
-            Some(right) => Some(right.as_str()),
-            None => None,
-        },
-        // All bytes are printable.
-        words: str::from_utf8(behind.lines.as_slice()).unwrap_or(""),
-    };
-    let Ok(mut line) = serde_json::to_string(alloc, &object) else {
-        // Each value here can be written, so that this is for memory.
-        return Err(AllocError);
-    };
-    line.push_str("\n")?;
-    Ok(line)
+    match &behind.right {
+        Some(result) => {
+            let right = hex::encode(alloc, result.as_slice())?;
+            line_of(alloc, said, behind, Some(right.as_str()))
+        }
+        None => line_of(alloc, said, behind, None),
+    }
 }

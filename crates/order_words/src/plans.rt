@@ -120,23 +120,18 @@ fn put_line<'a>(
     Ok(wanted)
 }
 
-/// The text of a certificate that places these open calls as done behind the places of another one, and then a call with its reply; where
-/// the other one takes the call as done, the call stays at that place.
-pub(crate) fn plan_with(
+/// The text of a certificate with what is put into it.
+fn text_with<'a>(
     alloc: Global,
     certificate: &[u8],
-    order: &[OpenCall],
+    order: &'a [OpenCall],
     call: u64,
-    made: Option<Made<'_>>,
+    bind: Option<&'a [u8]>,
 ) -> Result<Vec<u8>, AllocError> {
-    let bind = match made {
-        Some(made) => bound(alloc, made)?,
-        None => Vec::new(alloc),
-    };
     let mut wanted = Wanted {
         call,
         order,
-        bind: made.map(|_| bind.as_slice()),
+        bind,
         is_placed: false,
     };
     let mut text = Vec::new(alloc);
@@ -146,4 +141,22 @@ pub(crate) fn plan_with(
         }
     }
     Ok(text)
+}
+
+/// The text of a certificate that places these open calls as done behind the places of another one, and then a call with its reply; where
+/// the other one takes the call as done, the call stays at that place.
+pub(crate) fn plan_with(
+    alloc: Global,
+    certificate: &[u8],
+    order: &[OpenCall],
+    call: u64,
+    made: Option<Made<'_>>,
+) -> Result<Vec<u8>, AllocError> {
+    match made {
+        Some(made) => {
+            let bind = bound(alloc, made)?;
+            text_with(alloc, certificate, order, call, Some(bind.as_slice()))
+        }
+        None => text_with(alloc, certificate, order, call, None),
+    }
 }

@@ -177,6 +177,48 @@ fn push_orders(
     push_line(lines, text)
 }
 
+/// The lines of a history that was read, with its open calls.
+fn scene_text<'s>(
+    alloc: Global,
+    whole: &'s KnownCalls<'_>,
+    history: &'s KnownCalls<'_>,
+    certificate: &'s [u8],
+    made: Option<Made<'s>>,
+    call: u64,
+    open: &[OpenCall],
+) -> Result<Vec<u8>, AllocError> {
+    let scene = Scene {
+        alloc,
+        history,
+        whole,
+        certificate,
+        call,
+        made,
+    };
+    let mut lines = Vec::new(alloc);
+    push_open(&mut lines, &scene, open)?;
+    push_orders(&mut lines, &scene, open)?;
+    Ok(lines)
+}
+
+/// The same, where the call may have got a handle for what it made.
+fn made_text<'s>(
+    alloc: Global,
+    whole: &'s KnownCalls<'_>,
+    history: &'s KnownCalls<'_>,
+    certificate: &'s [u8],
+    handle: Option<&'s [u8]>,
+    call: u64,
+    open: &[OpenCall],
+) -> Result<Vec<u8>, AllocError> {
+    let object = call.saturating_add(history.start().count() as u64);
+    let made = match handle {
+        Some(handle) => Some(Made { handle, object }),
+        None => None,
+    };
+    scene_text(alloc, whole, history, certificate, made, call, open)
+}
+
 /// The lines of a history that was read, and of a certificate.
 fn text_of(
     alloc: Global,
@@ -188,25 +230,19 @@ fn text_of(
 ) -> Result<Vec<u8>, AllocError> {
     let open = open_calls(alloc, history, plan, call)?;
     let handle = made_by(alloc, history, plan, call)?;
-    let object = call.saturating_add(history.start().count() as u64);
-    let scene = Scene {
-        alloc,
-        history,
-        whole,
-        certificate,
-        call,
-        made: match &handle {
-            Some(handle) => Some(Made {
-                handle: handle.as_slice(),
-                object,
-            }),
-            None => None,
-        },
+    let bytes = match &handle {
+        Some(handle) => Some(handle.as_slice()),
+        None => None,
     };
-    let mut lines = Vec::new(alloc);
-    push_open(&mut lines, &scene, open.as_slice())?;
-    push_orders(&mut lines, &scene, open.as_slice())?;
-    Ok(lines)
+    made_text(
+        alloc,
+        whole,
+        history,
+        certificate,
+        bytes,
+        call,
+        open.as_slice(),
+    )
 }
 
 /// What the orders come to in which a call is placed that no order explains, as lines of printable bytes: over `history`, a file that ends
