@@ -51,7 +51,7 @@ fn told_by(reason: &Option<Reason>) -> Told {
     }
 }
 
-fn told(alloc: Global, history: &[u8], certificate: &[u8]) -> Result<Told, AllocError> {
+fn told_about(alloc: Global, history: &[u8], certificate: &[u8]) -> Result<Told, AllocError> {
     let Ok(history) = read_calls(alloc, history) else {
         return Ok(Told::Nothing);
     };
@@ -64,7 +64,7 @@ fn told(alloc: Global, history: &[u8], certificate: &[u8]) -> Result<Told, Alloc
 
 fn told_of_third(alloc: Global, third: &[u8]) -> Result<Told, AllocError> {
     let history = history_with(alloc, third)?;
-    told(alloc, &history, IN_ORDER)
+    told_about(alloc, &history, IN_ORDER)
 }
 
 /// The third call is illegal, and a reply of this status would be right.
@@ -141,7 +141,7 @@ fn what_a_crash_took_is_not_there(rt: HostRuntime) -> Result<(), Fail> {
         position: 1,
         status: 0,
     };
-    assert_eq!(rt; told(alloc, OVER_A_CRASH, ONE_KEPT)?, wanted);
+    assert_eq!(rt; told_about(alloc, OVER_A_CRASH, ONE_KEPT)?, wanted);
     assert!(rt; is_right_read(alloc, OVER_A_CRASH, ONE_KEPT, b"")?);
     Ok(())
 }
@@ -151,6 +151,6 @@ fn a_witness_has_no_reason(rt: HostRuntime) -> Result<(), Fail> {
     let alloc = rt.alloc();
     assert_eq!(rt; told_of_third(alloc, READ_OF_THE_BYTES)?, Told::Witness);
     let history = history_with(alloc, READ_OF_THE_BYTES)?;
-    assert_eq!(rt; told(alloc, &history, ONE_LEFT_OUT)?, Told::Other);
+    assert_eq!(rt; told_about(alloc, &history, ONE_LEFT_OUT)?, Told::Other);
     Ok(())
 }
