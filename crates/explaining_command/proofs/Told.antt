@@ -25,13 +25,13 @@ object history certificate told (Err e) said status = tt
 -- a decision
 pub yes_behind : {E : Type 0} (bytes : List ℕ) (decision : FileDecision) (told : Answer) (r : Result Answer E) → Decides bytes decision → (told.status ≡ 0 → IsYes decision)
     → IfOk r (λ report. report.status ≡ told.status) → IfOk r (λ report. report.status ≡ 0 → (text : List ℕ) × AreAccepted bytes text)
-yes_behind bytes decision told (Ok report) decides yes same = λ is. text_of_yes bytes decision decides (yes (sym same ∙ is))
-yes_behind bytes decision told (Err e) decides yes same = tt
+yes_behind bytes decision told (Ok report) decides says same = λ is. text_of_yes bytes decision decides (says (sym same ∙ is))
+yes_behind bytes decision told (Err e) decides says same = tt
 
 pub no_behind : {E : Type 0} (bytes : List ℕ) (decision : FileDecision) (told : Answer) (r : Result Answer E) → Decides bytes decision → (told.status ≡ 1 → IsNo decision)
     → IfOk r (λ report. report.status ≡ told.status) → IfOk r (λ report. report.status ≡ 1 → IsWithoutWitness bytes × IsNeverAccepted bytes)
-no_behind bytes decision told (Ok report) decides no same = λ is. never_of_no bytes decision decides (no (sym same ∙ is))
-no_behind bytes decision told (Err e) decides no same = tt
+no_behind bytes decision told (Ok report) decides says same = λ is. never_of_no bytes decision decides (says (sym same ∙ is))
+no_behind bytes decision told (Err e) decides says same = tt
 
 pub known_behind : {E : Type 0} (told : Answer) (r : Result Answer E) → told.status < 3 → IfOk r (λ report. report.status ≡ told.status) → IfOk r (λ report. report.status < 3)
 known_behind told (Ok report) known same = subst (λ s. s < 3) (sym same) known
