@@ -40,7 +40,7 @@ pub fn decision_text<R: Clock + AllocGlobal>(
 
 /// What `decide` says of the bytes of a history file, and behind a no or a refusal what is known of it; with `is_json` as an object of JSON.
 /// That memory runs out is no answer.
-#[tactic(auto, using(crate::proofs::Told::yes_behind, crate::proofs::Told::no_behind, crate::proofs::Told::known_behind))]
+#[tactic(auto, using(crate::proofs::Told::known_behind))]
 pub fn explain_history<R: Clock + AllocGlobal>(
     rt: &R,
     history: &[u8],
