@@ -22,14 +22,14 @@ pub object : {E : Type 0} (history certificate : Option (List ℕ)) (told : Answ
 object history certificate told (Ok report) said status = (told.line, subst (λ s. IsSaidOfRead history certificate s told.line) (sym status) said)
 object history certificate told (Err e) said status = tt
 
--- a decision
-pub yes_behind : {E : Type 0} (bytes : List ℕ) (decision : FileDecision) (told : Answer) (r : Result Answer E) → Decides bytes decision → (told.status ≡ 0 → IsYes decision)
-    → IfOk r (λ report. report.status ≡ told.status) → IfOk r (λ report. report.status ≡ 0 → (text : List ℕ) × AreAccepted bytes text)
+-- a decision, of which this status was told
+pub yes_behind : {E : Type 0} (bytes : List ℕ) (decision : FileDecision) (told : ℕ) (r : Result Answer E) → Decides bytes decision → (told ≡ 0 → IsYes decision)
+    → IfOk r (λ report. report.status ≡ told) → IfOk r (λ report. report.status ≡ 0 → (text : List ℕ) × AreAccepted bytes text)
 yes_behind bytes decision told (Ok report) decides says same = λ is. text_of_yes bytes decision decides (says (sym same ∙ is))
 yes_behind bytes decision told (Err e) decides says same = tt
 
-pub no_behind : {E : Type 0} (bytes : List ℕ) (decision : FileDecision) (told : Answer) (r : Result Answer E) → Decides bytes decision → (told.status ≡ 1 → IsNo decision)
-    → IfOk r (λ report. report.status ≡ told.status) → IfOk r (λ report. report.status ≡ 1 → IsWithoutWitness bytes × IsNeverAccepted bytes)
+pub no_behind : {E : Type 0} (bytes : List ℕ) (decision : FileDecision) (told : ℕ) (r : Result Answer E) → Decides bytes decision → (told ≡ 1 → IsNo decision)
+    → IfOk r (λ report. report.status ≡ told) → IfOk r (λ report. report.status ≡ 1 → IsWithoutWitness bytes × IsNeverAccepted bytes)
 no_behind bytes decision told (Ok report) decides says same = λ is. never_of_no bytes decision decides (says (sym same ∙ is))
 no_behind bytes decision told (Err e) decides says same = tt
 
