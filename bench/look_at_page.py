@@ -1,22 +1,27 @@
 #!/usr/bin/env python3
-"""Looks at a page of `nfsbench draw`, apart from the code that made it: look_at_page.py PAGE [PICTURE.png]
+"""Looks at a page of `nfsbench draw`, apart from the code that made it: look_at_page.py PAGE [PICTURE.png [--dark]]
 
 It says whether the page is UTF-8 without controls, whether its tags are closed in order, whether it holds a script, an event handler or
-anything to load, and how many calls it draws and lists. With PICTURE.png it has chromium, where that is installed, make a picture of it.
-The status is 1 where something is wrong.
+anything to load, and how many calls it draws and lists. A call that reaches into several strips is counted once, where it begins. With
+PICTURE.png it has chromium, where that is installed, make a picture of it, by --dark one for a dark screen. The status is 1 where something
+is wrong.
 """
 import html.parser
+import os
 import re
 import shutil
 import subprocess
 import sys
 
-EMPTY = {"meta", "rect", "path", "line"}
-LOADING = {"script", "link", "img", "iframe", "object", "embed", "image", "use", "foreignobject", "base", "form", "a"}
+EMPTY = {"meta", "rect", "path", "line", "use"}
+LOADING = {"script", "link", "img", "iframe", "object", "embed", "image", "foreignobject", "base", "form", "a"}
 ATTRIBUTES = {
     "lang", "charset", "name", "content", "http-equiv", "class", "xmlns", "width", "height", "viewbox", "id", "patternunits",
     "patterntransform", "x", "y", "d", "x1", "y1", "x2", "y2",
 }
+CALLS = ("plain", "asked", "fault", "explains")
+# What a bar tells where its call begins.
+BEGINNING = re.compile(r"\d+ call \d+ lane ")
 
 
 class Look(html.parser.HTMLParser):
@@ -28,17 +33,23 @@ class Look(html.parser.HTMLParser):
         self.faults = []
         self.bars = 0
         self.rows = 0
+        self.is_title_next = False
+        self.style = ""
 
     def handle_starttag(self, tag, attributes):
         if tag in LOADING:
             self.faults.append(f"a tag {tag}")
-        for name, _ in attributes:
-            if name not in ATTRIBUTES:
+        for name, value in attributes:
+            # The names of the lanes stand once more in each strip.
+            if name not in ATTRIBUTES and (tag, name, value) != ("use", "href", "#names"):
                 self.faults.append(f"an attribute {name} of {tag}")
+            if "url(" in (value or ""):
+                self.faults.append(f"something to load: {value}")
         classes = dict(attributes).get("class", "")
-        if tag == "g" and classes in ("plain", "fault", "explains"):
-            self.bars += 1
-        if tag == "tr" and classes in ("plain", "fault", "explains"):
+        self.is_title_next = tag == "title" and self.is_title_next
+        if tag == "g" and classes in CALLS:
+            self.is_title_next = True
+        if tag == "tr" and classes in CALLS:
             self.rows += 1
         if tag not in EMPTY:
             self.open.append(tag)
@@ -47,6 +58,13 @@ class Look(html.parser.HTMLParser):
         self.handle_starttag(tag, attributes)
         if tag not in EMPTY:
             self.open.pop()
+
+    def handle_data(self, data):
+        if self.open[-1:] == ["style"]:
+            self.style += data
+        if self.is_title_next and self.open[-1:] == ["title"]:
+            self.bars += BEGINNING.match(data) is not None
+            self.is_title_next = False
 
     def handle_endtag(self, tag):
         if not self.open or self.open[-1] != tag:
@@ -67,7 +85,7 @@ def faults_of(page: bytes) -> tuple:
     faults = look.faults + [f"{tag} is never closed" for tag in look.open]
     if re.search("[\x00-\x08\x0b-\x1f\x7f-\x9f\u061c\u200b-\u200f\u2028-\u202e\u2060-\u206f\ufeff]", text):
         faults.append("a control, or a character that can't be seen")
-    for found in re.findall(r"url\(([^)]*)\)|@import", text):
+    for found in re.findall(r"url\(([^)]*)\)|@import", look.style):
         if found != "#hatch":
             faults.append(f"something to load: {found}")
     if look.bars != look.rows:
@@ -84,8 +102,9 @@ def main() -> int:
         print(f"wrong: {fault}")
     browser = shutil.which("chromium")
     if len(sys.argv) > 2 and browser:
-        words = [browser, "--headless", "--no-sandbox", "--disable-gpu", "--window-size=1400,900", f"--screenshot={sys.argv[2]}"]
-        subprocess.run(words + [f"file://{sys.argv[1]}"], check=True)
+        words = [browser, "--headless", "--no-sandbox", "--disable-gpu", "--hide-scrollbars", "--window-size=1400,900", f"--screenshot={sys.argv[2]}"]
+        words.append(f"--blink-settings=preferredColorScheme={0 if '--dark' in sys.argv[3:] else 1}")
+        subprocess.run(words + [f"file://{os.path.abspath(sys.argv[1])}"], check=True, stderr=subprocess.DEVNULL)
     return 1 if faults else 0
 
 
