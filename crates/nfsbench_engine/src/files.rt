@@ -1,6 +1,6 @@
 //! Files, as they can be read.
 
-ghost use Rattle.std.specs.Prelude.{◌≡◌, ℕ, List, IfOk, Option};
+ghost use Rattle.std.specs.Prelude.{◌≡◌, ℕ, false, List, IfOk, Option};
 ghost use Rattle.judging_commands.specs.Report.{IsSaidOfRead};
 ghost use Rattle.judging_commands.specs.Reported.{IsReportedOfRead};
 ghost use Rattle.judging_commands.specs.Objects.{HasStatusOfRead};
