@@ -1,6 +1,7 @@
 //! Why a history file is refused.
 
-use crate::lanes::{Earlier, earlier_than, lane_of, message_of, transaction_of};
+use crate::lanes::{Earlier, earlier_than, lane_of, message_of, reply_to, transaction_of};
+use crate::messages::{push_arguments_fault, push_head_fault, push_result_fault};
 use crate::places::{Found, FoundEvent, Sought, find};
 use crate::wanted::wanted;
 use history_file::{FileFault, SeenEvent};
@@ -126,8 +127,45 @@ fn push_earlier(
     push_line(lines, text)
 }
 
+/// Lines of the reply to a call, whose result is at fault.
+fn push_reply(
+    lines: &mut Vec<u8>,
+    alloc: Global,
+    call: &FoundEvent<'_>,
+    reply: &FoundEvent<'_>,
+) -> Result<(), AllocError> {
+    push_event(lines, alloc, reply)?;
+    push_message(lines, alloc, reply)?;
+    push_result_fault(
+        lines,
+        alloc,
+        message_of(&call.event),
+        message_of(&reply.event),
+    )
+}
+
+/// Lines of what more the file tells of a fault.
+fn push_more(
+    lines: &mut Vec<u8>,
+    alloc: Global,
+    bytes: &[u8],
+    begun: &BegunFile<'_>,
+    found: &FoundEvent<'_>,
+    fault: HistoryFault,
+) -> Result<(), AllocError> {
+    match fault {
+        HistoryFault::BadRpc(_) => push_head_fault(lines, alloc, &found.event),
+        HistoryFault::BadArgs(_) => push_arguments_fault(lines, alloc, message_of(&found.event)),
+        HistoryFault::BadResult(_) => match reply_to(bytes, begun, found) {
+            Some(reply) => push_reply(lines, alloc, found, &reply),
+            None => Ok(()),
+        },
+        _ => push_earlier(lines, alloc, bytes, begun, found, fault),
+    }
+}
+
 /// The same, of a file.
-fn push_earlier_in(
+fn push_more_in(
     lines: &mut Vec<u8>,
     alloc: Global,
     bytes: &[u8],
@@ -135,7 +173,7 @@ fn push_earlier_in(
     fault: HistoryFault,
 ) -> Result<(), AllocError> {
     match BegunFile::of_file(alloc, bytes) {
-        Ok(begun) => push_earlier(lines, alloc, bytes, &begun, found, fault),
+        Ok(begun) => push_more(lines, alloc, bytes, &begun, found, fault),
         Err(FileFault::NoMemory) => Err(AllocError),
         Err(_) => Ok(()),
     }
@@ -151,7 +189,7 @@ fn push_found(
 ) -> Result<(), AllocError> {
     push_event(lines, alloc, found)?;
     push_message(lines, alloc, found)?;
-    push_earlier_in(lines, alloc, bytes, found, fault)
+    push_more_in(lines, alloc, bytes, found, fault)
 }
 
 /// Lines of where the events end that can be read.

@@ -74,3 +74,31 @@ pub(crate) fn earlier_than(
     }
     last
 }
+
+/// Whether an event is a reply to a call, where it comes after it.
+fn is_reply_to(event: &SeenEvent<'_>, call: &FoundEvent<'_>) -> bool {
+    match event {
+        SeenEvent::Reply { message, .. } => {
+            lane_of(event) == lane_of(&call.event)
+                && transaction_of(message) == transaction_of(message_of(&call.event))
+        }
+        _ => false,
+    }
+}
+
+/// The reply to a call, where one came.
+pub(crate) fn reply_to<'a>(
+    bytes: &'a [u8],
+    begun: &BegunFile<'a>,
+    call: &FoundEvent<'_>,
+) -> Option<FoundEvent<'a>> {
+    let mut unread = begun.unread;
+    for _ in 0..begun.unread.left() {
+        let (other, behind) = next_of(bytes, unread)?;
+        if other.number > call.number && is_reply_to(&other.event, call) {
+            return Some(other);
+        }
+        unread = behind;
+    }
+    None
+}

@@ -3,6 +3,7 @@
 
 mod history;
 mod lanes;
+mod messages;
 mod places;
 mod plan;
 mod wanted;
