@@ -2,15 +2,15 @@
 """Makes histories with certificates that are no witnesses of them, each for the explanation of one fault: make_reasons.py FOLDER
 
 It writes files NAME.history and NAME.certificate; some histories have several certificates. The comment beside each says what is wrong. `command_cases` has
-what `nfsbench explain` says of each certificate.
+what `nfsbench explain` says of each certificate. Histories that begin with `refused_` are refused, and have no certificate.
 """
 import dataclasses
 import pathlib
 import sys
 
 from cases import calls
-from cases.history import (CRASH_EVENT, STRICT, call_event, call_message, certificate, history_file, reply_event, reply_message, start_directory, start_file,
-                           started_file)
+from cases.history import (CRASH_EVENT, SEALED, STRICT, call_event, call_message, certificate, close_event, history_file, reply_event, reply_message,
+                           start_directory, start_file, started_file)
 from cases.xdr import (BAD_COOKIE, BADHANDLE, DATA_SYNC, EXIST, FILE_SYNC, ISDIR, NOENT, NOT_SYNC, NOTDIR, NOTEMPTY, OK, REG, STALE, TOOSMALL, UNSTABLE, UNTOLD,
                        attributes, double, optional, word)
 
@@ -290,6 +290,51 @@ def reason_shape():
     return it
 
 
+# ---- files that are refused, each for another fault: the two here of a call's end or a version, those below by their events
+
+def sent(call, xid=1, lane=1, **head):
+    return call_event(lane, call_message(xid, call.procedure, call.arguments, **head))
+
+
+def answered(result, xid=1, lane=1):
+    return reply_event(lane, reply_message(xid, result))
+
+
+ASKED = calls.get_attributes(ROOT)
+TWO_ANSWERED = [sent(CREATE), answered(CREATE.result)]
+REFUSED = {
+    # the magic of a version that there isn't
+    "magic": b"NFSHIST3" + history_file([])[8:],
+    # a message of one byte more than there may be
+    "length": history_file([word(0) + word(1) + word(2097153)]),
+    "kind": history_file([*TWO_ANSWERED, word(9)]),
+    "profile": started_file([], [], 2),
+    # a byte behind the last event
+    "behind": history_file(TWO_ANSWERED) + b"\0",
+    "closed": history_file([*TWO_ANSWERED, close_event(1), sent(ASKED, 2)]),
+    # a lane from before a crash
+    "crashed": history_file([*TWO_ANSWERED, CRASH_EVENT, sent(ASKED, 2)]),
+    # RPC of version 3
+    "call": history_file([call_event(1, word(1) + word(0) + word(3) + call_message(1, 1, b"")[12:])]),
+    # a call where a reply has to be
+    "reply": history_file([sent(ASKED), reply_event(1, call_message(1, 1, b""))]),
+    "transaction": history_file([sent(ASKED), sent(CREATE)]),
+    "sealed": history_file([sent(ASKED, flavor=SEALED)]),
+    # a handle of 65 bytes
+    "arguments": history_file([call_event(1, call_message(1, 1, word(65) + bytes(68)))]),
+    # of a READ the flag of the file's end is 2; the reply isn't the event behind the call
+    "result": history_file([sent(calls.read(FILE)), sent(ASKED, 2, 2), answered(word(NOENT), 2, 2), answered(word(OK) + word(0) + word(0) + word(2) + word(0))]),
+    # a LINK that is answered without a status
+    "status": history_file([sent(calls.link(FILE, ROOT, "g")), answered(b"")]),
+    "link": history_file([sent(calls.link(FILE, ROOT, "g"))]),
+    "node": history_file([sent(calls.make_node(ROOT, "n")), answered(word(OK) + bytes(12))]),
+    # of three bytes a count of four
+    "count": history_file([sent(dataclasses.replace(WRITE, arguments=calls.write(FILE, 0, b"abc", count=4).arguments))]),
+    # a size of one byte over 16 MiB
+    "far": history_file([sent(calls.set_attributes(FILE, size=16777217))]),
+}
+
+
 MADE = [reason_getattr, reason_setattr, reason_lookup, reason_readlink, reason_read, reason_write, reason_create, reason_mkdir, reason_symlink, reason_remove,
         reason_rmdir, reason_rename, reason_readdir, reason_readdirplus, reason_commit, reason_gone, reason_claims, reason_strict, reason_lost, reason_synced,
         reason_verifiers, reason_hidden, reason_shape]
@@ -303,6 +348,8 @@ def main():
         (folder / f"{make.__name__}.history").write_bytes(it.file())
         for name, text in it.certificates.items():
             (folder / f"{name}.certificate").write_text(text)
+    for name, data in REFUSED.items():
+        (folder / f"refused_{name}.history").write_bytes(data)
 
 
 if __name__ == "__main__":

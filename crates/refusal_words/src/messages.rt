@@ -122,7 +122,7 @@ pub(crate) fn push_head_fault(
     };
     let words = format!(in alloc; "{fault}")?;
     let mut text = Text::new(alloc);
-    text.push_words("  in its head ")?;
+    text.push_words("  in its head: ")?;
     text.push_words(words.as_str())?;
     push_line(lines, text)
 }
