@@ -3,6 +3,7 @@
 
 Each is named after its fault; the comment beside it says which event is the first that no order explains, and why. A file NAME.history is written for
 each, and `expected` with a line for each: NAME, the event, the number of its call. `nfsbench decide FOLDER/NAME.history` has to say `no witness: event E call N`.
+Two further histories are right: parts of WRITEs that were never answered are read.
 """
 import pathlib
 import sys
@@ -12,7 +13,7 @@ from try_decisions import hyper, opaque, word
 ROOT = b"\0"
 FILE, OTHER = b"\x0a", b"\x0b"
 OK, NOENT = 0, 2
-UNSTABLE, FILE_SYNC = 0, 2
+UNSTABLE, DATA_SYNC, FILE_SYNC = 0, 1, 2
 FIRST, SECOND = bytes(7) + b"\1", bytes(7) + b"\2"
 
 
@@ -54,8 +55,8 @@ def list_names(directory):
     return 16, opaque(directory) + hyper(0) + bytes(8) + word(4096)
 
 
-def commit(file):
-    return 21, opaque(file) + hyper(0) + word(0)
+def commit(file, offset=0, count=0):
+    return 21, opaque(file) + hyper(offset) + word(count)
 
 
 def get_attributes(file):
@@ -182,6 +183,40 @@ def committed_write_lost():
     return it, 11, asked
 
 
+def range_committed_write_lost():
+    """The same, with a COMMIT of the WRITE's range alone: event 11."""
+    it = History()
+    it.exchange(create(ROOT, b"a"), made(FILE))
+    it.exchange(write(FILE, b"xyz", UNSTABLE), written(3, UNSTABLE))
+    it.exchange(commit(FILE, 0, 3), committed())
+    it.crash()
+    it.exchange(lookup(ROOT, b"a"), found(FILE))
+    asked = it.exchange(read(FILE), bytes_read(b""))
+    return it, 11, asked
+
+
+def data_synced_write_lost():
+    """A WRITE was asked for as UNSTABLE and answered as DATA_SYNC; after a crash a READ gives an empty file: event 9."""
+    it = History()
+    it.exchange(create(ROOT, b"a"), made(FILE))
+    it.exchange(write(FILE, b"x", UNSTABLE), written(1, DATA_SYNC))
+    it.crash()
+    it.exchange(lookup(ROOT, b"a"), found(FILE))
+    asked = it.exchange(read(FILE), bytes_read(b""))
+    return it, 9, asked
+
+
+def two_verifiers_behind_a_crash():
+    """Behind a crash two WRITEs show two write verifiers, of which the second, event 9, can't be of that era."""
+    it = History()
+    it.exchange(create(ROOT, b"a"), made(FILE))
+    it.exchange(write(FILE, b"x"), written(1))
+    it.crash()
+    it.exchange(write(FILE, b"y"), written(1, verifier=SECOND))
+    asked = it.exchange(write(FILE, b"z"), written(1))
+    return it, 9, asked
+
+
 def verifier_kept_over_a_loss():
     """An UNSTABLE WRITE is lost in a crash, and a later WRITE shows the same verifier. The READ that shows the loss, event 9, fits nowhere: since event 11
     shows the verifier again, the WRITE can't be lost."""
@@ -221,7 +256,18 @@ def listed_twice():
     return it, 4, asked
 
 
-MADE = [torn_read, stale_size, found_after_a_removal, synced_write_lost, committed_write_lost, verifier_kept_over_a_loss, two_makers, directory_below_itself, listed_twice]
+def write_read_in_part(length):
+    """A WRITE is never answered, and a READ behind it gives half of its bytes: as much of it was done."""
+    it = History()
+    it.exchange(create(ROOT, b"a"), made(FILE))
+    it.call(write(FILE, b"w" * length))
+    it.exchange(read(FILE, 100), bytes_read(b"w" * (length // 2)))
+    return it
+
+
+RIGHT = {"write_of_64_read_in_part": write_read_in_part(64), "write_of_65_read_in_part": write_read_in_part(65)}
+MADE = [torn_read, stale_size, found_after_a_removal, synced_write_lost, committed_write_lost, range_committed_write_lost, data_synced_write_lost,
+        two_verifiers_behind_a_crash, verifier_kept_over_a_loss, two_makers, directory_below_itself, listed_twice]
 
 
 def main():
@@ -232,6 +278,8 @@ def main():
         history, event, call = make()
         (folder / f"{make.__name__}.history").write_bytes(history.file())
         lines.append(f"{make.__name__} {event} {call}\n")
+    for name, history in RIGHT.items():
+        (folder / f"{name}.history").write_bytes(history.file())
     (folder / "expected").write_text("".join(lines))
 
 

@@ -217,6 +217,15 @@ def reason_claims():
     return it
 
 
+def reason_quoted():
+    """Names that would end a quotation, a line or a direction of text. The last is told absent, and is there."""
+    first, second = b'a" UNCHECKED\n2 reply', b"\\\x7f\xe2\x80\xae\xff"
+    it = Story()
+    it.exchange(calls.create(ROOT, first).gives(FILE), calls.rename(ROOT, first, ROOT, second).gives(), calls.look_up(ROOT, second).fails(NOENT))
+    it.in_order("reason_quoted")
+    return it
+
+
 def reason_strict():
     """Attributes are judged: a WRITE of three bytes to a new file tells that it has four then."""
     it = Story([], STRICT)
@@ -323,7 +332,8 @@ REFUSED = {
     # a handle of 65 bytes
     "arguments": history_file([call_event(1, call_message(1, 1, word(65) + bytes(68)))]),
     # of a READ the flag of the file's end is 2; the reply isn't the event behind the call
-    "result": history_file([sent(calls.read(FILE)), sent(ASKED, 2, 2), answered(word(NOENT), 2, 2), answered(word(OK) + word(0) + word(0) + word(2) + word(0))]),
+    "result": history_file([sent(calls.read(FILE)), sent(ASKED, 2, 2), answered(word(NOENT), 2, 2),
+                            answered(word(OK) + word(0) + word(0) + word(2) + word(0))]),
     # a LINK that is answered without a status
     "status": history_file([sent(calls.link(FILE, ROOT, "g")), answered(b"")]),
     "link": history_file([sent(calls.link(FILE, ROOT, "g"))]),
@@ -336,8 +346,8 @@ REFUSED = {
 
 
 MADE = [reason_getattr, reason_setattr, reason_lookup, reason_readlink, reason_read, reason_write, reason_create, reason_mkdir, reason_symlink, reason_remove,
-        reason_rmdir, reason_rename, reason_readdir, reason_readdirplus, reason_commit, reason_gone, reason_claims, reason_strict, reason_lost, reason_synced,
-        reason_verifiers, reason_hidden, reason_shape]
+        reason_rmdir, reason_rename, reason_readdir, reason_readdirplus, reason_commit, reason_gone, reason_claims, reason_quoted, reason_strict, reason_lost,
+        reason_synced, reason_verifiers, reason_hidden, reason_shape]
 
 
 def main():
