@@ -36,10 +36,19 @@ fn is_open(history: &KnownCalls<'_>, number: u64, kind: CallKind) -> bool {
     }
 }
 
-/// The open calls of the last era but for one, which have no place in a plan.
+/// Whether the reply to a call says that it changed nothing.
+fn fails(whole: &KnownCalls<'_>, number: u64) -> bool {
+    matches!(
+        whole.kind(number),
+        Some(CallKind::Unjudged | CallKind::Answered(_, Some(_)))
+    )
+}
+
+/// The open calls of the last era but for one, which have no place in a plan. One whose later reply is a failure changed nothing.
 pub(crate) fn open_calls(
     alloc: Global,
     history: &KnownCalls<'_>,
+    whole: &KnownCalls<'_>,
     plan: &Certificate,
     call: u64,
 ) -> Result<Vec<OpenCall>, AllocError> {
@@ -48,7 +57,8 @@ pub(crate) fn open_calls(
     let mut number: u64 = 0;
     for kind in history.kinds() {
         number = number.saturating_add(1);
-        if number != call && is_open(history, number, *kind) && !taken.contains(&number) {
+        let is_told = number == call || taken.contains(&number) || fails(whole, number);
+        if !is_told && is_open(history, number, *kind) {
             let written = history.brought(alloc, number)?;
             open.push(OpenCall {
                 number,

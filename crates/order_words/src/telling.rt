@@ -49,9 +49,10 @@ fn made_handle(reply: &NfsReply) -> Option<&FileHandle> {
     }
 }
 
-/// The bytes of the handle that a reply gives to what its call made, unless a plan binds it.
+/// The bytes of the handle that a reply gives to what its call made, unless a plan binds it, or can't: it is the root's, or has no byte.
 fn unbound_handle(
     alloc: Global,
+    history: &KnownCalls<'_>,
     plan: &Certificate,
     reply: &NfsReply,
 ) -> Result<Option<Vec<u8>>, AllocError> {
@@ -59,6 +60,9 @@ fn unbound_handle(
         return Ok(None);
     };
     let bytes = handle.as_slice();
+    if bytes.is_empty() || history.root().as_slice() == bytes {
+        return Ok(None);
+    }
     for bind in plan.binds.as_slice() {
         if bind.handle.as_slice() == bytes {
             return Ok(None);
@@ -81,7 +85,7 @@ fn made_by(
         return Ok(None);
     };
     match &outcome {
-        Some(Outcome::Received(reply)) => unbound_handle(alloc, plan, reply),
+        Some(Outcome::Received(reply)) => unbound_handle(alloc, history, plan, reply),
         _ => Ok(None),
     }
 }
@@ -145,8 +149,12 @@ fn push_tried(
         scene.made,
     )?;
     let told = plan_text(scene.alloc, scene.history, plan.as_slice())?;
-    lines.extend_from_slice(told.as_slice())?;
-    Ok(())
+    if told.is_empty() {
+        let mut text = Text::new(scene.alloc);
+        text.push_words("  up to here this order is right: what came later rules it out")?;
+        return push_line(lines, text);
+    }
+    lines.extend_from_slice(told.as_slice())
 }
 
 /// How many orders are tried.
@@ -228,7 +236,7 @@ fn text_of(
     plan: &Certificate,
     call: u64,
 ) -> Result<Vec<u8>, AllocError> {
-    let open = open_calls(alloc, history, plan, call)?;
+    let open = open_calls(alloc, history, whole, plan, call)?;
     let handle = made_by(alloc, history, plan, call)?;
     let bytes = match &handle {
         Some(handle) => Some(handle.as_slice()),

@@ -6,11 +6,17 @@ use history_lines::{Text, procedure_name, push_arguments, push_result};
 use nfs3_types::{NfsCall, NfsReply, Outcome};
 use std::alloc::AllocError;
 
-/// Appends when a call began and was answered.
-fn push_events(text: &mut Text<'_>, begun: u64, ended: Option<u64>) -> Result<(), AllocError> {
+/// Appends when a call began and was answered. A front of a history doesn't tell that a call wasn't.
+fn push_events(
+    text: &mut Text<'_>,
+    begun: u64,
+    ended: Option<u64>,
+    is_front: bool,
+) -> Result<(), AllocError> {
     text.push_number("  begun by event ", begun)?;
     match ended {
         Some(event) => text.push_number(", answered by event ", event),
+        None if is_front => Ok(()),
         None => text.push_words(", not answered"),
     }
 }
@@ -26,6 +32,7 @@ pub(crate) fn push_span(
         &mut text,
         scene.history.begin(number),
         scene.history.end(number),
+        scene.is_front,
     )?;
     push_line(lines, text)
 }
@@ -67,7 +74,10 @@ fn push_taken(
     count: Option<u32>,
 ) -> Result<(), AllocError> {
     let mut text = Text::new(scene.alloc);
-    text.push_words("  taken as done, without a reply")?;
+    text.push_words("  taken as done")?;
+    if !scene.is_front {
+        text.push_words(", without a reply")?;
+    }
     if let Some(count) = count {
         text.push_number(", with so many bytes written: ", u64::from(count))?;
     }

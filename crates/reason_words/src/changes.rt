@@ -3,11 +3,13 @@
 use crate::places::cut_places;
 use crate::scene::Scene;
 use certificate::Place;
-use fault_reasons::placed_at;
+use fault_reasons::{Placed, placed_at};
 use history_lines::{Text, procedure_name};
-use nfs3_types::{DirectoryName, NfsCall, Outcome, Procedure};
+use nfs3_types::{
+    Answer, CreateMode, DirectoryName, FileHandle, NfsCall, NfsReply, Outcome, Procedure,
+};
 use std::alloc::AllocError;
-use tree_answers::first_place;
+use tree_answers::{first_place, object_named};
 
 /// What is changed.
 #[derive(Clone, Copy)]
@@ -47,9 +49,58 @@ fn moves(scene: &Scene<'_, '_>, call: &NfsCall, directory: u64, name: &[u8]) -> 
     }
 }
 
+/// The handle that a reply gives to what its call made or found.
+pub(crate) fn given_handle(outcome: &Outcome) -> Option<&FileHandle> {
+    let Outcome::Received(reply) = outcome else {
+        return None;
+    };
+    match reply {
+        NfsReply::Create(Answer::Done(success))
+        | NfsReply::MkDir(Answer::Done(success))
+        | NfsReply::SymLink(Answer::Done(success)) => success.object.as_ref(),
+        _ => None,
+    }
+}
+
+/// Whether a CREATE sets a size.
+fn sets_size(mode: &CreateMode) -> bool {
+    match mode {
+        CreateMode::Unchecked(attributes) | CreateMode::Guarded(attributes) => {
+            attributes.size.is_some()
+        }
+        CreateMode::Exclusive(_) => false,
+    }
+}
+
+/// Whether an object has the name of a CREATE in the tree.
+fn is_named(scene: &Scene<'_, '_>, place: &DirectoryName, object: u64) -> bool {
+    match (scene.nodes, scene.binds.object(place.directory.as_slice())) {
+        (Some(nodes), Some(directory)) => {
+            object_named(nodes, directory, place.name.as_slice()) == Some(object)
+        }
+        _ => false,
+    }
+}
+
+/// Whether a CREATE that came out so made or found a file. Where its reply gives no handle, the name tells.
+fn is_of_create(
+    scene: &Scene<'_, '_>,
+    place: &DirectoryName,
+    outcome: &Outcome,
+    object: u64,
+) -> bool {
+    match given_handle(outcome) {
+        Some(handle) => scene.binds.object(handle.as_slice()) == Some(object),
+        None => is_named(scene, place, object),
+    }
+}
+
 /// Whether a call that succeeds changes the bytes of a file.
-fn writes(scene: &Scene<'_, '_>, call: &NfsCall, object: u64) -> bool {
-    match call {
+fn writes(scene: &Scene<'_, '_>, placed: &Placed, object: u64) -> bool {
+    match &placed.call {
+        NfsCall::Create(call) => {
+            sets_size(&call.mode) && is_of_create(scene, &call.place, &placed.outcome, object)
+        }
         NfsCall::Write(call) => scene.binds.object(call.file.as_slice()) == Some(object),
         NfsCall::SetAttr(call) => {
             call.attributes.size.is_some()
@@ -60,15 +111,15 @@ fn writes(scene: &Scene<'_, '_>, call: &NfsCall, object: u64) -> bool {
 }
 
 /// Whether a call that succeeds is one of those that are looked for.
-fn changes(scene: &Scene<'_, '_>, call: &NfsCall, changed: Changed<'_>) -> bool {
+fn changes(scene: &Scene<'_, '_>, placed: &Placed, changed: Changed<'_>) -> bool {
     match changed {
-        Changed::Bytes(object) => writes(scene, call, object),
-        Changed::Name(directory, name) => moves(scene, call, directory, name),
+        Changed::Bytes(object) => writes(scene, placed, object),
+        Changed::Name(directory, name) => moves(scene, &placed.call, directory, name),
     }
 }
 
 /// Whether a call came out so that it changed what it could.
-fn is_done(outcome: &Outcome) -> bool {
+pub(crate) fn is_done(outcome: &Outcome) -> bool {
     match outcome {
         Outcome::Received(reply) => reply.failure().is_none(),
         Outcome::Taken(_) => true,
@@ -84,7 +135,7 @@ fn change_at(
     let Some(placed) = placed_at(scene.alloc, scene.history, place)? else {
         return Ok(None);
     };
-    if !is_done(&placed.outcome) || !changes(scene, &placed.call, changed) {
+    if !is_done(&placed.outcome) || !changes(scene, &placed, changed) {
         return Ok(None);
     }
     Ok(Some(Change {

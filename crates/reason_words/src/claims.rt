@@ -1,4 +1,4 @@
-//! Which cause a failure claims that the tree doesn't have (`docs/PROFILE.md`, on failures).
+//! That a failure has no cause in the tree (`docs/PROFILE.md`, on failures).
 
 use crate::scene::{Scene, push_line};
 use history_lines::{Text, status_name};
@@ -8,41 +8,40 @@ use tree_answers::is_permitted;
 use tree_handles::View;
 use tree_nodes::Nodes;
 
-/// What a status that is judged claims (RFC 1813, section 2.6).
-fn claim_of(failure: Failure) -> Option<&'static str> {
+/// What would have to be so under a status that is judged, and isn't (RFC 1813, section 2.6).
+fn lack_of(failure: Failure) -> Option<&'static str> {
     match failure {
-        Failure::NoEntry => Some("a name that has to be there and isn't"),
-        Failure::Exists => Some("a name that is there and may not be"),
-        Failure::NotDirectory => Some("an object that has to be a directory and isn't"),
-        Failure::IsDirectory => Some("a directory that may not be one"),
-        Failure::NotEmpty => Some("a directory that has to be empty and isn't"),
-        Failure::Stale | Failure::BadHandle => Some("a handle of nothing that is there"),
-        Failure::NotSynchronized => Some("a guard"),
-        Failure::BadCookie => Some("a cookie other than 0"),
-        Failure::TooSmall => Some("a list of a directory"),
+        Failure::NoEntry => Some("no name that has to be there is missing"),
+        Failure::Exists => Some("no name is there that may not be"),
+        Failure::NotDirectory => Some("each object that has to be a directory is one"),
+        Failure::IsDirectory => Some("no directory is where another object has to be"),
+        Failure::NotEmpty => Some("no directory that has to be empty has a name in it"),
+        Failure::Stale | Failure::BadHandle => Some("each handle is that of an object there"),
+        Failure::NotSynchronized => Some("the call has no guard"),
+        Failure::BadCookie => Some("no list is asked for from a cookie other than 0"),
+        Failure::TooSmall => Some("it is no call for a directory's list"),
         _ => None,
     }
 }
 
-/// A line of a status, and of the cause that it claims.
+/// A line of a status that has no cause.
 fn push_no_cause(
     lines: &mut Vec<u8>,
     scene: &Scene<'_, '_>,
     failure: Failure,
 ) -> Result<(), AllocError> {
-    let (Some(name), Some(claim)) = (status_name(failure.number()), claim_of(failure)) else {
+    let (Some(name), Some(lack)) = (status_name(failure.number()), lack_of(failure)) else {
         return Ok(());
     };
     let mut text = Text::new(scene.alloc);
     text.push_words("  ")?;
     text.push_words(name)?;
-    text.push_words(" claims ")?;
-    text.push_words(claim)?;
-    text.push_words(": there is none")?;
+    text.push_words(" has no cause there: ")?;
+    text.push_words(lack)?;
     push_line(lines, text)
 }
 
-/// A line of the cause that a failure claims, where no cause of it holds in the tree.
+/// A line of a failure, where no cause of it holds in the tree.
 pub(crate) fn push_claim(
     lines: &mut Vec<u8>,
     scene: &Scene<'_, '_>,

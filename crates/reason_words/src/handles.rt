@@ -1,6 +1,6 @@
 //! How handles are called: by the path of their object, or by their last bytes.
 
-use crate::objects::{fate_of, push_origin};
+use crate::objects::{Fate, fate_of, push_origin};
 use crate::paths::{ROOT, path_of};
 use crate::scene::Scene;
 use history_lines::Text;
@@ -10,6 +10,9 @@ use tree_answers::{first_handle, second_handle};
 
 /// How many bytes of a handle are shown at least.
 const FEWEST: usize = 4;
+
+/// How many handles of a list have names at most: each costs a walk over a directory.
+const MOST_NAMED: usize = 64;
 
 /// Whether another known handle has these last bytes.
 fn is_end_of_another(scene: &Scene<'_, '_>, handle: &[u8], end: &[u8]) -> bool {
@@ -52,6 +55,20 @@ pub(crate) fn known_path(
     }
 }
 
+/// Appends where an object comes from that isn't in the tree, and what became of it.
+fn push_fate(text: &mut Text<'_>, scene: &Scene<'_, '_>, object: u64) -> Result<(), AllocError> {
+    let fate = fate_of(scene, object)?;
+    if fate == Fate::NotMade {
+        text.push_words("not ")?;
+    }
+    push_origin(text, scene, object)?;
+    match fate {
+        Fate::NotYet | Fate::NotMade => Ok(()),
+        Fate::Gone => text.push_words(", gone"),
+        Fate::Lost => text.push_words(", lost"),
+    }
+}
+
 /// Appends what a handle of an object without a path is called.
 fn push_without_path(
     text: &mut Text<'_>,
@@ -61,9 +78,9 @@ fn push_without_path(
 ) -> Result<(), AllocError> {
     push_end(text, scene, handle)?;
     text.push_words(" (")?;
-    push_origin(text, scene, object)?;
-    if scene.nodes.is_some() {
-        text.push_words(fate_of(scene, object))?;
+    match scene.nodes {
+        Some(_) => push_fate(text, scene, object)?,
+        None => push_origin(text, scene, object)?,
     }
     text.push_words(")")
 }
@@ -132,7 +149,7 @@ pub(crate) fn name_those_of_reply(
         | NfsReply::MkDir(Answer::Done(success))
         | NfsReply::SymLink(Answer::Done(success)) => name_any(text, scene, &success.object),
         NfsReply::ReadDirPlus(Answer::Done(success)) => {
-            for entry in success.entries.as_slice() {
+            for entry in success.entries.as_slice().iter().take(MOST_NAMED) {
                 name_any(text, scene, &entry.object)?;
             }
             Ok(())

@@ -115,6 +115,7 @@ fn push_in_tree(
         nodes: Some(nodes),
         ahead,
         front,
+        is_front: scene.is_front,
     };
     push_at(lines, &there, told)
 }

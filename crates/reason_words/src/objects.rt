@@ -1,14 +1,17 @@
 //! What an object is, and where it comes from.
 
+use crate::changes::{given_handle, is_done};
 use crate::places::cut_places;
 use crate::scene::Scene;
-use certificate::Place;
+use certificate::{EraPlan, Place};
+use fault_reasons::{Placed, placed_at};
 use history_lines::Text;
+use nfs3_types::Procedure;
 use std::alloc::AllocError;
 use tree_nodes::{Content, Node, Nodes};
 
 /// The call that makes an object, if any.
-fn maker_of(scene: &Scene<'_, '_>, object: u64) -> Option<u64> {
+pub(crate) fn maker_of(scene: &Scene<'_, '_>, object: u64) -> Option<u64> {
     let starts = scene.history.start().count() as u64;
     match object.checked_sub(starts) {
         Some(call) if call > 0 => Some(call),
@@ -16,34 +19,91 @@ fn maker_of(scene: &Scene<'_, '_>, object: u64) -> Option<u64> {
     }
 }
 
-/// Whether a call has one of these places.
-fn has_place(places: &[Place], number: u64) -> bool {
-    for place in places {
-        if place.number() == number {
-            return true;
-        }
-    }
-    false
+/// What became of an object that isn't in the tree at a place.
+#[derive(Clone, Copy, PartialEq, Eq)]
+pub(crate) enum Fate {
+    /// No place ahead is that of the call that makes it.
+    NotYet,
+    /// The call that should make it made nothing, or found another object.
+    NotMade,
+    /// It was made, and is gone.
+    Gone,
+    /// A crash took away what made it.
+    Lost,
 }
 
-/// What became of an object that isn't in the tree at a place: nothing yet, where no place ahead made it.
-pub(crate) fn fate_of(scene: &Scene<'_, '_>, object: u64) -> &'static str {
+/// Whether a call that came out so made an object, as far as its reply tells.
+fn is_made(scene: &Scene<'_, '_>, placed: &Placed, object: u64) -> bool {
+    let is_maker = matches!(
+        placed.call.procedure(),
+        Procedure::Create | Procedure::MkDir | Procedure::SymLink
+    );
+    match given_handle(&placed.outcome) {
+        Some(handle) => is_maker && scene.binds.object(handle.as_slice()) == Some(object),
+        None => is_maker && is_done(&placed.outcome),
+    }
+}
+
+/// What a call at a place made of its object.
+fn fate_at(
+    scene: &Scene<'_, '_>,
+    place: Place,
+    object: u64,
+    fate: Fate,
+) -> Result<Fate, AllocError> {
+    match placed_at(scene.alloc, scene.history, place)? {
+        Some(placed) if is_made(scene, &placed, object) => Ok(fate),
+        _ => Ok(Fate::NotMade),
+    }
+}
+
+/// What became of an object by the place of the call that makes it, where it is one of these.
+fn fate_in(
+    scene: &Scene<'_, '_>,
+    places: &[Place],
+    number: u64,
+    object: u64,
+    fate: Fate,
+) -> Result<Fate, AllocError> {
+    for place in places {
+        if place.number() == number {
+            return fate_at(scene, *place, object, fate);
+        }
+    }
+    Ok(Fate::NotYet)
+}
+
+/// The same by the places of an era, of which the crash at its end took some away.
+fn fate_in_era(
+    scene: &Scene<'_, '_>,
+    era: &EraPlan,
+    number: u64,
+    object: u64,
+) -> Result<Fate, AllocError> {
+    let (kept, lost) = cut_places(era);
+    let fate = fate_in(scene, kept, number, object, Fate::Gone)?;
+    if fate != Fate::NotYet {
+        return Ok(fate);
+    }
+    fate_in(scene, lost, number, object, Fate::Lost)
+}
+
+/// What became of an object that isn't in the tree at a place.
+pub(crate) fn fate_of(scene: &Scene<'_, '_>, object: u64) -> Result<Fate, AllocError> {
     let Some(number) = maker_of(scene, object) else {
-        return ", gone";
+        return Ok(Fate::Gone);
     };
-    if has_place(scene.front, number) {
-        return ", gone";
+    let fate = fate_in(scene, scene.front, number, object, Fate::Gone)?;
+    if fate != Fate::NotYet {
+        return Ok(fate);
     }
     for era in scene.ahead {
-        let (kept, lost) = cut_places(era);
-        if has_place(kept, number) {
-            return ", gone";
-        }
-        if has_place(lost, number) {
-            return ", lost";
+        let fate = fate_in_era(scene, era, number, object)?;
+        if fate != Fate::NotYet {
+            return Ok(fate);
         }
     }
-    ""
+    Ok(Fate::NotYet)
 }
 
 /// Appends where an object comes from: the start, or the call that made it.

@@ -20,6 +20,8 @@ pub(crate) struct Scene<'s, 'a> {
     pub(crate) ahead: &'s [EraPlan],
     /// The places ahead of it in its era.
     pub(crate) front: &'s [Place],
+    /// The history is the front of one in which replies may come later.
+    pub(crate) is_front: bool,
 }
 
 /// Appends a line.

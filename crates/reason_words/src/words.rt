@@ -35,6 +35,7 @@ fn reason_lines<'s>(
     certificate: &'s Certificate,
     binds: &'s Binds,
     reason: &Reason,
+    is_front: bool,
 ) -> Result<Vec<u8>, AllocError> {
     let scene = Scene {
         alloc,
@@ -44,10 +45,23 @@ fn reason_lines<'s>(
         nodes: None,
         ahead: &[],
         front: &[],
+        is_front,
     };
     let mut lines = Vec::new(alloc);
     push_reason(&mut lines, &scene, reason)?;
     Ok(lines)
+}
+
+/// The words of a reason, over a whole history or the front of one.
+fn text_of(
+    alloc: Global,
+    history: &KnownCalls<'_>,
+    certificate: &Certificate,
+    reason: &Reason,
+    is_front: bool,
+) -> Result<Vec<u8>, AllocError> {
+    let binds = bindings_of_plan(alloc, &history.lend(), certificate)?;
+    reason_lines(alloc, history, certificate, &binds, reason, is_front)
 }
 
 /// The words of a reason that `fault_reasons::explain` gave of this history and this certificate, as lines of printable bytes. An `Err` means
@@ -58,23 +72,22 @@ pub fn reason_text(
     certificate: &Certificate,
     reason: &Reason,
 ) -> Result<Vec<u8>, AllocError> {
-    let binds = bindings_of_plan(alloc, &history.lend(), certificate)?;
-    reason_lines(alloc, history, certificate, &binds, reason)
+    text_of(alloc, history, certificate, reason, false)
 }
 
-/// The words of the reason why a certificate is no witness of a history; none where it is one. An `Err` means that memory ran out.
+/// The words of the reason why a certificate is no witness of a front of a history; none where it is one. An `Err` means that memory ran out.
 fn certificate_text(
     alloc: Global,
     history: &KnownCalls<'_>,
     certificate: &Certificate,
 ) -> Result<Vec<u8>, AllocError> {
     match explain(alloc, history, certificate)? {
-        Some(reason) => reason_text(alloc, history, certificate, &reason),
+        Some(reason) => text_of(alloc, history, certificate, &reason, true),
         None => Ok(Vec::new(alloc)),
     }
 }
 
-/// The same of a certificate's text; none where it is the text of none.
+/// The same of a certificate's text; none where it is the text of none. Of a call that has no reply in the front it isn't said that none came.
 pub fn plan_text(
     alloc: Global,
     history: &KnownCalls<'_>,
@@ -113,6 +126,7 @@ fn told_lines<'s>(
         nodes: None,
         ahead: &[],
         front: &[],
+        is_front: false,
     };
     let mut lines = Vec::new(alloc);
     match told {
