@@ -48,7 +48,7 @@ CHANGES = {
 }
 # Reasons that few histories have: each is looked for in every such case.
 RARE = [nfs.COMMIT, nfs.SETATTR, nfs.READLINK, nfs.SYMLINK, nfs.RENAME, nfs.RMDIR, nfs.READDIR, nfs.READDIRPLUS, nfs.GETATTR, nfs.WRITE]
-RIGHT = re.compile(r"  right there(?:, with 0 for what isn't judged)?: ((NFS3\S+).*)")
+RIGHT = re.compile(r"  right there(?:, with [^:]*)?: ((NFS3\S+).*)")
 REPLY, VERIFIER = "  its reply: ", re.compile(r" verifier [0-9a-f]{16}")
 PRINTABLE = re.compile(r"[^\x00-\x1f\x7f-\x9f]*")
 

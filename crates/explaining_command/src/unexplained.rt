@@ -1,7 +1,7 @@
 //! What is known of a reply that no order explains.
 
 use crate::behind::{Behind, Told};
-use deciding_command::{Effort, FileDecision, decide_file};
+use deciding_command::{Effort, FileDecision, decide_file, report_of};
 use nfs_history::{HistoryFault, KnownCalls, read_calls};
 use order_words::{events_front, order_text};
 use reason_words::unexplained_text;
@@ -37,19 +37,26 @@ fn front(alloc: Global, history: &[u8], events: u64) -> Result<Option<Vec<u8>>, 
     }
 }
 
-/// A certificate of the events before one, where one is found.
-fn plan_before<R: Clock + AllocGlobal>(
-    rt: &R,
+/// A line that no order of the events before is known, with what `decide` says of them.
+fn unknown_line(alloc: Global, decision: &FileDecision) -> Result<Vec<u8>, AllocError> {
+    let told = report_of(alloc, decision)?;
+    let mut line = Vec::from_slice(alloc, b"no order of the events before it was found: ")?;
+    line.extend_from_slice(told.line().as_bytes())?;
+    Ok(line)
+}
+
+/// Lines of what the orders come to in which the call is placed, over a certificate of the events before.
+fn orders_over(
+    alloc: Global,
     history: &[u8],
+    known: &KnownCalls<'_>,
+    certificate: &[u8],
     event: u64,
-    effort: Effort,
-) -> Result<Option<Vec<u8>>, AllocError> {
-    let Some(before) = front(rt.alloc(), history, event.saturating_sub(1))? else {
-        return Ok(None);
-    };
-    match decide_file(rt, before.as_slice(), effort)? {
-        FileDecision::Yes(certificate) => Ok(Some(certificate)),
-        _ => Ok(None),
+    call: u64,
+) -> Result<Vec<u8>, AllocError> {
+    match front(alloc, history, event)? {
+        Some(upto) => order_text(alloc, known, upto.as_slice(), certificate, call),
+        None => Ok(Vec::new(alloc)),
     }
 }
 
@@ -63,12 +70,15 @@ fn order_lines<R: Clock + AllocGlobal>(
     effort: Effort,
 ) -> Result<Vec<u8>, AllocError> {
     let alloc = rt.alloc();
-    let Some(plan) = plan_before(rt, history, event, effort)? else {
+    let Some(before) = front(alloc, history, event.saturating_sub(1))? else {
         return Ok(Vec::new(alloc));
     };
-    match front(alloc, history, event)? {
-        Some(upto) => order_text(alloc, known, upto.as_slice(), plan.as_slice(), call),
-        None => Ok(Vec::new(alloc)),
+    let decision = decide_file(rt, before.as_slice(), effort)?;
+    match &decision {
+        FileDecision::Yes(certificate) => {
+            orders_over(alloc, history, known, certificate.as_slice(), event, call)
+        }
+        _ => unknown_line(alloc, &decision),
     }
 }
 

@@ -1,14 +1,15 @@
 //! What each order comes to.
 
-use crate::open::{OpenCall, open_calls};
+use crate::binds::binds_with;
+use crate::open::{OpenCall, open_calls, taken_by};
 use crate::orders::{count_orders, orders_of};
-use crate::plans::{Made, plan_with};
-use certificate::{Certificate, TextFault, read_certificate};
+use crate::plans::plan_with;
+use certificate::{Bind, Certificate, TextFault, read_certificate};
 use history_lines::Text;
 use nfs_history::{HistoryFault, KnownCalls, read_calls};
-use nfs3_types::{Answer, FileHandle, NfsReply, Outcome};
 use reason_words::{call_text, plan_text};
 use std::alloc::{AllocError, Global};
+use std::collections::BTreeSet;
 
 /// How many orders are tried at most.
 const MOST_ORDERS: usize = 16;
@@ -26,10 +27,12 @@ struct Scene<'s, 'a, 'w> {
     history: &'s KnownCalls<'a>,
     /// The whole history, which has the later replies too.
     whole: &'s KnownCalls<'w>,
-    certificate: &'s [u8],
+    plan: &'s Certificate,
+    /// The binds of the plan, and of the handles that the reply gives.
+    binds: &'s [Bind],
     call: u64,
-    /// The handle of what the call made, where its reply gives one.
-    made: Option<Made<'s>>,
+    /// The plan takes the call as done: it stays at that place.
+    stays: bool,
 }
 
 /// Appends a line of words and numbers.
@@ -39,55 +42,48 @@ fn push_line(lines: &mut Vec<u8>, text: Text<'_>) -> Result<(), AllocError> {
     Ok(())
 }
 
-/// The handle that a reply gives to what its call made.
-fn made_handle(reply: &NfsReply) -> Option<&FileHandle> {
-    match reply {
-        NfsReply::Create(Answer::Done(made))
-        | NfsReply::MkDir(Answer::Done(made))
-        | NfsReply::SymLink(Answer::Done(made)) => made.object.as_ref(),
-        _ => None,
-    }
+/// Appends a line of a number behind words.
+fn push_number(
+    lines: &mut Vec<u8>,
+    scene: &Scene<'_, '_, '_>,
+    words: &str,
+    number: u64,
+) -> Result<(), AllocError> {
+    let mut text = Text::new(scene.alloc);
+    text.push_number(words, number)?;
+    push_line(lines, text)
 }
 
-/// The bytes of the handle that a reply gives to what its call made, unless a plan binds it, or can't: it is the root's, or has no byte.
-fn unbound_handle(
-    alloc: Global,
-    history: &KnownCalls<'_>,
-    plan: &Certificate,
-    reply: &NfsReply,
-) -> Result<Option<Vec<u8>>, AllocError> {
-    let Some(handle) = made_handle(reply) else {
-        return Ok(None);
-    };
-    let bytes = handle.as_slice();
-    if bytes.is_empty() || history.root().as_slice() == bytes {
-        return Ok(None);
-    }
-    for bind in plan.binds.as_slice() {
-        if bind.handle.as_slice() == bytes {
-            return Ok(None);
+/// Whether a call that a plan takes as done is one of the last era, and another one than that which is looked at.
+fn is_done_already(scene: &Scene<'_, '_, '_>, number: u64) -> bool {
+    number != scene.call && scene.history.era(number) == Some(scene.history.eras())
+}
+
+/// A line of the calls of the last era without a reply so far that the plan takes as done.
+fn push_taken(
+    lines: &mut Vec<u8>,
+    scene: &Scene<'_, '_, '_>,
+    taken: &BTreeSet<u64>,
+) -> Result<(), AllocError> {
+    let mut text = Text::new(scene.alloc);
+    text.push_words("open calls that the order below has done already:")?;
+    let mut count: usize = 0;
+    for number in taken {
+        if is_done_already(scene, *number) {
+            count = count.saturating_add(1);
+            if count <= MOST_OPEN {
+                text.push_number(" ", *number)?;
+            }
         }
     }
-    Ok(Some(Vec::from_slice(alloc, bytes)?))
-}
-
-/// The same of a call and its reply.
-fn made_by(
-    alloc: Global,
-    history: &KnownCalls<'_>,
-    plan: &Certificate,
-    call: u64,
-) -> Result<Option<Vec<u8>>, AllocError> {
-    let Some(recorded) = history.call(alloc, call)? else {
-        return Ok(None);
-    };
-    let Some((_, outcome)) = recorded.into_judged() else {
-        return Ok(None);
-    };
-    match &outcome {
-        Some(Outcome::Received(reply)) => unbound_handle(alloc, history, plan, reply),
-        _ => Ok(None),
+    match count.checked_sub(MOST_OPEN) {
+        Some(more) if more > 0 => text.push_number(" and more: ", more as u64)?,
+        _ => {}
     }
+    if count == 0 {
+        return Ok(());
+    }
+    push_line(lines, text)
 }
 
 /// Lines of the calls that are open.
@@ -99,16 +95,33 @@ fn push_open(
     if open.is_empty() {
         return Ok(());
     }
-    let mut text = Text::new(scene.alloc);
-    text.push_number(
-        "calls that were open then and may have been done: ",
-        open.len() as u64,
-    )?;
-    push_line(lines, text)?;
+    let words = "calls that were open then and may have been done: ";
+    push_number(lines, scene, words, open.len() as u64)?;
     for call in open.iter().take(MOST_OPEN) {
         lines.extend_from_slice(call_text(scene.alloc, scene.whole, call.number)?.as_slice())?;
     }
-    Ok(())
+    match open.len().checked_sub(MOST_OPEN) {
+        Some(more) if more > 0 => push_number(lines, scene, "and more: ", more as u64),
+        _ => Ok(()),
+    }
+}
+
+/// Appends the calls that are done in an order.
+fn push_done(
+    text: &mut Text<'_>,
+    first: OpenCall,
+    others: &[OpenCall],
+    stays: bool,
+) -> Result<(), AllocError> {
+    text.push_number("with call ", first.number)?;
+    for call in others {
+        text.push_number(", call ", call.number)?;
+    }
+    text.push_words(if stays {
+        " done behind it:"
+    } else {
+        " done before it:"
+    })
 }
 
 /// A line of the order that is tried.
@@ -122,13 +135,7 @@ fn push_order(
     match order {
         [] if open.is_empty() => text.push_words("in an order that explains all before it:")?,
         [] => text.push_words("in an order that explains all before it, with no open call done:")?,
-        [first, others @ ..] => {
-            text.push_number("with call ", first.number)?;
-            for call in others {
-                text.push_number(", call ", call.number)?;
-            }
-            text.push_words(" done before it:")?;
-        }
+        [first, others @ ..] => push_done(&mut text, *first, others, scene.stays)?,
     }
     push_line(lines, text)
 }
@@ -143,12 +150,13 @@ fn push_tried(
     push_order(lines, scene, open, order)?;
     let plan = plan_with(
         scene.alloc,
-        scene.certificate,
+        scene.plan,
+        scene.binds,
         order,
         scene.call,
-        scene.made,
+        scene.stays,
     )?;
-    let told = plan_text(scene.alloc, scene.history, plan.as_slice())?;
+    let told = plan_text(scene.alloc, scene.history, &plan)?;
     if told.is_empty() {
         let mut text = Text::new(scene.alloc);
         text.push_words("  up to here this order is right: what came later rules it out")?;
@@ -176,55 +184,57 @@ fn push_orders(
     for order in orders.iter() {
         push_tried(lines, scene, open, order.as_slice())?;
     }
-    let left = count_orders(open.len()).saturating_sub(orders.len() as u64);
-    if left == 0 {
-        return Ok(());
+    let all = count_orders(open.len());
+    if all == u64::MAX {
+        let mut text = Text::new(scene.alloc);
+        text.push_words("orders of the open calls that aren't told: more than 10^18")?;
+        return push_line(lines, text);
     }
-    let mut text = Text::new(scene.alloc);
-    text.push_number("orders of the open calls that aren't told: ", left)?;
-    push_line(lines, text)
+    match all.saturating_sub(orders.len() as u64) {
+        0 => Ok(()),
+        left => push_number(
+            lines,
+            scene,
+            "orders of the open calls that aren't told: ",
+            left,
+        ),
+    }
 }
 
 /// The lines of a history that was read, with its open calls.
-fn scene_text<'s>(
+fn scene_text(
+    scene: &Scene<'_, '_, '_>,
+    taken: &BTreeSet<u64>,
+    open: &[OpenCall],
+) -> Result<Vec<u8>, AllocError> {
+    let mut lines = Vec::new(scene.alloc);
+    push_open(&mut lines, scene, open)?;
+    push_taken(&mut lines, scene, taken)?;
+    push_orders(&mut lines, scene, open)?;
+    Ok(lines)
+}
+
+/// The same, where it is known what the handles name.
+fn bound_text<'s>(
     alloc: Global,
     whole: &'s KnownCalls<'_>,
     history: &'s KnownCalls<'_>,
-    certificate: &'s [u8],
-    made: Option<Made<'s>>,
+    plan: &'s Certificate,
+    binds: &'s [Bind],
     call: u64,
-    open: &[OpenCall],
+    taken: &BTreeSet<u64>,
 ) -> Result<Vec<u8>, AllocError> {
+    let open = open_calls(alloc, history, whole, taken, call)?;
     let scene = Scene {
         alloc,
         history,
         whole,
-        certificate,
+        plan,
+        binds,
         call,
-        made,
+        stays: taken.contains(&call),
     };
-    let mut lines = Vec::new(alloc);
-    push_open(&mut lines, &scene, open)?;
-    push_orders(&mut lines, &scene, open)?;
-    Ok(lines)
-}
-
-/// The same, where the call may have got a handle for what it made.
-fn made_text<'s>(
-    alloc: Global,
-    whole: &'s KnownCalls<'_>,
-    history: &'s KnownCalls<'_>,
-    certificate: &'s [u8],
-    handle: Option<&'s [u8]>,
-    call: u64,
-    open: &[OpenCall],
-) -> Result<Vec<u8>, AllocError> {
-    let object = call.saturating_add(history.start().count() as u64);
-    let made = match handle {
-        Some(handle) => Some(Made { handle, object }),
-        None => None,
-    };
-    scene_text(alloc, whole, history, certificate, made, call, open)
+    scene_text(&scene, taken, open.as_slice())
 }
 
 /// The lines of a history that was read, and of a certificate.
@@ -232,25 +242,12 @@ fn text_of(
     alloc: Global,
     whole: &KnownCalls<'_>,
     history: &KnownCalls<'_>,
-    certificate: &[u8],
     plan: &Certificate,
     call: u64,
 ) -> Result<Vec<u8>, AllocError> {
-    let open = open_calls(alloc, history, whole, plan, call)?;
-    let handle = made_by(alloc, history, plan, call)?;
-    let bytes = match &handle {
-        Some(handle) => Some(handle.as_slice()),
-        None => None,
-    };
-    made_text(
-        alloc,
-        whole,
-        history,
-        certificate,
-        bytes,
-        call,
-        open.as_slice(),
-    )
+    let taken = taken_by(alloc, plan)?;
+    let binds = binds_with(alloc, history, plan, call)?;
+    bound_text(alloc, whole, history, plan, binds.as_slice(), call, &taken)
 }
 
 /// What the orders come to in which a call is placed that no order explains, as lines of printable bytes: over `history`, a file that ends
@@ -270,7 +267,7 @@ pub fn order_text(
         Err(_) => return Ok(Vec::new(alloc)),
     };
     match read_certificate(alloc, certificate) {
-        Ok(plan) => text_of(alloc, whole, &history, certificate, &plan, call),
+        Ok(plan) => text_of(alloc, whole, &history, &plan, call),
         Err(TextFault::NoMemory) => Err(AllocError),
         Err(TextFault::BadLine(_)) => Ok(Vec::new(alloc)),
     }

@@ -33,19 +33,38 @@ fn is_at(scene: &Scene<'_, '_>, place: &DirectoryName, directory: u64, name: &[u
         && scene.binds.object(place.directory.as_slice()) == Some(directory)
 }
 
-/// Whether a call that succeeds makes a name or takes it away.
-fn moves(scene: &Scene<'_, '_>, call: &NfsCall, directory: u64, name: &[u8]) -> bool {
+/// Whether a call that succeeds may make a name or take it away.
+fn asks_for(scene: &Scene<'_, '_>, call: &NfsCall, directory: u64, name: &[u8]) -> bool {
     if !call.procedure().changes_the_tree() {
         return false;
     }
     if let NfsCall::Rename(call) = call {
-        if is_at(scene, &call.to, directory, name) {
-            return true;
-        }
+        // Onto itself it changes nothing.
+        return is_at(scene, &call.to, directory, name) != is_at(scene, &call.from, directory, name);
     }
     match first_place(call) {
         Some(place) => is_at(scene, place, directory, name),
         None => false,
+    }
+}
+
+/// Whether a name is that of what a call makes.
+fn is_own(scene: &Scene<'_, '_>, number: u64, directory: u64, name: &[u8]) -> bool {
+    let own = number.saturating_add(scene.history.start().count() as u64);
+    match scene.nodes {
+        Some(nodes) => object_named(nodes, directory, name) == Some(own),
+        None => true,
+    }
+}
+
+/// Whether a call that succeeds makes a name or takes it away, where none behind it does: a CREATE may find what it is asked for.
+fn moves(scene: &Scene<'_, '_>, placed: &Placed, directory: u64, name: &[u8]) -> bool {
+    if !asks_for(scene, &placed.call, directory, name) {
+        return false;
+    }
+    match &placed.call {
+        NfsCall::Create(_) => is_own(scene, placed.number, directory, name),
+        _ => true,
     }
 }
 
@@ -95,13 +114,24 @@ fn is_of_create(
     }
 }
 
+/// Whether a WRITE that came out so wrote at least one byte.
+fn wrote_some(outcome: &Outcome) -> bool {
+    match outcome {
+        Outcome::Received(NfsReply::Write(Answer::Done(success))) => success.count > 0,
+        Outcome::Received(_) => false,
+        Outcome::Taken(count) => *count != Some(0),
+    }
+}
+
 /// Whether a call that succeeds changes the bytes of a file.
 fn writes(scene: &Scene<'_, '_>, placed: &Placed, object: u64) -> bool {
     match &placed.call {
         NfsCall::Create(call) => {
             sets_size(&call.mode) && is_of_create(scene, &call.place, &placed.outcome, object)
         }
-        NfsCall::Write(call) => scene.binds.object(call.file.as_slice()) == Some(object),
+        NfsCall::Write(call) => {
+            wrote_some(&placed.outcome) && scene.binds.object(call.file.as_slice()) == Some(object)
+        }
         NfsCall::SetAttr(call) => {
             call.attributes.size.is_some()
                 && scene.binds.object(call.object.as_slice()) == Some(object)
@@ -114,7 +144,7 @@ fn writes(scene: &Scene<'_, '_>, placed: &Placed, object: u64) -> bool {
 fn changes(scene: &Scene<'_, '_>, placed: &Placed, changed: Changed<'_>) -> bool {
     match changed {
         Changed::Bytes(object) => writes(scene, placed, object),
-        Changed::Name(directory, name) => moves(scene, &placed.call, directory, name),
+        Changed::Name(directory, name) => moves(scene, placed, directory, name),
     }
 }
 

@@ -11,7 +11,7 @@ use tree_nodes::Nodes;
 /// What would have to be so under a status that is judged, and isn't (RFC 1813, section 2.6).
 fn lack_of(failure: Failure) -> Option<&'static str> {
     match failure {
-        Failure::NoEntry => Some("no name that has to be there is missing"),
+        Failure::NoEntry => Some("no name is missing from a directory that is there"),
         Failure::Exists => Some("no name is there that may not be"),
         Failure::NotDirectory => Some("each object that has to be a directory is one"),
         Failure::IsDirectory => Some("no directory is where another object has to be"),

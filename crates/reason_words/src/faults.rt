@@ -33,9 +33,10 @@ fn push_words(lines: &mut Vec<u8>, scene: &Scene<'_, '_>, words: &str) -> Result
 
 /// Lines of a place of a call that isn't there.
 fn push_unknown(lines: &mut Vec<u8>, scene: &Scene<'_, '_>, number: u64) -> Result<(), AllocError> {
-    push_places(lines, scene, number)?;
-    let first = ("calls of the history: ", scene.history.count() as u64);
-    push_numbers(lines, scene, first, (", so there is no call ", number))
+    let first = ("there is no call ", number);
+    let count = scene.history.count() as u64;
+    push_numbers(lines, scene, first, ("; calls of the history: ", count))?;
+    push_places(lines, scene, number)
 }
 
 /// Lines of a call, and of the era in which it began.

@@ -1,6 +1,6 @@
-//! How handles are called: by the path of their object, or by their last bytes.
+//! How handles are called: by the path of their object, or by their last bytes; one that isn't bound by all of them.
 
-use crate::objects::{Fate, fate_of, push_origin};
+use crate::objects::{push_fate, push_origin};
 use crate::paths::{ROOT, path_of};
 use crate::scene::Scene;
 use history_lines::Text;
@@ -12,33 +12,37 @@ use tree_answers::{first_handle, second_handle};
 const FEWEST: usize = 4;
 
 /// How many handles of a list have names at most: each costs a walk over a directory.
-const MOST_NAMED: usize = 64;
+const MOST_NAMED: usize = 10;
 
-/// Whether another known handle has these last bytes.
-fn is_end_of_another(scene: &Scene<'_, '_>, handle: &[u8], end: &[u8]) -> bool {
-    let root = scene.history.root().as_slice();
-    if root != handle && root.ends_with(end) {
-        return true;
-    }
-    for bind in scene.certificate.binds.as_slice() {
-        let other = bind.handle.as_slice();
-        if other != handle && other.ends_with(end) {
-            return true;
-        }
-    }
-    false
+/// How many last bytes a handle has in common with another one.
+fn common_end(handle: &[u8], other: &[u8]) -> usize {
+    let pairs = handle.iter().rev().zip(other.iter().rev());
+    pairs.take_while(|(one, two)| *one == *two).count()
 }
 
-/// Appends the last bytes of a handle: as many as tell it from the others.
-fn push_end(text: &mut Text<'_>, scene: &Scene<'_, '_>, handle: &[u8]) -> Result<(), AllocError> {
-    for count in FEWEST..handle.len() {
-        let (_, end) = handle.split_at(handle.len() - count);
-        if !is_end_of_another(scene, handle, end) {
-            text.push_words("..")?;
-            return text.push_hex(end);
+/// How many last bytes tell a bound handle from the root's and from all that are bound.
+fn telling_end(scene: &Scene<'_, '_>, handle: &[u8]) -> usize {
+    let mut most = common_end(handle, scene.history.root().as_slice());
+    for bind in scene.certificate.binds.as_slice() {
+        let other = bind.handle.as_slice();
+        if other != handle {
+            most = most.max(common_end(handle, other));
         }
     }
-    text.push_handle("", handle)
+    most.saturating_add(1).max(FEWEST)
+}
+
+/// Appends the last bytes of a bound handle: as many as tell it from the others.
+fn push_end(text: &mut Text<'_>, scene: &Scene<'_, '_>, handle: &[u8]) -> Result<(), AllocError> {
+    let count = telling_end(scene, handle);
+    match handle.len().checked_sub(count) {
+        Some(ahead) if ahead > 0 => {
+            let (_, end) = handle.split_at(ahead);
+            text.push_words("..")?;
+            text.push_hex(end)
+        }
+        _ => text.push_handle("", handle),
+    }
 }
 
 /// The path of an object, where it is known.
@@ -52,20 +56,6 @@ pub(crate) fn known_path(
     match scene.nodes {
         Some(nodes) => path_of(scene.alloc, nodes, object),
         None => Ok(None),
-    }
-}
-
-/// Appends where an object comes from that isn't in the tree, and what became of it.
-fn push_fate(text: &mut Text<'_>, scene: &Scene<'_, '_>, object: u64) -> Result<(), AllocError> {
-    let fate = fate_of(scene, object)?;
-    if fate == Fate::NotMade {
-        text.push_words("not ")?;
-    }
-    push_origin(text, scene, object)?;
-    match fate {
-        Fate::NotYet | Fate::NotMade => Ok(()),
-        Fate::Gone => text.push_words(", gone"),
-        Fate::Lost => text.push_words(", lost"),
     }
 }
 
@@ -92,7 +82,7 @@ pub(crate) fn push_name(
     handle: &[u8],
 ) -> Result<(), AllocError> {
     let Some(object) = scene.binds.object(handle) else {
-        push_end(text, scene, handle)?;
+        text.push_handle("", handle)?;
         if scene.nodes.is_some() {
             return text.push_words(" (of no object)");
         }

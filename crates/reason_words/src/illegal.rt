@@ -36,12 +36,13 @@ fn push_position(
     push_line(lines, text)
 }
 
-/// What a right reply stands behind. Of some the tree judges a part alone.
+/// What a right reply stands behind. Of some the tree judges a part alone, and the write verifier is the era's.
 fn right_words(reply: &NfsReply) -> &'static str {
     match reply {
-        NfsReply::GetAttr(Answer::Done(_))
-        | NfsReply::Write(Answer::Done(_))
-        | NfsReply::Commit(Answer::Done(_)) => "  right there, with 0 for what isn't judged:",
+        NfsReply::GetAttr(Answer::Done(_)) => "  right there, with 0 for what isn't judged:",
+        NfsReply::Write(Answer::Done(_)) | NfsReply::Commit(Answer::Done(_)) => {
+            "  right there, with the era's verifier in place of 0:"
+        }
         _ => "  right there:",
     }
 }

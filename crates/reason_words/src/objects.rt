@@ -6,12 +6,13 @@ use crate::scene::Scene;
 use certificate::{EraPlan, Place};
 use fault_reasons::{Placed, placed_at};
 use history_lines::Text;
+use nfs_history::CallKind;
 use nfs3_types::Procedure;
 use std::alloc::AllocError;
 use tree_nodes::{Content, Node, Nodes};
 
 /// The call that makes an object, if any.
-pub(crate) fn maker_of(scene: &Scene<'_, '_>, object: u64) -> Option<u64> {
+fn maker_of(scene: &Scene<'_, '_>, object: u64) -> Option<u64> {
     let starts = scene.history.start().count() as u64;
     match object.checked_sub(starts) {
         Some(call) if call > 0 => Some(call),
@@ -21,7 +22,7 @@ pub(crate) fn maker_of(scene: &Scene<'_, '_>, object: u64) -> Option<u64> {
 
 /// What became of an object that isn't in the tree at a place.
 #[derive(Clone, Copy, PartialEq, Eq)]
-pub(crate) enum Fate {
+enum Fate {
     /// No place ahead is that of the call that makes it.
     NotYet,
     /// The call that should make it made nothing, or found another object.
@@ -32,15 +33,22 @@ pub(crate) enum Fate {
     Lost,
 }
 
+/// Whether a procedure makes objects.
+fn is_maker(procedure: Procedure) -> bool {
+    matches!(
+        procedure,
+        Procedure::Create | Procedure::MkDir | Procedure::SymLink
+    )
+}
+
 /// Whether a call that came out so made an object, as far as its reply tells.
 fn is_made(scene: &Scene<'_, '_>, placed: &Placed, object: u64) -> bool {
-    let is_maker = matches!(
-        placed.call.procedure(),
-        Procedure::Create | Procedure::MkDir | Procedure::SymLink
-    );
+    if !is_maker(placed.call.procedure()) || !is_done(&placed.outcome) {
+        return false;
+    }
     match given_handle(&placed.outcome) {
-        Some(handle) => is_maker && scene.binds.object(handle.as_slice()) == Some(object),
-        None => is_maker && is_done(&placed.outcome),
+        Some(handle) => scene.binds.object(handle.as_slice()) == Some(object),
+        None => true,
     }
 }
 
@@ -89,7 +97,7 @@ fn fate_in_era(
 }
 
 /// What became of an object that isn't in the tree at a place.
-pub(crate) fn fate_of(scene: &Scene<'_, '_>, object: u64) -> Result<Fate, AllocError> {
+fn fate_of(scene: &Scene<'_, '_>, object: u64) -> Result<Fate, AllocError> {
     let Some(number) = maker_of(scene, object) else {
         return Ok(Fate::Gone);
     };
@@ -106,6 +114,16 @@ pub(crate) fn fate_of(scene: &Scene<'_, '_>, object: u64) -> Result<Fate, AllocE
     Ok(Fate::NotYet)
 }
 
+/// Whether the history has such a call, which makes an object where it is done.
+fn may_make(scene: &Scene<'_, '_>, number: u64) -> bool {
+    match scene.history.kind(number) {
+        Some(CallKind::Unanswered(procedure) | CallKind::Answered(procedure, None)) => {
+            is_maker(procedure)
+        }
+        _ => false,
+    }
+}
+
 /// Appends where an object comes from: the start, or the call that made it.
 pub(crate) fn push_origin(
     text: &mut Text<'_>,
@@ -113,8 +131,29 @@ pub(crate) fn push_origin(
     object: u64,
 ) -> Result<(), AllocError> {
     match maker_of(scene, object) {
-        Some(call) => text.push_number("made by call ", call),
+        Some(call) if may_make(scene, call) => text.push_number("made by call ", call),
+        Some(call) => text.push_number("not made by call ", call),
         None => text.push_words("there from the start"),
+    }
+}
+
+/// Appends where an object comes from that isn't in the tree, and what became of it.
+pub(crate) fn push_fate(
+    text: &mut Text<'_>,
+    scene: &Scene<'_, '_>,
+    object: u64,
+) -> Result<(), AllocError> {
+    match (fate_of(scene, object)?, maker_of(scene, object)) {
+        (Fate::NotMade, Some(call)) => text.push_number("not made by call ", call),
+        (Fate::Gone, _) => {
+            push_origin(text, scene, object)?;
+            text.push_words(", gone")
+        }
+        (Fate::Lost, _) => {
+            push_origin(text, scene, object)?;
+            text.push_words(", lost")
+        }
+        (Fate::NotYet | Fate::NotMade, _) => push_origin(text, scene, object),
     }
 }
 

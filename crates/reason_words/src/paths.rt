@@ -3,6 +3,9 @@
 use std::alloc::{AllocError, Global};
 use tree_nodes::Nodes;
 
+/// How many bytes of a path are told, and one name more.
+const MOST_BYTES: usize = 400;
+
 /// The object of the root directory.
 pub(crate) const ROOT: u64 = 0;
 
@@ -16,9 +19,12 @@ fn name_in(nodes: &Nodes, directory: u64, object: u64) -> Option<&[u8]> {
     None
 }
 
-/// The path that leads through these names, the last one first.
-fn joined(alloc: Global, names: &[&[u8]]) -> Result<Vec<u8>, AllocError> {
+/// The path that leads through these names, the last one first; behind two dots, if it doesn't begin at the root.
+fn joined(alloc: Global, names: &[&[u8]], is_whole: bool) -> Result<Vec<u8>, AllocError> {
     let mut path = Vec::new(alloc);
+    if !is_whole {
+        path.extend_from_slice(b"..")?;
+    }
     for name in names.iter().rev() {
         path.push(b'/')?;
         path.extend_from_slice(*name)?;
@@ -29,7 +35,7 @@ fn joined(alloc: Global, names: &[&[u8]]) -> Result<Vec<u8>, AllocError> {
     Ok(path)
 }
 
-/// The path of an object from the root, where it has one.
+/// The path of an object from the root, where it has one: its end, if it is a long one.
 pub(crate) fn path_of(
     alloc: Global,
     nodes: &Nodes,
@@ -37,9 +43,13 @@ pub(crate) fn path_of(
 ) -> Result<Option<Vec<u8>>, AllocError> {
     let mut names = Vec::new(alloc);
     let mut at = object;
+    let mut bytes: usize = 0;
     for _ in 0..nodes.count() {
         if at == ROOT {
-            return Ok(Some(joined(alloc, names.as_slice())?));
+            return Ok(Some(joined(alloc, names.as_slice(), true)?));
+        }
+        if bytes > MOST_BYTES {
+            return Ok(Some(joined(alloc, names.as_slice(), false)?));
         }
         let Some(directory) = nodes.parent(at) else {
             return Ok(None);
@@ -48,6 +58,7 @@ pub(crate) fn path_of(
             return Ok(None);
         };
         names.push(name)?;
+        bytes = bytes.saturating_add(name.len()).saturating_add(1);
         at = directory;
     }
     Ok(None)

@@ -83,6 +83,9 @@ fn push_absent(
     directory: u64,
     name: &[u8],
 ) -> Result<(), AllocError> {
+    if name.is_empty() {
+        return text.push_words("nothing has an empty name");
+    }
     text.push_words("nothing is ")?;
     push_path_below(text, scene, directory, name)
 }

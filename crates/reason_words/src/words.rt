@@ -6,7 +6,7 @@ use crate::faults::push_fault;
 use crate::illegal::push_illegal;
 use crate::lost::push_lost;
 use crate::scene::Scene;
-use certificate::{Certificate, TextFault, read_certificate};
+use certificate::Certificate;
 use cut_check::bindings_of_plan;
 use fault_reasons::{Reason, explain};
 use nfs_history::KnownCalls;
@@ -75,8 +75,9 @@ pub fn reason_text(
     text_of(alloc, history, certificate, reason, false)
 }
 
-/// The words of the reason why a certificate is no witness of a front of a history; none where it is one. An `Err` means that memory ran out.
-fn certificate_text(
+/// The words of the reason why a certificate is no witness of the front of a history, as lines of printable bytes; none where it is one. Of a call that
+/// has no reply in the front it isn't said that none came. An `Err` means that memory ran out.
+pub fn plan_text(
     alloc: Global,
     history: &KnownCalls<'_>,
     certificate: &Certificate,
@@ -84,19 +85,6 @@ fn certificate_text(
     match explain(alloc, history, certificate)? {
         Some(reason) => text_of(alloc, history, certificate, &reason, true),
         None => Ok(Vec::new(alloc)),
-    }
-}
-
-/// The same of a certificate's text; none where it is the text of none. Of a call that has no reply in the front it isn't said that none came.
-pub fn plan_text(
-    alloc: Global,
-    history: &KnownCalls<'_>,
-    text: &[u8],
-) -> Result<Vec<u8>, AllocError> {
-    match read_certificate(alloc, text) {
-        Ok(certificate) => certificate_text(alloc, history, &certificate),
-        Err(TextFault::NoMemory) => Err(AllocError),
-        Err(TextFault::BadLine(_)) => Ok(Vec::new(alloc)),
     }
 }
 

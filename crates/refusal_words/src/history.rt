@@ -1,6 +1,6 @@
 //! Why a history file is refused.
 
-use crate::lanes::{Earlier, earlier_than, lane_of, message_of, reply_to, transaction_of};
+use crate::lanes::{end_of_lane, lane_of, last_call, message_of, reply_to, transaction_of};
 use crate::messages::{push_arguments_fault, push_head_fault, push_result_fault};
 use crate::places::{Found, FoundEvent, Sought, find};
 use crate::wanted::wanted;
@@ -109,18 +109,22 @@ fn push_earlier(
 ) -> Result<(), AllocError> {
     let transaction = transaction_of(message_of(&found.event));
     let (earlier, words) = match (fault, transaction) {
-        (HistoryFault::LaneClosed(_), _) => (Earlier::End, "  the lane ended by event "),
-        (HistoryFault::XidInUse(_), Some(number)) => {
-            (Earlier::Call(number), "  the number is that of event ")
-        }
+        (HistoryFault::LaneClosed(_), _) => (
+            end_of_lane(bytes, begun, found),
+            "  the lane ended by event ",
+        ),
+        (HistoryFault::XidInUse(_), Some(number)) => (
+            last_call(bytes, begun, found, number),
+            "  the number is that of event ",
+        ),
         (HistoryFault::NoSuchCall(_), Some(number)) => (
-            Earlier::Call(number),
+            last_call(bytes, begun, found, number),
             "  the last call of the lane with its number is event ",
         ),
         _ => return Ok(()),
     };
     let mut text = Text::new(alloc);
-    match earlier_than(bytes, begun, found, earlier) {
+    match earlier {
         Some(event) => text.push_number(words, event)?,
         None => text.push_words("  no call of the lane has its number")?,
     }

@@ -1,17 +1,8 @@
-//! The earlier event with which an event is at fault.
+//! The events with which an event is at fault: earlier ones of its lane, or the reply to a call.
 
 use crate::places::{FoundEvent, next_of};
 use history_file::SeenEvent;
 use history_lines::BegunFile;
-
-/// What an earlier event has to be.
-#[derive(Clone, Copy)]
-pub(crate) enum Earlier {
-    /// A close of the lane, or a crash.
-    End,
-    /// A call of the lane with this transaction number.
-    Call(u32),
-}
 
 /// The lane of an event; none of a crash.
 pub(crate) fn lane_of(event: &SeenEvent<'_>) -> Option<u32> {
@@ -39,26 +30,51 @@ pub(crate) fn transaction_of(message: &[u8]) -> Option<u32> {
     }
 }
 
-impl Earlier {
-    /// Whether an event on a lane, or a crash, is such an event.
-    fn is(self, lane: Option<u32>, event: &SeenEvent<'_>) -> bool {
-        match (self, event) {
-            (Earlier::End, SeenEvent::Crash) => true,
-            (Earlier::End, SeenEvent::Close { .. }) => lane_of(event) == lane,
-            (Earlier::Call(number), SeenEvent::Call { message, .. }) => {
-                lane_of(event) == lane && transaction_of(message) == Some(number)
-            }
-            _ => false,
-        }
+/// Whether an event ends a lane: a close of it, or a crash where the lane was used.
+fn ends(event: &SeenEvent<'_>, lane: Option<u32>, is_used: bool) -> bool {
+    match event {
+        SeenEvent::Crash => is_used,
+        SeenEvent::Close { .. } => lane_of(event) == lane,
+        SeenEvent::Call { .. } | SeenEvent::Reply { .. } => false,
     }
 }
 
-/// The number of the last such event before one of the same lane.
-pub(crate) fn earlier_than(
+/// The number of the event that ended the lane of an event before it.
+pub(crate) fn end_of_lane(
     bytes: &[u8],
     begun: &BegunFile<'_>,
     found: &FoundEvent<'_>,
-    earlier: Earlier,
+) -> Option<u64> {
+    let lane = lane_of(&found.event);
+    let mut is_used = false;
+    let mut unread = begun.unread;
+    for _ in 1..found.number {
+        let (other, behind) = next_of(bytes, unread)?;
+        if ends(&other.event, lane, is_used) {
+            return Some(other.number);
+        }
+        is_used = is_used || lane_of(&other.event) == lane;
+        unread = behind;
+    }
+    None
+}
+
+/// Whether an event is a call on a lane with a transaction number.
+fn is_call(event: &SeenEvent<'_>, lane: Option<u32>, number: u32) -> bool {
+    match event {
+        SeenEvent::Call { message, .. } => {
+            lane_of(event) == lane && transaction_of(message) == Some(number)
+        }
+        _ => false,
+    }
+}
+
+/// The number of the event of the last call with a transaction number that came on the lane of an event before it.
+pub(crate) fn last_call(
+    bytes: &[u8],
+    begun: &BegunFile<'_>,
+    found: &FoundEvent<'_>,
+    number: u32,
 ) -> Option<u64> {
     let lane = lane_of(&found.event);
     let mut last = None;
@@ -67,7 +83,7 @@ pub(crate) fn earlier_than(
         let Some((other, behind)) = next_of(bytes, unread) else {
             break;
         };
-        if earlier.is(lane, &other.event) {
+        if is_call(&other.event, lane, number) {
             last = Some(other.number);
         }
         unread = behind;

@@ -76,7 +76,7 @@ call 3 LOOKUP directory \"/\" name \"f\"
   begun by event 5, answered by event 6
   placed at position 3 of era 1
   there \"/f\" is a file of 3 bytes, made by call 1, written last by call 2 WRITE, the name changed last by call 1 CREATE
-  NFS3ERR_NOENT has no cause there: no name that has to be there is missing
+  NFS3ERR_NOENT has no cause there: no name is missing from a directory that is there
   right there: NFS3_OK object \"/f\"
 "
     );
