@@ -12,7 +12,7 @@ from cases import calls
 from cases.history import (CRASH_EVENT, SEALED, STRICT, call_event, call_message, certificate, close_event, history_file, reply_event, reply_message,
                            start_directory, start_file, started_file)
 from cases.xdr import (BAD_COOKIE, BADHANDLE, DATA_SYNC, EXIST, FILE_SYNC, ISDIR, NOENT, NOT_SYNC, NOTDIR, NOTEMPTY, OK, REG, STALE, TOOSMALL, UNSTABLE, UNTOLD,
-                       attributes, double, optional, word)
+                       attributes, double, flag, opaque, optional, word)
 
 ROOT, FILE, OTHER, FOLDER, LINK = b"\0", b"\xaa", b"\xbb", b"\xd1", b"\x11"
 FIRST, SECOND = 1, 2
@@ -65,6 +65,7 @@ def placed(*numbers):
 
 CREATE = calls.create(ROOT, "f").gives(FILE)
 WRITE = calls.write(FILE, 0, b"abc").gives()
+SIX = calls.write(FILE, 0, b"abcdef").gives()
 
 
 # ---- a reply that the tree doesn't take, one for each procedure
@@ -108,6 +109,55 @@ def reason_read():
     it = Story()
     it.exchange(CREATE, calls.write(FILE, 0, digits).gives(), calls.write(FILE, 20, b"XY").gives(), calls.read(FILE, 8, 24).gives(digits[8:32], False))
     it.in_order("reason_read")
+    return it
+
+
+def reason_read_long():
+    """More bytes than were asked for: four for three, one for none, and four for two, of which half lie behind the file's end, with the count that was asked
+    for and without `eof`."""
+    it = Story()
+    it.exchange(CREATE, SIX)
+    it.at_once(calls.read(FILE, 0, 3).gives(b"abcd", False), calls.read(FILE, 0, 0).gives(b"a", False),
+               calls.read(FILE, 4, 2).gives(b"efgh", False, told=2))
+    it.certify("reason_read_long", placed(1, 2, 3, 4, 5))
+    it.certify("reason_read_none", placed(1, 2, 4, 3, 5))
+    it.certify("reason_read_wrong", placed(1, 2, 5, 3, 4))
+    return it
+
+
+def reason_read_count():
+    """All bytes, and the count of half of them."""
+    it = Story()
+    it.exchange(CREATE, SIX, calls.read(FILE).gives(b"abcdef", True, told=3))
+    it.in_order("reason_read_count")
+    return it
+
+
+def reason_read_no_eof():
+    """All bytes, none from behind the end, and none of a file that is empty until the WRITE: each time `eof` is left out."""
+    it = Story()
+    it.exchange(CREATE)
+    it.at_once(SIX, calls.read(FILE).gives(b"abcdef", False), calls.read(FILE, 10, 5).gives(b"", False), calls.read(FILE, 0, 0).gives(b"", False))
+    it.certify("reason_read_no_eof", placed(1, 2, 3, 4, 5))
+    it.certify("reason_read_behind", placed(1, 2, 4, 3, 5))
+    it.certify("reason_read_empty", placed(1, 5, 2, 3, 4))
+    return it
+
+
+def reason_read_eof():
+    """Half of the bytes, which may be, and `eof`."""
+    it = Story()
+    it.exchange(CREATE, SIX, calls.read(FILE).gives(b"abc", True))
+    it.in_order("reason_read_eof")
+    return it
+
+
+def reason_read_short():
+    """Half of the bytes, which may be. Attributes are judged: it tells that the file has seven."""
+    it = Story([], STRICT)
+    success = word(OK) + optional(attributes(REG, 7)) + word(3) + flag(False) + opaque(b"abc")
+    it.exchange(CREATE, SIX, dataclasses.replace(calls.read(FILE), result=success))
+    it.in_order("reason_read_short")
     return it
 
 
@@ -345,9 +395,10 @@ REFUSED = {
 }
 
 
-MADE = [reason_getattr, reason_setattr, reason_lookup, reason_readlink, reason_read, reason_write, reason_create, reason_mkdir, reason_symlink, reason_remove,
-        reason_rmdir, reason_rename, reason_readdir, reason_readdirplus, reason_commit, reason_gone, reason_claims, reason_quoted, reason_strict, reason_lost,
-        reason_synced, reason_verifiers, reason_hidden, reason_shape]
+MADE = [reason_getattr, reason_setattr, reason_lookup, reason_readlink, reason_read, reason_read_long, reason_read_count, reason_read_no_eof,
+        reason_read_eof, reason_read_short, reason_write, reason_create, reason_mkdir, reason_symlink, reason_remove, reason_rmdir, reason_rename,
+        reason_readdir, reason_readdirplus, reason_commit, reason_gone, reason_claims, reason_quoted, reason_strict, reason_lost, reason_synced,
+        reason_verifiers, reason_hidden, reason_shape]
 
 
 def main():

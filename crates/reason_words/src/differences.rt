@@ -1,27 +1,28 @@
 //! Where a reply and the tree differ.
 
 use crate::lists::{push_names, push_names_plus};
+use crate::objects::push_count;
 use crate::scene::{Scene, push_line};
 use history_lines::Text;
 use nfs3_types::{Answer, NfsCall, NfsReply, Outcome, ReadArguments, ReadSuccess};
 use std::alloc::AllocError;
 use tree_handles::{View, file_of};
-use tree_nodes::Nodes;
+use tree_nodes::{Nodes, reaches_end};
 
 /// How many bytes ahead of the first that differ are shown, and how many in all.
 const AHEAD: usize = 4;
 
 const SHOWN: usize = 16;
 
-/// Where two texts differ first, if they do.
-fn first_difference(one: &[u8], other: &[u8]) -> Option<usize> {
-    let count = one.len().min(other.len());
+/// Where the bytes of a reply first aren't those of the file, if they aren't. A reply may have fewer bytes than are there.
+fn first_difference(there: &[u8], given: &[u8]) -> Option<usize> {
+    let count = there.len().min(given.len());
     for at in 0..count {
-        if one[at] != other[at] {
+        if there[at] != given[at] {
             return Some(at);
         }
     }
-    if one.len() == other.len() {
+    if given.len() <= there.len() {
         None
     } else {
         Some(count)
@@ -43,7 +44,7 @@ fn push_bytes(text: &mut Text<'_>, words: &str, bytes: &[u8]) -> Result<(), Allo
     text.push_hex(bytes)
 }
 
-/// A line of the bytes around the first that differ, of which these stand in the file from an offset on, and these in the reply.
+/// A line of the bytes around the first that differ, if any do, of which these stand in the file from an offset on, and these in the reply.
 fn push_around(
     lines: &mut Vec<u8>,
     scene: &Scene<'_, '_>,
@@ -63,14 +64,107 @@ fn push_around(
     push_line(lines, text)
 }
 
-/// The bytes of a file that a READ asks for.
-fn asked<'b>(bytes: &'b [u8], call: &ReadArguments) -> &'b [u8] {
-    let start = call.offset.min(bytes.len() as u64) as usize;
+/// The bytes that a file has from an offset on, at most so many.
+fn piece(bytes: &[u8], offset: u64, count: usize) -> &[u8] {
+    let start = offset.min(bytes.len() as u64) as usize;
     let behind = &bytes[start..];
-    &behind[..behind.len().min(call.count as usize)]
+    &behind[..behind.len().min(count)]
 }
 
-/// The line of a READ. A reply may give fewer bytes than are there.
+/// Appends words and how many bytes there are.
+fn push_size(text: &mut Text<'_>, words: &str, count: usize) -> Result<(), AllocError> {
+    push_count(text, words, count as u64, " byte", " bytes")
+}
+
+/// A line that a READ was answered with more bytes than it asked for, where it was.
+fn push_too_many(
+    lines: &mut Vec<u8>,
+    scene: &Scene<'_, '_>,
+    asked: u32,
+    given: usize,
+) -> Result<(), AllocError> {
+    if given <= asked as usize {
+        return Ok(());
+    }
+    let mut text = Text::new(scene.alloc);
+    push_size(&mut text, "  the reply has ", given)?;
+    text.push_number(", and ", u64::from(asked))?;
+    text.push_words(if asked == 1 { " was" } else { " were" })?;
+    text.push_words(" asked for")?;
+    push_line(lines, text)
+}
+
+/// A line that the count of a reply isn't that of its bytes, where it isn't.
+fn push_miscount(
+    lines: &mut Vec<u8>,
+    scene: &Scene<'_, '_>,
+    told: u32,
+    given: usize,
+) -> Result<(), AllocError> {
+    if told as usize == given {
+        return Ok(());
+    }
+    let mut text = Text::new(scene.alloc);
+    text.push_number("  the count is ", u64::from(told))?;
+    push_size(&mut text, ", and the data have ", given)?;
+    push_line(lines, text)
+}
+
+/// A line that a reply tells the file's end where it isn't, in a file of this size.
+fn push_false_end(
+    lines: &mut Vec<u8>,
+    scene: &Scene<'_, '_>,
+    size: usize,
+) -> Result<(), AllocError> {
+    let mut text = Text::new(scene.alloc);
+    let words = "  the reply says that the file ends there (eof), and the file has ";
+    push_size(&mut text, words, size)?;
+    push_line(lines, text)
+}
+
+/// A line that a reply doesn't tell the file's end. From the end on a READ gets no bytes that could reach it.
+fn push_untold_end(
+    lines: &mut Vec<u8>,
+    scene: &Scene<'_, '_>,
+    size: usize,
+    offset: u64,
+) -> Result<(), AllocError> {
+    let mut text = Text::new(scene.alloc);
+    if size as u64 <= offset {
+        text.push_number("  the file has no bytes from byte ", offset)?;
+        text.push_words(" on")?;
+    } else {
+        text.push_words("  these bytes reach the end of the file")?;
+    }
+    text.push_words(", and the reply doesn't say so (eof)")?;
+    push_line(lines, text)
+}
+
+/// The lines of a READ of a file of these bytes, one for each rule that its reply breaks (RFC 1813, section 3.3.6).
+fn push_read_of(
+    lines: &mut Vec<u8>,
+    scene: &Scene<'_, '_>,
+    bytes: &[u8],
+    call: &ReadArguments,
+    success: &ReadSuccess,
+) -> Result<(), AllocError> {
+    let given = success.bytes.as_slice();
+    let count = given.len();
+    let there = piece(bytes, call.offset, count.max(call.count as usize));
+    push_around(lines, scene, call.offset, there, given)?;
+    push_too_many(lines, scene, call.count, count)?;
+    push_miscount(lines, scene, success.count, count)?;
+    if success.eof == reaches_end(bytes.len(), call.offset, count) {
+        return Ok(());
+    }
+    if success.eof {
+        push_false_end(lines, scene, bytes.len())
+    } else {
+        push_untold_end(lines, scene, bytes.len(), call.offset)
+    }
+}
+
+/// The lines of a READ, where its handle is that of a file.
 fn push_read(
     lines: &mut Vec<u8>,
     scene: &Scene<'_, '_>,
@@ -87,8 +181,7 @@ fn push_read(
     };
     let mut all = Vec::new(scene.alloc);
     entry.file.bytes.put(&mut all)?;
-    let there = asked(all.as_slice(), call);
-    push_around(lines, scene, call.offset, there, success.bytes.as_slice())
+    push_read_of(lines, scene, all.as_slice(), call, success)
 }
 
 /// Lines of where a reply differs from the tree, of calls that read or list.

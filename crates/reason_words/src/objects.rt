@@ -114,10 +114,10 @@ fn fate_of(scene: &Scene<'_, '_>, object: u64) -> Result<Fate, AllocError> {
     Ok(Fate::NotYet)
 }
 
-/// Whether the history has such a call, which makes an object where it is done.
+/// Whether the history has such a call, which makes an object where it succeeds.
 fn may_make(scene: &Scene<'_, '_>, number: u64) -> bool {
     match scene.history.kind(number) {
-        Some(CallKind::Unanswered(procedure) | CallKind::Answered(procedure, None)) => {
+        Some(CallKind::Unanswered(procedure) | CallKind::Answered(procedure, _)) => {
             is_maker(procedure)
         }
         _ => false,
