@@ -110,6 +110,16 @@ impl<'s, 'a> Source<'s, 'a> {
         era
     }
 
+    /// The event of the crash at which an era ends; none of the last one.
+    fn end_of_era(self, era: u64) -> Option<u64> {
+        let event = self.crash_event(era);
+        let index = event.checked_sub(1)?;
+        match self.events.get(index as usize) {
+            Some(SeenEvent::Crash) => Some(event),
+            _ => None,
+        }
+    }
+
     /// The crashes among some events.
     fn crashes(self, alloc: Global, span: Span) -> Result<Vec<u64>, AllocError> {
         let mut crashes = Vec::new(alloc);
@@ -168,17 +178,24 @@ struct Choice<'s, 'a> {
     span: Span,
     /// The era of the first event that is drawn.
     era: u64,
+    /// The event of the crash at its end, where there is one.
+    crash: Option<u64>,
 }
 
 impl<'s, 'a> Choice<'s, 'a> {
+    /// How a call lies to the events. One without a reply ends at the crash of its era.
     fn lying(self, number: u64) -> Lying {
         let known = self.source.known;
         let first = known.begin(number);
-        let last = known.end(number).unwrap_or(u64::MAX);
+        let is_of_era = known.era(number) == Some(self.era);
+        let last = match known.end(number) {
+            Some(last) => last,
+            None if is_of_era => self.crash.unwrap_or(u64::MAX),
+            None => u64::MAX,
+        };
         if self.span.has(first) || self.span.has(last) {
             return Lying::Inside;
         }
-        let is_of_era = known.era(number) == Some(self.era);
         if is_of_era && first < self.span.first && self.span.last < last {
             return Lying::Across;
         }
@@ -263,10 +280,12 @@ fn bare_picture(
     let (from, to) = source.ends(request.window);
     let (first, last) = (from.max(1), to.min(events));
     let span = Span::of(first, last);
+    let era = source.era_of(span.first);
     let choice = Choice {
         source,
         span,
-        era: source.era_of(span.first),
+        era,
+        crash: source.end_of_era(era),
     };
     let bars = choice.bars(alloc, &standings)?;
     let lanes = lanes_of(alloc, bars.as_slice())?;

@@ -134,7 +134,7 @@ fn push_order(
     let mut text = Text::new(scene.alloc);
     match order {
         [] if open.is_empty() => text.push_words("in an order that explains all before it:")?,
-        [] => text.push_words("in an order that explains all before it, with no open call done:")?,
+        [] => text.push_words("in an order that explains all before it, with none of these done:")?,
         [first, others @ ..] => push_done(&mut text, *first, others, scene.stays)?,
     }
     push_line(lines, text)
