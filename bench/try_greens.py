@@ -51,7 +51,7 @@ from wrong_server import Program, read_words
 
 HERE = pathlib.Path(__file__).resolve()
 HOST = "127.0.0.1"
-PATIENCE, LONG = 150, 900
+PATIENCE, LONG = 400, 1800
 SHORT = {"clients": 2, "calls": 80, "reply-seconds": 20, "up-seconds": 20, "order-seconds": 20, "search-seconds": 60}
 # What a night tells of its way.
 PROGRESS = r"(?m)^crash \d+: (noted|the server is up)\n"
@@ -140,28 +140,36 @@ class CrossesLanes(Faulty):
     def __init__(self, *words, **named):
         super().__init__(*words, **named)
         self.open: list[Call] = []
-        self.held: dict[int, Call] = {}
+        # By transaction number the call whose reply is kept back, and the one that it waits for.
+        self.held: dict[int, tuple[Call, Call]] = {}
 
     def arrive(self, call: Call) -> None:
         super().arrive(call)
         self.open.append(call)
 
     def outgoing(self, call: Call) -> tuple[bytes, bool]:
-        self.open.remove(call)
-        is_quiet, held = call.procedure in self.quiet and is_success(call), self.held.pop(call.xid, None)
-        if held is not None and is_quiet:
-            self.happens(f"xid {call.xid}")
-            held.lane.send(framed(accepted(call)))
-            return framed(accepted(held)), False
-        if held is not None:
-            held.lane.send(framed(accepted(held)))
-        if is_quiet and any(self.may_cross(call, other) for other in self.open):
-            self.held[call.xid] = call
+        self.open = [other for other in self.open if other is not call]
+        is_quiet = call.procedure in self.quiet and is_success(call)
+        held, partner = self.held.get(call.xid, (None, None))
+        if partner is call:
+            return self.answer_both(held, call, is_quiet)
+        partner = next((other for other in self.open if self.may_cross(call, other)), None)
+        if is_quiet and held is None and partner is not None:
+            self.held[call.xid] = call, partner
             return b"", False
         return super().outgoing(call)
 
+    def answer_both(self, held: Call, call: Call, is_crossed: bool) -> tuple[bytes, bool]:
+        """Sends what was kept back, and the reply that came now: each to the other's connection, or to its own."""
+        del self.held[call.xid]
+        first, second = (call, held) if is_crossed else (held, call)
+        if is_crossed:
+            self.happens(f"xid {call.xid}")
+        held.lane.send(framed(accepted(first)))
+        return framed(accepted(second)), False
+
     def may_cross(self, call: Call, other: Call) -> bool:
-        return other.xid == call.xid and other.lane is not call.lane and other.lane.is_open
+        return other.xid == call.xid and other.lane is not call.lane and other.lane.is_open and other.procedure in self.quiet
 
 
 class GivesNoByte(Faulty):
@@ -258,10 +266,10 @@ class FailsLists(Fails):
 
 
 class DiskFull(Faulty):
-    """The server's disk is full: each WRITE and SETATTR, and all that makes something, fails with NFS3ERR_NOSPC once a file is there."""
+    """The server's disk is full: each WRITE, and all that makes something, fails with NFS3ERR_NOSPC once a file is there."""
 
     def run(self, call: Call) -> bytes:
-        if call.procedure in (nfs.WRITE, nfs.SETATTR, nfs.CREATE, nfs.MKDIR, nfs.SYMLINK) and self.tree.last_number > 3:
+        if call.procedure in (nfs.WRITE, nfs.CREATE, nfs.MKDIR, nfs.SYMLINK) and self.tree.last_number > 3:
             self.happens(call.name)
             raise Failed("NOSPC")
         return super().run(call)
@@ -514,11 +522,24 @@ class Setting:
 
 
 def run_line(line: list, seconds: float, **named) -> Answer:
+    """Runs a command in a group of its own, of which nothing outlives the call."""
+    child = subprocess.Popen(line, stdin=subprocess.DEVNULL, stdout=subprocess.PIPE, stderr=subprocess.PIPE, text=True, errors="replace",
+                             start_new_session=True, **named)
     try:
-        ran = subprocess.run(line, capture_output=True, text=True, errors="replace", timeout=seconds, stdin=subprocess.DEVNULL, **named)
+        out, err = child.communicate(timeout=seconds)
     except subprocess.TimeoutExpired:
         return Answer(None, f"not over after {seconds} s")
-    return Answer(ran.returncode, ran.stdout, ran.stderr)
+    finally:
+        end_group(child)
+    return Answer(child.returncode, out, err)
+
+
+def end_group(child: subprocess.Popen) -> None:
+    try:
+        os.killpg(child.pid, signal.SIGKILL)
+    except ProcessLookupError:
+        pass
+    child.wait()
 
 
 def night(setting: Setting, server: list[str], given: dict = {}, flags=(), crashes=(), way=None, meanwhile=lambda night: None, program=None,
@@ -561,8 +582,8 @@ def has_begun(tried: Night, clients: int = SHORT["clients"]) -> None:
 class Visitor:
     """A client of a recorder, which makes a few calls."""
 
-    def __init__(self, port: int, root: bytes):
-        self.peer, self.root, self.xid = Peer(port), root, 0
+    def __init__(self, port: int, root: bytes, seconds: float = 10):
+        self.peer, self.root, self.xid = Peer(port, seconds), root, 0
 
     def send(self, procedure: int, arguments: dict) -> None:
         self.xid += 1
@@ -618,8 +639,8 @@ class Recording:
         assert soon(lambda: listens(self.at) or self.tap.poll() is not None, PATIENCE), "the recorder doesn't listen"
         self.root = Trial.mounted(self)
 
-    def visitor(self) -> Visitor:
-        return Visitor(self.at, self.root)
+    def visitor(self, seconds: float = 10) -> Visitor:
+        return Visitor(self.at, self.root, seconds)
 
     def order(self, text: str) -> None:
         with open(self.orders, "a") as file:
@@ -693,7 +714,8 @@ def script(name: str, *given):
         line = [sys.executable, HERE.parent / name, setting.program, *map(str, given)]
         ran = run_line(line, LONG, cwd=HERE.parent, env={**os.environ, "PYTHONDONTWRITEBYTECODE": "1"})
         lines = [line for line in ran.out.splitlines() if line and not re.match(r"\d+ of \d+ as wanted|the right server", line)]
-        return Answer(1 if ran.status == 0 else 0, " / ".join(lines), ran.err)
+        assert ran.status == 0, " / ".join([*lines, ran.err])
+        return Answer(1, " / ".join(lines))
     return trial
 
 
@@ -823,7 +845,8 @@ TESTS = [
     server_row("a list without end", EndlessList, "^(no|undecided|refused): "),
     server_row("swallows until the crash", SwallowsUntilCrash, "^no: no reply", often=20, given={"calls": 300, "depth": 16}, crashes=ONE_CRASH),
     server_row("refused by RPC", RefusesByRpc, "^no: .*RPC refused"),
-    server_row("(h) crossed lanes", CrossesLanes, "^no: ", given={"clients": 8, "depth": 16, "calls": 200, "mix": "private"}),
+    Row("(h) crossed lanes", CrossesLanes.line(), "test, the server has crosses_lanes",
+        lambda setting: night(setting, [*fault(CrossesLanes), "--delay", "30000"], {"clients": 8, "depth": 16, "calls": 150}), "^no: "),
     theirs("no reply", "One call in forty is never answered", "test", "try_nights.py", "--port", "32400", "no reply"),
     theirs("replies twice", "Replies are sent twice", "test", "try_nights.py", "--port", "32402", "a second reply"),
     theirs("another number", "Replies to another transaction number come too", "test", "try_nights.py", "--port", "32404", "another's transaction"),
@@ -943,7 +966,7 @@ def beyond_start(setting: Setting) -> Answer:
         with open(start / f"f{number}", "wb") as file:
             file.truncate(16_777_216 if number < 15 else 16_000_000)
     recording = Recording(setting, RIGHT, ["--start", str(start)])
-    client = recording.visitor()
+    client = recording.visitor(PATIENCE)
     file = client.make(b"a")
     for _ in range(4):
         client.write(file, bytes(500_000))
@@ -1287,6 +1310,7 @@ def main() -> None:
     parser.add_argument("--trace", action="store_true", help="tells where a broken trial broke")
     words = parser.parse_args()
     process.SERVER = HERE
+    signal.signal(signal.SIGTERM, lambda *_: sys.exit(1))
     rows = [(number, row) for number, row in enumerate(ROWS) if not words.only or any(name in row.name for name in words.only)]
     print("| row | what is wrong | command | wanted at least | printed | judgement |\n|---|---|---|---|---|---|")
     folder = pathlib.Path(tempfile.mkdtemp(prefix="greens-"))
