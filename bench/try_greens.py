@@ -52,7 +52,7 @@ from wrong_server import Program, read_words
 HERE = pathlib.Path(__file__).resolve()
 HOST = "127.0.0.1"
 PATIENCE, LONG = 400, 1800
-SHORT = {"clients": 2, "calls": 80, "reply-seconds": 20, "up-seconds": 20, "order-seconds": 20, "search-seconds": 60}
+SHORT = {"clients": 2, "calls": 80, "reply-seconds": 20, "up-seconds": 20, "order-seconds": 20, "search-seconds": 600}
 # What a night tells of its way.
 PROGRESS = r"(?m)^crash \d+: (noted|the server is up)\n"
 FAKETIME = next(pathlib.Path("/usr/lib").glob("*/faketime/libfaketimeMT.so.1"), None)
@@ -134,42 +134,41 @@ class CacheByNumber(Faulty):
 
 
 class CrossesLanes(Faulty):
-    """Where two connections wait for replies of one transaction number that say nothing, each gets that of the other."""
+    """A reply that says little waits for the other connection's reply of its transaction number; if that says as much, each gets the other's."""
     quiet = {nfs.SETATTR, nfs.REMOVE, nfs.RMDIR}
 
     def __init__(self, *words, **named):
         super().__init__(*words, **named)
-        self.open: list[Call] = []
-        # By transaction number the call whose reply is kept back, and the one that it waits for.
-        self.held: dict[int, tuple[Call, Call]] = {}
+        # The last transaction number of each connection, and the calls whose replies are kept back.
+        self.reached: dict = {}
+        self.held: dict[int, Call] = {}
 
     def arrive(self, call: Call) -> None:
         super().arrive(call)
-        self.open.append(call)
+        self.reached[call.lane] = call.xid
 
     def outgoing(self, call: Call) -> tuple[bytes, bool]:
-        self.open = [other for other in self.open if other is not call]
-        is_quiet = call.procedure in self.quiet and is_success(call)
-        held, partner = self.held.get(call.xid, (None, None))
-        if partner is call:
-            return self.answer_both(held, call, is_quiet)
-        partner = next((other for other in self.open if self.may_cross(call, other)), None)
-        if is_quiet and held is None and partner is not None:
-            self.held[call.xid] = call, partner
+        told, held = self.told(call), self.held.pop(call.xid, None)
+        if held is not None:
+            return self.answer_both(held, call, told is not None and told == self.told(held))
+        if told is not None and any(lane.is_open and lane is not call.lane and xid < call.xid for lane, xid in self.reached.items()):
+            self.held[call.xid] = call
             return b"", False
         return super().outgoing(call)
 
+    def told(self, call: Call):
+        """What is judged of a reply, if that is little: that it is a success, or the status of a failure."""
+        if not is_success(call):
+            return call.procedure, call.results[:4]
+        return "success" if call.procedure in self.quiet else None
+
     def answer_both(self, held: Call, call: Call, is_crossed: bool) -> tuple[bytes, bool]:
         """Sends what was kept back, and the reply that came now: each to the other's connection, or to its own."""
-        del self.held[call.xid]
         first, second = (call, held) if is_crossed else (held, call)
         if is_crossed:
             self.happens(f"xid {call.xid}")
         held.lane.send(framed(accepted(first)))
         return framed(accepted(second)), False
-
-    def may_cross(self, call: Call, other: Call) -> bool:
-        return other.xid == call.xid and other.lane is not call.lane and other.lane.is_open and other.procedure in self.quiet
 
 
 class GivesNoByte(Faulty):
@@ -846,7 +845,7 @@ TESTS = [
     server_row("swallows until the crash", SwallowsUntilCrash, "^no: no reply", often=20, given={"calls": 300, "depth": 16}, crashes=ONE_CRASH),
     server_row("refused by RPC", RefusesByRpc, "^no: .*RPC refused"),
     Row("(h) crossed lanes", CrossesLanes.line(), "test, the server has crosses_lanes",
-        lambda setting: night(setting, [*fault(CrossesLanes), "--delay", "30000"], {"clients": 8, "depth": 16, "calls": 150}), "^no: "),
+        lambda setting: night(setting, fault(CrossesLanes), {"depth": 1, "calls": 200, "seed": 5}), "^no: "),
     theirs("no reply", "One call in forty is never answered", "test", "try_nights.py", "--port", "32400", "no reply"),
     theirs("replies twice", "Replies are sent twice", "test", "try_nights.py", "--port", "32402", "a second reply"),
     theirs("another number", "Replies to another transaction number come too", "test", "try_nights.py", "--port", "32404", "another's transaction"),
