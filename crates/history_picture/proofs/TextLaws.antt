@@ -1,11 +1,11 @@
 -- What stands for bytes is text.
 use Rattle.std.proofs.Common.{◌≡◌, inl, inr, ⊎_elim, ℕ, zero, suc, ◌+◌, ◌-◌, ◌/◌, ◌%◌, ◌<◌, ◌≤◌, Bool, true, false, cond, nat_lt, List, [], ◌∷◌, ◌++◌, slice_index, Option, Some, None, refl, sym, ap, subst, ◌∙◌, arith, lt-ltb, le-ltb}
-use Rattle.std.specs.Prelude.{◌==◌}
-use Rattle.std.proofs.lemmas.Bool.{cases_Bool, cases_lt, cond-true, cond-false}
+use Rattle.std.specs.Prelude.{◌==◌, ◌||◌}
+use Rattle.std.proofs.lemmas.Bool.{cases_Bool, cases_lt, cond-true, cond-false, or_parts}
 use Rattle.std.proofs.lemmas.Bool.Decides.{nat_tests}
 use Rattle.std.specs.Char.{encode_utf8}
 use Rattle.std.specs.List.{AllByRecursion}
-use Rattle.history_picture.specs.Escaping.{is_markup, is_hidden, MayStand, IsTextPart, IsText, hex_digit, four_digits, byte_escape, char_escape, shown_char, first_char, shown_first, taken_first, escaped_behind, escaped}
+use Rattle.history_picture.specs.Escaping.{is_markup, is_control, is_noncharacter, is_unseen, is_hidden, MayStand, IsTextPart, IsText, hex_digit, four_digits, byte_escape, char_escape, shown_char, first_char, shown_first, taken_first, escaped_behind, escaped}
 
 -- ---- escapes
 
@@ -58,8 +58,13 @@ char_escape_stands c =
 high_stands : (b : ℕ) → 0x80 ≤ b → MayStand b
 high_stands b high = grind (arith, nat_tests)
 
-low_stands : (c : ℕ) → c < 128 → is_markup c ≡ false → is_hidden c ≡ false → MayStand c
-low_stands c low unmarked seen = grind (arith, nat_tests)
+no_control : (c : ℕ) → is_hidden c ≡ false → is_control c ≡ false
+no_control c seen =
+    let front = or_parts (is_control c || is_noncharacter c) (is_unseen c) seen in
+    let parts = or_parts (is_control c) (is_noncharacter c) front.0 in parts.0
+
+low_stands : (c : ℕ) → c < 128 → is_markup c ≡ false → is_control c ≡ false → MayStand c
+low_stands c low unmarked uncontrolled = grind (arith, nat_tests)
 
 either_stands : (b : Bool) (xs ys : List ℕ) → (b ≡ true → AllByRecursion MayStand xs) → (b ≡ false → AllByRecursion MayStand ys)
     → AllByRecursion MayStand (cond b xs ys)
@@ -74,7 +79,7 @@ plain_stands c unmarked seen =
     (cond (nat_lt c 2048) ((192 + c / 64) ∷ (128 + c % 64) ∷ [])
     (cond (nat_lt c 65536) ((224 + c / 4096) ∷ (128 + c / 64 % 64) ∷ (128 + c % 64) ∷ [])
     ((240 + c / 262144) ∷ (128 + c / 4096 % 64) ∷ (128 + c / 64 % 64) ∷ (128 + c % 64) ∷ [])))
-    (λ one. let low : c < 128 = grind (arith, nat_tests) in (low_stands c low unmarked seen, tt))
+    (λ one. let low : c < 128 = grind (arith, nat_tests) in (low_stands c low unmarked (no_control c seen), tt))
     (λ more. either_stands (nat_lt c 2048) ((192 + c / 64) ∷ (128 + c % 64) ∷ [])
     (cond (nat_lt c 65536) ((224 + c / 4096) ∷ (128 + c / 64 % 64) ∷ (128 + c % 64) ∷ [])
     ((240 + c / 262144) ∷ (128 + c / 4096 % 64) ∷ (128 + c / 64 % 64) ∷ (128 + c % 64) ∷ []))

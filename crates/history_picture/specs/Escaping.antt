@@ -36,9 +36,27 @@ abbrev pub is_noncharacter : ℕ → Bool
 is_noncharacter c = is_in_range 0xFDD0 0xFDEF c || nat_lt 0xFFFD (c % 0x10000)
 
 -- it turns the direction of a text (Unicode Standard Annex 9, section 2), joins or parts what stands beside it, or begins a line
-abbrev pub is_unseen : ℕ → Bool
-is_unseen c =
+abbrev pub is_turning : ℕ → Bool
+is_turning c =
     c == 0x61C || is_in_range 0x200B 0x200F c || is_in_range 0x2028 0x202E c || is_in_range 0x2060 0x206F c || c == 0xFEFF
+
+-- it is a letter without a shape: a Hangul filler (Unicode Standard, section 18.6) or an inherent vowel of Khmer (16.4)
+abbrev pub is_filler : ℕ → Bool
+is_filler c = is_in_range 0x115F 0x1160 c || is_in_range 0x17B4 0x17B5 c || c == 0x3164 || c == 0xFFA0
+
+-- it chooses the shape of what stands before it (section 23.4), or is a tag (23.9)
+abbrev pub is_selector : ℕ → Bool
+is_selector c = is_in_range 0x180B 0x180F c || is_in_range 0xFE00 0xFE0F c || is_in_range 0xE0000 0xE0FFF c
+
+-- it marks a break, an annotation (section 23.8), shorthand or music, without a shape of its own
+abbrev pub is_marking : ℕ → Bool
+is_marking c =
+    c == 0xAD || c == 0x34F || is_in_range 0xFFF0 0xFFFB c || is_in_range 0x1BCA0 0x1BCA3 c || is_in_range 0x1D173 0x1D17A c
+
+-- these are all characters of Default_Ignorable_Code_Point (Unicode Character Database, DerivedCoreProperties.txt), those of interlinear
+-- annotation (Unicode Standard, section 23.8), and the two that begin a line
+abbrev pub is_unseen : ℕ → Bool
+is_unseen c = is_turning c || is_filler c || is_selector c || is_marking c
 
 abbrev pub is_hidden : ℕ → Bool
 is_hidden c = is_control c || is_noncharacter c || is_unseen c

@@ -180,28 +180,28 @@ fn put_words(page: &mut Page, bar: &Bar, is_begun: bool) -> Result<(), AllocErro
     page.fixed(Fixed::EndTitle)
 }
 
-/// The outline of a call.
+/// The outline of a call. One that began before the first event has no left edge, and ends at its reply or at a crash.
 fn outline_of(bar: &Bar, drawn: &Drawn) -> Shape {
     let bottom = drawn.top.saturating_add(BAR);
     let class = match bar.last {
         Some(_) => Class::Cut,
         None => Class::Unanswered,
     };
-    if drawn.is_open_right {
-        return Shape::Open {
-            class,
-            free: drawn.right,
-            top: drawn.top,
-            closed: drawn.left,
-            bottom,
-        };
-    }
     if drawn.is_open_left {
         return Shape::Open {
             class,
             free: drawn.left,
             top: drawn.top,
             closed: drawn.right,
+            bottom,
+        };
+    }
+    if drawn.is_open_right {
+        return Shape::Open {
+            class,
+            free: drawn.right,
+            top: drawn.top,
+            closed: drawn.left,
             bottom,
         };
     }

@@ -2,7 +2,7 @@
 
 ghost use Rattle.std.specs.Prelude.{◌≡◌, ◌<◌, ◌≤◌, ◌++◌, length, encode_utf8, option_map, IfOk, IfSome, OnOk};
 ghost use Rattle.std.specs.Int.{is_in_range};
-ghost use Rattle.history_picture.specs.Escaping.{is_control, is_noncharacter, is_unseen, is_hidden, hex_digit, four_digits, byte_escape, char_escape, shown_char, first_char, shown_first, taken_first, escaped, IsText};
+ghost use Rattle.history_picture.specs.Escaping.{is_control, is_noncharacter, is_turning, is_filler, is_selector, is_marking, is_unseen, is_hidden, hex_digit, four_digits, byte_escape, char_escape, shown_char, first_char, shown_first, taken_first, escaped, IsText};
 
 use bstr::decode_utf8;
 use std::alloc::{AllocError, Global};
@@ -29,14 +29,51 @@ fn is_noncharacter(code: u32) -> bool
 }
 
 /// Whether it turns the direction of a text, joins or parts what stands beside it, or begins a line.
-fn is_unseen(code: u32) -> bool
-    ensures { result ≡ is_unseen code }
+fn is_turning(code: u32) -> bool
+    ensures { result ≡ is_turning code }
 {
     code == 0x61c
         || is_between(0x200b, 0x200f, code)
         || is_between(0x2028, 0x202e, code)
         || is_between(0x2060, 0x206f, code)
         || code == 0xfeff
+}
+
+/// Whether it is a letter without a shape.
+fn is_filler(code: u32) -> bool
+    ensures { result ≡ is_filler code }
+{
+    is_between(0x115f, 0x1160, code)
+        || is_between(0x17b4, 0x17b5, code)
+        || code == 0x3164
+        || code == 0xffa0
+}
+
+/// Whether it chooses the shape of what stands before it, or is a tag.
+fn is_selector(code: u32) -> bool
+    ensures { result ≡ is_selector code }
+{
+    is_between(0x180b, 0x180f, code)
+        || is_between(0xfe00, 0xfe0f, code)
+        || is_between(0xe0000, 0xe0fff, code)
+}
+
+/// Whether it marks a break, an annotation, shorthand or music, without a shape of its own.
+fn is_marking(code: u32) -> bool
+    ensures { result ≡ is_marking code }
+{
+    code == 0xad
+        || code == 0x34f
+        || is_between(0xfff0, 0xfffb, code)
+        || is_between(0x1bca0, 0x1bca3, code)
+        || is_between(0x1d173, 0x1d17a, code)
+}
+
+/// Whether it has no shape of its own, or begins a line.
+fn is_unseen(code: u32) -> bool
+    ensures { result ≡ is_unseen code }
+{
+    is_turning(code) || is_filler(code) || is_selector(code) || is_marking(code)
 }
 
 /// Whether a character can't be seen in a page, or may not stand there.

@@ -163,9 +163,9 @@ impl<'s, 'a> Source<'s, 'a> {
 /// How a call lies to the events that are drawn.
 #[derive(Clone, Copy)]
 enum Lying {
-    /// One of its events is among them.
+    /// Its event, or that at which it is over, is among them.
     Inside,
-    /// It began before them, and had no reply up to the last.
+    /// It began before them, and wasn't over up to the last.
     Across,
     /// It is over before them, or begins behind them.
     Outside,

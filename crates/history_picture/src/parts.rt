@@ -56,7 +56,7 @@ pub struct Picture {
     pub last: u64,
     /// How many events the history has.
     pub events: u64,
-    /// How many calls aren't drawn which began before the first event, and had no reply up to the last.
+    /// How many calls aren't drawn which began before the first event, and weren't over up to the last, by a reply or a crash.
     pub left_out: u64,
     /// The lanes from top to bottom, in rising order.
     pub lanes: Vec<u32>,
