@@ -22,6 +22,9 @@ ATTRIBUTES = {
 CALLS = ("plain", "asked", "fault", "explains")
 # What a bar tells where its call begins.
 BEGINNING = re.compile(r"\d+ call \d+ lane ")
+# Controls, and characters that can't be seen.
+UNSEEN = re.compile("[\x00-\x08\x0b-\x1f\x7f-\x9f\xad\u034f\u061c\u115f\u1160\u17b4\u17b5\u180b-\u180f\u200b-\u200f\u2028-\u202e\u2060-\u206f\u3164"
+                    "\ufe00-\ufe0f\ufeff\uffa0\ufff0-\ufffb\U0001bca0-\U0001bca3\U0001d173-\U0001d17a\U000e0000-\U000e0fff]")
 
 
 class Look(html.parser.HTMLParser):
@@ -83,7 +86,7 @@ def faults_of(page: bytes) -> tuple:
     look.feed(text)
     look.close()
     faults = look.faults + [f"{tag} is never closed" for tag in look.open]
-    if re.search("[\x00-\x08\x0b-\x1f\x7f-\x9f\u061c\u200b-\u200f\u2028-\u202e\u2060-\u206f\ufeff]", text):
+    if UNSEEN.search(text):
         faults.append("a control, or a character that can't be seen")
     for found in re.findall(r"url\(([^)]*)\)|@import", look.style):
         if found != "#hatch":

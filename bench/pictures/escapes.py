@@ -3,13 +3,15 @@
 What is no UTF-8 is `\\xff` byte by byte; what can't be seen is `\\x1b`, `\\u202e` or `\\U0001fffe`.
 """
 
-# Controls (Unicode Standard, section 23.1), characters that join or part what stands beside them, marks that turn a text's direction (UAX 9), and those
-# that begin a line.
+# Controls (Unicode Standard, section 23.1), characters that join or part what stands beside them, marks that turn a text's direction (UAX 9), those
+# that begin a line, and what else is never shown (Default_Ignorable_Code_Point of DerivedCoreProperties.txt; interlinear annotation, section 23.8).
 CONTROLS = [*range(0x20), *range(0x7F, 0xA0)]
 JOINING = [*range(0x200B, 0x200E), *range(0x2060, 0x2066), *range(0x206A, 0x2070), 0xFEFF]
 TURNING = [0x61C, 0x200E, 0x200F, *range(0x202A, 0x202F), *range(0x2066, 0x206A)]
 PARTING = [0x2028, 0x2029]
-HIDDEN = {*CONTROLS, *JOINING, *TURNING, *PARTING}
+SHAPELESS = [0xAD, 0x34F, 0x115F, 0x1160, 0x17B4, 0x17B5, *range(0x180B, 0x1810), 0x3164, *range(0xFE00, 0xFE10), 0xFFA0, *range(0xFFF0, 0xFFFC),
+             *range(0x1BCA0, 0x1BCA4), *range(0x1D173, 0x1D17B), *range(0xE0000, 0xE1000)]
+HIDDEN = {*CONTROLS, *JOINING, *TURNING, *PARTING, *SHAPELESS}
 MARKUP = {"&": "&amp;", "<": "&lt;", ">": "&gt;", '"': "&quot;", "'": "&#39;"}
 
 

@@ -163,8 +163,9 @@ def layout_faults(page: Page, sheet):
         call, bar = sheet.history.calls[number - 1], next(iter(bars.values()))
         if sheet.first <= call.begin:
             columns[call.begin].add(bar.left)
-        if call.end is not None and call.end <= sheet.last:
-            columns[call.end].add(bar.right)
+        end = sheet.over_at(call)
+        if end is not None and end <= sheet.last:
+            columns[end].add(bar.right)
         label = next((it for it in bars.values() if it.label is not None), bar)
         rows[bar.top].append((bar.left, bar.right, number))
         if label.label is not None and not bar.left <= label.label_left < bar.right:

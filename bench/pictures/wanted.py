@@ -44,19 +44,22 @@ class Sheet:
             begin = self.history.calls[explaining - 1].begin
         self.around(begin, call.end or call.begin)
 
+    def over_at(self, call):
+        """The event of the reply, or of the crash that ends the call's era; None where it is under way at the history's end."""
+        if call.end is not None:
+            return call.end
+        return self.crashes[call.era - 1] if call.era <= len(self.crashes) else None
+
     def is_drawn(self, call) -> bool:
-        return any(event is not None and self.first <= event <= self.last for event in (call.begin, call.end))
+        return any(event is not None and self.first <= event <= self.last for event in (call.begin, self.over_at(call)))
 
     def drawn(self) -> list:
         return [number for number, call in enumerate(self.history.calls, 1) if self.is_drawn(call)]
 
-    def era_at(self, event: int) -> int:
-        return 1 + sum(crash < event for crash in self.crashes)
-
     def left_out(self) -> int:
-        """Calls of the era of the first event that began ahead of it, and that no reply ended up to the last event."""
-        era = self.era_at(self.first)
-        return sum(call.era == era and call.begin < self.first and (call.end is None or call.end > self.last) for call in self.history.calls)
+        """Calls that began ahead of the first event, and that neither a reply nor a crash ended up to the last one."""
+        ends = [(call.begin, self.over_at(call)) for call in self.history.calls]
+        return sum(begin < self.first and (end is None or end > self.last) for begin, end in ends)
 
     def places(self) -> dict:
         """The place of each call that has one, and whether a crash took it away."""

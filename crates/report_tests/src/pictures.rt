@@ -24,6 +24,20 @@ pub(crate) const HISTORY: &str = "4e46534849535431000000010000000000000006\
     000000010000000200000030000000030000000100000000000000000000000000000000000000000000000000000003\
     000000010000000361626300";
 
+/// The same history with a crash in place of the reply to WRITE.
+const CRASHED: &str = "4e46534849535431000000010000000000000006\
+    000000000000000100000054000000010000000000000002000186a30000000300000008000000000000000000000000\
+    000000000000000100000000000000013c00000000000000000000000000000000000000000000000000000000000000\
+    000000010000000100000034000000010000000100000000000000000000000000000000000000000000000100000001\
+    aa000000000000000000000000000000\
+    000000000000000100000048000000020000000000000002000186a30000000300000007000000000000000000000000\
+    0000000000000001aa000000000000000000000000000003000000020000000361626300\
+    00000003\
+    00000000000000020000003c000000030000000000000002000186a30000000300000006000000000000000000000000\
+    0000000000000001aa00000000000000000000000000000a\
+    000000010000000200000030000000030000000100000000000000000000000000000000000000000000000000000003\
+    000000010000000361626300";
+
 /// A certificate by which a crash took the WRITE away.
 const CERTIFICATE: &[u8] = b"witness 1\nplace 1\nplace 2\ncut 1\nplace 3\nend\n";
 
@@ -228,9 +242,9 @@ fn is_told_of_events(alloc: Global, last: u64, words: &str) -> Result<bool, Allo
     Ok(has(&page, words))
 }
 
-/// The page of the history above, with the certificate.
-fn history_page(alloc: Global, window: Window) -> Result<Option<Page>, AllocError> {
-    let Ok(file) = hex::decode(alloc, HISTORY) else {
+/// The page of a history in hex, with the certificate.
+fn history_page(alloc: Global, history: &str, window: Window) -> Result<Option<Page>, AllocError> {
+    let Ok(file) = hex::decode(alloc, history) else {
         return Ok(None);
     };
     let Ok(certificate) = read_certificate(alloc, CERTIFICATE) else {
@@ -253,9 +267,14 @@ fn history_page(alloc: Global, window: Window) -> Result<Option<Page>, AllocErro
     Ok(Some(picture_page(alloc, &picture)?))
 }
 
-/// Whether the page of the history above has all of some words.
-fn is_history_drawn(alloc: Global, window: Window, all: &[&str]) -> Result<bool, AllocError> {
-    let Some(page) = history_page(alloc, window)? else {
+/// Whether the page of a history in hex has all of some words.
+fn is_history_drawn(
+    alloc: Global,
+    history: &str,
+    window: Window,
+    all: &[&str],
+) -> Result<bool, AllocError> {
+    let Some(page) = history_page(alloc, history, window)? else {
         return Ok(false);
     };
     Ok(all.iter().all(|words| has(&page, *words)))
@@ -288,6 +307,29 @@ fn bytes_of_others_are_text(rt: HostRuntime) -> Result<(), Fail> {
             alloc,
             b"\xef\xbf\xbf\xf0\x9f\xbf\xbe",
             b"\\uffff\\U0001fffe"
+        )?
+    );
+    Ok(())
+}
+
+#[test]
+fn what_has_no_shape_is_told(rt: HostRuntime) -> Result<(), Fail> {
+    let alloc = rt.alloc();
+    assert!(rt; is_escaped(alloc, b"\xc2\xad\xcd\x8f", b"\\u00ad\\u034f")?);
+    assert!(rt; is_escaped(alloc, b"\xe1\x85\x9f\xef\xbe\xa0", b"\\u115f\\uffa0")?);
+    assert!(rt; is_escaped(alloc, b"\xe1\xa0\x8e\xef\xb8\x8f", b"\\u180e\\ufe0f")?);
+    assert!(rt;
+        is_escaped(
+            alloc,
+            b"\xef\xbf\xb9\xf3\xa0\x81\x81",
+            b"\\ufff9\\U000e0041"
+        )?
+    );
+    assert!(rt;
+        is_escaped(
+            alloc,
+            b"\xef\xbf\xbc\xf3\xa1\x80\x80",
+            b"\xef\xbf\xbc\xf3\xa1\x80\x80"
         )?
     );
     Ok(())
@@ -335,7 +377,7 @@ fn a_history_is_drawn(rt: HostRuntime) -> Result<(), Fail> {
         "<title>1 call 1 lane 1 xid 0x00000001 CREATE directory 00 name &quot;&lt;&quot; UNCHECKED\n2 reply to call 1 lane 1 xid 0x00000001 CREATE NFS3_OK object aa</title>",
         "<tspan class=\"place\">1</tspan> CREATE &lt;</text>",
     ];
-    assert!(rt; is_history_drawn(rt.alloc(), whole, all.as_slice())?);
+    assert!(rt; is_history_drawn(rt.alloc(), HISTORY, whole, all.as_slice())?);
     Ok(())
 }
 
@@ -351,6 +393,24 @@ fn a_call_is_drawn_with_what_is_around_it(rt: HostRuntime) -> Result<(), Fail> {
         "<path class=\"cut\" d=\"M0 32H14V50H0\"/>",
         "<title>1 call 1 lane 1 xid 0x00000001 CREATE",
     ];
-    assert!(rt; is_history_drawn(rt.alloc(), around, all.as_slice())?);
+    assert!(rt; is_history_drawn(rt.alloc(), HISTORY, around, all.as_slice())?);
+    Ok(())
+}
+
+#[test]
+fn a_call_ends_at_a_crash(rt: HostRuntime) -> Result<(), Fail> {
+    let from_crash = Window::Events { first: 4, last: 6 };
+    let behind_crash = Window::Events { first: 5, last: 6 };
+    let cut = [
+        "<p>Events 4 to 6 of 6.</p>",
+        "<path class=\"unanswered\" d=\"M0 32H14V50H0\"/>",
+        "<tr class=\"asked\"><td>2</td><td>1</td><td>3</td><td>WRITE</td><td>handle aa</td><td>no reply</td><td>2, lost</td><td>asked for</td></tr>",
+    ];
+    let later = [
+        "<p>Events 5 to 6 of 6.</p>",
+        "<tbody>\n<tr class=\"fault\"><td>3</td>",
+    ];
+    assert!(rt; is_history_drawn(rt.alloc(), CRASHED, from_crash, cut.as_slice())?);
+    assert!(rt; is_history_drawn(rt.alloc(), CRASHED, behind_crash, later.as_slice())?);
     Ok(())
 }
