@@ -36,12 +36,16 @@ FLAGS = """--target=x86_64-unknown-linux-gnu -march=x86-64-v2 -mllvm -no-trap-af
 -mllvm -trap-unreachable -no-canonical-prefixes -fPIE -O3 -c -x ir""".split()
 
 
-def main() -> int:
-    crate, program = (os.path.realpath(it) for it in sys.argv[1:3])
+def kit_and_rt() -> tuple:
     rt = os.path.realpath(shutil.which("rt"))
-    kit = os.path.dirname(os.path.dirname(rt))
+    return os.path.dirname(os.path.dirname(rt)), rt
+
+
+def take_module(crate: str, module: str) -> bool:
+    """Writes the module of a crate's program. Says whether there is one."""
+    kit, rt = kit_and_rt()
     with tempfile.TemporaryDirectory() as work:
-        other, module, compiled = f"{work}/toolchain", f"{work}/kept.bc", f"{work}/kept.o"
+        other = f"{work}/toolchain"
         shutil.copytree(f"{kit}/toolchain", other, symlinks=True, ignore=lambda folder, names: ["clang"] if folder.endswith("/bin") else [])
         for name in ("ld.lld", "llvm-ar"):
             os.remove(f"{other}/bin/{name}")
@@ -51,11 +55,28 @@ def main() -> int:
         os.chmod(f"{other}/bin/clang", 0o755)
         around = {**os.environ, "OTHER_TOOLCHAIN": other}
         subprocess.run([sys.executable, "-c", RT, rt], cwd=crate, env=around, stdin=subprocess.DEVNULL, stdout=subprocess.DEVNULL)
-        if not os.path.isfile(module):
+    return os.path.isfile(module)
+
+
+def compile_module(module: str, compiled: str, *more: str) -> None:
+    """With the flags of a build, and more."""
+    kit, _ = kit_and_rt()
+    subprocess.run([f"{kit}/toolchain/bin/clang", f"--sysroot={kit}/toolchain", *FLAGS, *more, module, "-o", compiled], check=True)
+
+
+def kit_files() -> list:
+    """The kit's C files, for the linker."""
+    return [f"{kit_and_rt()[0]}/c/{it}" for it in ("libos_c.a", "liblibc_c.a")]
+
+
+def main() -> int:
+    crate, program = (os.path.realpath(it) for it in sys.argv[1:3])
+    with tempfile.TemporaryDirectory() as work:
+        module, compiled = f"{work}/kept.bc", f"{work}/kept.o"
+        if not take_module(crate, module):
             return 1
-        subprocess.run([f"{kit}/toolchain/bin/clang", f"--sysroot={kit}/toolchain", *FLAGS, module, "-o", compiled], check=True)
-        files = [f"{kit}/c/{it}" for it in ("libos_c.a", "liblibc_c.a")]
-        subprocess.run(["cc", compiled, *files, "-lpthread", "-Wl,--gc-sections", "-o", program], check=True)
+        compile_module(module, compiled)
+        subprocess.run(["cc", compiled, *kit_files(), "-lpthread", "-Wl,--gc-sections", "-o", program], check=True)
     return 0
 
 
