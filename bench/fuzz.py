@@ -84,7 +84,8 @@ def build(work: pathlib.Path, module) -> None:
 def link(work: pathlib.Path) -> None:
     subprocess.run(["objcopy", "--redefine-sym", "main=nfsbench_main", work / "covered.o", work / "named.o"], check=True)
     subprocess.run(["afl-clang-fast", "-O2", HERE / "fuzzing/commands.c", work / "named.o", *build_unproved.kit_files(), "-lpthread", "-Wl,--gc-sections",
-                    "-Wl,--wrap=nanosleep", "-Wl,--wrap=_exit", "-o", work / "covered"], check=True, stdout=subprocess.DEVNULL)
+                    "-Wl,--wrap=nanosleep", "-Wl,--wrap=_exit", "-o", work / "linked"], check=True, stdout=subprocess.DEVNULL)
+    os.replace(work / "linked", work / "covered")
 
 
 # Fuzzing.
@@ -206,6 +207,17 @@ def faults_of(name: str, bench, data: bytes):
         yield from oracles.part_faults(bench, data)
 
 
+def told_faults(name: str, bench, data: bytes) -> list:
+    """The same, also where a model can't read what is printed, or fails itself."""
+    faults = []
+    try:
+        for fault in faults_of(name, bench, data):
+            faults.append(fault)
+    except Exception as error:
+        faults.append(f"a model fails: {error!r}")
+    return faults
+
+
 def grown(work: pathlib.Path, name: str, bench, looked: Looked) -> None:
     """Repeats the slowest inputs: twice the bytes may take little more than twice the time."""
     from fuzzing import shapes
@@ -250,7 +262,7 @@ def look(work: pathlib.Path, name: str, program: str, most) -> Looked:
             looked.count += 1
             data = put_input(work, name, bench, file)
             measure(work, name, bench, file, looked)
-            looked.faults += [f"{name} {file.name}: {fault}" for fault in faults_of(name, bench, data)]
+            looked.faults += [f"{name} {file.name}: {fault}" for fault in told_faults(name, bench, data)]
         bench.pictures.lint()
         late_faults(work, name, bench, looked)
         grown(work, name, bench, looked)

@@ -7,10 +7,12 @@
 #include <poll.h>
 #include <pthread.h>
 #include <setjmp.h>
+#include <signal.h>
 #include <stdint.h>
 #include <stdio.h>
 #include <stdlib.h>
 #include <string.h>
+#include <sys/prctl.h>
 #include <sys/socket.h>
 #include <time.h>
 #include <unistd.h>
@@ -246,6 +248,8 @@ int main(void) {
         return 9;
 #ifdef __AFL_FUZZ_INIT
     __AFL_INIT();
+    /* It waits stopped between inputs, and would stay so when afl-fuzz ends. */
+    prctl(PR_SET_PDEATHSIG, SIGKILL);
     input = __AFL_FUZZ_TESTCASE_BUF;
     while (__AFL_LOOP(ROUNDS)) {
         length = __AFL_FUZZ_TESTCASE_LEN;
