@@ -25,6 +25,19 @@ CHANGES = {
 PARTS = ("src", "specs", "proofs")
 
 
+def remember(kind, name: str) -> None:
+    """Has a method of rt's crates work out its answer once for each crate: without this it goes over all paths to all crates below, 76,000 of
+    `nfsbench_engine`."""
+    plain, known = getattr(kind, name), {}
+
+    def answer(crate):
+        if crate.folder not in known:
+            known[crate.folder] = plain(crate)
+        found = known[crate.folder]
+        return list(found) if isinstance(found, list) else found
+    setattr(kind, name, answer)
+
+
 def sum_of_folder(folder: str) -> bytes:
     """A sum over the names and bytes of the files below a folder."""
     total = hashlib.sha256()
@@ -123,6 +136,8 @@ def main() -> int:
     steps = Steps(os.path.realpath(sys.argv[1]), gate)
     gate["RESUMED"] = steps.resumed
     exec(compile(text, rt, "exec"), gate)
+    for name in ("below", "stamp"):
+        remember(gate["rtlib"].Crate, name)
     with tempfile.TemporaryDirectory(prefix="rt-aside-") as aside:
         return gate["ci_from_nothing"](aside)
 
