@@ -3,8 +3,9 @@
 
 Each `use Rattle.CRATE.specs.M.{..}`, `use Rattle.CRATE.proofs.M.{..}` and `ghost use` of a crate of the repository (of COPY, where one is named): its
 file has to be there and to have each name that is asked of it. Of specs.declared and specs.contracts, and of proofs/ that follow an item, the item has
-to be in src/. The kit's libraries are left out. Also whether the crate's line in crates.txt lists that crate, whether Lib.antt names each file, whether
-each module of src/ has its `mod`, and whether the text of each edit stands once in its file. Prints what isn't so, and exits with 1 then.
+to be in src/. The kit's libraries are left out. Also whether the crate's line in crates.txt lists that crate, whether the crate's files name each library
+that the line lists, whether Lib.antt names each file, whether each module of src/ has its `mod`, and whether the text of each edit stands once in its
+file. Prints what isn't so, and exits with 1 then.
 """
 import os
 import re
@@ -185,6 +186,10 @@ for folder, folders, files in os.walk(f"{top}/crates"):
                         wrong.append(f"{where}: nothing in {own} is {one}")
 for crate in deps:
     base = f"{top}/crates/{crate}"
+    texts = [read(os.path.join(at, name)) for kind in ("src", "specs", "proofs") for at, _, names in os.walk(f"{base}/{kind}") for name in names]
+    for word in sorted(deps[crate]):
+        if not any(re.search(rf"\b{word}::|\bRattle\.{word}\b|\buse {word}\b", text) for text in texts):
+            wrong.append(f"crates.txt lists {word} for {crate}, which names it nowhere")
     for kind in ("specs", "proofs"):
         if not os.path.isdir(f"{base}/{kind}"):
             continue
