@@ -1,52 +1,110 @@
 #!/usr/bin/env python3
-"""Tells what a gate costs, crate by crate: gate_cost.py CLONE, started beside `rt ci` in that clone.
+"""Tells what a gate costs, step by step: gate_cost.py CLONE [COUNT], started beside `rt ci` in that clone.
 
-Every ten seconds it reads from /proc which of the gate's programs run, and how many seconds of a processor each has taken; when the gate
-has ended it prints the minutes of each crate, the dearest first, and their sum. What a program takes after the last look at it isn't seen,
-five seconds on average, so `time ./.ci/run` tells a little more. It takes no time of its own to speak of.
+Every two seconds it reads from /proc which programs the gate runs, and how many seconds of a processor each has taken. When the gate has
+ended, or at an interrupt, it prints the COUNT (40) dearest steps in minutes, and the sums of each kind: `proof` of a crate (of a program
+too), `tests` (their proof and their compilation), `edit` (the wrong bodies of must-fail/, with what they begin and end with), `compile`
+(a program, by each compiler), `run` and `rt` itself. What a program takes after the last look at it isn't seen, a second on average, so
+`time ./.ci/run` tells a little more. Beside other work the minutes are more: tell them beside those of one proof.
 """
+import collections
 import os
 import re
 import sys
 import time
 
-PAUSE = 10
+PAUSE = 2
 TICK = os.sysconf("SC_CLK_TCK")
 
 
-def look(clone, seconds):
-    """Notes what the programs that run in the clone have taken. Whether the gate runs."""
-    runs = False
+def processes():
+    """Each process: its parent, when it began, and the seconds of a processor that it has taken."""
+    found = {}
     for process in filter(str.isdigit, os.listdir("/proc")):
         try:
             with open(f"/proc/{process}/stat") as file:
                 fields = file.read().rsplit(")", 1)[1].split()
-            with open(f"/proc/{process}/cmdline", "rb") as file:
-                words = file.read().decode(errors="replace").replace("\0", " ")
-            folder = os.readlink(f"/proc/{process}/cwd")
         except OSError:
             continue
-        found = re.match(re.escape(clone) + r"/crates/(\w+)", folder) or re.search(re.escape(clone) + r"/crates/(\w+)", words)
-        is_gate = folder == clone and " ci" in words
-        runs = runs or is_gate
-        if found or is_gate:
-            name = found[1] if found else "rt itself"
-            seconds[process, fields[19]] = (name, (int(fields[11]) + int(fields[12])) / TICK)
-    return runs
+        found[int(process)] = int(fields[1]), fields[19], (int(fields[11]) + int(fields[12])) / TICK
+    return found
+
+
+def words_of(process):
+    try:
+        with open(f"/proc/{process}/cmdline", "rb") as file:
+            return file.read().decode(errors="replace").replace("\0", " "), os.readlink(f"/proc/{process}/cwd")
+    except OSError:
+        return "", ""
+
+
+def step_of(words, folder):
+    """Of which crate a program of the gate's is, and what kind of step."""
+    name = re.search(r"--crate-name (\w+)", words)
+    if name is None:
+        return "", "rt" if "/rt ci" in words or words.startswith("rt ci") else "run"
+    if os.path.basename(folder).startswith("rt-edit-"):
+        return name[1], "edit"
+    if "--crate-checked" in words:
+        return name[1], "compile"
+    return name[1], "tests" if " --test " in words else "proof"
+
+
+def is_below(found, process, gate):
+    while process in found and process != gate:
+        process = found[process][0]
+    return process == gate
+
+
+def gate_in(clone):
+    """The process of the gate that runs in the clone."""
+    for process in processes():
+        words, folder = words_of(process)
+        if folder == clone and re.search(r"python\S* \S*/rt ci\b", words):
+            return process
+    return None
+
+
+def watch(gate, seconds):
+    """Notes what the gate's programs take, until it has ended."""
+    steps = {}
+    while True:
+        found = processes()
+        if gate not in found:
+            return
+        for process, (_, began, taken) in found.items():
+            key = process, began
+            if key not in steps and is_below(found, process, gate):
+                steps[key] = step_of(*words_of(process))
+            if key in steps:
+                # A new process has its parent's words for a moment.
+                if steps[key][1] in ("rt", "run"):
+                    steps[key] = step_of(*words_of(process))
+                seconds[key] = (steps[key], taken)
+        time.sleep(PAUSE)
 
 
 def main():
-    clone, seconds = os.path.realpath(sys.argv[1]), {}
-    while not look(clone, seconds):
+    clone, count = os.path.realpath(sys.argv[1]), int(sys.argv[2]) if len(sys.argv) > 2 else 40
+    gate = gate_in(clone)
+    while gate is None:
         time.sleep(1)
-    while look(clone, seconds):
-        time.sleep(PAUSE)
-    crates = {}
-    for name, taken in seconds.values():
-        crates[name] = crates.get(name, 0) + taken
-    for name, taken in sorted(crates.items(), key=lambda it: -it[1]):
-        print(f"{taken / 60:7.1f} {name}")
-    print(f"{sum(crates.values()) / 60:7.1f} in all")
+        gate = gate_in(clone)
+    seconds = {}
+    try:
+        watch(gate, seconds)
+    except KeyboardInterrupt:
+        pass
+    each, kinds = collections.Counter(), collections.Counter()
+    for (name, kind), taken in seconds.values():
+        each[name, kind] += taken / 60
+        kinds[kind] += taken / 60
+    for (name, kind), minutes in each.most_common(count):
+        print(f"{minutes:7.1f} {name} {kind}")
+    for kind, minutes in kinds.most_common():
+        print(f"{minutes:7.1f} all {kind}")
+    print(f"{sum(kinds.values()):7.1f} in all")
 
 
-main()
+if __name__ == "__main__":
+    main()
