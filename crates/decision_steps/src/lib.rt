@@ -6,11 +6,7 @@ mod binding;
 mod fault;
 mod given;
 mod law;
-#[cfg(test)]
-mod requests;
 mod state;
-#[cfg(test)]
-mod tests;
 
 pub use asked::{is_failure, knows_handles};
 pub use binding::BoundHandle;

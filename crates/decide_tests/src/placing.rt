@@ -3,9 +3,8 @@
 ghost use Rattle.std.specs.Prelude.{IfOk};
 ghost use Rattle.decision_steps.specs.Placing.{StepsFrom};
 
-use crate::fault::PlaceFault;
 use crate::requests::{Request, call, outcome};
-use crate::state::{State, Step};
+use decision_steps::{PlaceFault, State, Step};
 use nfs3_types::FileHandle;
 use std::alloc::Global;
 use std::test::Fail;
