@@ -6,6 +6,7 @@ witness. Every plan is tried by force: each binding of the handles to objects, e
 count. The rules of the tree and of cuts are those of `differ`, which share nothing with the program. COUNT is 1,000 and SEED 1 if they are left out. It prints
 how many were a yes, a no and undecided, and each history that the two decide differently; the status is 1 where there is one.
 """
+import argparse
 import collections
 import itertools
 import pathlib
@@ -234,7 +235,13 @@ def tell(by, tally, whys):
 
 
 def main():
-    program, count, seed, most = sys.argv[1], *(int(it) for it in (sys.argv[2:] + ["1000", "1", "5"][len(sys.argv) - 2:])[:3])
+    parser = argparse.ArgumentParser(description=__doc__.split("\n", 1)[0])
+    parser.add_argument("program", metavar="PROGRAM")
+    parser.add_argument("count", metavar="COUNT", type=int, nargs="?", default=1000)
+    parser.add_argument("seed", metavar="SEED", type=int, nargs="?", default=1)
+    parser.add_argument("most", metavar="CALLS", type=int, nargs="?", default=5)
+    words = parser.parse_args()
+    program, count, seed, most = words.program, words.count, words.seed, words.most
     tally, whys, differ = collections.Counter(), collections.Counter(), 0
     with tempfile.TemporaryDirectory() as folder:
         file = pathlib.Path(folder) / "small.history"
