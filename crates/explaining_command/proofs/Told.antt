@@ -7,7 +7,21 @@ use Rattle.judging_commands.specs.Report.{IsSaidOfRead}
 use Rattle.deciding_command.specs.declared.file_decision.FileDecision.{FileDecision}
 use Rattle.deciding_command.specs.FileDecision.{IsWithoutWitness, IsNeverAccepted, Decides, IsYes, IsNo}
 use Rattle.deciding_command.proofs.NoText.{text_of_yes, never_of_no}
+use Rattle.nfs_history.specs.declared.knowing.KnownCalls.{KnownCalls}
+use Rattle.nfs_history.specs.History.{IsCallsFile}
+use Rattle.certificate.specs.declared.plan.Certificate.{Certificate}
+use Rattle.certificate.specs.CertificateText.{CertificateText}
+use Rattle.witness_check.specs.declared.verdict.Verdict.{Verdict}
+use Rattle.witness_check.specs.declared.verdict.Verdict.TheVariants as plans
+use Rattle.witness_check.specs.Verdict.{IsVerdict, IsFileVerdict}
 use Rattle.explaining_command.specs.Explained.{IsExplained}
+use Rattle.explaining_command.specs.Found.{of_plan}
+
+-- the verdict on a plan is that on the files that it was read from
+pub of_files : (file text : List ℕ) (history : KnownCalls) (plan : Certificate) (verdict : Verdict) → IsCallsFile file history → CertificateText text plan → IsVerdict history plan verdict
+    → IsFileVerdict file text (of_plan verdict)
+of_files file text history plan plans.Yes calls spelled witness = record { history = history; plan = plan; file = calls; text = spelled; witness = witness }
+of_files file text history plan (plans.No fault) calls spelled first = record { history = history; plan = plan; file = calls; text = spelled; first = first }
 
 -- a verdict
 pub explained : {E : Type 0} (history certificate : Option (List ℕ)) (told : Answer) (r : Result Answer E) → IsSaidOfRead history certificate told.status told.line

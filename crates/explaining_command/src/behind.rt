@@ -1,12 +1,12 @@
 //! What is known behind a no or a refusal.
 
-use certificate::{Certificate, TextFault, read_certificate};
-use fault_reasons::{IllegalPlace, Reason, explain};
-use nfs_history::{HistoryFault, KnownCalls, read_calls};
+use certificate::Certificate;
+use fault_reasons::{IllegalPlace, Reason};
+use nfs_history::{HistoryFault, KnownCalls};
 use nfs3_msgs::put_result;
 use nfs3_types::NfsReply;
 use reason_words::reason_text;
-use refusal_words::{refused_certificate, refused_history};
+use refusal_words::refused_history;
 use std::alloc::{AllocError, Global};
 
 /// The numbers of a reason.
@@ -112,7 +112,7 @@ fn right_of(alloc: Global, reason: &Reason) -> Result<Option<Vec<u8>>, AllocErro
 }
 
 /// What is known of a reason.
-fn behind_reason(
+pub(crate) fn behind_reason(
     alloc: Global,
     history: &KnownCalls<'_>,
     certificate: &Certificate,
@@ -127,27 +127,6 @@ fn behind_reason(
     })
 }
 
-/// Why a certificate is no witness of a history; nothing where it is one.
-fn behind_plan(
-    alloc: Global,
-    history: &KnownCalls<'_>,
-    certificate: &Certificate,
-) -> Result<Behind, AllocError> {
-    match explain(alloc, history, certificate)? {
-        Some(reason) => behind_reason(alloc, history, certificate, &reason),
-        None => Ok(Behind::nothing(alloc)),
-    }
-}
-
-/// Why a certificate's text is no witness of a history, or is refused.
-fn behind_text(alloc: Global, history: &KnownCalls<'_>, text: &[u8]) -> Result<Behind, AllocError> {
-    match read_certificate(alloc, text) {
-        Ok(certificate) => behind_plan(alloc, history, &certificate),
-        Err(TextFault::NoMemory) => Err(AllocError),
-        Err(fault) => Ok(Behind::of_lines(refused_certificate(alloc, text, fault)?)),
-    }
-}
-
 /// Why a history file is refused.
 pub(crate) fn behind_fault(
     alloc: Global,
@@ -158,24 +137,4 @@ pub(crate) fn behind_fault(
         return Err(AllocError);
     }
     Ok(Behind::of_lines(refused_history(alloc, history, fault)?))
-}
-
-/// What is behind the verdict on two files.
-fn behind_files(alloc: Global, history: &[u8], certificate: &[u8]) -> Result<Behind, AllocError> {
-    match read_calls(alloc, history) {
-        Ok(known) => behind_text(alloc, &known, certificate),
-        Err(fault) => behind_fault(alloc, history, fault),
-    }
-}
-
-/// The same of two files as they were read; nothing where one couldn't be read.
-pub(crate) fn behind_read(
-    alloc: Global,
-    history: Option<&[u8]>,
-    certificate: Option<&[u8]>,
-) -> Result<Behind, AllocError> {
-    match (history, certificate) {
-        (Some(history), Some(certificate)) => behind_files(alloc, history, certificate),
-        _ => Ok(Behind::nothing(alloc)),
-    }
 }

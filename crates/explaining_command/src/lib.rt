@@ -5,6 +5,7 @@ mod behind;
 mod deciding;
 mod explain_words;
 mod explaining;
+mod found;
 mod objects;
 mod telling;
 mod unexplained;

@@ -1,3 +1,4 @@
 pub mod Behind
 pub mod Taken
 pub mod Told
+pub mod Spots

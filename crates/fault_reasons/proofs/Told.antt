@@ -1,5 +1,5 @@
 -- Where a call is placed, and what is told of it.
-use Rattle.std.proofs.Common.{◌≡◌, ℕ, Bool, true, List, ◌∷◌, ◌++◌, take, drop, map, option_map, Option, Some, None, length, refl, ap, sym, ◌∙◌, subst}
+use Rattle.std.proofs.Common.{◌≡◌, ℕ, Bool, true, List, ◌∷◌, ◌++◌, drop, option_map, Option, Some, None, refl, ap, sym, ◌∙◌, subst}
 use Rattle.std.specs.Prelude.{IsSome, IfSome, MatchBool, ⊤}
 use Rattle.std.specs.List.{IsSplitAt, IsFirstAndRest}
 use Rattle.std.proofs.lemmas.List.{take-append-drop}
@@ -52,14 +52,15 @@ is_spot eras ahead rest behind era i (Some spot) split first same stands = recor
 
 -- what is told of a step that its tree doesn't take
 pub told : (next : Tree → ℕ → NfsCall → Outcome → Option Tree) (base : Tree) (calls : List RecordedCall) (eras : List EraPlan) (spot : Spot) (step : Placed) (found : Option Placed)
-    (right : Option NfsReply) (tree after : Tree) (given : IllegalPlace) (stops : Bool) → given ≡ illegal_of spot step right
+    (right : Option NfsReply) (tree after asked : Tree) (given : IllegalPlace) (stops : Bool) → given ≡ illegal_of spot step asked right
     → IsSpot eras spot.ahead.now spot.front.now spot.place → found ≡ Some step → option_map placed_step found ≡ step_at calls spot.place
     → state_after next base (steps_behind calls spot.ahead.now spot.front.now) ≡ Some tree → stops ≡ true
-    → MatchBool stops (next tree step.number step.call step.outcome ≡ None) ⊤ → MatchBool stops (after ≡ tree) ⊤
+    → MatchBool stops (next tree step.number step.call step.outcome ≡ None) ⊤ → MatchBool stops (after ≡ tree) ⊤ → asked ≡ after
     → IfSome right (λ reply. IsSome (next after step.number step.call (Received reply))) → IsIllegalIn next base calls eras given
-told next base calls eras spot step found right tree after given stops is stands some placed reached stopped may_refuse may_stay taken =
+told next base calls eras spot step found right tree after asked given stops is stands some placed reached stopped may_refuse may_stay kept taken =
     let refused : next tree step.number step.call step.outcome ≡ None = subst (λ (b : Bool). MatchBool b (next tree step.number step.call step.outcome ≡ None) ⊤) stopped may_refuse in
-    let same : after ≡ tree = subst (λ (b : Bool). MatchBool b (after ≡ tree) ⊤) stopped may_stay in
+    let stays : after ≡ tree = subst (λ (b : Bool). MatchBool b (after ≡ tree) ⊤) stopped may_stay in
+    let same : asked ≡ tree = kept ∙ stays in
     subst (λ (p : IllegalPlace). IsIllegalIn next base calls eras p) (sym is) (record {
       ahead = spot.ahead.now;
       front = spot.front.now;
@@ -68,10 +69,9 @@ told next base calls eras spot step found right tree after given stops is stands
       era = refl;
       position = refl;
       step = sym placed ∙ ap (option_map placed_step) some;
-      tree = tree;
-      reached = reached;
-      refused = refused;
-      right = subst (λ (t : Tree). IfSome right (λ reply. IsSome (next t step.number step.call (Received reply)))) same taken;
+      reached = reached ∙ ap Some (sym same);
+      refused = subst (λ (t : Tree). next t step.number step.call step.outcome ≡ None) (sym same) refused;
+      right = subst (λ (t : Tree). IfSome right (λ reply. IsSome (next t step.number step.call (Received reply)))) (sym kept) taken;
     })
 
 -- the same under equal binds

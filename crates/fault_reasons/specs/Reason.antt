@@ -15,6 +15,7 @@ use Rattle.certificate.specs.Plan.{call_of, cut_of}
 use Rattle.cut_check.specs.Places.{era_at}
 use Rattle.replay_law.specs.Run.{TakenStep, state_after, kept_steps}
 use Rattle.tree_nodes.specs.Tree.{Tree}
+use Rattle.witness_check.specs.declared.fault.Fault.{Fault}
 use Rattle.witness_check.specs.declared.fault.Fault.TheVariants as faults
 use Rattle.witness_check.specs.Run.{step_at, steps_of, era_of, next_of, base_of}
 use Rattle.witness_check.specs.Verdict.{IsPlanFault}
@@ -36,7 +37,7 @@ pub record IsSpot (eras ahead : List EraPlan) (front : List Place) (place : Plac
 abbrev pub steps_behind : List RecordedCall → List EraPlan → List Place → List (TakenStep NfsCall Outcome)
 steps_behind calls ahead front = kept_steps (map (era_of calls) ahead) ++ steps_of calls front
 
--- the call stands where it is said, the tree there doesn't lead on by its outcome, and does by the reply that is called right
+-- the call stands where it is said, the tree there is this one, which doesn't lead on by its outcome, and does by the reply that is called right
 pub record IsIllegalIn (next : Tree → ℕ → NfsCall → Outcome → Option Tree) (base : Tree) (calls : List RecordedCall) (eras : List EraPlan) (told : IllegalPlace)
     : Type 0 where
   pub ahead : List EraPlan
@@ -46,10 +47,9 @@ pub record IsIllegalIn (next : Tree → ℕ → NfsCall → Outcome → Option T
   pub era : told.era ≡ length ahead + 1
   pub position : told.position ≡ length front + 1
   pub step : step_at calls place ≡ Some (record { number = told.number; call = told.call; outcome = told.outcome })
-  pub tree : Tree
-  pub reached : state_after next base (steps_behind calls ahead front) ≡ Some tree
-  pub refused : next tree told.number told.call told.outcome ≡ None
-  pub right : IfSome told.right (λ reply. IsSome (next tree told.number told.call (Received reply)))
+  pub reached : state_after next base (steps_behind calls ahead front) ≡ Some told.tree
+  pub refused : next told.tree told.number told.call told.outcome ≡ None
+  pub right : IfSome told.right (λ reply. IsSome (next told.tree told.number told.call (Received reply)))
 
 -- the same by the rules of a history and a plan
 abbrev pub IsIllegalPlace : KnownCalls → Certificate → IllegalPlace → Type 0
@@ -72,6 +72,13 @@ pub record IsLostIn (eras : List EraPlan) (told : LostPlace) : Type 0 where
   pub place : Place
   pub stands : place_at era.places told.position ≡ Some place
   pub named : told.number ≡ call_of place
+
+-- the fault that a reason is told of
+abbrev pub fault_of : Reason → Fault
+fault_of (reasons.Illegal told) = faults.Illegal told.number
+fault_of (reasons.Early call other) = faults.Early call.number other.number
+fault_of (reasons.ShortCut told) = faults.ShortCut told.era told.position
+fault_of (reasons.Other fault) = fault
 
 -- the reason is that of the plan's first fault, and what it tells is true
 abbrev pub IsReasonOf : KnownCalls → Certificate → Reason → Type 0

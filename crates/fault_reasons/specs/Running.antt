@@ -30,12 +30,13 @@ pub record StandsBehind {A : Type 0} (all front : List A) (x : A) : Type 0 where
   pub is : all ≡ front ++ x ∷ back
 
 -- what is told of a step
-abbrev pub illegal_of : Spot → Placed → Option NfsReply → IllegalPlace
-illegal_of spot step right = record {
+abbrev pub illegal_of : Spot → Placed → Tree → Option NfsReply → IllegalPlace
+illegal_of spot step tree right = record {
   era = length spot.ahead.now + 1;
   position = length spot.front.now + 1;
   number = step.number;
   call = step.call;
   outcome = step.outcome;
+  tree = tree;
   right = right;
 }

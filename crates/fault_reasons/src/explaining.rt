@@ -1,26 +1,28 @@
 //! Explaining a verdict.
 
-ghost use Rattle.std.specs.Prelude.{◌≡◌, IfOk, IfSome, MatchOption, MatchBool, None, ⊤};
+ghost use Rattle.std.specs.Prelude.{◌≡◌, IfOk, IfSome, MatchOption, MatchBool, Some, None, ⊤};
+ghost use Rattle.replay_law.specs.Run.{state_after};
 ghost use Rattle.nfs_history.specs.declared.knowing.KnownCalls.{KnownCalls};
 ghost use Rattle.certificate.specs.declared.plan.Certificate.{Certificate};
 ghost use Rattle.witness_check.specs.declared.fault.Fault.TheVariants as faults;
 ghost use Rattle.witness_check.specs.Witness.{IsWitness};
 ghost use Rattle.witness_check.specs.Verdict.{IsPlanFault};
-ghost use Rattle.fault_reasons.specs.Reason.{IsReasonOf, IsIllegalIn, IsIllegalPlace, IsSpot};
+ghost use Rattle.witness_check.specs.Stop.{IsStop};
+ghost use Rattle.certificate.specs.Plan.{call_of};
+ghost use Rattle.fault_reasons.specs.Reason.{IsReasonOf, IsIllegalIn, IsIllegalPlace, IsSpot, steps_behind};
 ghost use Rattle.fault_reasons.specs.Running.{next_by, first_tree, StandsBehind, illegal_of};
 
-use crate::asking::right_reply;
+use crate::asking::{Answered, right_reply};
 use crate::placed::{Placed, placed_at};
 use crate::reason::{IllegalPlace, Reason};
-use crate::running::{Rule, binds_of, take_step, tree_behind};
+use crate::running::{Rule, binds_of, take_step};
 use crate::telling::{early, short_cut};
 use certificate::{Certificate, EraPlan, Place};
 use file_tree::FileTree;
 use nfs_history::KnownCalls;
-use nfs3_types::NfsReply;
 use replay_law::StepFault;
 use std::alloc::{AllocError, Global};
-use witness_check::{Fault, Verdict, check_calls};
+use witness_check::{Fault, Judgement, Stop, judge_calls};
 
 /// Where a call is placed.
 #[derive(Clone, Copy)]
@@ -38,6 +40,7 @@ struct Spot<'p> {
 fn spot_in<'p>(ahead: &'p [EraPlan], era: &'p EraPlan, number: u64) -> Option<Spot<'p>>
     ensures ahead { IfSome result (λ spot. spot.ahead.now ≡ ahead.now) }
     ensures stands { IfSome result (λ spot. StandsBehind era.now.places spot.front.now spot.place) }
+    ensures named { IfSome result (λ spot. call_of spot.place ≡ number) }
 {
     let places = era.places.as_slice();
     let index = places.iter().position(|place| place.number() == number)?;
@@ -53,7 +56,8 @@ fn spot_in<'p>(ahead: &'p [EraPlan], era: &'p EraPlan, number: u64) -> Option<Sp
 /// The place of a call of this era in a plan.
 #[tactic(auto, using(crate::proofs::Told::is_spot))]
 fn spot_of(eras: &[EraPlan], era: u64, number: u64) -> Option<Spot<'_>>
-    ensures { IfSome result (λ spot. IsSpot eras.now spot.ahead.now spot.front.now spot.place) }
+    ensures spot { IfSome result (λ spot. IsSpot eras.now spot.ahead.now spot.front.now spot.place) }
+    ensures named { IfSome result (λ spot. call_of spot.place ≡ number) }
 {
     let index = era.checked_sub(1)?;
     let (ahead, rest) = eras.split_at_checked(index as usize)?;
@@ -74,54 +78,64 @@ fn stops(tree: &mut FileTree, rule: &Rule<'_, '_>, step: &Placed) -> Result<bool
 }
 
 /// What is told of a step that its tree doesn't take.
-fn illegal_step(spot: &Spot<'_>, step: Placed, right: Option<NfsReply>) -> IllegalPlace
-    ensures { result ≡ illegal_of spot.now step right }
+fn illegal_step(spot: &Spot<'_>, step: Placed, answered: Answered) -> IllegalPlace
+    ensures { result ≡ illegal_of spot.now step answered.tree answered.right }
 {
     let Placed {
         number,
         call,
         outcome,
     } = step;
+    let Answered { tree, right } = answered;
     IllegalPlace {
         era: spot.ahead.len() as u64 + 1,
         position: spot.front.len() as u64 + 1,
         number,
         call,
         outcome,
+        tree,
         right,
     }
 }
 
-/// What is told of a place, where its tree doesn't take its step.
+/// What is told of a place with its tree, where that doesn't take its step.
 #[tactic(auto, using(crate::proofs::Told::told))]
-fn illegal_at(rule: &Rule<'_, '_>, spot: &Spot<'_>) -> Result<Option<IllegalPlace>, StepFault>
-    requires { IsSpot rule.now.plan.now.eras spot.now.ahead.now spot.now.front.now spot.now.place }
+fn illegal_at(
+    rule: &Rule<'_, '_>,
+    spot: &Spot<'_>,
+    tree: FileTree,
+) -> Result<Option<IllegalPlace>, AllocError>
+    requires spot { IsSpot rule.now.plan.now.eras spot.now.ahead.now spot.now.front.now spot.now.place }
+    requires tree { state_after (next_by rule.now) (first_tree rule.now)
+        (steps_behind rule.now.history.now.calls spot.now.ahead.now spot.now.front.now) ≡ Some tree }
     ensures { IfOk result (λ found. IfSome found
         (IsIllegalIn (next_by rule.now) (first_tree rule.now) rule.now.history.now.calls rule.now.plan.now.eras)) }
 {
     let Some(step) = placed_at(rule.alloc, rule.history, spot.place)? else {
         return Ok(None);
     };
-    let mut tree = tree_behind(rule, spot.ahead, spot.front)?;
+    let mut tree = tree;
     let is_stuck = stops(&mut tree, rule, &step)?;
     if is_stuck {
-        let right = right_reply(&mut tree, rule, &step)?;
-        Ok(Some(illegal_step(spot, step, right)))
+        let answered = right_reply(tree, rule, &step)?;
+        Ok(Some(illegal_step(spot, step, answered)))
     } else {
         Ok(None)
     }
 }
 
-/// What is told of the place of a call, where the tree there doesn't take its outcome.
+/// What is told of the place where a run stops.
 #[tactic(auto, using(crate::proofs::Told::same_binds))]
 fn illegal_place(
     alloc: Global,
     history: &KnownCalls<'_>,
     certificate: &Certificate,
-    number: u64,
+    stop: Stop,
 ) -> Result<Option<IllegalPlace>, AllocError>
+    requires { IsStop history.now certificate.now stop.number stop.tree }
     ensures { IfOk result (λ found. IfSome found (IsIllegalPlace history.now certificate.now)) }
 {
+    let Stop { number, tree } = stop;
     let Some(era) = history.era(number) else {
         return Ok(None);
     };
@@ -135,11 +149,7 @@ fn illegal_place(
         plan: certificate,
         binds: &binds,
     };
-    match illegal_at(&rule, &spot) {
-        Ok(found) => Ok(found),
-        Err(StepFault::NotAllowed) => Ok(None),
-        Err(StepFault::NoMemory) => Err(AllocError),
-    }
+    illegal_at(&rule, &spot, tree)
 }
 
 /// The reason by what is told of the call's place.
@@ -157,32 +167,37 @@ fn reason_of_illegal(number: u64, found: Option<IllegalPlace>) -> Reason
     }
 }
 
-/// The reason for a fault of a plan.
-fn reason_of(
+/// The reason for a run that stops.
+fn reason_of_stop(
     alloc: Global,
     history: &KnownCalls<'_>,
     certificate: &Certificate,
-    fault: Fault,
+    stop: Stop,
 ) -> Result<Reason, AllocError>
-    requires { IsPlanFault history.now certificate.now fault }
+    requires fault { IsPlanFault history.now certificate.now (faults.Illegal stop.number) }
+    requires stop { IsStop history.now certificate.now stop.number stop.tree }
     ensures { IfOk result (IsReasonOf history.now certificate.now) }
 {
+    let number = stop.number;
+    let found = illegal_place(alloc, history, certificate, stop)?;
+    Ok(reason_of_illegal(number, found))
+}
+
+/// The reason for another fault of a plan.
+fn reason_of(history: &KnownCalls<'_>, certificate: &Certificate, fault: Fault) -> Reason
+    requires { IsPlanFault history.now certificate.now fault }
+    ensures { IsReasonOf history.now certificate.now result }
+{
     match fault {
-        Fault::Illegal(number) => {
-            let found = illegal_place(alloc, history, certificate, number)?;
-            Ok(reason_of_illegal(number, found))
-        }
-        Fault::Early { call, ended } => Ok(early(history, call, ended)),
-        Fault::ShortCut { era, needed } => {
-            Ok(short_cut(certificate.eras.as_slice(), era, needed))
-        }
-        _ => Ok(Reason::Other(fault)),
+        Fault::Early { call, ended } => early(history, call, ended),
+        Fault::ShortCut { era, needed } => short_cut(certificate.eras.as_slice(), era, needed),
+        _ => Reason::Other(fault),
     }
 }
 
 /// Why a certificate is no witness of a history; nothing where it is one. An `Err` means that memory ran out.
 ///
-/// It takes as long as `check_calls`, and for an `Illegal` as long again, and the time of a look at the tree there.
+/// It takes as long as `check_calls`, and the time of a look at the tree where the run stops.
 pub fn explain(
     alloc: Global,
     history: &KnownCalls<'_>,
@@ -191,10 +206,11 @@ pub fn explain(
     // There is a reason exactly if there is a fault, and what it says is true of the two.
     ensures { IfOk result (λ found. MatchOption found (IsWitness history.now certificate.now) (IsReasonOf history.now certificate.now)) }
 {
-    match check_calls(alloc, history, certificate)? {
-        Verdict::Yes => Ok(None),
-        Verdict::No(fault) => {
-            let reason = reason_of(alloc, history, certificate, fault)?;
+    match judge_calls(alloc, history, certificate)? {
+        Judgement::Yes => Ok(None),
+        Judgement::No(fault) => Ok(Some(reason_of(history, certificate, fault))),
+        Judgement::Stopped(stop) => {
+            let reason = reason_of_stop(alloc, history, certificate, stop)?;
             Ok(Some(reason))
         }
     }

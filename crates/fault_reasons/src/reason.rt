@@ -1,5 +1,9 @@
 //! Reasons.
 
+ghost use Rattle.std.specs.Prelude.{◌≡◌};
+ghost use Rattle.fault_reasons.specs.Reason.{fault_of};
+
+use file_tree::FileTree;
 use nfs3_types::{NfsCall, NfsReply, Outcome};
 use witness_check::Fault;
 
@@ -15,6 +19,8 @@ pub struct IllegalPlace {
     pub call: NfsCall,
     /// How it came out: with the reply that the history has, or as taken.
     pub outcome: Outcome,
+    /// The tree there.
+    pub tree: FileTree,
     /// A reply under which the place would be legal. What the tree doesn't judge in it, such as times, cookies and verifiers, is 0.
     pub right: Option<NfsReply>,
 }
@@ -27,10 +33,12 @@ impl Drop for IllegalPlace {
             number: _,
             call,
             outcome,
+            tree,
             right,
         } = self;
         drop(call);
         drop(outcome);
+        drop(tree);
         drop(right);
     }
 }
@@ -75,4 +83,24 @@ pub enum Reason {
     ShortCut(LostPlace),
     /// Another fault, of which no more is told.
     Other(Fault),
+}
+
+impl Reason {
+    /// The fault that it is the reason of.
+    pub fn fault(&self) -> Fault
+        ensures { result ≡ fault_of self.now }
+    {
+        match self {
+            Reason::Illegal(place) => Fault::Illegal(place.number),
+            Reason::Early { call, other } => Fault::Early {
+                call: call.number,
+                ended: other.number,
+            },
+            Reason::ShortCut(lost) => Fault::ShortCut {
+                era: lost.era,
+                needed: lost.position,
+            },
+            Reason::Other(fault) => *fault,
+        }
+    }
 }

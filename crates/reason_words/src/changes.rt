@@ -5,6 +5,7 @@ use crate::scene::Scene;
 use certificate::Place;
 use fault_reasons::{Placed, placed_at};
 use history_lines::{Text, procedure_name};
+use nfs_history::CallKind;
 use nfs3_types::{
     Answer, CreateMode, DirectoryName, FileHandle, NfsCall, NfsReply, Outcome, Procedure,
 };
@@ -156,12 +157,36 @@ pub(crate) fn is_done(outcome: &Outcome) -> bool {
     }
 }
 
+/// Whether calls of a procedure can change something.
+fn can_change(procedure: Procedure, changed: Changed<'_>) -> bool {
+    match changed {
+        Changed::Bytes(_) => matches!(
+            procedure,
+            Procedure::Write | Procedure::Create | Procedure::SetAttr
+        ),
+        Changed::Name(_, _) => procedure.changes_the_tree(),
+    }
+}
+
+/// Whether the call at a place is of a procedure that can change something, and didn't fail: no other is decoded.
+fn may_change(scene: &Scene<'_, '_>, place: Place, changed: Changed<'_>) -> bool {
+    match scene.history.kind(place.number()) {
+        Some(CallKind::Unanswered(procedure) | CallKind::Answered(procedure, None)) => {
+            can_change(procedure, changed)
+        }
+        _ => false,
+    }
+}
+
 /// The call at a place, where it changed something.
 fn change_at(
     scene: &Scene<'_, '_>,
     place: Place,
     changed: Changed<'_>,
 ) -> Result<Option<Change>, AllocError> {
+    if !may_change(scene, place, changed) {
+        return Ok(None);
+    }
     let Some(placed) = placed_at(scene.alloc, scene.history, place)? else {
         return Ok(None);
     };

@@ -6,11 +6,10 @@ use crate::differences::push_differences;
 use crate::scene::{Scene, push_line};
 use crate::standing::push_standing;
 use certificate::{EraPlan, Place};
-use fault_reasons::{IllegalPlace, tree_after};
+use fault_reasons::IllegalPlace;
 use history_lines::Text;
 use nfs3_types::{Answer, NfsReply, Outcome};
 use std::alloc::AllocError;
-use tree_nodes::Nodes;
 use tree_starts::Profile;
 
 /// What is ahead of a position of an era: the eras ahead, and the places ahead in its own.
@@ -103,7 +102,6 @@ fn push_at(
 fn push_in_tree(
     lines: &mut Vec<u8>,
     scene: &Scene<'_, '_>,
-    nodes: &Nodes,
     ahead: &[EraPlan],
     front: &[Place],
     told: &IllegalPlace,
@@ -113,7 +111,7 @@ fn push_in_tree(
         history: scene.history,
         certificate: scene.certificate,
         binds: scene.binds,
-        nodes: Some(nodes),
+        nodes: Some(told.tree.nodes()),
         ahead,
         front,
         is_front: scene.is_front,
@@ -128,11 +126,8 @@ pub(crate) fn push_illegal(
     told: &IllegalPlace,
 ) -> Result<(), AllocError> {
     let eras = scene.certificate.eras.as_slice();
-    let Some((ahead, front)) = ahead_of(eras, told.era, told.position) else {
-        return push_at(lines, scene, told);
-    };
-    match tree_after(scene.alloc, scene.history, scene.certificate, ahead, front)? {
-        Some(tree) => push_in_tree(lines, scene, tree.nodes(), ahead, front, told),
+    match ahead_of(eras, told.era, told.position) {
+        Some((ahead, front)) => push_in_tree(lines, scene, ahead, front, told),
         None => push_at(lines, scene, told),
     }
 }

@@ -42,6 +42,14 @@ impl<R: Replayable> Replay<R> {
         &self.state
     }
 
+    /// The state alone, as it stands; no step can be taken back then.
+    pub fn into_state(self) -> R
+        ensures { result ≡ self.state }
+    {
+        let Replay { state, lost: _ } = self;
+        state
+    }
+
     /// Takes a step ahead of the cut. A run may know the step by another number than the state does, by a rule that does the same.
     pub fn step_kept(
         &mut self,

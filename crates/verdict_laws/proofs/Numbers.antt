@@ -4,8 +4,6 @@ use Rattle.std.specs.List.{AllByRecursion, flat_map, cons_option}
 use Rattle.std.proofs.lemmas.List.{map-append}
 use Rattle.nfs3_types.specs.declared.calls.NfsCall.{NfsCall}
 use Rattle.nfs3_types.specs.declared.replies.Outcome.{Outcome}
-use Rattle.nfs_history.specs.declared.recorded.Meaning.{Meaning}
-use Rattle.nfs_history.specs.declared.recorded.Meaning.TheVariants as meanings
 use Rattle.nfs_history.specs.declared.recorded.RecordedCall.{RecordedCall}
 use Rattle.nfs_history.specs.Precedence.{call_at}
 use Rattle.certificate.specs.declared.plan.EraPlan.{EraPlan}
@@ -16,9 +14,9 @@ use Rattle.order_check.specs.declared.places.OrderedPlace.{OrderedPlace}
 use Rattle.order_check.specs.Places.{order_from, number_of}
 use Rattle.order_check.specs.Shape.{NameDifferentCalls}
 use Rattle.replay_law.specs.Run.{TakenStep}
-use Rattle.tree_nodes.proofs.Chains.{chained}
 use Rattle.tree_laws.specs.ReadBack.{FromOne, NumbersDiffer}
-use Rattle.witness_check.specs.Run.{step_with, step_of_call, step_at, steps_of}
+use Rattle.witness_check.specs.Run.{step_at, steps_of}
+use Rattle.witness_check.proofs.Steps.{numbered}
 use Rattle.verdict_laws.specs.Kept.{left_of, order_seen}
 
 abbrev Differ : List ℕ → Type 0
@@ -93,19 +91,6 @@ named_once [] once = tt
 named_once (p ∷ order) once = (all_apart (number_of p) order once.0, named_once order once.1)
 
 -- ---- steps
-
-with_number : (n : ℕ) (meaning : Meaning) (outcome : Outcome) (one : TakenStep NfsCall Outcome) → step_with n meaning outcome ≡ Some one → one.number ≡ n
-with_number n (meanings.Judged call) outcome one e = cc
-with_number n meanings.Unjudged outcome one e = absurd (cc)
-
-numbered : (calls : List RecordedCall) (place : Place) (one : TakenStep NfsCall Outcome) → step_at calls place ≡ Some one → one.number ≡ call_of place
-numbered calls (variants.Answered n) one e =
-    let call = chained (step_of_call (variants.Answered n)) (call_at calls n) one e in
-    let outcome = chained (step_with n call.0.meaning) call.0.outcome one call.2 in
-    with_number n call.0.meaning outcome.0 one outcome.2
-numbered calls (variants.Taken n count) one e =
-    let call = chained (step_of_call (variants.Taken n count)) (call_at calls n) one e in
-    with_number n call.0.meaning _ one call.2
 
 numbers_of : List (TakenStep NfsCall Outcome) → List ℕ
 numbers_of steps = map (λ one. one.number) steps

@@ -1,4 +1,6 @@
 pub mod Steps
+pub mod Stops
+pub mod Ends
 pub mod OneCut
 pub mod OneVerdict
 pub mod OnlyVerdict

@@ -1,10 +1,9 @@
 -- A plan has one first short cut, or keeps what is stable.
-use Rattle.std.proofs.Common.{◌≡◌, ℕ, ◌<◌, ◌≤◌, List, length, Option, Some, sym, subst, ◌∙◌, arith, inl, inr}
+use Rattle.std.proofs.Common.{◌≡◌, ℕ, ◌<◌, List, Some, sym, subst, ◌∙◌, arith, inl, inr}
 use Rattle.std.proofs.lemmas.Bool.{cases_lt}
 use Rattle.std.proofs.lemmas.Option.{same_Some}
 use Rattle.nfs_history.specs.declared.recorded.RecordedCall.{RecordedCall}
 use Rattle.certificate.specs.declared.plan.EraPlan.{EraPlan}
-use Rattle.certificate.specs.Plan.{cut_of}
 use Rattle.tree_handles.specs.Binding.{Bindings}
 use Rattle.cut_check.specs.declared.effect.Effect.{Effect}
 use Rattle.cut_check.specs.Stable.{IsLastStable}

@@ -1,5 +1,5 @@
 -- A history and a plan have at most one verdict, and so have two texts.
-use Rattle.std.proofs.Common.{◌≡◌, ◌⊎◌, inl, inr, ℕ, List, Option, Some, None, refl, sym, ap, subst, ◌∙◌}
+use Rattle.std.proofs.Common.{◌≡◌, inl, inr, ℕ, List, refl, sym, ap, subst, ◌∙◌}
 use Rattle.std.proofs.lemmas.Option.{none-some, same_Some}
 use Rattle.nfs_history.specs.declared.knowing.KnownCalls.{KnownCalls}
 use Rattle.nfs_history.specs.declared.fault.HistoryFault.{HistoryFault}
@@ -13,9 +13,6 @@ use Rattle.certificate.specs.declared.reading.TextFault.TheVariants.{BadLine, No
 use Rattle.certificate.specs.CertificateText.{CertificateText}
 use Rattle.certificate.proofs.OneCertificate.{certificate_same}
 use Rattle.certificate.proofs.OneBadLine.{IsBadLine-same}
-use Rattle.order_check.specs.declared.fault.ShapeFault.{ShapeFault}
-use Rattle.order_check.specs.declared.fault.OrderFault.{OrderFault}
-use Rattle.order_check.specs.FirstFault.{shape_fault}
 use Rattle.order_check.proofs.ShapeLaws.{none_from_shape}
 use Rattle.order_check.proofs.OrderLaws.{no_early_fault}
 use Rattle.order_check.proofs.OneEarly.{one_early}
@@ -24,7 +21,6 @@ use Rattle.cut_check.specs.Places.{bindings_of}
 use Rattle.cut_check.proofs.ShownLaws as verifiers
 use Rattle.witness_check.specs.declared.fault.Fault.{Fault}
 use Rattle.witness_check.specs.declared.fault.Fault.TheVariants as faults
-use Rattle.witness_check.specs.declared.fault.CheckFault.{CheckFault}
 use Rattle.witness_check.specs.declared.fault.CheckFault.TheVariants.{No}
 use Rattle.witness_check.specs.declared.verdict.Verdict.{Verdict}
 use Rattle.witness_check.specs.declared.verdict.Verdict.TheVariants as told

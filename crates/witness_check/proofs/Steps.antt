@@ -12,15 +12,24 @@ use Rattle.tree_starts.specs.Start.{object_made}
 use Rattle.file_tree.specs.Setting.{under}
 use Rattle.replay_law.proofs.Stands.{all_so_far}
 use Rattle.replay_law.proofs.Crashes.{from_base}
+use Rattle.nfs_history.specs.declared.recorded.Meaning.{Meaning}
+use Rattle.nfs_history.specs.declared.recorded.Meaning.TheVariants as meanings
+use Rattle.nfs_history.specs.declared.recorded.RecordedCall.{RecordedCall}
+use Rattle.nfs_history.specs.Precedence.{call_at}
+use Rattle.certificate.specs.declared.plan.Place.{Place}
+use Rattle.certificate.specs.declared.plan.Place.TheVariants as variants
+use Rattle.certificate.specs.Plan.{call_of}
 use Rattle.nfs3_types.specs.declared.calls.NfsCall.{NfsCall}
 use Rattle.nfs3_types.specs.declared.replies.Outcome.{Outcome}
 use Rattle.replay_law.specs.declared.stepping.Replay.{Replay}
 use Rattle.tree_nodes.specs.Tree.{Tree}
+use Rattle.tree_nodes.proofs.Chains.{chained}
 use Rattle.tree_nodes.specs.declared.undo.Undo.{Undo}
 use Rattle.tree_nodes.specs.Undo.{TakesBack}
 use Rattle.file_tree.specs.declared.setting.TreeSetting.{TreeSetting}
 use Rattle.witness_check.specs.declared.run.Rule.{Rule}
-use Rattle.witness_check.specs.Running.{next_by, first_tree, Stands, tree_after, IsStuckAt, IsIllegalBehind}
+use Rattle.witness_check.specs.Run.{step_with, step_of_call, step_at}
+use Rattle.witness_check.specs.Running.{next_by, first_tree, Stands, tree_after, IsStuckAt, IsStopBehind}
 
 module _ {A B : Type 0} (f : A → Option B) where
   pub alone : (o : Option B) → cons_option o [] ≡ option_to_list o
@@ -72,29 +81,33 @@ module _ {A : Type 0} (rule : Rule) (f : A → Option (TakenStep NfsCall Outcome
   -- a step without a next tree is the first such one
   here : (xs : List A) (i : ℕ) (d : A) (found : Option (TakenStep NfsCall Outcome)) (number : ℕ) → i < length xs → f (get_or xs i d) ≡ found
       → (kept : List (TakenStep NfsCall Outcome)) (state : Tree) → tree_after rule (kept ++ filter_map f (take i xs)) ≡ Some state
-      → IsStuckAt rule (kept ++ filter_map f (take i xs)) found number → IsIllegalBehind rule kept (filter_map f xs) number
+      → IsStuckAt rule (kept ++ filter_map f (take i xs)) found number → IsStopBehind rule kept (filter_map f xs) number state
   here xs i d None number inside at kept state before stuck = absurd stuck
   here xs i d (Some x) number inside at kept state before stuck = λ base reached.
       let next = next_by rule in
       let ahead = filter_map f (take i xs) in
+      let there : state_after next base ahead ≡ Some state = sym (from_base next (first_tree rule) base kept ahead reached) ∙ before in
       record {
-        ahead = ahead;
-        stuck = x;
-        behind = filter_map f (drop (i + 1) xs);
-        parts = parts f xs i d x inside at;
-        runs = subst IsSome (sym (sym (from_base next (first_tree rule) base kept ahead reached) ∙ before)) refl;
-        stops = sym (from_base next (first_tree rule) base kept (ahead ++ x ∷ []) reached) ∙ ap (state_after next (first_tree rule)) (sym (append_assoc kept ahead (x ∷ []))) ∙ stuck.1;
-        named = stuck.0;
+        first = record {
+          ahead = ahead;
+          stuck = x;
+          behind = filter_map f (drop (i + 1) xs);
+          parts = parts f xs i d x inside at;
+          runs = subst IsSome (sym there) refl;
+          stops = sym (from_base next (first_tree rule) base kept (ahead ++ x ∷ []) reached) ∙ ap (state_after next (first_tree rule)) (sym (append_assoc kept ahead (x ∷ []))) ∙ stuck.1;
+          named = stuck.0;
+        };
+        there = there;
       }
 
   pub stuck_kept : (xs : List A) (i : ℕ) (d : A) (number : ℕ) → i < length xs
       → (replay : Replay Tree TreeSetting NfsCall Outcome Undo) (kept : List (TakenStep NfsCall Outcome)) → Stands rule replay (kept ++ filter_map f (take i xs)) []
-      → IsStuckAt rule (kept ++ filter_map f (take i xs)) (f (get_or xs i d)) number → IsIllegalBehind rule kept (filter_map f xs) number
-  stuck_kept xs i d number inside replay kept s stuck = here xs i d (f (get_or xs i d)) number inside refl kept s.base s.reached stuck
+      → IsStuckAt rule (kept ++ filter_map f (take i xs)) (f (get_or xs i d)) number → IsStopBehind rule kept (filter_map f xs) number replay.state
+  stuck_kept xs i d number inside replay kept s stuck = here xs i d (f (get_or xs i d)) number inside refl kept replay.state (s.reached ∙ s.runs) stuck
 
   pub stuck_lost : (xs : List A) (i : ℕ) (d : A) (number : ℕ) → i < length xs
       → (replay : Replay Tree TreeSetting NfsCall Outcome Undo) (kept : List (TakenStep NfsCall Outcome)) → Stands rule replay kept (filter_map f (take i xs))
-      → IsStuckAt rule (kept ++ filter_map f (take i xs)) (f (get_or xs i d)) number → IsIllegalBehind rule kept (filter_map f xs) number
+      → IsStuckAt rule (kept ++ filter_map f (take i xs)) (f (get_or xs i d)) number → IsStopBehind rule kept (filter_map f xs) number replay.state
   stuck_lost xs i d number inside replay kept s stuck =
       here xs i d (f (get_or xs i d)) number inside refl kept replay.state (all_so_far TakesBack (next_by rule) (first_tree rule) replay kept (filter_map f (take i xs)) s) stuck
 
@@ -109,3 +122,19 @@ module _ (rule : Rule) where
   pub is_stuck : (o : Option (TakenStep NfsCall Outcome)) (x : TakenStep NfsCall Outcome) (steps : List (TakenStep NfsCall Outcome)) (number : ℕ) → o ≡ Some x → x.number ≡ number
       → tree_after rule (steps ++ x ∷ []) ≡ None → IsStuckAt rule steps o number
   is_stuck o x steps number some named stops = subst (λ p. IsStuckAt rule steps p number) (sym some) (named, stops)
+
+-- ---- numbers
+
+with_number : (n : ℕ) (meaning : Meaning) (outcome : Outcome) (one : TakenStep NfsCall Outcome) → step_with n meaning outcome ≡ Some one → one.number ≡ n
+with_number n (meanings.Judged call) outcome one e = cc
+with_number n meanings.Unjudged outcome one e = absurd (cc)
+
+-- a step has the number of its place
+pub numbered : (calls : List RecordedCall) (place : Place) (one : TakenStep NfsCall Outcome) → step_at calls place ≡ Some one → one.number ≡ call_of place
+numbered calls (variants.Answered n) one e =
+    let call = chained (step_of_call (variants.Answered n)) (call_at calls n) one e in
+    let outcome = chained (step_with n call.0.meaning) call.0.outcome one call.2 in
+    with_number n call.0.meaning outcome.0 one outcome.2
+numbered calls (variants.Taken n count) one e =
+    let call = chained (step_of_call (variants.Taken n count)) (call_at calls n) one e in
+    with_number n call.0.meaning _ one call.2

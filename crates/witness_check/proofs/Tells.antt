@@ -11,19 +11,18 @@ use Rattle.cut_check.specs.declared.fault.VerifierFault.TheVariants as verifiers
 use Rattle.cut_check.specs.VerifierFault.{IsVerifierFault}
 use Rattle.cut_check.specs.Places.{bindings_of}
 use Rattle.cut_check.specs.ShortCut.{IsShortCut}
-use Rattle.replay_law.specs.declared.run.RunFault.{RunFault}
-use Rattle.replay_law.specs.declared.run.RunFault.TheVariants as runs
-use Rattle.replay_law.specs.Run.{IsFirstIllegalInEras}
+use Rattle.witness_check.specs.declared.fault.RunEnd.{RunEnd}
+use Rattle.witness_check.specs.declared.fault.RunEnd.TheVariants as ends
+use Rattle.witness_check.specs.Running.{TellsEnd}
 use Rattle.witness_check.specs.Run.{eras_of, next_of, base_of}
 use Rattle.witness_check.specs.Faults.{of_run, of_cut, of_verifier}
 use Rattle.witness_check.specs.Verdict.{Ordered, Ran, Cut}
 use Rattle.witness_check.specs.Told.{TellsFault}
 
 module _ (history : KnownCalls) (plan : Certificate) where
-  pub tells_run : (r : Result (Unit {0}) RunFault) (fault : RunFault) → r ≡ Err fault → Ordered history plan
-      → ((n : ℕ) → r ≡ Err (runs.Illegal n) → IsFirstIllegalInEras (next_of history plan) (base_of history) (eras_of history plan) n) → TellsFault history plan (of_run fault)
-  tells_run r (runs.Illegal n) was ordered illegal = inr (inr (inl (ordered, (n, illegal n was, refl))))
-  tells_run r runs.NoMemory was ordered illegal = tt
+  pub tells_run : (end : RunEnd) → Ordered history plan → TellsEnd (next_of history plan) (base_of history) (eras_of history plan) end → TellsFault history plan (of_run end)
+  tells_run (ends.Stopped stop) ordered at = (inr (inr (inl (ordered, (stop.number, at.stuck, refl)))), (ordered, at))
+  tells_run ends.NoMemory ordered at = tt
 
   pub tells_cut : (r : Result (Unit {0}) CutFault) (fault : CutFault) → r ≡ Err fault → Ran history plan
       → ((e needed : ℕ) → r ≡ Err (cuts.ShortCut e needed) → IsShortCut (bindings_of history.head.root plan.binds) history.calls plan.eras e needed) → TellsFault history plan (of_cut fault)

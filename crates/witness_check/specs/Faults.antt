@@ -8,12 +8,11 @@ use Rattle.cut_check.specs.declared.fault.CutFault.{CutFault}
 use Rattle.cut_check.specs.declared.fault.CutFault.TheVariants as cuts
 use Rattle.cut_check.specs.declared.fault.VerifierFault.{VerifierFault}
 use Rattle.cut_check.specs.declared.fault.VerifierFault.TheVariants as verifiers
-use Rattle.replay_law.specs.declared.run.RunFault.{RunFault}
-use Rattle.replay_law.specs.declared.run.RunFault.TheVariants as runs
-use Rattle.witness_check.specs.declared.fault.Fault.{Fault}
+use Rattle.witness_check.specs.declared.fault.RunEnd.{RunEnd}
+use Rattle.witness_check.specs.declared.fault.RunEnd.TheVariants as ends
 use Rattle.witness_check.specs.declared.fault.Fault.TheVariants as faults
 use Rattle.witness_check.specs.declared.fault.CheckFault.{CheckFault}
-use Rattle.witness_check.specs.declared.fault.CheckFault.TheVariants.{No, NoMemory}
+use Rattle.witness_check.specs.declared.fault.CheckFault.TheVariants.{No, Stopped, NoMemory}
 
 abbrev pub of_shape : ShapeFault → CheckFault
 of_shape shapes.WrongEras = No faults.WrongEras
@@ -30,9 +29,9 @@ of_order (Early i j) = No (faults.Early i j)
 
 -- ---- for the prover
 
-abbrev pub of_run : RunFault → CheckFault
-of_run (runs.Illegal n) = No (faults.Illegal n)
-of_run runs.NoMemory = NoMemory
+abbrev pub of_run : RunEnd → CheckFault
+of_run (ends.Stopped stop) = Stopped stop
+of_run ends.NoMemory = NoMemory
 
 abbrev pub of_cut : CutFault → CheckFault
 of_cut (cuts.ShortCut e needed) = No (faults.ShortCut e needed)

@@ -4,4 +4,5 @@ pub mod Faults
 pub mod FaultText
 pub mod Witness
 pub mod Verdict
+pub mod Stop
 pub mod Told

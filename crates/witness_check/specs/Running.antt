@@ -9,7 +9,7 @@ use Rattle.certificate.specs.declared.plan.Place.{Place}
 use Rattle.certificate.specs.declared.plan.Place.TheVariants.{Answered, Taken}
 use Rattle.replay_law.specs.declared.stepping.Replay.{Replay}
 use Rattle.replay_law.specs.Run as run
-use Rattle.replay_law.specs.Run.{state_after, IsFirstIllegal}
+use Rattle.replay_law.specs.Run.{state_after}
 use Rattle.replay_law.specs.Standing as standing
 use Rattle.tree_nodes.specs.Tree.{Tree}
 use Rattle.tree_nodes.specs.declared.undo.Undo.{Undo}
@@ -19,6 +19,9 @@ use Rattle.file_tree.specs.Setting.{next_in}
 use Rattle.file_tree.specs.StartTree.{start_tree}
 use Rattle.witness_check.specs.declared.run.Found.{Found}
 use Rattle.witness_check.specs.declared.run.Rule.{Rule}
+use Rattle.witness_check.specs.declared.fault.RunEnd.{RunEnd}
+use Rattle.witness_check.specs.declared.fault.RunEnd.TheVariants.{Stopped, NoMemory}
+use Rattle.witness_check.specs.Stop.{IsFirstStop, IsStopInEras}
 
 -- what a call does to the tree under a rule, and what stood at first
 abbrev pub next_by : Rule → Tree → ℕ → NfsCall → Outcome → Option Tree
@@ -53,6 +56,16 @@ abbrev pub IsStuckAt : Rule → List (run.TakenStep NfsCall Outcome) → Option 
 IsStuckAt rule steps None number = ⊥
 IsStuckAt rule steps (Some step) number = (step.number ≡ number) × (tree_after rule (steps ++ step ∷ []) ≡ None)
 
--- the steps have a first illegal one behind those that were kept, which is of this call
-abbrev pub IsIllegalBehind : Rule → List (run.TakenStep NfsCall Outcome) → List (run.TakenStep NfsCall Outcome) → ℕ → Type 0
-IsIllegalBehind rule kept steps number = (base : Tree) → tree_after rule kept ≡ Some base → IsFirstIllegal (next_by rule) base steps number
+-- the steps have a first illegal one behind those that were kept, which is of this call, and the tree is the one that it finds
+abbrev pub IsStopBehind : Rule → List (run.TakenStep NfsCall Outcome) → List (run.TakenStep NfsCall Outcome) → ℕ → Tree → Type 0
+IsStopBehind rule kept steps number tree = (base : Tree) → tree_after rule kept ≡ Some base → IsFirstStop (next_by rule) base steps number tree
+
+-- what a run of these steps tells where it doesn't come to their end
+abbrev pub StopsAt : Rule → List (run.TakenStep NfsCall Outcome) → List (run.TakenStep NfsCall Outcome) → RunEnd → Type 0
+StopsAt rule kept steps (Stopped stop) = IsStopBehind rule kept steps stop.number stop.tree
+StopsAt rule kept steps NoMemory = Unit {0}
+
+-- the same of a run of eras
+abbrev pub TellsEnd : (Tree → ℕ → NfsCall → Outcome → Option Tree) → Tree → List (run.Era NfsCall Outcome) → RunEnd → Type 0
+TellsEnd next start eras (Stopped stop) = IsStopInEras next start eras stop.number stop.tree
+TellsEnd next start eras NoMemory = Unit {0}

@@ -3,10 +3,13 @@
 use Rattle.nfs_history.specs.declared.knowing.KnownCalls.{KnownCalls}
 use Rattle.certificate.specs.declared.plan.Certificate.{Certificate}
 use Rattle.witness_check.specs.declared.fault.CheckFault.{CheckFault}
-use Rattle.witness_check.specs.declared.fault.CheckFault.TheVariants.{No, NoMemory}
+use Rattle.witness_check.specs.declared.fault.CheckFault.TheVariants.{No, Stopped, NoMemory}
+use Rattle.witness_check.specs.declared.fault.Fault.TheVariants as faults
 use Rattle.witness_check.specs.Verdict.{IsPlanFault}
+use Rattle.witness_check.specs.Stop.{IsStop}
 
 -- a fault that is told is the plan's first one; want of memory tells nothing
 abbrev pub TellsFault : KnownCalls → Certificate → CheckFault → Type 0
 TellsFault history plan (No fault) = IsPlanFault history plan fault
+TellsFault history plan (Stopped stop) = IsPlanFault history plan (faults.Illegal stop.number) × IsStop history plan stop.number stop.tree
 TellsFault history plan NoMemory = Unit {0}

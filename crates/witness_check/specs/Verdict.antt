@@ -3,7 +3,6 @@
 -- history's, the certificate's text's, the plan's shape, its order, its run, its cuts, its write verifiers (an order of this
 -- project's own).
 use Rattle.std.specs.Prelude.{◌≡◌, ◌⊎◌, ℕ, List, Some}
-use Rattle.nfs_history.specs.declared.fault.HistoryFault.{HistoryFault}
 use Rattle.nfs_history.specs.declared.knowing.KnownCalls.{KnownCalls}
 use Rattle.nfs_history.specs.History.{IsCallsFile}
 use Rattle.nfs_history.specs.FirstFault.{FirstFault}

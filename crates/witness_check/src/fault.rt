@@ -1,8 +1,8 @@
 //! What is wrong with a plan: the faults of its shape, order, run, cuts and write verifiers as one.
 
 use cut_check::{CutFault, VerifierFault};
+use file_tree::FileTree;
 use order_check::{OrderFault, ShapeFault};
-use replay_law::RunFault;
 use std::alloc::AllocError;
 use std::fmt;
 use thiserror::Error;
@@ -68,11 +68,42 @@ impl fmt::Display for Fault {
     }
 }
 
+/// Where a run stops.
+#[derive(Drop)]
+pub struct Stop {
+    /// The number of the call that can't have come out so at its place.
+    pub number: u64,
+    /// The tree at that place.
+    pub tree: FileTree,
+}
+
+/// Why a plan's run doesn't come to its end.
+#[derive(Drop)]
+pub enum RunEnd {
+    /// A call can't have come out so at its place; the first such place.
+    Stopped(Stop),
+    /// Memory ran out.
+    NoMemory,
+}
+
+impl From<AllocError> for RunEnd {
+    ghost use Rattle.std.specs.Prelude.{◌≡◌};
+    ghost use Rattle.witness_check.specs.declared.fault.RunEnd.TheVariants.{NoMemory};
+
+    ghost from_gives = { λ _ told. told ≡ NoMemory };
+
+    fn from(_error: AllocError) -> RunEnd {
+        RunEnd::NoMemory
+    }
+}
+
 /// Why a plan isn't known to be a witness.
-#[derive(Clone, Copy, Debug, PartialEq, Eq)]
+#[derive(Drop)]
 pub enum CheckFault {
-    /// It isn't one: the first fault.
+    /// It isn't one: the first fault, which isn't that of its run.
     No(Fault),
+    /// It isn't one: its run stops here.
+    Stopped(Stop),
     /// Memory ran out.
     NoMemory,
 }
@@ -120,16 +151,16 @@ impl From<OrderFault> for CheckFault {
     }
 }
 
-impl From<RunFault> for CheckFault {
+impl From<RunEnd> for CheckFault {
     ghost use Rattle.std.specs.Prelude.{◌≡◌};
     ghost use Rattle.witness_check.specs.Faults.{of_run};
 
-    ghost from_gives = { λ fault told. told ≡ of_run fault };
+    ghost from_gives = { λ end told. told ≡ of_run end };
 
-    fn from(fault: RunFault) -> CheckFault {
-        match fault {
-            RunFault::Illegal(call) => CheckFault::No(Fault::Illegal(call)),
-            RunFault::NoMemory => CheckFault::NoMemory,
+    fn from(end: RunEnd) -> CheckFault {
+        match end {
+            RunEnd::Stopped(stop) => CheckFault::Stopped(stop),
+            RunEnd::NoMemory => CheckFault::NoMemory,
         }
     }
 }

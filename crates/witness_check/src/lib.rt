@@ -8,7 +8,7 @@ mod laws;
 mod run;
 mod verdict;
 
-pub use fault::Fault;
+pub use fault::{Fault, Stop};
 pub use laws::{a_plan_has_one_verdict, two_files_have_one_verdict};
 pub use replay_law::{EraRun, RunFault, run_eras};
-pub use verdict::{FileVerdict, Verdict, check, check_calls, check_files};
+pub use verdict::{FileVerdict, Judgement, Verdict, check, check_calls, check_files, judge_calls};

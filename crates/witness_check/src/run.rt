@@ -1,18 +1,19 @@
 //! The run of a plan from the tree that stood at first: one tree, from which a crash takes back what came behind the cut.
 
-ghost use Rattle.std.specs.Prelude.{◌≡◌, ℕ, List, [], ◌++◌, map, Err, IfOk, IfSome, OnOk, IsSome, length, option_map, take, drop};
+ghost use Rattle.std.specs.Prelude.{◌≡◌, ℕ, List, [], ◌++◌, map, Err, IfOk, IfErr, IfSome, OnOk, OnErr, IsSome, length, option_map, take, drop};
 ghost use Rattle.std.specs.Option.{option_to_list};
 ghost use Rattle.certificate.specs.Plan.{cut_of};
 ghost use Rattle.cut_check.specs.Places.{bindings_of};
 ghost use Rattle.replay_law.specs.Run as run;
-ghost use Rattle.replay_law.specs.Run.{EveryEraRuns, IsFirstIllegalInEras};
+ghost use Rattle.replay_law.specs.Run.{EveryEraRuns};
 ghost use Rattle.tree_starts.specs.Start.{object_made};
 ghost use Rattle.nfs3_types.specs.declared.calls.NfsCall.{NfsCall};
 ghost use Rattle.nfs3_types.specs.declared.replies.Outcome.{Outcome};
 ghost use Rattle.witness_check.specs.Run.{step_of_call, step_at, steps_of, era_of, eras_of, next_of, base_of, Runs};
-ghost use Rattle.witness_check.specs.Running.{outcome_at, found_step, found_steps, next_by, first_tree, Stands, tree_after, IsStuckAt, IsIllegalBehind};
+ghost use Rattle.witness_check.specs.Running.{outcome_at, found_step, found_steps, next_by, first_tree, Stands, tree_after, IsStuckAt, IsStopBehind, StopsAt, TellsEnd};
 
 use crate::ahead::{BLOCK, look_ahead};
+use crate::fault::{RunEnd, Stop};
 use certificate::{Certificate, EraPlan, Place};
 use cut_check::bindings_of_plan;
 use file_tree::{FileTree, Start, TreeSetting};
@@ -117,6 +118,7 @@ fn run_kept_step(
     ensures illegal { (number : ℕ) → result ≡ Err (RunFault.Illegal number)
         → (kept : List (run.TakenStep NfsCall Outcome)) → Stands rule.now replay.old kept []
         → IsStuckAt rule.now kept (option_map found_step step.now) number }
+    ensures stays { OnErr result ((kept lost : List (run.TakenStep NfsCall Outcome)) → Stands rule.now replay.old kept lost → Stands rule.now replay.new kept lost) }
 {
     let Some(found) = step else {
         return Ok(());
@@ -141,7 +143,7 @@ fn run_kept_steps(
         → Stands rule.now replay.new (kept ++ found_steps steps.now) []) }
     ensures illegal { (number : ℕ) → result ≡ Err (RunFault.Illegal number)
         → (kept : List (run.TakenStep NfsCall Outcome)) → Stands rule.now replay.old kept []
-        → IsIllegalBehind rule.now kept (found_steps steps.now) number }
+        → IsStopBehind rule.now kept (found_steps steps.now) number replay.new.state }
 {
     for step in steps {
         run_kept_step(replay, rule, step)?;
@@ -186,7 +188,7 @@ fn run_kept_block(
         → Stands rule.now replay.new (kept ++ steps_of history.now.calls places.now) []) }
     ensures illegal { (number : ℕ) → result ≡ Err (RunFault.Illegal number)
         → (kept : List (run.TakenStep NfsCall Outcome)) → Stands rule.now replay.old kept []
-        → IsIllegalBehind rule.now kept (steps_of history.now.calls places.now) number }
+        → IsStopBehind rule.now kept (steps_of history.now.calls places.now) number replay.new.state }
 {
     find_steps(alloc, history, places, &mut block.steps)?;
     let steps = block.steps.as_slice();
@@ -210,6 +212,7 @@ fn run_lost_step(
     ensures illegal { (number : ℕ) → result ≡ Err (RunFault.Illegal number)
         → (kept lost : List (run.TakenStep NfsCall Outcome)) → Stands rule.now replay.old kept lost
         → IsStuckAt rule.now (kept ++ lost) (option_map found_step step.now) number }
+    ensures stays { OnErr result ((kept lost : List (run.TakenStep NfsCall Outcome)) → Stands rule.now replay.old kept lost → Stands rule.now replay.new kept lost) }
 {
     let Some(found) = step else {
         return Ok(());
@@ -237,6 +240,7 @@ fn run_lost_place(
     ensures illegal { (number : ℕ) → result ≡ Err (RunFault.Illegal number)
         → (kept lost : List (run.TakenStep NfsCall Outcome)) → Stands rule.now replay.old kept lost
         → IsStuckAt rule.now (kept ++ lost) (step_at history.now.calls place) number }
+    ensures stays { OnErr result ((kept lost : List (run.TakenStep NfsCall Outcome)) → Stands rule.now replay.old kept lost → Stands rule.now replay.new kept lost) }
 {
     let found = find_step(alloc, history, place)?;
     let step = run_lost_step(replay, rule, &found);
@@ -257,7 +261,7 @@ fn run_kept(
         → Stands rule.now replay.new (kept ++ steps_of history.now.calls places.now) []) }
     ensures illegal { (number : ℕ) → result ≡ Err (RunFault.Illegal number)
         → (kept : List (run.TakenStep NfsCall Outcome)) → Stands rule.now replay.old kept []
-        → IsIllegalBehind rule.now kept (steps_of history.now.calls places.now) number }
+        → IsStopBehind rule.now kept (steps_of history.now.calls places.now) number replay.new.state }
 {
     let mut rest = places;
     while !rest.is_empty() {
@@ -280,7 +284,7 @@ fn run_lost(
         → Stands rule.now replay.new kept (steps_of history.now.calls places.now)) }
     ensures illegal { (number : ℕ) → result ≡ Err (RunFault.Illegal number)
         → (kept : List (run.TakenStep NfsCall Outcome)) → Stands rule.now replay.old kept []
-        → IsIllegalBehind rule.now kept (steps_of history.now.calls places.now) number }
+        → IsStopBehind rule.now kept (steps_of history.now.calls places.now) number replay.new.state }
 {
     for place in places {
         run_lost_place(alloc, replay, rule, history, *place)?;
@@ -300,6 +304,28 @@ fn split_at_cut(era: &EraPlan) -> (&[Place], &[Place])
     }
 }
 
+/// Takes the steps of an era, those past its cut last.
+fn run_places(
+    alloc: Global,
+    replay: &mut Replay<FileTree>,
+    rule: &Rule<'_, '_>,
+    history: &KnownCalls<'_>,
+    era: &EraPlan,
+    block: &mut Block,
+) -> Result<(), RunFault>
+    ensures ok { OnOk result ((kept : List (run.TakenStep NfsCall Outcome)) → Stands rule.now replay.old kept []
+        → Stands rule.now replay.new (kept ++ steps_of history.now.calls (take (cut_of era.now) era.now.places))
+        (steps_of history.now.calls (drop (cut_of era.now) era.now.places))) }
+    ensures illegal { (number : ℕ) → result ≡ Err (RunFault.Illegal number)
+        → (kept : List (run.TakenStep NfsCall Outcome)) → Stands rule.now replay.old kept []
+        → IsStopBehind rule.now kept (steps_of history.now.calls era.now.places) number replay.new.state }
+{
+    let (kept, lost) = split_at_cut(era);
+    run_kept(alloc, replay, rule, history, kept, block)?;
+    run_lost(alloc, replay, rule, history, lost)?;
+    Ok(())
+}
+
 /// Runs an era, and takes the crash at its end.
 fn run_era(
     alloc: Global,
@@ -308,22 +334,24 @@ fn run_era(
     history: &KnownCalls<'_>,
     era: &EraPlan,
     block: &mut Block,
-) -> Result<Replay<FileTree>, RunFault>
+) -> Result<Replay<FileTree>, RunEnd>
     requires { (kept : List (run.TakenStep NfsCall Outcome)) × Stands rule.now replay kept [] }
     ensures runs { OnOk result ((kept : List (run.TakenStep NfsCall Outcome)) → Stands rule.now replay kept []
         → IsSome (tree_after rule.now (kept ++ steps_of history.now.calls era.now.places))) }
     ensures crashed { IfOk result (λ after. (kept : List (run.TakenStep NfsCall Outcome)) → Stands rule.now replay kept []
         → Stands rule.now after (kept ++ steps_of history.now.calls (take (cut_of era.now) era.now.places)) []) }
-    ensures illegal { (number : ℕ) → result ≡ Err (RunFault.Illegal number)
-        → (kept : List (run.TakenStep NfsCall Outcome)) → Stands rule.now replay kept []
-        → IsIllegalBehind rule.now kept (steps_of history.now.calls era.now.places) number }
+    ensures stopped { IfErr result (λ end. (kept : List (run.TakenStep NfsCall Outcome)) → Stands rule.now replay kept []
+        → StopsAt rule.now kept (steps_of history.now.calls era.now.places) end) }
 {
-    let (kept, lost) = split_at_cut(era);
     let mut replay = replay;
-    run_kept(alloc, &mut replay, rule, history, kept, block)?;
-    run_lost(alloc, &mut replay, rule, history, lost)?;
-    let after = replay.crash()?;
-    Ok(after)
+    match run_places(alloc, &mut replay, rule, history, era, block) {
+        Ok(()) => Ok(replay.crash()?),
+        Err(RunFault::Illegal(number)) => Err(RunEnd::Stopped(Stop {
+            number,
+            tree: replay.into_state(),
+        })),
+        Err(RunFault::NoMemory) => Err(RunEnd::NoMemory),
+    }
 }
 
 /// Whether every era runs, the first from the tree that stood at first and each other one from what those ahead of it kept.
@@ -332,10 +360,9 @@ fn run_plans(
     rule: &Rule<'_, '_>,
     history: &KnownCalls<'_>,
     eras: &[EraPlan],
-) -> Result<(), RunFault>
+) -> Result<(), RunEnd>
     ensures ok { OnOk result (EveryEraRuns (next_by rule.now) (first_tree rule.now) (map (era_of history.now.calls) eras.now)) }
-    ensures illegal { (number : ℕ) → result ≡ Err (RunFault.Illegal number)
-        → IsFirstIllegalInEras (next_by rule.now) (first_tree rule.now) (map (era_of history.now.calls) eras.now) number }
+    ensures stopped { IfErr result (TellsEnd (next_by rule.now) (first_tree rule.now) (map (era_of history.now.calls) eras.now)) }
 {
     let mut block = Block {
         steps: Vec::new(alloc),
@@ -375,13 +402,12 @@ pub(crate) fn run_plan(
     history: &KnownCalls<'_>,
     rule: &Rule<'_, '_>,
     plan: &Certificate,
-) -> Result<(), RunFault>
+) -> Result<(), RunEnd>
     requires binds { rule.now.setting.binds ≡ bindings_of history.now.head.root plan.now.binds }
     requires profile { rule.now.setting.profile ≡ history.now.head.profile }
     requires start { rule.now.start.now ≡ history.now.head.start }
     ensures ok { OnOk result (Runs history.now plan.now) }
-    ensures illegal { (number : ℕ) → result ≡ Err (RunFault.Illegal number)
-        → IsFirstIllegalInEras (next_of history.now plan.now) (base_of history.now) (eras_of history.now plan.now) number }
+    ensures stopped { IfErr result (TellsEnd (next_of history.now plan.now) (base_of history.now) (eras_of history.now plan.now)) }
 {
     run_plans(alloc, rule, history, plan.eras.as_slice())
 }

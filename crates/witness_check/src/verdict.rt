@@ -7,11 +7,12 @@ ghost use Rattle.nfs_history.specs.FirstFault.{FirstFault};
 ghost use Rattle.nfs_history.specs.History.{IsCallsFile};
 ghost use Rattle.witness_check.specs.Witness.{IsWitness};
 ghost use Rattle.witness_check.specs.Verdict.{IsVerdict, IsFileVerdict};
+ghost use Rattle.witness_check.specs.Stop.{IsJudged};
 ghost use Rattle.witness_check.specs.Told.{TellsFault};
 ghost use Rattle.witness_check.specs.declared.verdict.Verdict.{Verdict};
 ghost use Rattle.witness_check.specs.declared.verdict.FileVerdict.{FileVerdict};
 
-use crate::fault::{CheckFault, Fault};
+use crate::fault::{CheckFault, Fault, Stop};
 use crate::run::{rule_of, run_plan};
 use certificate::{Certificate, TextFault, read_certificate};
 use cut_check::{check_cuts_of_calls, check_verifiers_of_calls};
@@ -26,6 +27,17 @@ pub enum Verdict {
     Yes,
     /// It isn't, for this fault.
     No(Fault),
+}
+
+/// What is found of a history and a certificate, with the tree where the run stops.
+#[derive(Drop)]
+pub enum Judgement {
+    /// The certificate is a witness.
+    Yes,
+    /// It isn't, for this fault, which isn't that of the run.
+    No(Fault),
+    /// It isn't, since a call can't have come out so at its place: `Fault::Illegal`.
+    Stopped(Stop),
 }
 
 /// What is found of a history file and a certificate text.
@@ -60,6 +72,23 @@ fn check_parts(
     Ok(())
 }
 
+/// Whether the certificate is a witness, or else its first fault; where its run stops, with the tree there. It takes what `check_calls` takes.
+pub fn judge_calls(
+    alloc: Global,
+    history: &KnownCalls<'_>,
+    certificate: &Certificate,
+) -> Result<Judgement, AllocError>
+    // The answer is the verdict on the two, and the tree is the one that the call finds at its place.
+    ensures { IfOk result (IsJudged history.now certificate.now) }
+{
+    match check_parts(alloc, history, certificate) {
+        Ok(()) => Ok(Judgement::Yes),
+        Err(CheckFault::No(fault)) => Ok(Judgement::No(fault)),
+        Err(CheckFault::Stopped(stop)) => Ok(Judgement::Stopped(stop)),
+        Err(CheckFault::NoMemory) => Err(AllocError),
+    }
+}
+
 /// Whether the certificate is a witness, or else its first fault; that no other answer is right is said at `check`.
 fn verdict_of(
     alloc: Global,
@@ -68,10 +97,10 @@ fn verdict_of(
 ) -> Result<Verdict, AllocError>
     ensures { IfOk result (IsVerdict history.now certificate.now) }
 {
-    match check_parts(alloc, history, certificate) {
-        Ok(()) => Ok(Verdict::Yes),
-        Err(CheckFault::No(fault)) => Ok(Verdict::No(fault)),
-        Err(CheckFault::NoMemory) => Err(AllocError),
+    match judge_calls(alloc, history, certificate)? {
+        Judgement::Yes => Ok(Verdict::Yes),
+        Judgement::No(fault) => Ok(Verdict::No(fault)),
+        Judgement::Stopped(stop) => Ok(Verdict::No(Fault::Illegal(stop.number))),
     }
 }
 

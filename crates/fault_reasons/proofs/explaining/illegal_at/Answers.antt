@@ -2,9 +2,9 @@ use Rattle.fault_reasons.specs.Running.{next_by, first_tree}
 use Rattle.fault_reasons.proofs.Told.{told}
 use Rattle.fault_reasons.proofs.explaining.illegal_at.Goals as goal
 
-pub returns-in_ok-right : goal.returns-in_ok-right
-returns-in_ok-right c =
+pub returns-in_ok-answered : goal.returns-in_ok-answered
+returns-in_ok-answered c =
     told (next_by c.args.rule.now) (first_tree c.args.rule.now) c.args.rule.now.history.now.calls c.args.rule.now.plan.now.eras c.args.spot.now
-    c.in-Some.step c.in_ok-step.field-0 c.in_ok-right.right c.in_ok-tree.tree c.stops.new.tree c.illegal_step.result c.in_ok-is_stuck.is_stuck
-    c.illegal_step.ensures c.requires c.in-Some.is c.in_ok-step.ensures c.in_ok-tree.ensures c.if-is_stuck.true
-    c.in_ok-is_stuck.ensures.refused c.in_ok-is_stuck.ensures.stays c.in_ok-right.ensures
+    c.in-Some.step c.in_ok-step.field-0 c.in_ok-answered.answered.right c.args.tree c.stops.new.tree c.in_ok-answered.answered.tree c.illegal_step.result c.in_ok-is_stuck.is_stuck
+    c.illegal_step.ensures c.requires.spot c.in-Some.is c.in_ok-step.ensures c.requires.tree c.if-is_stuck.true
+    c.in_ok-is_stuck.ensures.refused c.in_ok-is_stuck.ensures.stays c.in_ok-answered.ensures.same c.in_ok-answered.ensures.right

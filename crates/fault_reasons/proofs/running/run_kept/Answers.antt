@@ -1,4 +1,4 @@
-use Rattle.std.proofs.Common.{◌≡◌, List, Some, take, map, subst}
+use Rattle.std.proofs.Common.{◌≡◌, List, Some, map, subst}
 use Rattle.std.proofs.lemmas.List.{take_all}
 use Rattle.replay_law.specs.Run.{state_after, kept_steps}
 use Rattle.certificate.specs.declared.plan.EraPlan.{EraPlan}

@@ -1,4 +1,4 @@
-use Rattle.std.proofs.Common.{◌≡◌, List, Some, take, subst}
+use Rattle.std.proofs.Common.{◌≡◌, List, Some, subst}
 use Rattle.std.proofs.lemmas.List.{take_all}
 use Rattle.replay_law.specs.Run.{state_after}
 use Rattle.certificate.specs.declared.plan.Place.{Place}

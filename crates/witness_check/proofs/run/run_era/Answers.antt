@@ -1,66 +1,36 @@
-use Rattle.std.proofs.Common.{◌≡◌, ◌++◌, [], take, Err, sym, subst, ap, ◌∙◌, List}
-use Rattle.std.proofs.lemmas.Result.{err_from_is_err_and}
-use Rattle.nfs3_types.specs.declared.calls.NfsCall.{NfsCall}
-use Rattle.nfs3_types.specs.declared.replies.Outcome.{Outcome}
-use Rattle.certificate.specs.declared.plan.Place.{Place}
+use Rattle.std.proofs.Common.{◌++◌, take, drop, refl}
 use Rattle.certificate.specs.Plan.{cut_of}
-use Rattle.replay_law.specs.declared.run.RunFault.TheVariants.{Illegal}
-use Rattle.replay_law.specs.Run.{TakenStep, IsFirstIllegal}
-use Rattle.replay_law.proofs.Crashes.{from_base}
-use Rattle.replay_law.proofs.Within.{first_of_front, first_behind, era_runs}
+use Rattle.replay_law.proofs.Within.{era_runs}
 use Rattle.tree_nodes.specs.Undo.{TakesBack}
 use Rattle.witness_check.specs.Run.{step_at, steps_of}
-use Rattle.witness_check.specs.Running.{next_by, first_tree, Stands}
+use Rattle.witness_check.specs.Running.{next_by, first_tree}
+use Rattle.witness_check.proofs.Ends.{handed_out}
 use Rattle.witness_check.proofs.Steps.{both}
 use Rattle.witness_check.proofs.run.run_era.Goals as goal
 
-pub returns-in_err-run_kept-clause-illegal : goal.returns-in_err-run_kept-clause-illegal
-returns-in_err-run_kept-clause-illegal c = λ number is kept s base reached.
-    let next = next_by c.args.rule.now in
-    let calls = c.args.history.now.calls in
-    let cut = cut_of c.args.era.now in
-    let parts = both (step_at calls) cut c.args.era.now.places c.split_at_cut.result.0.now c.split_at_cut.result.1.now c.split_at_cut.ensures.kept c.split_at_cut.ensures.lost in
-    let fault = err_from_is_err_and c.from_residual.result c.from_residual.ensures.1 in
-    let was : c.run_kept.result ≡ Err c.in_err-run_kept.field-0.0 = c.in_err-run_kept.was in
-    let refused : c.run_kept.result ≡ Err (Illegal number) = cc (fault.1, fault.2, was, is) in
-    let found = c.run_kept.ensures.illegal number refused kept s base reached in
-    subst (λ (steps : List (TakenStep NfsCall Outcome)). IsFirstIllegal next base steps number) (sym parts)
-    (first_of_front next base (steps_of calls c.split_at_cut.result.0.now) (steps_of calls c.split_at_cut.result.1.now) number found)
-
-pub returns-in_err-run_lost-clause-illegal : goal.returns-in_err-run_lost-clause-illegal
-returns-in_err-run_lost-clause-illegal c = λ number is kept s base reached.
-    let next = next_by c.args.rule.now in
-    let calls = c.args.history.now.calls in
-    let front = steps_of calls c.split_at_cut.result.0.now in
-    let parts = both (step_at calls) (cut_of c.args.era.now) c.args.era.now.places c.split_at_cut.result.0.now c.split_at_cut.result.1.now c.split_at_cut.ensures.kept c.split_at_cut.ensures.lost in
-    let fault = err_from_is_err_and c.from_residual-in_err-run_lost.result c.from_residual-in_err-run_lost.ensures.1 in
-    let was : c.run_lost.result ≡ Err c.in_err-run_lost.field-0.0 = c.in_err-run_lost.was in
-    let refused : c.run_lost.result ≡ Err (Illegal number) = cc (fault.1, fault.2, was, is) in
-    let stands = c.in_ok-run_kept.ensures.ok kept s in
-    let found = c.run_lost.ensures.illegal number refused (kept ++ front) stands stands.base stands.reached in
-    let middle = sym (from_base next (first_tree c.args.rule.now) base kept front reached) ∙ stands.reached in
-    subst (λ (steps : List (TakenStep NfsCall Outcome)). IsFirstIllegal next base steps number) (sym parts)
-    (first_behind next base stands.base front (steps_of calls c.split_at_cut.result.1.now) number middle found)
-
 pub crash-requires : goal.crash-requires
 crash-requires c =
-    let kept = c.requires.0 in
-    let stands = c.in_ok-run_lost.ensures.ok (kept ++ steps_of c.args.history.now.calls c.split_at_cut.result.0.now) (c.in_ok-run_kept.ensures.ok kept c.requires.1) in
+    let stands = c.in-Ok.ensures.ok c.requires.0 c.requires.1 in
     (stands.base, stands.back)
 
-pub returns-clause-runs : goal.returns-clause-runs
-returns-clause-runs c = λ kept s.
+pub returns-in_ok-crash-in-Ok-clause-runs : goal.returns-in_ok-crash-in-Ok-clause-runs
+returns-in_ok-crash-in-Ok-clause-runs c = λ kept s.
     let calls = c.args.history.now.calls in
-    let front = steps_of calls c.split_at_cut.result.0.now in
-    let back = steps_of calls c.split_at_cut.result.1.now in
-    let parts = both (step_at calls) (cut_of c.args.era.now) c.args.era.now.places c.split_at_cut.result.0.now c.split_at_cut.result.1.now c.split_at_cut.ensures.kept c.split_at_cut.ensures.lost in
-    era_runs TakesBack (next_by c.args.rule.now) (first_tree c.args.rule.now) c.run_lost.new.replay kept front back (steps_of calls c.args.era.now.places) parts
-    (c.in_ok-run_lost.ensures.ok (kept ++ front) (c.in_ok-run_kept.ensures.ok kept s))
+    let cut = cut_of c.args.era.now in
+    let places = c.args.era.now.places in
+    let front = steps_of calls (take cut places) in
+    let back = steps_of calls (drop cut places) in
+    let parts = both (step_at calls) cut places (take cut places) (drop cut places) refl refl in
+    era_runs TakesBack (next_by c.args.rule.now) (first_tree c.args.rule.now) c.run_places.new.replay kept front back (steps_of calls places) parts (c.in-Ok.ensures.ok kept s)
 
-pub returns-clause-crashed : goal.returns-clause-crashed
-returns-clause-crashed c = λ kept s.
+pub returns-in_ok-crash-in-Ok-clause-crashed : goal.returns-in_ok-crash-in-Ok-clause-crashed
+returns-in_ok-crash-in-Ok-clause-crashed c = λ kept s.
     let calls = c.args.history.now.calls in
-    let front = steps_of calls c.split_at_cut.result.0.now in
-    let stands = c.in_ok-run_lost.ensures.ok (kept ++ front) (c.in_ok-run_kept.ensures.ok kept s) in
-    let after = c.in_ok-after.ensures (next_by c.args.rule.now) (first_tree c.args.rule.now) (kept ++ front) (steps_of calls c.split_at_cut.result.1.now) stands in
-    subst (λ (ps : List Place). Stands c.args.rule.now c.in_ok-after.after (kept ++ steps_of calls ps) []) c.split_at_cut.ensures.kept after
+    let cut = cut_of c.args.era.now in
+    let places = c.args.era.now.places in
+    c.in_ok-crash-in-Ok.ensures (next_by c.args.rule.now) (first_tree c.args.rule.now) (kept ++ steps_of calls (take cut places)) (steps_of calls (drop cut places)) (c.in-Ok.ensures.ok kept s)
+
+pub returns-in-Err-Illegal-clause-stopped : goal.returns-in-Err-Illegal-clause-stopped
+returns-in-Err-Illegal-clause-stopped c = λ kept s.
+    handed_out c.args.rule.now kept (steps_of c.args.history.now.calls c.args.era.now.places) c.in-Err-Illegal.number c.run_places.new.replay.state c.into_state.result c.into_state.ensures
+    (c.in-Err-Illegal.ensures.illegal c.in-Err-Illegal.number (cc) kept s)

@@ -7,11 +7,12 @@ use Rattle.nfs3_types.specs.declared.calls.NfsCall.{NfsCall}
 use Rattle.nfs3_types.specs.declared.replies.Outcome.{Outcome}
 use Rattle.certificate.specs.declared.plan.Place.{Place}
 use Rattle.replay_law.specs.declared.run.RunFault.TheVariants.{Illegal}
-use Rattle.replay_law.specs.Run.{TakenStep, IsFirstIllegal}
+use Rattle.replay_law.specs.Run.{TakenStep}
 use Rattle.replay_law.proofs.Crashes.{from_base}
-use Rattle.replay_law.proofs.Within.{first_of_front, first_behind}
 use Rattle.witness_check.specs.Run.{step_at, steps_of}
 use Rattle.witness_check.specs.Running.{next_by, first_tree, Stands}
+use Rattle.witness_check.specs.Stop.{IsFirstStop}
+use Rattle.witness_check.proofs.Stops.{stop_of_front, stop_behind}
 use Rattle.witness_check.proofs.run.run_kept.Goals as goal
 
 pub loop-rest-init : goal.loop-rest-init
@@ -53,9 +54,10 @@ returns-in_err-run_kept_block-clause-illegal c = λ number is kept s base reache
     let stands = c.loop-rest.invariant.2 kept s in
     let found = c.run_kept_block.ensures.illegal number refused (kept ++ steps_of calls done) stands stands.base stands.reached in
     let middle = sym (from_base next_of (first_tree c.args.rule.now) base kept (steps_of calls done) reached) ∙ stands.reached in
-    subst (λ (steps : List (TakenStep NfsCall Outcome)). IsFirstIllegal next_of base steps number) (sym parts)
-    (first_behind next_of base stands.base (steps_of calls done) (steps_of calls next ++ steps_of calls behind) number middle
-    (first_of_front next_of stands.base (steps_of calls next) (steps_of calls behind) number found))
+    let tree = c.run_kept_block.new.replay.state in
+    subst (λ (steps : List (TakenStep NfsCall Outcome)). IsFirstStop next_of base steps number tree) (sym parts)
+    (stop_behind next_of base stands.base (steps_of calls done) (steps_of calls next ++ steps_of calls behind) number tree middle
+    (stop_of_front next_of stands.base (steps_of calls next) (steps_of calls behind) number tree found))
 
 pub returns-clause-ok : goal.returns-clause-ok
 returns-clause-ok c = λ kept s.

@@ -31,7 +31,8 @@ returns-in_err-run_kept_step-clause-illegal c = λ number is kept s.
     let refused : c.run_kept_step.result ≡ Err (Illegal number) = cc (fault.1, fault.2, was, is) in
     let item = c.step-item.result in
     let same : option_map found_step item ≡ option_map found_step (get_or steps i item) = ap (option_map found_step) c.step-item.is in
-    stuck_kept c.args.rule.now (option_map found_step) steps i item number c.loop-step-test.true c.loop-step.replay kept stands
+    let still = c.in_err-run_kept_step.ensures.stays (kept ++ found_steps (take i steps)) [] stands in
+    stuck_kept c.args.rule.now (option_map found_step) steps i item number c.loop-step-test.true c.run_kept_step.new.replay kept still
     (subst (λ (o : Option (TakenStep NfsCall Outcome)). IsStuckAt c.args.rule.now (kept ++ found_steps (take i steps)) o number) same
     (c.run_kept_step.ensures.illegal number refused (kept ++ found_steps (take i steps)) stands))
 

@@ -25,7 +25,8 @@ returns-in_err-run_lost_place-clause-illegal c = λ number is kept s.
     let fault = err_from_is_err_and c.from_residual.result c.from_residual.ensures.1 in
     let was : c.run_lost_place.result ≡ Err c.in_err-run_lost_place.field-0.0 = c.in_err-run_lost_place.was in
     let refused : c.run_lost_place.result ≡ Err (Illegal number) = cc (fault.1, fault.2, was, is) in
-    stuck_lost c.args.rule.now (step_at calls) places i _ number c.loop-place-test.true c.loop-place.replay kept stands (c.run_lost_place.ensures.illegal number refused kept (steps_of calls (take i places)) stands)
+    let still = c.in_err-run_lost_place.ensures.stays kept (steps_of calls (take i places)) stands in
+    stuck_lost c.args.rule.now (step_at calls) places i _ number c.loop-place-test.true c.run_lost_place.new.replay kept still (c.run_lost_place.ensures.illegal number refused kept (steps_of calls (take i places)) stands)
 
 pub returns-clause-ok : goal.returns-clause-ok
 returns-clause-ok c = λ kept s.

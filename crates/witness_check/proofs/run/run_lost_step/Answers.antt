@@ -25,3 +25,9 @@ returns-in-Err-NotAllowed-clause-illegal c = λ number is kept lost s.
     let named : found.number ≡ number = cc in
     is_stuck c.args.rule.now (option_map found_step c.args.step.now) (found_step found) (kept ++ lost) number some named
     (c.in-Err-NotAllowed.ensures.not_allowed (cc) (next_by c.args.rule.now) (first_tree c.args.rule.now) found.number kept lost (does_so c.args.rule.now found.number _ found.call found.outcome c.in-Some-object_made.ensures) s)
+
+pub returns-in-Err-NotAllowed-clause-stays : goal.returns-in-Err-NotAllowed-clause-stays
+returns-in-Err-NotAllowed-clause-stays c = c.in-Err-NotAllowed.ensures.err (next_by c.args.rule.now) (first_tree c.args.rule.now)
+
+pub returns-in-Err-NoMemory-clause-stays : goal.returns-in-Err-NoMemory-clause-stays
+returns-in-Err-NoMemory-clause-stays c = c.in-Err-NoMemory.ensures.err (next_by c.args.rule.now) (first_tree c.args.rule.now)

@@ -1,13 +1,13 @@
-use Rattle.std.proofs.Common.{◌≡◌, ℕ, List, length, map, Err, OnOk, subst}
+use Rattle.std.proofs.Common.{◌≡◌, List, length, map, OnOk, IfErr, subst}
 use Rattle.tree_starts.specs.declared.object.StartObject.{StartObject}
 use Rattle.tree_starts.specs.declared.profile.Profile.{Profile}
 use Rattle.certificate.specs.declared.plan.EraPlan.{EraPlan}
-use Rattle.replay_law.specs.declared.run.RunFault.TheVariants.{Illegal}
-use Rattle.replay_law.specs.Run.{EveryEraRuns, IsFirstIllegalInEras}
+use Rattle.replay_law.specs.Run.{EveryEraRuns}
 use Rattle.tree_handles.specs.Binding.{Bindings}
 use Rattle.file_tree.specs.Setting.{next_in}
 use Rattle.file_tree.specs.StartTree.{start_tree}
 use Rattle.witness_check.specs.Run.{era_of}
+use Rattle.witness_check.specs.Running.{TellsEnd}
 use Rattle.witness_check.proofs.run.run_plan.Goals as goal
 
 -- what holds of what was read holds of the plan
@@ -21,8 +21,7 @@ returns-clause-ok c =
     read (λ p s b es. OnOk c.run_plans.result (EveryEraRuns (next_in p (length s) b) (start_tree s) (map (era_of c.args.history.now.calls) es))) _ _ _ _ _ _ _ _
     c.requires.profile c.requires.start c.requires.binds c.as_slice.ensures c.run_plans.ensures.ok
 
-pub returns-clause-illegal : goal.returns-clause-illegal
-returns-clause-illegal c =
-    read (λ p s b es. (number : ℕ) → c.run_plans.result ≡ Err (Illegal number)
-    → IsFirstIllegalInEras (next_in p (length s) b) (start_tree s) (map (era_of c.args.history.now.calls) es) number) _ _ _ _ _ _ _ _
-    c.requires.profile c.requires.start c.requires.binds c.as_slice.ensures c.run_plans.ensures.illegal
+pub returns-clause-stopped : goal.returns-clause-stopped
+returns-clause-stopped c =
+    read (λ p s b es. IfErr c.run_plans.result (TellsEnd (next_in p (length s) b) (start_tree s) (map (era_of c.args.history.now.calls) es))) _ _ _ _ _ _ _ _
+    c.requires.profile c.requires.start c.requires.binds c.as_slice.ensures c.run_plans.ensures.stopped

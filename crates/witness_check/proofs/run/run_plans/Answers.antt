@@ -1,19 +1,19 @@
-use Rattle.std.proofs.Common.{◌≡◌, ◌+◌, List, [], ◌∷◌, ◌++◌, take, drop, map, Err, refl, sym, ap, ◌∙◌, subst, arith}
+use Rattle.std.proofs.Common.{◌+◌, List, [], ◌++◌, take, drop, map, sym, ap, ◌∙◌, subst}
 use Rattle.std.proofs.lemmas.List.{take_all}
 use Rattle.std.proofs.lemmas.Result.{err_from_is_err_and}
 use Rattle.nfs3_types.specs.declared.calls.NfsCall.{NfsCall}
 use Rattle.nfs3_types.specs.declared.replies.Outcome.{Outcome}
 use Rattle.certificate.specs.declared.plan.EraPlan.{EraPlan}
-use Rattle.replay_law.specs.declared.run.RunFault.TheVariants.{Illegal}
 use Rattle.replay_law.specs.Run.{Era, TakenStep, EveryEraRuns, kept_steps}
 use Rattle.replay_law.proofs.Runs.{map_more, map_parts}
 use Rattle.replay_law.proofs.Crashes.{none_runs, one_more_runs, kept_one_more}
-use Rattle.witness_check.specs.Run.{step_at, steps_of, era_of}
+use Rattle.witness_check.specs.Run.{step_at, era_of}
 use Rattle.witness_check.specs.Running.{next_by, first_tree, Stands}
 use Rattle.certificate.specs.Plan.{cut_of}
 use Rattle.tree_nodes.specs.Tree.{Tree}
 use Rattle.tree_nodes.specs.Undo.{TakesBack}
 use Rattle.replay_law.specs.Standing as standing
+use Rattle.witness_check.proofs.Ends.{tells_end}
 use Rattle.witness_check.proofs.Steps.{kept}
 use Rattle.witness_check.proofs.run.run_plans.Goals as goal
 
@@ -40,25 +40,16 @@ loop-era-preserved c =
           (one_more_runs next (first_tree c.args.rule.now) so_far (era_of calls era) c.loop-era.invariant.run (c.in_ok-replay.ensures.runs (kept_steps so_far) stands));
     }
 
-pub returns-in_err-replay-clause-illegal : goal.returns-in_err-replay-clause-illegal
-returns-in_err-replay-clause-illegal c = λ number is.
+pub returns-in_err-replay-clause-stopped : goal.returns-in_err-replay-clause-stopped
+returns-in_err-replay-clause-stopped c =
     let calls = c.args.history.now.calls in
     let i = c.loop-era.era-index in
     let era = c.era-item.result in
-    let stands = c.loop-era.invariant.stands in
-    let fault = err_from_is_err_and c.from_residual-in_err-replay.result c.from_residual-in_err-replay.ensures.1 in
-    let was : c.run_era.result ≡ Err c.in_err-replay.field-0.0 = c.in_err-replay.was in
-    let refused : c.run_era.result ≡ Err (Illegal number) = cc (fault.1, fault.2, was, is) in
-    record {
-      ahead = map (era_of calls) (take i c.args.eras.now);
-      era = era_of calls era;
-      behind = map (era_of calls) (drop (i + 1) c.args.eras.now);
-      parts = map_parts (era_of calls) c.args.eras.now i era c.loop-era-test.true c.era-item.is;
-      run = c.loop-era.invariant.run;
-      base = stands.base;
-      reached = stands.reached;
-      first = c.run_era.ensures.illegal number refused (kept_steps (map (era_of calls) (take i c.args.eras.now))) stands stands.base stands.reached;
-    }
+    let so_far = map (era_of calls) (take i c.args.eras.now) in
+    let parts = map_parts (era_of calls) c.args.eras.now i era c.loop-era-test.true c.era-item.is in
+    let p = err_from_is_err_and c.from_residual-in_err-replay.result c.from_residual-in_err-replay.ensures.1 in
+    rw (p.1, p.2) (tells_end c.args.rule.now (map (era_of calls) c.args.eras.now) so_far (map (era_of calls) (drop (i + 1) c.args.eras.now)) (era_of calls era) c.loop-era.replay c.in_err-replay.field-0.0
+    parts c.loop-era.invariant.run c.loop-era.invariant.stands (c.in_err-replay.ensures.stopped (kept_steps so_far) c.loop-era.invariant.stands))
 
 pub returns-clause-ok : goal.returns-clause-ok
 returns-clause-ok c =

@@ -20,7 +20,7 @@ returns-in_err-run_plan-clause-fault c =
     let along = lent c.args.history.now c.lend-calls.result c.in_ok-rule.rule.setting.binds c.args.certificate.now c.lend-calls.ensures c.in_ok-rule.ensures.binds in
     let shape = along (λ (b : Bindings) (k : CallsValue). HasShape k.eras k.calls eras) c.in_ok-check_shape_of_calls.ensures.ok in
     let order = along (λ (b : Bindings) (k : CallsValue). EachEraRespectsOrder k.calls eras) c.in_ok-check_order_of_calls.ensures.ok in
-    rw (p.1, p.2) (tells_run c.args.history.now c.args.certificate.now c.run_plan.result c.in_err-run_plan.field-0.0 c.in_err-run_plan.was (shape, order) c.run_plan.ensures.illegal)
+    rw (p.1, p.2) (tells_run c.args.history.now c.args.certificate.now c.in_err-run_plan.field-0.0 (shape, order) c.in_err-run_plan.ensures.stopped)
 
 pub returns-in_err-check_cuts_of_calls-clause-fault : goal.returns-in_err-check_cuts_of_calls-clause-fault
 returns-in_err-check_cuts_of_calls-clause-fault c =

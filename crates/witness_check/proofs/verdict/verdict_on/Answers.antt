@@ -1,4 +1,4 @@
-use Rattle.std.proofs.Common.{◌≡◌, ◌≢◌, ◌⊎◌, inl, inr, rules}
+use Rattle.std.proofs.Common.{◌≢◌, ◌⊎◌, inl, inr, rules}
 use Rattle.nfs_history.specs.declared.fault.HistoryFault.TheVariants as faults
 use Rattle.witness_check.proofs.verdict.verdict_on.Goals as goal
 

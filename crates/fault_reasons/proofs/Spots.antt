@@ -1,0 +1,202 @@
+-- Where a plan names no call twice, its run stops at the place that is found by the call's number.
+use Rattle.std.proofs.Common.{◌≡◌, ◌≢◌, ℕ, ◌+◌, List, [], ◌∷◌, ◌++◌, length, map, Option, Some, None, refl, sym, ap, ◌∙◌, subst, append_assoc, arith}
+use Rattle.std.specs.List.{AllByRecursion, filter_map, cons_option}
+use Rattle.std.proofs.lemmas.List.{append_cancel_left, map-append}
+use Rattle.nfs3_types.specs.declared.calls.NfsCall.{NfsCall}
+use Rattle.nfs3_types.specs.declared.replies.Outcome.{Outcome}
+use Rattle.nfs_history.specs.declared.recorded.RecordedCall.{RecordedCall}
+use Rattle.certificate.specs.declared.plan.Place.{Place}
+use Rattle.certificate.specs.declared.plan.EraPlan.{EraPlan}
+use Rattle.certificate.specs.Plan.{call_of}
+use Rattle.order_check.specs.declared.places.OrderedPlace.{OrderedPlace}
+use Rattle.order_check.specs.Places.{order_from, number_of}
+use Rattle.order_check.specs.Shape.{NameDifferentCalls}
+use Rattle.replay_law.specs.Run.{Era, state_after, kept_steps}
+use Rattle.replay_law.proofs.Crashes.{from_base}
+use Rattle.tree_nodes.specs.Tree.{Tree}
+use Rattle.witness_check.specs.Run.{step_at, steps_of, era_of}
+use Rattle.witness_check.specs.Stop.{IsStopInEras}
+use Rattle.witness_check.proofs.Steps.{numbered}
+use Rattle.fault_reasons.specs.Reason.{IsSpot, steps_behind}
+
+-- ---- lists in parts
+
+-- the list has this item behind that front
+record IsParted {A B : Type 0} (f : A → Option B) (xs : List A) (front : List B) (y : B) : Type 0 where
+  ahead : List A
+  at : A
+  behind : List A
+  parts : xs ≡ ahead ++ at ∷ behind
+  front_is : filter_map f ahead ≡ front
+  is : f at ≡ Some y
+
+module _ {A B : Type 0} (f : A → Option B) where
+  part_here : (x : A) (xs : List A) (front back : List B) (y z : B) → f x ≡ Some z
+      → ((front back : List B) → filter_map f xs ≡ front ++ y ∷ back → IsParted f xs front y) → z ∷ filter_map f xs ≡ front ++ y ∷ back → IsParted f (x ∷ xs) front y
+  part_here x xs [] back y z some later e =
+      let same : z ≡ y = cc in record { ahead = []; at = x; behind = xs; parts = refl; front_is = refl; is = some ∙ ap Some same }
+  part_here x xs (w ∷ front) back y z some later e =
+      let same : z ≡ w = cc in
+      let rest : filter_map f xs ≡ front ++ y ∷ back = cc in
+      let p = later front back rest in
+      record {
+        ahead = x ∷ p.ahead;
+        at = p.at;
+        behind = p.behind;
+        parts = ap (λ ys. x ∷ ys) p.parts;
+        front_is = ap (λ o. cons_option o (filter_map f p.ahead)) some ∙ (λ i. same i ∷ p.front_is i);
+        is = p.is;
+      }
+
+  part_next : (x : A) (xs : List A) (front back : List B) (y : B) (o : Option B) → f x ≡ o
+      → ((front back : List B) → filter_map f xs ≡ front ++ y ∷ back → IsParted f xs front y) → cons_option o (filter_map f xs) ≡ front ++ y ∷ back → IsParted f (x ∷ xs) front y
+  part_next x xs front back y None none later e =
+      let p = later front back e in
+      record {
+        ahead = x ∷ p.ahead;
+        at = p.at;
+        behind = p.behind;
+        parts = ap (λ ys. x ∷ ys) p.parts;
+        front_is = ap (λ o. cons_option o (filter_map f p.ahead)) none ∙ p.front_is;
+        is = p.is;
+      }
+  part_next x xs front back y (Some z) some later e = part_here x xs front back y z some later e
+
+  parted : (xs : List A) (front back : List B) (y : B) → filter_map f xs ≡ front ++ y ∷ back → IsParted f xs front y
+  parted [] [] back y e = absurd (cc)
+  parted [] (z ∷ front) back y e = absurd (cc)
+  parted (x ∷ xs) front back y e = part_next x xs front back y (f x) refl (λ front back e. parted xs front back y e) e
+
+-- the same of a list whose items all give one
+record IsMapped {A B : Type 0} (g : A → B) (xs : List A) (front : List B) (y : B) : Type 0 where
+  ahead : List A
+  at : A
+  behind : List A
+  parts : xs ≡ ahead ++ at ∷ behind
+  front_is : map g ahead ≡ front
+  is : g at ≡ y
+
+mapped : {A B : Type 0} (g : A → B) (xs : List A) (front back : List B) (y : B) → map g xs ≡ front ++ y ∷ back → IsMapped g xs front y
+mapped g [] [] back y e = absurd (cc)
+mapped g [] (z ∷ front) back y e = absurd (cc)
+mapped g (x ∷ xs) [] back y e = record { ahead = []; at = x; behind = xs; parts = refl; front_is = refl; is = cc }
+mapped g (x ∷ xs) (w ∷ front) back y e =
+    let same : g x ≡ w = cc in
+    let rest : map g xs ≡ front ++ y ∷ back = cc in
+    let p = mapped g xs front back y rest in
+    record {
+      ahead = x ∷ p.ahead;
+      at = p.at;
+      behind = p.behind;
+      parts = ap (λ ys. x ∷ ys) p.parts;
+      front_is = λ i. same i ∷ p.front_is i;
+      is = p.is;
+    }
+
+-- of two fronts that are as long, the same is left
+same_long : {A : Type 0} (a b c d : List A) (x y : A) → length a ≡ length b → a ++ x ∷ c ≡ b ++ y ∷ d → a ≡ b
+same_long [] [] c d x y long e = refl
+same_long [] (z ∷ b) c d x y long e = absurd (omega (arith, long))
+same_long (z ∷ a) [] c d x y long e = absurd (omega (arith, long))
+same_long (z ∷ a) (w ∷ b) c d x y long e =
+    let same : z ≡ w = cc in
+    let rest : a ++ x ∷ c ≡ b ++ y ∷ d = cc in
+    let less : length a ≡ length b = omega (arith, long) in
+    (λ i. same i ∷ same_long a b c d x y less rest i)
+
+-- ---- places that name no call twice
+
+-- a place further back names another call
+another : (n : ℕ) (order behind : List OrderedPlace) (p : OrderedPlace) → AllByRecursion (λ q. number_of q ≢ n) (order ++ p ∷ behind) → number_of p ≢ n
+another n [] behind p all = all.0
+another n (q ∷ order) behind p all = another n order behind p all.1
+
+-- what stands ahead of the place of a call is one list
+one_front : (front other : List OrderedPlace) (x y : OrderedPlace) (back behind : List OrderedPlace) → NameDifferentCalls (front ++ x ∷ back) → front ++ x ∷ back ≡ other ++ y ∷ behind
+    → number_of x ≡ number_of y → (front ≡ other) × (x ≡ y)
+one_front [] [] x y back behind once e same = (refl, cc)
+one_front [] (z ∷ other) x y back behind once e same =
+    let rest : back ≡ other ++ y ∷ behind = cc in
+    absurd (another (number_of x) other behind y (subst (λ (ps : List OrderedPlace). AllByRecursion (λ q. number_of q ≢ number_of x) ps) rest once.0) (sym same))
+one_front (z ∷ front) [] x y back behind once e same =
+    let here : z ≡ y = cc in
+    absurd (another (number_of z) front back x once.0 (same ∙ sym (ap number_of here)))
+one_front (z ∷ front) (w ∷ other) x y back behind once e same =
+    let here : z ≡ w = cc in
+    let rest : front ++ x ∷ back ≡ other ++ y ∷ behind = cc in
+    let more = one_front front other x y back behind once.1 rest same in
+    ((λ i. here i ∷ more.0 i), more.1)
+
+abbrev ordered : ℕ → Place → OrderedPlace
+ordered e place = record { era = e; place = place }
+
+-- a place of an era, in the order of all
+record InOrder (e : ℕ) (eras ahead : List EraPlan) (front : List Place) (place : Place) : Type 0 where
+  era : ℕ
+  behind : List OrderedPlace
+  is : era ≡ e + length ahead
+  order : order_from e eras ≡ (order_from e ahead ++ map (ordered era) front) ++ ordered era place ∷ behind
+
+in_order : (e : ℕ) (ahead behind : List EraPlan) (era : EraPlan) (front back : List Place) (place : Place) → era.places ≡ front ++ place ∷ back
+    → InOrder e (ahead ++ era ∷ behind) ahead front place
+in_order e [] behind era front back place places = record {
+  era = e;
+  behind = map (ordered e) back ++ order_from (e + 1) behind;
+  is = omega arith;
+  order = ap (λ ps. map (ordered e) ps ++ order_from (e + 1) behind) places ∙ ap (λ ps. ps ++ order_from (e + 1) behind) (map-append (ordered e) front (place ∷ back))
+      ∙ append_assoc (map (ordered e) front) (ordered e place ∷ map (ordered e) back) (order_from (e + 1) behind);
+}
+in_order e (first ∷ ahead) behind era front back place places =
+    let p = in_order (e + 1) ahead behind era front back place places in
+    let own = map (ordered e) first.places in
+    let later = order_from (e + 1) ahead in
+    record {
+      era = p.era;
+      behind = p.behind;
+      is = omega (arith, p.is);
+      order = ap (λ ps. own ++ ps) p.order ∙ sym (append_assoc own (later ++ map (ordered p.era) front) (ordered p.era place ∷ p.behind))
+          ∙ ap (λ ps. ps ++ ordered p.era place ∷ p.behind) (sym (append_assoc own later (map (ordered p.era) front)));
+    }
+
+unordered : (e : ℕ) (places : List Place) → map (λ p. p.place) (map (ordered e) places) ≡ places
+unordered e [] = refl
+unordered e (place ∷ places) = ap (λ ps. place ∷ ps) (unordered e places)
+
+-- two spots of one call are one
+one_spot : (eras one other : List EraPlan) (front ahead : List Place) (x y : Place) → NameDifferentCalls (order_from 1 eras) → IsSpot eras one front x → IsSpot eras other ahead y
+    → call_of x ≡ call_of y → (one ≡ other) × (front ≡ ahead)
+one_spot eras one other front ahead x y once s t same =
+    let eras_of_one = subst (λ (es : List EraPlan). InOrder 1 es one front x) (sym s.eras_are) (in_order 1 one s.behind s.era front s.back x s.places_are) in
+    let eras_of_other = subst (λ (es : List EraPlan). InOrder 1 es other ahead y) (sym t.eras_are) (in_order 1 other t.behind t.era ahead t.back y t.places_are) in
+    joined eras_of_one eras_of_other
+  where
+    joined : InOrder 1 eras one front x → InOrder 1 eras other ahead y → (one ≡ other) × (front ≡ ahead)
+    joined p q =
+        let fronts = one_front (order_from 1 one ++ map (ordered p.era) front) (order_from 1 other ++ map (ordered q.era) ahead) (ordered p.era x) (ordered q.era y) p.behind q.behind
+        (subst NameDifferentCalls p.order once) (sym p.order ∙ q.order) same in
+        let era : p.era ≡ q.era = ap (λ (o : OrderedPlace). o.era) fronts.1 in
+        let long : length one ≡ length other = omega (arith, era, p.is, q.is) in
+        let eras_are : one ≡ other = same_long one other s.behind t.behind s.era t.era long (sym s.eras_are ∙ t.eras_are) in
+        let own : map (ordered p.era) front ≡ map (ordered q.era) ahead =
+        append_cancel_left (order_from 1 other) (map (ordered p.era) front) (map (ordered q.era) ahead)
+        (subst (λ (es : List EraPlan). order_from 1 es ++ map (ordered p.era) front ≡ order_from 1 other ++ map (ordered q.era) ahead) eras_are fronts.0) in
+        (eras_are, sym (unordered p.era front) ∙ ap (map (λ (o : OrderedPlace). o.place)) own ∙ unordered q.era ahead)
+
+-- the tree at which a run stops is the one at the place that is found
+pub reached : (next : Tree → ℕ → NfsCall → Outcome → Option Tree) (base tree : Tree) (calls : List RecordedCall) (eras ahead : List EraPlan) (front : List Place) (place : Place) (number : ℕ)
+    → NameDifferentCalls (order_from 1 eras) → IsStopInEras next base (map (era_of calls) eras) number tree → IsSpot eras ahead front place → call_of place ≡ number
+    → state_after next base (steps_behind calls ahead front) ≡ Some tree
+reached next base tree calls eras ahead front place number once stop s named =
+    let stuck = stop.stuck in
+    let first = stuck.first in
+    let m = mapped (era_of calls) eras stuck.ahead stuck.behind stuck.era stuck.parts in
+    let steps : steps_of calls m.at.places ≡ first.ahead ++ first.stuck ∷ first.behind = ap (λ (e : Era NfsCall Outcome). e.steps) m.is ∙ first.parts in
+    let p = parted (step_at calls) m.at.places first.ahead first.behind first.stuck steps in
+    let found : IsSpot eras m.ahead p.ahead p.at = record { era = m.at; behind = m.behind; back = p.behind; eras_are = m.parts; places_are = p.parts } in
+    let own : call_of p.at ≡ call_of place = sym (numbered calls p.at first.stuck p.is) ∙ first.named ∙ sym named in
+    let same = one_spot eras m.ahead ahead p.ahead front p.at place once found s own in
+    let there : state_after next base (kept_steps stuck.ahead ++ first.ahead) ≡ Some tree = from_base next base stuck.base (kept_steps stuck.ahead) first.ahead stuck.reached ∙ stop.there in
+    let at : state_after next base (steps_behind calls m.ahead p.ahead) ≡ Some tree =
+    (λ i. state_after next base (kept_steps (m.front_is i) ++ p.front_is i)) ∙ there in
+    subst (λ (ps : List Place). state_after next base (steps_behind calls ahead ps) ≡ Some tree) same.1
+    (subst (λ (es : List EraPlan). state_after next base (steps_behind calls es p.ahead) ≡ Some tree) same.0 at)
