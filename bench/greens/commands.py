@@ -37,6 +37,8 @@ def refused_connection(setting: Setting) -> Answer:
 
 COMMANDS = [
     Row("(e) prefix over a link", "PREFIX is a link to HISTORY", "prefix H 2 L", linked("$N prefix $H 2 $L"), "^refused: cannot write"),
+    Row("(e) prefix over another name", "PREFIX is HISTORY, by a name with ./ ahead", "prefix H 2 ./H",
+        linked("cd $(dirname $H); $N prefix history 2 ./history"), "^refused: cannot write"),
     Row("(e) mend over a link", "HISTORY is a link to PART", "mend H L",
         linked("head -c -2 $H > $D/p; cp $D/p $D/kept; ln -s $D/p $D/q; $N mend $D/p $D/q; s=$?; cmp $D/p $D/kept >&2; exit $s"), "^refused: cannot write"),
     Row("(e) decide over a link", "The certificate's path is a link to HISTORY", "decide --certificate L H", linked("$N decide --certificate $L $H"),
@@ -44,5 +46,9 @@ COMMANDS = [
     Row("(e) run over a link", "CERTIFICATE is a link to HISTORY", "run PLAN H L", linked(PLAN + "touch $D/n; ln -s $D/n $D/m; $N run $D/plan $D/n $D/m"),
         "^refused: cannot write"),
     Row("(e) run over one path", "CERTIFICATE is HISTORY", "run PLAN H H", linked(PLAN + "$N run $D/plan $D/n $D/n"), "^refused: "),
+    Row("(e) run over its plan", "HISTORY is a link to PLAN", "run PLAN H C", linked(PLAN + "ln -s plan $D/m; $N run $D/plan $D/m $D/n"),
+        "^refused: cannot write"),
+    Row("(e) run over a link to nothing", "CERTIFICATE is a link to HISTORY, which isn't there", "run PLAN H L",
+        linked(PLAN + "ln -s n $D/m; $N run $D/plan $D/n $D/m"), "^refused: cannot write"),
     Row("(f) serve: refused", "A connection ended since it sent no call", "serve", refused_connection, "Refused"),
 ]

@@ -13,18 +13,18 @@ use crate::file_decision::{FileDecision, decide_file};
 use crate::hints::{Named, tell_hints};
 use crate::telling::report_of;
 use crate::words::DecideRequest;
-use program_streams::{Output, tell, tell_answer, tell_want_of_memory};
+use program_streams::{Output, are_one_file, tell, tell_answer, tell_want_of_memory};
 use std::alloc::AllocError;
 use std::fs;
 use std::rt::Files;
 use std::time::Clock;
 
-/// Writes the certificate of a yes to the path that is asked for, if one is. Whether it is there now, or wasn't wanted. The history's own
-/// path can't be that one.
+/// Writes the certificate of a yes to the path that is asked for, if one is. Whether it is there now, or wasn't wanted. The history
+/// can't be that file.
 fn is_saved<R: Files>(rt: &R, request: &DecideRequest<'_>, decision: &FileDecision) -> bool {
     match (request.certificate, decision) {
         (Some(path), FileDecision::Yes(text)) => {
-            path != request.history && fs::write(rt, path, text.as_slice()).is_ok()
+            !are_one_file(rt, path, request.history) && fs::write(rt, path, text.as_slice()).is_ok()
         }
         _ => true,
     }

@@ -11,14 +11,16 @@ ghost use Rattle.deciding_command.specs.Written.{events_line};
 
 use crate::prefix_words::PrefixRequest;
 use history_prefix::{PrefixFault, PrefixFile, prefix_file};
-use program_streams::{Output, Report, line_of, tell, tell_answer, tell_want_of_memory};
+use program_streams::{
+    Output, Report, are_one_file, line_of, tell, tell_answer, tell_want_of_memory,
+};
 use std::alloc::{AllocError, Global};
 use std::fs;
 use std::rt::Files;
 
-/// Writes a prefix to the path that is asked for. Whether it is there now. The history's own path can't be that one.
+/// Writes a prefix to the path that is asked for. Whether it is there now. The history can't be that file.
 fn is_saved<R: Files>(rt: &R, request: &PrefixRequest<'_>, prefix: &PrefixFile) -> bool {
-    if request.history == request.prefix {
+    if are_one_file(rt, request.prefix, request.history) {
         return false;
     }
     fs::write(rt, request.prefix, prefix.bytes.as_slice()).is_ok()

@@ -7,10 +7,10 @@ ghost use Rattle.program_streams.specs.Told.{memory_line};
 use crate::mend_words::MendRequest;
 use history_file::FileFault;
 use history_mending::{End, Mended, mend, mended_file};
-use program_streams::{Output, Report, line_of, tell_answer};
+use program_streams::{Output, Report, are_one_file, line_of, tell_answer};
 use std::alloc::{AllocError, Global};
 use std::fs;
-use std::io::Eprint;
+use std::io::{Eprint, ErrorKind};
 use std::rt::Files;
 
 /// What is said where the head can't be read.
@@ -52,7 +52,9 @@ fn save<R: Files + AllocGlobal + Eprint>(
 ) -> Result<Report, AllocError>
     ensures { IfOk result (λ report. report.status < 3) }
 {
-    if request.part == request.history || fs::write(rt, request.history, file).is_err() {
+    if are_one_file(rt, request.history, request.part)
+        || fs::write(rt, request.history, file).is_err()
+    {
         return Report::refused(rt.alloc(), "cannot write");
     }
     tell_end(rt, bytes, mended);
@@ -85,6 +87,7 @@ fn mend_report<R: Files + AllocGlobal + Eprint>(
 {
     match fs::read(rt, request.part) {
         Ok(bytes) => mend_bytes(rt, request, bytes.as_slice()),
+        Err(error) if error.kind() == ErrorKind::OutOfMemory => Err(AllocError),
         Err(_) => Report::refused(rt.alloc(), "unreadable part"),
     }
 }
