@@ -29,12 +29,12 @@ impl LaneEnd {
         self.calls == PumpEnd::End && self.replies == PumpEnd::End
     }
 
-    /// Whether replies could still have come, and it wasn't the server that ended the lane: the recording ended, or the client was gone, or sent
-    /// what isn't noted.
+    /// Whether replies could still have come, and it wasn't the server that ended the lane: the recording ended, or its bound was reached, or
+    /// the client was gone, or sent what isn't noted.
     pub(crate) fn is_cut(&self) -> bool {
-        let is_by_client = self.replies == PumpEnd::WriteFault
+        let is_by_others = matches!(self.replies, PumpEnd::WriteFault | PumpEnd::Bound)
             || !matches!(self.calls, PumpEnd::End | PumpEnd::WriteFault);
-        self.is_halted || (is_by_client && !self.is_by_server)
+        self.is_halted || (is_by_others && !self.is_by_server)
     }
 
     /// Why the whole recording ends with this lane, if it does.
