@@ -44,7 +44,7 @@ def clock_row(name: str, wrong: str, begin: str, later: str, kind=None, least: s
 
 
 CLOCKS = [
-    clock_row("a clock a day ahead", "The clock jumps a day ahead amid the night; the server is right", "+0", "+1d", is_innocent=True, least="^undecided: "),
+    clock_row("a clock a day ahead", "The clock jumps a day ahead amid the night; the server is right", "+0", "+1d", wants="green"),
     Row("the wall's clock a day ahead", "The same, and the monotonic clock stays", "test, by libfaketime",
         lambda setting: clocked(setting, "+0", "+1d", around="FAKETIME_DONT_FAKE_MONOTONIC=1"), wants="green"),
     Row("the bench is stopped", "The bench is stopped for twelve seconds, ten are given for a reply; the server is right", "test", stopped, wants="green"),

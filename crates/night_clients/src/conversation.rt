@@ -1,6 +1,6 @@
 //! The calls of a client on its connection, and the replies to them.
 
-use crate::night::Night;
+use crate::night::{Night, TICK_NANOSECONDS};
 use crate::runtime::ClientsRuntime;
 use crate::shared_log::SharedLog;
 use night_calls::Client;
@@ -11,7 +11,7 @@ use program_streams::READ_SIZE;
 use std::alloc::{AllocError, Global};
 use std::io::{Read, Write};
 use std::net::TcpStream;
-use std::time::Instant;
+use std::time::{Duration, Instant};
 
 /// How a client's calls ended.
 #[derive(Clone, Copy, PartialEq, Eq)]
@@ -37,7 +37,6 @@ fn ask<N: Notes>(
     notes: &mut N,
     client: &mut Client,
     lane: &mut Lane,
-    now: Option<Instant>,
 ) -> Result<Option<Trouble>, AllocError> {
     let number = client.stamp().call;
     let Some(xid) = lane.pending.next_xid()? else {
@@ -55,7 +54,7 @@ fn ask<N: Notes>(
         xid,
         number,
         call,
-        since: now,
+        since: lane.waiting.passed(),
     })?;
     Ok(None)
 }
@@ -111,7 +110,7 @@ impl Night {
             if !lane.wants(depth, now) {
                 break;
             }
-            match ask(self, notes, client, lane, now) {
+            match ask(self, notes, client, lane) {
                 Ok(None) => {}
                 Ok(Some(trouble)) => {
                     self.tell(rt, trouble);
@@ -172,19 +171,12 @@ impl Night {
     }
 
     /// Says of each open call that it has waited too long.
-    fn check_overdue<R: ClientsRuntime>(
-        &self,
-        rt: &R,
-        lane: &Lane,
-        now: Option<Instant>,
-    ) -> Result<(), LaneEnd> {
+    fn check_overdue<R: ClientsRuntime>(&self, rt: &R, lane: &Lane) -> Result<(), LaneEnd> {
         let patience = self.settings.patience();
+        let passed = lane.waiting.passed();
         let mut is_overdue = false;
         for (place, open) in lane.pending.calls().iter().enumerate() {
-            let (Some(now), Some(since)) = (now, open.since) else {
-                break;
-            };
-            if now.duration_since(since) < patience {
+            if Duration::from_nanos(passed.saturating_sub(open.since)) < patience {
                 break;
             }
             self.tell(rt, lane.trouble_of(place, TroubleKind::NoReply));
@@ -208,6 +200,7 @@ impl Night {
         buffer: &mut [u8],
     ) -> Result<(), LaneEnd> {
         let now = Instant::now(rt).ok();
+        lane.waiting.begin_turn(now);
         self.ask_all(rt, notes, client, lane, now)?;
         if lane.pending.calls().is_empty() {
             return Err(LaneEnd::Done);
@@ -218,7 +211,11 @@ impl Night {
         let arrival = receive(reader, buffer, &mut lane.feed);
         self.take_records(rt, notes, client, lane)?;
         match arrival {
-            Arrival::Piece | Arrival::Nothing => self.check_overdue(rt, lane, now),
+            Arrival::Piece => self.check_overdue(rt, lane),
+            Arrival::Nothing => {
+                lane.waiting.found_nothing(TICK_NANOSECONDS);
+                self.check_overdue(rt, lane)
+            }
             Arrival::End | Arrival::ReadFault => Err(LaneEnd::Ended),
             Arrival::TooLong => Err(self.give_up_lane(rt, lane, TroubleKind::RecordTooLong)),
             Arrival::NoMemory => Err(self.give_up_lane(rt, lane, TroubleKind::NoMemory)),

@@ -18,8 +18,8 @@ use std::sync::{Condvar, Mutex, Wait};
 use std::thread;
 use std::time::Duration;
 
-/// How many milliseconds a read or a write waits before a client looks up.
-const TICK: u64 = 50;
+/// How many nanoseconds a read or a write waits before a client looks up.
+pub(crate) const TICK_NANOSECONDS: u32 = 50_000_000;
 
 /// Within how many seconds the word of a crash explains that a connection ended, or wasn't taken.
 const CRASH_SECONDS: u64 = 5;
@@ -128,6 +128,11 @@ impl Night {
         }
     }
 
+    /// Whether clients of the era haven't ended.
+    pub fn is_calling<R: Wait>(&self, rt: &R) -> bool {
+        self.control.lock(rt).running() > 0
+    }
+
     /// Begins an era of this number of clients, once a crash is noted that goes before it. A crash from then on waits for their ends.
     pub fn begin<R: Wait>(&self, rt: &R, clients: usize) -> u64 {
         let mut control = self
@@ -175,7 +180,7 @@ impl Night {
             Ok(stream) => stream,
             Err(error) => return Err(connect_trouble(error.kind())),
         };
-        let tick = Some(Duration::from_millis(TICK));
+        let tick = Some(Duration::from_nanos(u64::from(TICK_NANOSECONDS)));
         let _ = stream.set_nodelay(true);
         if stream.set_read_timeout(tick).is_err() || stream.set_write_timeout(tick).is_err() {
             return Err(TroubleKind::NoSocket);

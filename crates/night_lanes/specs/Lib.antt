@@ -5,3 +5,4 @@ pub mod Standing
 pub mod Hearing
 pub mod Words
 pub mod Telling
+pub mod Waiting

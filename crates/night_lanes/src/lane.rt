@@ -14,6 +14,7 @@ use crate::open_calls::OpenCalls;
 use crate::outgoing::Outgoing;
 use crate::settings::Quota;
 use crate::troubles::{Trouble, TroubleKind};
+use crate::waiting::Waiting;
 use nfs3_types::NfsCall;
 use rpc_client::{Credential, put_message};
 use std::alloc::{AllocError, Global};
@@ -40,6 +41,8 @@ pub struct Lane {
     pub quota: Quota,
     /// How many calls were made on it, and how they came out.
     pub counts: Counts,
+    /// How long it has waited.
+    pub waiting: Waiting,
 }
 
 impl Drop for Lane {
@@ -54,6 +57,7 @@ impl Drop for Lane {
             message,
             quota: _,
             counts,
+            waiting: _,
         } = self;
         drop(pending);
         drop(outgoing);
@@ -85,6 +89,7 @@ impl Lane {
             message: Vec::new(alloc),
             quota,
             counts: Counts::new(alloc)?,
+            waiting: Waiting::new(),
         })
     }
 

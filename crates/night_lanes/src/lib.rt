@@ -11,6 +11,7 @@ mod open_calls;
 mod outgoing;
 mod settings;
 mod troubles;
+mod waiting;
 
 pub use counts::{Counts, FailureCount, ProcedureCounts};
 pub use hearing::{Heard, hear, note_heard};
@@ -21,3 +22,4 @@ pub use open_calls::{OpenCall, OpenCalls, Standing};
 pub use outgoing::{Outgoing, SendFault};
 pub use settings::{Depth, Quota, Settings};
 pub use troubles::{Trouble, TroubleKind, Troubles};
+pub use waiting::Waiting;

@@ -6,7 +6,6 @@ ghost use Rattle.night_lanes.specs.declared.open_calls.Standing.TheVariants as s
 
 use nfs3_types::NfsCall;
 use std::alloc::{AllocError, Global};
-use std::time::Instant;
 
 /// A call that is on its way.
 pub struct OpenCall {
@@ -16,8 +15,8 @@ pub struct OpenCall {
     pub number: u32,
     /// What it asks for.
     pub call: NfsCall,
-    /// When it was noted, if the clock could be read.
-    pub since: Option<Instant>,
+    /// How many nanoseconds had passed on its lane when it was noted.
+    pub since: u64,
 }
 
 impl Drop for OpenCall {

@@ -23,7 +23,7 @@ fn ask(alloc: Global, log: &mut TapLog, lane: &mut Lane) -> Option<usize> {
         xid,
         number: 0,
         call,
-        since: None,
+        since: 0,
     };
     lane.pending.open(opened).ok()?;
     let mut sent = Vec::new(alloc);
