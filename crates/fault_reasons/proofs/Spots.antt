@@ -1,5 +1,6 @@
 -- Where a plan names no call twice, its run stops at the place that is found by the call's number.
-use Rattle.std.proofs.Common.{◌≡◌, ◌≢◌, ℕ, ◌+◌, List, [], ◌∷◌, ◌++◌, length, map, Option, Some, None, refl, sym, ap, ◌∙◌, subst, append_assoc, arith}
+use Rattle.std.proofs.Common.{◌≡◌, ◌≢◌, ℕ, ◌+◌, ◌≤◌, nat_le, ◌&&◌, Bool, true, false, IsTrue, List, [], ◌∷◌, ◌++◌, length, map, Option, Some, None, option_map, refl, sym, ap, ◌∙◌, subst, append_assoc, arith}
+use Rattle.std.specs.Prelude.{option_and_then}
 use Rattle.std.specs.List.{AllByRecursion, filter_map, cons_option}
 use Rattle.std.proofs.lemmas.List.{append_cancel_left, map-append}
 use Rattle.nfs3_types.specs.declared.calls.NfsCall.{NfsCall}
@@ -9,15 +10,17 @@ use Rattle.certificate.specs.declared.plan.Place.{Place}
 use Rattle.certificate.specs.declared.plan.EraPlan.{EraPlan}
 use Rattle.certificate.specs.Plan.{call_of}
 use Rattle.order_check.specs.declared.places.OrderedPlace.{OrderedPlace}
-use Rattle.order_check.specs.Places.{order_from, number_of}
+use Rattle.order_check.specs.Places.{order_from, number_of, passes, is_of_era}
 use Rattle.order_check.specs.Shape.{NameDifferentCalls}
-use Rattle.replay_law.specs.Run.{Era, state_after, kept_steps}
+use Rattle.replay_law.specs.Run.{Era, TakenStep, state_after, kept_steps}
 use Rattle.replay_law.proofs.Crashes.{from_base}
 use Rattle.tree_nodes.specs.Tree.{Tree}
 use Rattle.witness_check.specs.Run.{step_at, steps_of, era_of}
 use Rattle.witness_check.specs.Stop.{IsStopInEras}
 use Rattle.witness_check.proofs.Steps.{numbered}
+use Rattle.nfs_history.specs.Precedence.{call_at}
 use Rattle.fault_reasons.specs.Reason.{IsSpot, steps_behind}
+use Rattle.fault_reasons.specs.Running.{IsStuckAt}
 
 -- ---- lists in parts
 
@@ -164,13 +167,13 @@ unordered e (place ∷ places) = ap (λ ps. place ∷ ps) (unordered e places)
 
 -- two spots of one call are one
 one_spot : (eras one other : List EraPlan) (front ahead : List Place) (x y : Place) → NameDifferentCalls (order_from 1 eras) → IsSpot eras one front x → IsSpot eras other ahead y
-    → call_of x ≡ call_of y → (one ≡ other) × (front ≡ ahead)
+    → call_of x ≡ call_of y → (one ≡ other) × (front ≡ ahead) × (x ≡ y)
 one_spot eras one other front ahead x y once s t same =
     let eras_of_one = subst (λ (es : List EraPlan). InOrder 1 es one front x) (sym s.eras_are) (in_order 1 one s.behind s.era front s.back x s.places_are) in
     let eras_of_other = subst (λ (es : List EraPlan). InOrder 1 es other ahead y) (sym t.eras_are) (in_order 1 other t.behind t.era ahead t.back y t.places_are) in
     joined eras_of_one eras_of_other
   where
-    joined : InOrder 1 eras one front x → InOrder 1 eras other ahead y → (one ≡ other) × (front ≡ ahead)
+    joined : InOrder 1 eras one front x → InOrder 1 eras other ahead y → (one ≡ other) × (front ≡ ahead) × (x ≡ y)
     joined p q =
         let fronts = one_front (order_from 1 one ++ map (ordered p.era) front) (order_from 1 other ++ map (ordered q.era) ahead) (ordered p.era x) (ordered q.era y) p.behind q.behind
         (subst NameDifferentCalls p.order once) (sym p.order ∙ q.order) same in
@@ -180,23 +183,94 @@ one_spot eras one other front ahead x y once s t same =
         let own : map (ordered p.era) front ≡ map (ordered q.era) ahead =
         append_cancel_left (order_from 1 other) (map (ordered p.era) front) (map (ordered q.era) ahead)
         (subst (λ (es : List EraPlan). order_from 1 es ++ map (ordered p.era) front ≡ order_from 1 other ++ map (ordered q.era) ahead) eras_are fronts.0) in
-        (eras_are, sym (unordered p.era front) ∙ ap (map (λ (o : OrderedPlace). o.place)) own ∙ unordered q.era ahead)
+        (eras_are, sym (unordered p.era front) ∙ ap (map (λ (o : OrderedPlace). o.place)) own ∙ unordered q.era ahead, ap (λ (o : OrderedPlace). o.place) fronts.1)
 
--- the tree at which a run stops is the one at the place that is found
-pub reached : (next : Tree → ℕ → NfsCall → Outcome → Option Tree) (base tree : Tree) (calls : List RecordedCall) (eras ahead : List EraPlan) (front : List Place) (place : Place) (number : ℕ)
-    → NameDifferentCalls (order_from 1 eras) → IsStopInEras next base (map (era_of calls) eras) number tree → IsSpot eras ahead front place → call_of place ≡ number
-    → state_after next base (steps_behind calls ahead front) ≡ Some tree
-reached next base tree calls eras ahead front place number once stop s named =
-    let stuck = stop.stuck in
-    let first = stuck.first in
-    let m = mapped (era_of calls) eras stuck.ahead stuck.behind stuck.era stuck.parts in
-    let steps : steps_of calls m.at.places ≡ first.ahead ++ first.stuck ∷ first.behind = ap (λ (e : Era NfsCall Outcome). e.steps) m.is ∙ first.parts in
-    let p = parted (step_at calls) m.at.places first.ahead first.behind first.stuck steps in
-    let found : IsSpot eras m.ahead p.ahead p.at = record { era = m.at; behind = m.behind; back = p.behind; eras_are = m.parts; places_are = p.parts } in
-    let own : call_of p.at ≡ call_of place = sym (numbered calls p.at first.stuck p.is) ∙ first.named ∙ sym named in
-    let same = one_spot eras m.ahead ahead p.ahead front p.at place once found s own in
-    let there : state_after next base (kept_steps stuck.ahead ++ first.ahead) ≡ Some tree = from_base next base stuck.base (kept_steps stuck.ahead) first.ahead stuck.reached ∙ stop.there in
-    let at : state_after next base (steps_behind calls m.ahead p.ahead) ≡ Some tree =
-    (λ i. state_after next base (kept_steps (m.front_is i) ++ p.front_is i)) ∙ there in
-    subst (λ (ps : List Place). state_after next base (steps_behind calls ahead ps) ≡ Some tree) same.1
-    (subst (λ (es : List EraPlan). state_after next base (steps_behind calls es p.ahead) ≡ Some tree) same.0 at)
+-- ---- where a run stops
+
+-- a place of the call at which the run stops, and the tree there
+pub record IsStopAt (next : Tree → ℕ → NfsCall → Outcome → Option Tree) (base tree : Tree) (calls : List RecordedCall) (eras : List EraPlan) (number : ℕ) : Type 0 where
+  pub ahead : List EraPlan
+  pub front : List Place
+  pub place : Place
+  pub spot : IsSpot eras ahead front place
+  pub named : call_of place ≡ number
+  pub reached : state_after next base (steps_behind calls ahead front) ≡ Some tree
+  pub stuck : IsStuckAt next calls place tree
+
+none_of : {A : Type 0} (o : Option A) → option_and_then (λ x. Some x) o ≡ None → o ≡ None
+none_of None none = refl
+none_of (Some x) none = absurd cc
+
+module _ (next : Tree → ℕ → NfsCall → Outcome → Option Tree) (base tree : Tree) (calls : List RecordedCall) (eras : List EraPlan) (number : ℕ) where
+  -- the tree doesn't take the step behind those that lead to it
+  not_taken : (start : Tree) (ahead : List (TakenStep NfsCall Outcome)) (stuck : TakenStep NfsCall Outcome) → state_after next start ahead ≡ Some tree
+      → state_after next start (ahead ++ stuck ∷ []) ≡ None → next tree stuck.number stuck.call stuck.outcome ≡ None
+  not_taken start ahead stuck there stops =
+      none_of (next tree stuck.number stuck.call stuck.outcome) (sym (from_base next start tree ahead (stuck ∷ []) there) ∙ stops)
+
+  pub stop_at : IsStopInEras next base (map (era_of calls) eras) number tree → IsStopAt next base tree calls eras number
+  stop_at stop =
+      let stuck = stop.stuck in
+      let first = stuck.first in
+      let m = mapped (era_of calls) eras stuck.ahead stuck.behind stuck.era stuck.parts in
+      let steps : steps_of calls m.at.places ≡ first.ahead ++ first.stuck ∷ first.behind = ap (λ (e : Era NfsCall Outcome). e.steps) m.is ∙ first.parts in
+      let p = parted (step_at calls) m.at.places first.ahead first.behind first.stuck steps in
+      let there : state_after next base (kept_steps stuck.ahead ++ first.ahead) ≡ Some tree = from_base next base stuck.base (kept_steps stuck.ahead) first.ahead stuck.reached ∙ stop.there in
+      record {
+        ahead = m.ahead;
+        front = p.ahead;
+        place = p.at;
+        spot = record { era = m.at; behind = m.behind; back = p.behind; eras_are = m.parts; places_are = p.parts };
+        named = sym (numbered calls p.at first.stuck p.is) ∙ first.named;
+        reached = (λ i. state_after next base (kept_steps (m.front_is i) ++ p.front_is i)) ∙ there;
+        stuck = record { step = first.stuck; there = p.is; refused = not_taken stuck.base first.ahead first.stuck stop.there first.stops };
+      }
+
+  module _ (once : NameDifferentCalls (order_from 1 eras)) (stop : IsStopInEras next base (map (era_of calls) eras) number tree) (ahead : List EraPlan) (front : List Place) (place : Place)
+      (spot : IsSpot eras ahead front place) (named : call_of place ≡ number) where
+    one : (stop_at stop).ahead ≡ ahead × ((stop_at stop).front ≡ front) × ((stop_at stop).place ≡ place)
+    one = let at = stop_at stop in one_spot eras at.ahead ahead at.front front at.place place once at.spot spot (at.named ∙ sym named)
+
+    -- the tree at which a run stops is the one at the place that is found
+    pub reached : state_after next base (steps_behind calls ahead front) ≡ Some tree
+    reached =
+        let at = stop_at stop in
+        subst (λ (ps : List Place). state_after next base (steps_behind calls ahead ps) ≡ Some tree) one.1.0
+        (subst (λ (es : List EraPlan). state_after next base (steps_behind calls es at.front) ≡ Some tree) one.0 at.reached)
+
+    -- and it doesn't take that place's step
+    pub stuck_there : IsStuckAt next calls place tree
+    stuck_there = subst (λ (p : Place). IsStuckAt next calls p tree) one.1.1 (stop_at stop).stuck
+
+-- ---- the era of a placed call
+
+at_most : (a b : ℕ) → nat_le a b ≡ true → a ≤ b
+at_most a b is = grind (arith, is)
+
+both : (a b : Bool) → (a && b) ≡ true → (a ≡ true) × (b ≡ true)
+both true true is = (refl, refl)
+both true false is = absurd cc
+both false b is = absurd cc
+
+era_of_passing : (o : Option RecordedCall) (e : ℕ) → IsTrue (passes (λ call. nat_le call.era e && nat_le e call.era) o) → option_map (λ (call : RecordedCall). call.era) o ≡ Some e
+era_of_passing None e passed = absurd cc
+era_of_passing (Some call) e passed =
+    let parts = both (nat_le call.era e) (nat_le e call.era) passed in
+    let below = at_most call.era e parts.0 in
+    let above = at_most e call.era parts.1 in
+    let same : call.era ≡ e = omega (arith, below, above) in
+    ap Some same
+
+all_here : {A : Type 0} (P : A → Type 0) (xs ys : List A) (x : A) → AllByRecursion P (xs ++ x ∷ ys) → P x
+all_here P [] ys x all = all.0
+all_here P (z ∷ xs) ys x all = all_here P xs ys x all.1
+
+-- a call is of the era in which it is placed
+pub placed_in : (calls : List RecordedCall) (eras ahead : List EraPlan) (front : List Place) (place : Place) → AllByRecursion (λ p. IsTrue (is_of_era calls p)) (order_from 1 eras)
+    → IsSpot eras ahead front place → option_map (λ (call : RecordedCall). call.era) (call_at calls (call_of place)) ≡ Some (length ahead + 1)
+placed_in calls eras ahead front place all s =
+    let p = subst (λ (es : List EraPlan). InOrder 1 es ahead front place) (sym s.eras_are) (in_order 1 ahead s.behind s.era front s.back place s.places_are) in
+    let here = all_here (λ q. IsTrue (is_of_era calls q)) (order_from 1 ahead ++ map (ordered p.era) front) p.behind (ordered p.era place)
+    (subst (AllByRecursion (λ q. IsTrue (is_of_era calls q))) p.order all) in
+    let at : p.era ≡ length ahead + 1 = omega (arith, p.is) in
+    subst (λ e. option_map (λ (call : RecordedCall). call.era) (call_at calls (call_of place)) ≡ Some e) at (era_of_passing (call_at calls (call_of place)) p.era here)

@@ -1,7 +1,7 @@
 -- Where a call is placed, and what is told of it.
-use Rattle.std.proofs.Common.{◌≡◌, ℕ, Bool, true, List, ◌∷◌, ◌++◌, drop, option_map, Option, Some, None, refl, ap, sym, ◌∙◌, subst}
+use Rattle.std.proofs.Common.{◌≡◌, ◌≢◌, inl, inr, ℕ, zero, suc, ◌<◌, Bool, true, false, List, [], ◌∷◌, ◌++◌, length, map, drop, option_map, Option, Some, None, refl, ap, sym, ◌∙◌, subst, arith}
 use Rattle.std.specs.Prelude.{IsSome, IfSome, MatchBool, ⊤}
-use Rattle.std.specs.List.{IsSplitAt, IsFirstAndRest}
+use Rattle.std.specs.List.{IsSplitAt, IsFirstAndRest, slice_get}
 use Rattle.std.proofs.lemmas.List.{take-append-drop}
 use Rattle.nfs3_types.specs.declared.calls.NfsCall.{NfsCall}
 use Rattle.nfs3_types.specs.declared.replies.NfsReply.{NfsReply}
@@ -13,7 +13,14 @@ use Rattle.certificate.specs.declared.plan.Place.{Place}
 use Rattle.certificate.specs.declared.plan.EraPlan.{EraPlan}
 use Rattle.certificate.specs.declared.plan.Certificate.{Certificate}
 use Rattle.certificate.specs.Plan.{call_of, cut_of}
-use Rattle.cut_check.specs.Places.{era_at}
+use Rattle.order_check.specs.declared.fault.ShapeFault.{ShapeFault}
+use Rattle.order_check.specs.declared.fault.ShapeFault.TheVariants as shapes
+use Rattle.order_check.specs.declared.fault.OrderFault.{OrderFault}
+use Rattle.order_check.specs.declared.fault.OrderFault.TheVariants.{Early}
+use Rattle.cut_check.specs.Places.{era_at, bindings_of, effect_at}
+use Rattle.cut_check.specs.ShortCut.{IsShortCut}
+use Rattle.witness_check.specs.Faults.{of_shape, of_order}
+use Rattle.witness_check.specs.declared.fault.CheckFault.TheVariants.{No}
 use Rattle.replay_law.specs.Run.{state_after}
 use Rattle.tree_starts.specs.declared.profile.Profile.{Profile}
 use Rattle.tree_nodes.specs.Tree.{Tree}
@@ -100,3 +107,50 @@ short_told eras lost e needed told is_era is_position history plan same fault = 
   subst (λ n. IsPlanFault history plan (faults.ShortCut lost.era n)) (sym is_position) (subst (λ n. IsPlanFault history plan (faults.ShortCut n needed)) (sym is_era) fault),
   subst (λ (es : List EraPlan). IsLostIn es lost) (sym same) told,
 )
+
+-- ---- a cut that is too short is one of a place
+
+of_no_shape : (found : ShapeFault) (e needed : ℕ) → of_shape found ≢ No (faults.ShortCut e needed)
+of_no_shape shapes.WrongEras e needed is = cc
+of_no_shape (shapes.Unknown n) e needed is = cc
+of_no_shape (shapes.WrongEra n) e needed is = cc
+of_no_shape (shapes.Twice n) e needed is = cc
+of_no_shape (shapes.NotToPlace n) e needed is = cc
+of_no_shape (shapes.Missing n) e needed is = cc
+of_no_shape (shapes.BadCut k) e needed is = cc
+of_no_shape shapes.NoMemory e needed is = cc
+
+of_no_order : (found : OrderFault) (e needed : ℕ) → of_order found ≢ No (faults.ShortCut e needed)
+of_no_order (Early i j) e needed is = cc
+
+pub short_is : (history : KnownCalls) (plan : Certificate) (e needed : ℕ) → IsPlanFault history plan (faults.ShortCut e needed)
+    → IsShortCut (bindings_of history.head.root plan.binds) history.calls plan.eras e needed
+short_is history plan e needed (inl shape) = absurd (of_no_shape shape.0 e needed shape.1.1)
+short_is history plan e needed (inr (inl order)) = absurd (of_no_order order.1.0 e needed order.1.1.1)
+short_is history plan e needed (inr (inr (inl run))) = absurd (let is : faults.ShortCut e needed ≡ faults.Illegal run.1.0 = run.1.1.1 in cc)
+short_is history plan e needed (inr (inr (inr (inl cut)))) =
+    let is : faults.ShortCut e needed ≡ faults.ShortCut cut.1.0 cut.1.1.0 = cut.1.1.1.1 in
+    let era : e ≡ cut.1.0 = cc in
+    let position : needed ≡ cut.1.1.0 = cc in
+    subst (λ n. IsShortCut (bindings_of history.head.root plan.binds) history.calls plan.eras n needed) (sym era)
+    (subst (λ n. IsShortCut (bindings_of history.head.root plan.binds) history.calls plan.eras cut.1.0 n) (sym position) cut.1.1.1.0)
+short_is history plan e needed (inr (inr (inr (inr verifiers)))) = absurd (let is : faults.ShortCut e needed ≡ faults.Verifier verifiers.1.0 = verifiers.1.1.1 in cc)
+
+get_here : {A : Type 0} (xs ys : List A) (x : A) → slice_get (xs ++ x ∷ ys) (length xs) ≡ Some x
+get_here [] ys x = refl
+get_here (z ∷ xs) ys x = get_here xs ys x
+
+stands_at : {A B : Type 0} (f : A → B) (xs : List A) (ahead behind : List B) (here : B) → map f xs ≡ ahead ++ here ∷ behind → IsSome (slice_get xs (length ahead))
+stands_at f [] [] behind here is = absurd cc
+stands_at f [] (z ∷ ahead) behind here is = absurd cc
+stands_at f (x ∷ xs) [] behind here is = refl
+stands_at f (x ∷ xs) (z ∷ ahead) behind here is =
+    let rest : map f xs ≡ ahead ++ here ∷ behind = cc in stands_at f xs ahead behind here rest
+
+pub has_place : (binds : Bindings) (calls : List RecordedCall) (eras : List EraPlan) (e needed : ℕ) (short : IsShortCut binds calls eras e needed)
+    → IsSome (place_at short.era.places needed)
+has_place binds calls eras e needed short =
+    let above : 0 < needed = omega (arith, short.short) in
+    let at = short.last_stable.stable above in
+    let is : needed ≡ suc (length at.ahead) = omega (arith, at.number) in
+    subst (λ n. IsSome (place_at short.era.places n)) (sym is) (stands_at (effect_at binds calls) short.era.places at.ahead at.behind at.here at.stands)

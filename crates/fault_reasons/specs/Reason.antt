@@ -80,10 +80,17 @@ fault_of (reasons.Early call other) = faults.Early call.number other.number
 fault_of (reasons.ShortCut told) = faults.ShortCut told.era told.position
 fault_of (reasons.Other fault) = fault
 
--- the reason is that of the plan's first fault, and what it tells is true
+-- a fault of which there is no more to tell: it names no call at its place, no two calls and no cut
+abbrev pub IsPlain : Fault → Type 0
+IsPlain (faults.Illegal number) = ⊥
+IsPlain (faults.Early call other) = ⊥
+IsPlain (faults.ShortCut era needed) = ⊥
+IsPlain fault = Unit {0}
+
+-- the reason is that of the plan's first fault, it tells all that there is, and what it tells is true
 abbrev pub IsReasonOf : KnownCalls → Certificate → Reason → Type 0
 IsReasonOf history plan (reasons.Illegal told) = IsPlanFault history plan (faults.Illegal told.number) × IsIllegalPlace history plan told
 IsReasonOf history plan (reasons.Early call other) =
     IsPlanFault history plan (faults.Early call.number other.number) × (call ≡ span_of history.calls call.number) × (other ≡ span_of history.calls other.number)
 IsReasonOf history plan (reasons.ShortCut told) = IsPlanFault history plan (faults.ShortCut told.era told.position) × IsLostIn plan.eras told
-IsReasonOf history plan (reasons.Other fault) = IsPlanFault history plan fault
+IsReasonOf history plan (reasons.Other fault) = IsPlanFault history plan fault × IsPlain fault

@@ -1,10 +1,13 @@
 -- For the prover, and for callers.
 -- What the functions that go to a place say to the prover.
-use Rattle.std.specs.Prelude.{◌≡◌, ◌+◌, ℕ, List, ◌∷◌, ◌++◌, length, Option}
+use Rattle.std.specs.Prelude.{◌≡◌, ◌+◌, ℕ, List, ◌∷◌, ◌++◌, length, Option, Some, None}
 use Rattle.nfs3_types.specs.declared.calls.NfsCall.{NfsCall}
 use Rattle.nfs3_types.specs.declared.replies.NfsReply.{NfsReply}
 use Rattle.nfs3_types.specs.declared.replies.Outcome.{Outcome}
+use Rattle.nfs_history.specs.declared.recorded.RecordedCall.{RecordedCall}
+use Rattle.certificate.specs.declared.plan.Place.{Place}
 use Rattle.replay_law.specs.Run.{TakenStep}
+use Rattle.witness_check.specs.Run.{step_at}
 use Rattle.tree_nodes.specs.Tree.{Tree}
 use Rattle.file_tree.specs.Setting.{next_in}
 use Rattle.file_tree.specs.StartTree.{start_tree}
@@ -28,6 +31,12 @@ placed_step placed = record { number = placed.number; call = placed.call; outcom
 pub record StandsBehind {A : Type 0} (all front : List A) (x : A) : Type 0 where
   pub back : List A
   pub is : all ≡ front ++ x ∷ back
+
+-- the place has a step that the tree doesn't take
+pub record IsStuckAt (next : Tree → ℕ → NfsCall → Outcome → Option Tree) (calls : List RecordedCall) (place : Place) (tree : Tree) : Type 0 where
+  pub step : TakenStep NfsCall Outcome
+  pub there : step_at calls place ≡ Some step
+  pub refused : next tree step.number step.call step.outcome ≡ None
 
 -- what is told of a step
 abbrev pub illegal_of : Spot → Placed → Tree → Option NfsReply → IllegalPlace

@@ -1,16 +1,16 @@
 //! Explaining a verdict.
 
-ghost use Rattle.std.specs.Prelude.{◌≡◌, IfOk, IfSome, MatchOption, MatchBool, Some, None, ⊤};
+ghost use Rattle.std.specs.Prelude.{◌≡◌, ◌+◌, ◌∷◌, ◌++◌, List, length, IfOk, IfSome, IsSome, MatchOption, MatchBool, Some, None, ⊤};
 ghost use Rattle.replay_law.specs.Run.{state_after};
-ghost use Rattle.nfs_history.specs.declared.knowing.KnownCalls.{KnownCalls};
-ghost use Rattle.certificate.specs.declared.plan.Certificate.{Certificate};
+ghost use Rattle.certificate.specs.declared.plan.EraPlan.{EraPlan};
+ghost use Rattle.certificate.specs.declared.plan.Place.{Place};
 ghost use Rattle.witness_check.specs.declared.fault.Fault.TheVariants as faults;
 ghost use Rattle.witness_check.specs.Witness.{IsWitness};
 ghost use Rattle.witness_check.specs.Verdict.{IsPlanFault};
-ghost use Rattle.witness_check.specs.Stop.{IsStop};
+ghost use Rattle.witness_check.specs.Stop.{IsStop, IsNoStop};
 ghost use Rattle.certificate.specs.Plan.{call_of};
 ghost use Rattle.fault_reasons.specs.Reason.{IsReasonOf, IsIllegalIn, IsIllegalPlace, IsSpot, steps_behind};
-ghost use Rattle.fault_reasons.specs.Running.{next_by, first_tree, StandsBehind, illegal_of};
+ghost use Rattle.fault_reasons.specs.Running.{next_by, first_tree, StandsBehind, IsStuckAt, illegal_of};
 
 use crate::asking::{Answered, right_reply};
 use crate::placed::{Placed, placed_at};
@@ -41,6 +41,7 @@ fn spot_in<'p>(ahead: &'p [EraPlan], era: &'p EraPlan, number: u64) -> Option<Sp
     ensures ahead { IfSome result (λ spot. spot.ahead.now ≡ ahead.now) }
     ensures stands { IfSome result (λ spot. StandsBehind era.now.places spot.front.now spot.place) }
     ensures named { IfSome result (λ spot. call_of spot.place ≡ number) }
+    ensures finds { (front back : List Place) (place : Place) → era.now.places ≡ front ++ place ∷ back → call_of place ≡ number → IsSome result }
 {
     let places = era.places.as_slice();
     let index = places.iter().position(|place| place.number() == number)?;
@@ -58,6 +59,8 @@ fn spot_in<'p>(ahead: &'p [EraPlan], era: &'p EraPlan, number: u64) -> Option<Sp
 fn spot_of(eras: &[EraPlan], era: u64, number: u64) -> Option<Spot<'_>>
     ensures spot { IfSome result (λ spot. IsSpot eras.now spot.ahead.now spot.front.now spot.place) }
     ensures named { IfSome result (λ spot. call_of spot.place ≡ number) }
+    ensures finds { (ahead : List EraPlan) (front : List Place) (place : Place) → IsSpot eras.now ahead front place → era ≡ length ahead + 1
+        → call_of place ≡ number → IsSome result }
 {
     let index = era.checked_sub(1)?;
     let (ahead, rest) = eras.split_at_checked(index as usize)?;
@@ -67,7 +70,8 @@ fn spot_of(eras: &[EraPlan], era: u64, number: u64) -> Option<Spot<'_>>
 
 /// Whether a tree doesn't take a step. Then it is as it was.
 fn stops(tree: &mut FileTree, rule: &Rule<'_, '_>, step: &Placed) -> Result<bool, AllocError>
-    ensures refused { IfOk result (λ stops. MatchBool stops (next_by rule.now tree.old step.now.number step.now.call step.now.outcome ≡ None) ⊤) }
+    ensures refused { IfOk result (λ stops. MatchBool stops (next_by rule.now tree.old step.now.number step.now.call step.now.outcome ≡ None)
+        (IsSome (next_by rule.now tree.old step.now.number step.now.call step.now.outcome))) }
     ensures stays { IfOk result (λ stops. MatchBool stops (tree.new ≡ tree.old) ⊤) }
 {
     match take_step(tree, rule, step) {
@@ -108,8 +112,11 @@ fn illegal_at(
     requires spot { IsSpot rule.now.plan.now.eras spot.now.ahead.now spot.now.front.now spot.now.place }
     requires tree { state_after (next_by rule.now) (first_tree rule.now)
         (steps_behind rule.now.history.now.calls spot.now.ahead.now spot.now.front.now) ≡ Some tree }
-    ensures { IfOk result (λ found. IfSome found
+    requires stuck { IsStuckAt (next_by rule.now) rule.now.history.now.calls spot.now.place tree }
+    ensures told { IfOk result (λ found. IfSome found
         (IsIllegalIn (next_by rule.now) (first_tree rule.now) rule.now.history.now.calls rule.now.plan.now.eras)) }
+    ensures some { IfOk result IsSome }
+    ensures named { IfOk result (λ found. IfSome found (λ told. told.number ≡ call_of spot.now.place)) }
 {
     let Some(step) = placed_at(rule.alloc, rule.history, spot.place)? else {
         return Ok(None);
@@ -133,7 +140,9 @@ fn illegal_place(
     stop: Stop,
 ) -> Result<Option<IllegalPlace>, AllocError>
     requires { IsStop history.now certificate.now stop.number stop.tree }
-    ensures { IfOk result (λ found. IfSome found (IsIllegalPlace history.now certificate.now)) }
+    ensures told { IfOk result (λ found. IfSome found (IsIllegalPlace history.now certificate.now)) }
+    ensures some { IfOk result IsSome }
+    ensures named { IfOk result (λ found. IfSome found (λ told. told.number ≡ stop.number)) }
 {
     let Stop { number, tree } = stop;
     let Some(era) = history.era(number) else {
@@ -152,21 +161,6 @@ fn illegal_place(
     illegal_at(&rule, &spot, tree)
 }
 
-/// The reason by what is told of the call's place.
-fn reason_of_illegal(number: u64, found: Option<IllegalPlace>) -> Reason
-    ensures { (history : KnownCalls) (plan : Certificate) → IsPlanFault history plan (faults.Illegal number)
-        → IfSome found (IsIllegalPlace history plan) → IsReasonOf history plan result }
-{
-    let Some(place) = found else {
-        return Reason::Other(Fault::Illegal(number));
-    };
-    if place.number == number {
-        Reason::Illegal(place)
-    } else {
-        Reason::Other(Fault::Illegal(number))
-    }
-}
-
 /// The reason for a run that stops.
 fn reason_of_stop(
     alloc: Global,
@@ -179,13 +173,17 @@ fn reason_of_stop(
     ensures { IfOk result (IsReasonOf history.now certificate.now) }
 {
     let number = stop.number;
-    let found = illegal_place(alloc, history, certificate, stop)?;
-    Ok(reason_of_illegal(number, found))
+    match illegal_place(alloc, history, certificate, stop)? {
+        Some(place) => Ok(Reason::Illegal(place)),
+        // A run stops at a place of the plan, so there is always one.
+        None => Ok(Reason::Other(Fault::Illegal(number))),
+    }
 }
 
 /// The reason for another fault of a plan.
 fn reason_of(history: &KnownCalls<'_>, certificate: &Certificate, fault: Fault) -> Reason
-    requires { IsPlanFault history.now certificate.now fault }
+    requires fault { IsPlanFault history.now certificate.now fault }
+    requires no_stop { IsNoStop fault }
     ensures { IsReasonOf history.now certificate.now result }
 {
     match fault {

@@ -1,10 +1,11 @@
 //! What is told of calls and places by their numbers.
 
-ghost use Rattle.std.specs.Prelude.{◌≡◌, IfSome};
+ghost use Rattle.std.specs.Prelude.{◌≡◌, Some, IfSome, IsSome};
 ghost use Rattle.std.specs.Option.{option_copied};
 ghost use Rattle.nfs_history.specs.declared.knowing.KnownCalls.{KnownCalls};
 ghost use Rattle.certificate.specs.Plan.{cut_of};
 ghost use Rattle.certificate.specs.declared.plan.Certificate.{Certificate};
+ghost use Rattle.certificate.specs.declared.plan.EraPlan.{EraPlan};
 ghost use Rattle.cut_check.specs.Places.{era_at};
 ghost use Rattle.witness_check.specs.declared.fault.Fault.TheVariants as faults;
 ghost use Rattle.witness_check.specs.Verdict.{IsPlanFault};
@@ -62,6 +63,7 @@ fn lost_place(eras: &[EraPlan], era: u64, position: u64) -> Option<LostPlace>
     ensures told { IfSome result (IsLostIn eras.now) }
     ensures era { IfSome result (λ lost. lost.era ≡ era) }
     ensures position { IfSome result (λ lost. lost.position ≡ position) }
+    ensures finds { (plan : EraPlan) → era_at eras.now era ≡ Some plan → IsSome (place_at plan.places position) → IsSome result }
 {
     let plan = era_at(eras, era)?;
     let place = place_at(plan.places.as_slice(), position)?;
@@ -92,6 +94,7 @@ pub(crate) fn short_cut(eras: &[EraPlan], era: u64, needed: u64) -> Reason
 {
     match lost_place(eras, era, needed) {
         Some(lost) => Reason::ShortCut(lost),
+        // A cut that is too short is one of a place, so there is always one.
         None => Reason::Other(Fault::ShortCut { era, needed }),
     }
 }

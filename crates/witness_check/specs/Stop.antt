@@ -9,6 +9,7 @@ use Rattle.replay_law.specs.Run.{Era, TakenStep, state_after, IsFirstIllegal, Is
 use Rattle.tree_nodes.specs.Tree.{Tree}
 use Rattle.witness_check.specs.declared.verdict.Judgement.{Judgement}
 use Rattle.witness_check.specs.declared.verdict.Judgement.TheVariants as found
+use Rattle.witness_check.specs.declared.fault.Fault.{Fault}
 use Rattle.witness_check.specs.declared.fault.Fault.TheVariants as faults
 use Rattle.witness_check.specs.Run.{eras_of, next_of, base_of}
 use Rattle.witness_check.specs.Witness.{IsWitness}
@@ -29,8 +30,13 @@ module _ (next : Tree → ℕ → NfsCall → Outcome → Option Tree) where
 abbrev pub IsStop : KnownCalls → Certificate → ℕ → Tree → Type 0
 IsStop history plan number tree = Ordered history plan × IsStopInEras (next_of history plan) (base_of history) (eras_of history plan) number tree
 
+-- a fault that isn't that of the run
+abbrev pub IsNoStop : Fault → Type 0
+IsNoStop (faults.Illegal number) = ⊥
+IsNoStop fault = Unit {0}
+
 -- what is found of a plan, with the tree where its run stops
 abbrev pub IsJudged : KnownCalls → Certificate → Judgement → Type 0
 IsJudged history plan found.Yes = IsWitness history plan
-IsJudged history plan (found.No fault) = IsPlanFault history plan fault
+IsJudged history plan (found.No fault) = IsPlanFault history plan fault × IsNoStop fault
 IsJudged history plan (found.Stopped stop) = IsPlanFault history plan (faults.Illegal stop.number) × IsStop history plan stop.number stop.tree
