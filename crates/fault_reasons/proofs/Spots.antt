@@ -1,6 +1,6 @@
 -- Where a plan names no call twice, its run stops at the place that is found by the call's number.
 use Rattle.std.proofs.Common.{◌≡◌, ◌≢◌, ℕ, ◌+◌, ◌≤◌, nat_le, ◌&&◌, Bool, true, false, IsTrue, List, [], ◌∷◌, ◌++◌, length, map, Option, Some, None, option_map, refl, sym, ap, ◌∙◌, subst, append_assoc, arith}
-use Rattle.std.specs.Prelude.{option_and_then}
+use Rattle.std.specs.Prelude.{IsSome, option_and_then}
 use Rattle.std.specs.List.{AllByRecursion, filter_map, cons_option}
 use Rattle.std.proofs.lemmas.List.{append_cancel_left, map-append}
 use Rattle.nfs3_types.specs.declared.calls.NfsCall.{NfsCall}
@@ -21,6 +21,7 @@ use Rattle.witness_check.proofs.Steps.{numbered}
 use Rattle.nfs_history.specs.Precedence.{call_at}
 use Rattle.fault_reasons.specs.Reason.{IsSpot, steps_behind}
 use Rattle.fault_reasons.specs.Running.{IsStuckAt}
+use Rattle.fault_reasons.specs.declared.explaining.Spot.{Spot}
 
 -- ---- lists in parts
 
@@ -228,19 +229,19 @@ module _ (next : Tree → ℕ → NfsCall → Outcome → Option Tree) (base tre
 
   module _ (once : NameDifferentCalls (order_from 1 eras)) (stop : IsStopInEras next base (map (era_of calls) eras) number tree) (ahead : List EraPlan) (front : List Place) (place : Place)
       (spot : IsSpot eras ahead front place) (named : call_of place ≡ number) where
-    one : (stop_at stop).ahead ≡ ahead × ((stop_at stop).front ≡ front) × ((stop_at stop).place ≡ place)
+    one : ((stop_at stop).ahead ≡ ahead) × ((stop_at stop).front ≡ front) × ((stop_at stop).place ≡ place)
     one = let at = stop_at stop in one_spot eras at.ahead ahead at.front front at.place place once at.spot spot (at.named ∙ sym named)
 
     -- the tree at which a run stops is the one at the place that is found
     pub reached : state_after next base (steps_behind calls ahead front) ≡ Some tree
     reached =
         let at = stop_at stop in
-        subst (λ (ps : List Place). state_after next base (steps_behind calls ahead ps) ≡ Some tree) one.1.0
+        subst (λ (ps : List Place). state_after next base (steps_behind calls ahead ps) ≡ Some tree) one.1
         (subst (λ (es : List EraPlan). state_after next base (steps_behind calls es at.front) ≡ Some tree) one.0 at.reached)
 
     -- and it doesn't take that place's step
     pub stuck_there : IsStuckAt next calls place tree
-    stuck_there = subst (λ (p : Place). IsStuckAt next calls p tree) one.1.1 (stop_at stop).stuck
+    stuck_there = subst (λ (p : Place). IsStuckAt next calls p tree) one.2 (stop_at stop).stuck
 
 -- ---- the era of a placed call
 
@@ -274,3 +275,29 @@ placed_in calls eras ahead front place all s =
     (subst (AllByRecursion (λ q. IsTrue (is_of_era calls q))) p.order all) in
     let at : p.era ≡ length ahead + 1 = omega (arith, p.is) in
     subst (λ e. option_map (λ (call : RecordedCall). call.era) (call_at calls (call_of place)) ≡ Some e) at (era_of_passing (call_at calls (call_of place)) p.era here)
+
+some_or_none : {A : Type 0} (o : Option A) → IsSome o → ((x : A) → o ≡ Some x → ⊥) → ⊥
+some_or_none None some none = absurd cc
+some_or_none (Some x) some none = none x refl
+
+module _ (next : Tree → ℕ → NfsCall → Outcome → Option Tree) (base tree : Tree) (calls : List RecordedCall) (eras : List EraPlan) (number : ℕ)
+    (all : AllByRecursion (λ p. IsTrue (is_of_era calls p)) (order_from 1 eras)) (stop : IsStopInEras next base (map (era_of calls) eras) number tree) where
+  -- the call at which a run stops has an era
+  pub has_era : (found : Option ℕ) → found ≡ option_map (λ (call : RecordedCall). call.era) (call_at calls number) → ((e : ℕ) → found ≡ Some e → ⊥) → ⊥
+  has_era found is none =
+      let at = stop_at next base tree calls eras number stop in
+      let era = placed_in calls eras at.ahead at.front at.place all at.spot in
+      none (length at.ahead + 1) (is ∙ ap (λ n. option_map (λ (call : RecordedCall). call.era) (call_at calls n)) (sym at.named) ∙ era)
+
+  -- and its place is found
+  pub has_spot : (slice : List EraPlan) (era : ℕ) (found : Option ℕ) (spot : Option Spot) → slice ≡ eras → found ≡ option_map (λ (call : RecordedCall). call.era) (call_at calls number)
+      → found ≡ Some era
+      → ((ahead : List EraPlan) (front : List Place) (place : Place) → IsSpot slice ahead front place → era ≡ length ahead + 1 → call_of place ≡ number → IsSome spot)
+      → ((x : Spot) → spot ≡ Some x → ⊥) → ⊥
+  has_spot slice era found spot same is some finds none =
+      let at = stop_at next base tree calls eras number stop in
+      let known : found ≡ Some (length at.ahead + 1) =
+      is ∙ ap (λ n. option_map (λ (call : RecordedCall). call.era) (call_at calls n)) (sym at.named) ∙ placed_in calls eras at.ahead at.front at.place all at.spot in
+      let era_is : era ≡ length at.ahead + 1 = let both : Some era ≡ Some (length at.ahead + 1) = sym some ∙ known in cc in
+      let here = subst (λ (es : List EraPlan). IsSpot es at.ahead at.front at.place) (sym same) at.spot in
+      some_or_none spot (finds at.ahead at.front at.place here era_is at.named) none

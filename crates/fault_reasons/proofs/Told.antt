@@ -1,5 +1,5 @@
 -- Where a call is placed, and what is told of it.
-use Rattle.std.proofs.Common.{◌≡◌, ◌≢◌, inl, inr, ℕ, zero, suc, ◌<◌, Bool, true, false, List, [], ◌∷◌, ◌++◌, length, map, drop, option_map, Option, Some, None, refl, ap, sym, ◌∙◌, subst, arith}
+use Rattle.std.proofs.Common.{◌≡◌, ◌≢◌, inl, inr, ℕ, suc, ◌<◌, Bool, true, List, [], ◌∷◌, ◌++◌, length, map, drop, option_map, Option, Some, None, refl, ap, sym, ◌∙◌, subst, arith}
 use Rattle.std.specs.Prelude.{IsSome, IfSome, MatchBool, ⊤}
 use Rattle.std.specs.List.{IsSplitAt, IsFirstAndRest, slice_get}
 use Rattle.std.proofs.lemmas.List.{take-append-drop}
@@ -21,7 +21,7 @@ use Rattle.cut_check.specs.Places.{era_at, bindings_of, effect_at}
 use Rattle.cut_check.specs.ShortCut.{IsShortCut}
 use Rattle.witness_check.specs.Faults.{of_shape, of_order}
 use Rattle.witness_check.specs.declared.fault.CheckFault.TheVariants.{No}
-use Rattle.replay_law.specs.Run.{state_after}
+use Rattle.replay_law.specs.Run.{TakenStep, state_after}
 use Rattle.tree_starts.specs.declared.profile.Profile.{Profile}
 use Rattle.tree_nodes.specs.Tree.{Tree}
 use Rattle.tree_handles.specs.Binding.{Bindings}
@@ -35,8 +35,9 @@ use Rattle.fault_reasons.specs.declared.reason.IllegalPlace.{IllegalPlace}
 use Rattle.fault_reasons.specs.declared.reason.CallSpan.{CallSpan}
 use Rattle.fault_reasons.specs.declared.reason.LostPlace.{LostPlace}
 use Rattle.fault_reasons.specs.declared.reason.Reason.TheVariants as reasons
-use Rattle.fault_reasons.specs.Reason.{IsSpot, steps_behind, IsIllegalIn, span_of, place_at, IsLostIn, IsReasonOf}
-use Rattle.fault_reasons.specs.Running.{placed_step, StandsBehind, illegal_of}
+use Rattle.fault_reasons.specs.Reason.{IsSpot, steps_behind, IsIllegalIn, IsIllegalPlace, span_of, place_at, IsLostIn, IsReasonOf}
+use Rattle.fault_reasons.specs.Running.{placed_step, StandsBehind, IsStuckAt, illegal_of}
+use Rattle.witness_check.proofs.Steps.{numbered}
 
 -- the first of what is left stands behind the front
 pub stands_behind : {A : Type 0} (whole all front rest back : List A) (x : A) (i : ℕ) → all ≡ whole → IsSplitAt all i front rest → IsFirstAndRest rest x back → StandsBehind whole front x
@@ -62,10 +63,10 @@ pub told : (next : Tree → ℕ → NfsCall → Outcome → Option Tree) (base :
     (right : Option NfsReply) (tree after asked : Tree) (given : IllegalPlace) (stops : Bool) → given ≡ illegal_of spot step asked right
     → IsSpot eras spot.ahead.now spot.front.now spot.place → found ≡ Some step → option_map placed_step found ≡ step_at calls spot.place
     → state_after next base (steps_behind calls spot.ahead.now spot.front.now) ≡ Some tree → stops ≡ true
-    → MatchBool stops (next tree step.number step.call step.outcome ≡ None) ⊤ → MatchBool stops (after ≡ tree) ⊤ → asked ≡ after
+    → MatchBool stops (next tree step.number step.call step.outcome ≡ None) (IsSome (next tree step.number step.call step.outcome)) → MatchBool stops (after ≡ tree) ⊤ → asked ≡ after
     → IfSome right (λ reply. IsSome (next after step.number step.call (Received reply))) → IsIllegalIn next base calls eras given
 told next base calls eras spot step found right tree after asked given stops is stands some placed reached stopped may_refuse may_stay kept taken =
-    let refused : next tree step.number step.call step.outcome ≡ None = subst (λ (b : Bool). MatchBool b (next tree step.number step.call step.outcome ≡ None) ⊤) stopped may_refuse in
+    let refused : next tree step.number step.call step.outcome ≡ None = subst (λ (b : Bool). MatchBool b (next tree step.number step.call step.outcome ≡ None) (IsSome (next tree step.number step.call step.outcome))) stopped may_refuse in
     let stays : after ≡ tree = subst (λ (b : Bool). MatchBool b (after ≡ tree) ⊤) stopped may_stay in
     let same : asked ≡ tree = kept ∙ stays in
     subst (λ (p : IllegalPlace). IsIllegalIn next base calls eras p) (sym is) (record {
@@ -125,16 +126,16 @@ of_no_order (Early i j) e needed is = cc
 
 pub short_is : (history : KnownCalls) (plan : Certificate) (e needed : ℕ) → IsPlanFault history plan (faults.ShortCut e needed)
     → IsShortCut (bindings_of history.head.root plan.binds) history.calls plan.eras e needed
-short_is history plan e needed (inl shape) = absurd (of_no_shape shape.0 e needed shape.1.1)
-short_is history plan e needed (inr (inl order)) = absurd (of_no_order order.1.0 e needed order.1.1.1)
-short_is history plan e needed (inr (inr (inl run))) = absurd (let is : faults.ShortCut e needed ≡ faults.Illegal run.1.0 = run.1.1.1 in cc)
+short_is history plan e needed (inl shape) = absurd (of_no_shape shape.0 e needed shape.2)
+short_is history plan e needed (inr (inl order)) = absurd (of_no_order order.1.0 e needed order.1.2)
+short_is history plan e needed (inr (inr (inl run))) = absurd (let is : faults.ShortCut e needed ≡ faults.Illegal run.1.0 = run.1.2 in cc)
 short_is history plan e needed (inr (inr (inr (inl cut)))) =
-    let is : faults.ShortCut e needed ≡ faults.ShortCut cut.1.0 cut.1.1.0 = cut.1.1.1.1 in
+    let is : faults.ShortCut e needed ≡ faults.ShortCut cut.1.0 cut.1.1 = cut.1.3 in
     let era : e ≡ cut.1.0 = cc in
-    let position : needed ≡ cut.1.1.0 = cc in
+    let position : needed ≡ cut.1.1 = cc in
     subst (λ n. IsShortCut (bindings_of history.head.root plan.binds) history.calls plan.eras n needed) (sym era)
-    (subst (λ n. IsShortCut (bindings_of history.head.root plan.binds) history.calls plan.eras cut.1.0 n) (sym position) cut.1.1.1.0)
-short_is history plan e needed (inr (inr (inr (inr verifiers)))) = absurd (let is : faults.ShortCut e needed ≡ faults.Verifier verifiers.1.0 = verifiers.1.1.1 in cc)
+    (subst (λ n. IsShortCut (bindings_of history.head.root plan.binds) history.calls plan.eras cut.1.0 n) (sym position) cut.1.2)
+short_is history plan e needed (inr (inr (inr (inr verifiers)))) = absurd (let is : faults.ShortCut e needed ≡ faults.Verifier verifiers.1.0 = verifiers.1.2 in cc)
 
 get_here : {A : Type 0} (xs ys : List A) (x : A) → slice_get (xs ++ x ∷ ys) (length xs) ≡ Some x
 get_here [] ys x = refl
@@ -154,3 +155,43 @@ has_place binds calls eras e needed short =
     let at = short.last_stable.stable above in
     let is : needed ≡ suc (length at.ahead) = omega (arith, at.number) in
     subst (λ n. IsSome (place_at short.era.places n)) (sym is) (stands_at (effect_at binds calls) short.era.places at.ahead at.behind at.here at.stands)
+
+pub not_some : {A : Type 0} (o : Option A) → o ≡ None → IsSome o → ⊥
+not_some None none some = absurd cc
+not_some (Some x) none some = absurd cc
+
+-- a place is found where a cut is too short
+pub short_found : (eras : List EraPlan) (e needed : ℕ) (found : Option LostPlace) → found ≡ None
+    → ((plan : EraPlan) → era_at eras e ≡ Some plan → IsSome (place_at plan.places needed) → IsSome found)
+    → (history : KnownCalls) (plan : Certificate) → plan.eras ≡ eras → IsPlanFault history plan (faults.ShortCut e needed) → ⊥
+short_found eras e needed found none finds history plan same fault =
+    let binds = bindings_of history.head.root plan.binds in
+    let short : IsShortCut binds history.calls eras e needed =
+    subst (λ (es : List EraPlan). IsShortCut binds history.calls es e needed) same (short_is history plan e needed fault) in
+    not_some found none (finds short.era short.there (has_place binds history.calls eras e needed short))
+
+-- what is told of the place at which a run stops is its reason
+pub illegal_told : (history : KnownCalls) (plan : Certificate) (number : ℕ) (found : Option IllegalPlace) (place : IllegalPlace) → found ≡ Some place
+    → IsPlanFault history plan (faults.Illegal number) → IfSome found (IsIllegalPlace history plan) → IfSome found (λ told. told.number ≡ number)
+    → IsReasonOf history plan (reasons.Illegal place)
+illegal_told history plan number found place is fault told named =
+    let told_of : IsIllegalPlace history plan place = subst (λ (o : Option IllegalPlace). IfSome o (IsIllegalPlace history plan)) is told in
+    let number_is : place.number ≡ number = subst (λ (o : Option IllegalPlace). IfSome o (λ (t : IllegalPlace). t.number ≡ number)) is named in
+    (subst (λ n. IsPlanFault history plan (faults.Illegal n)) (sym number_is) fault, told_of)
+
+-- what is told of a step is of the call at its place
+pub told_number : (calls : List RecordedCall) (spot : Spot) (step : Placed) (found : Option Placed) (given : IllegalPlace) → given.number ≡ step.number → found ≡ Some step
+    → option_map placed_step found ≡ step_at calls spot.place → given.number ≡ call_of spot.place
+told_number calls spot step found given is some placed = is ∙ numbered calls spot.place (placed_step step) (sym placed ∙ ap (option_map placed_step) some)
+
+-- a place whose step the tree doesn't take has a step, and the tree doesn't take it
+pub no_other : (next : Tree → ℕ → NfsCall → Outcome → Option Tree) (calls : List RecordedCall) (place : Place) (tree : Tree) (found : Option Placed)
+    → IsStuckAt next calls place tree → option_map placed_step found ≡ step_at calls place → ((x : Placed) → found ≡ Some x → ⊥) → ⊥
+no_other next calls place tree None stuck placed none = absurd (let both : None ≡ Some stuck.step = placed ∙ stuck.there in cc)
+no_other next calls place tree (Some x) stuck placed none = none x refl
+
+pub not_taken_there : (next : Tree → ℕ → NfsCall → Outcome → Option Tree) (calls : List RecordedCall) (place : Place) (tree : Tree) (step : Placed) (found : Option Placed)
+    → IsStuckAt next calls place tree → found ≡ Some step → option_map placed_step found ≡ step_at calls place → next tree step.number step.call step.outcome ≡ None
+not_taken_there next calls place tree step found stuck some placed =
+    let is : placed_step step ≡ stuck.step = let both : Some (placed_step step) ≡ Some stuck.step = sym (ap (option_map placed_step) some) ∙ placed ∙ stuck.there in cc in
+    subst (λ (s : TakenStep NfsCall Outcome). next tree s.number s.call s.outcome ≡ None) (sym is) stuck.refused

@@ -1,6 +1,6 @@
 //! Explaining a verdict.
 
-ghost use Rattle.std.specs.Prelude.{◌≡◌, ◌+◌, ◌∷◌, ◌++◌, List, length, IfOk, IfSome, IsSome, MatchOption, MatchBool, Some, None, ⊤};
+ghost use Rattle.std.specs.Prelude.{◌≡◌, ◌==◌, ◌+◌, position, ◌∷◌, ◌++◌, List, length, IfOk, IfSome, IsSome, MatchOption, MatchBool, Some, None, ⊤};
 ghost use Rattle.replay_law.specs.Run.{state_after};
 ghost use Rattle.certificate.specs.declared.plan.EraPlan.{EraPlan};
 ghost use Rattle.certificate.specs.declared.plan.Place.{Place};
@@ -35,6 +35,13 @@ struct Spot<'p> {
     place: Place,
 }
 
+/// The index of the first place of a call.
+fn index_of(places: &[Place], number: u64) -> Option<usize>
+    ensures { result ≡ position (λ place. call_of place == number) places.now }
+{
+    places.iter().position(|place| place.number() == number)
+}
+
 /// The place of a call in its era, with the places ahead of it.
 #[tactic(auto, using(crate::proofs::Told::stands_behind))]
 fn spot_in<'p>(ahead: &'p [EraPlan], era: &'p EraPlan, number: u64) -> Option<Spot<'p>>
@@ -44,7 +51,7 @@ fn spot_in<'p>(ahead: &'p [EraPlan], era: &'p EraPlan, number: u64) -> Option<Sp
     ensures finds { (front back : List Place) (place : Place) → era.now.places ≡ front ++ place ∷ back → call_of place ≡ number → IsSome result }
 {
     let places = era.places.as_slice();
-    let index = places.iter().position(|place| place.number() == number)?;
+    let index = index_of(places, number)?;
     let (front, rest) = places.split_at_checked(index)?;
     let (place, _) = rest.split_first()?;
     Some(Spot {

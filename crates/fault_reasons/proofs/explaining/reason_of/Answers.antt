@@ -5,4 +5,4 @@ use Rattle.fault_reasons.proofs.explaining.reason_of.Goals as goal
 pub returns-in-ShortCut : goal.returns-in-ShortCut
 returns-in-ShortCut c =
     c.short_cut.ensures c.args.history.now c.args.certificate.now (sym c.as_slice.ensures)
-    (subst (IsPlanFault c.args.history.now c.args.certificate.now) c.in-ShortCut.is c.requires)
+    (subst (IsPlanFault c.args.history.now c.args.certificate.now) c.in-ShortCut.is c.requires.fault)
