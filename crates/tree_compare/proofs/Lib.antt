@@ -1,0 +1,4 @@
+mod Bytes
+mod Pairs
+mod Named
+mod Alike
