@@ -4,7 +4,6 @@ use Rattle.std.specs.Prelude.{IfSome}
 use Rattle.nfs_history.specs.declared.knowing.KnownCalls.{KnownCalls}
 use Rattle.certificate.specs.declared.plan.Place.{Place}
 use Rattle.tree_nodes.specs.Tree.{Tree}
-use Rattle.tree_nodes.specs.Unprinted.{same_text}
 use Rattle.witness_check.specs.Run.{base_of}
 use Rattle.decision_core.specs.States.{Replaces}
 use Rattle.decision_steps.specs.Bound.{are_bound}
@@ -12,9 +11,10 @@ use Rattle.decision_steps.specs.Listed.{bound_pairs}
 use Rattle.decision_steps.proofs.Placed.{bound_agree}
 use Rattle.decision_law.specs.Laws.{binds_of}
 use Rattle.decision_walk.specs.declared.way_state.WayState.{WayState}
+use Rattle.decision_walk.specs.declared.live.Live.{Live}
 use Rattle.decision_walk.specs.Way.{WayLeads}
 use Rattle.decision_walk.specs.Standing.{has_call, HasBase, EndsBy, binds_in, IsAt}
-use Rattle.decision_walk.specs.Placings.{PrintsAs, SameWay, SameCut, SameBase}
+use Rattle.decision_walk.specs.Placings.{StandsAt, SameWay, SameCut, SameBase}
 use Rattle.decision_walk.proofs.Later.{agrees_on, way_once}
 
 -- what is said of a call's answer, said in other words
@@ -47,13 +47,11 @@ module _ (known : KnownCalls) where
     placed = λ n kept. sym (calls n) ∙ at.placed n kept;
   }
 
-  pub same_way_is : (state other : WayState) (way other_way : List Place) (text other_text : List ℕ) → PrintsAs known state way text → PrintsAs known other other_way other_text → text ≡ other_text
+  pub same_way_is : (state other : WayState) (way other_way : List Place) (live beside : Live) → StandsAt known state way live → StandsAt known other other_way beside → live.state.tree ≡ beside.state.tree
       → are_bound (binds_in known state) (bound_pairs other.bound.items) ≡ true → SameWay known state way other other_way
-  same_way_is state other way other_way text other_text one two same alike =
-      let trees : one.tree ≡ two.tree = same_text one.tree two.tree one.printable two.printable (sym one.is ∙ same ∙ two.is) in
-      record {
-        agrees = bound_agree (binds_in known other) (binds_in known state) (bound_pairs other.bound.items) alike refl refl;
-        tree = one.tree;
-        leads = one.leads;
-        other_leads = subst (λ t. WayLeads known (binds_in known other) (base_of known) other_way t) (sym trees) two.leads;
-      }
+  same_way_is state other way other_way live beside one two same alike = record {
+    agrees = bound_agree (binds_in known other) (binds_in known state) (bound_pairs other.bound.items) alike refl refl;
+    tree = live.state.tree;
+    leads = one.leads;
+    other_leads = subst (λ t. WayLeads known (binds_in known other) (base_of known) other_way t) (sym same) two.leads;
+  }

@@ -1,6 +1,5 @@
 -- a call that leaves the tree as it is may be placed at once
-use Rattle.std.proofs.Common.{◌≡◌, ◌≢◌, ◌⊎◌, ◌==◌, ◌||◌, inl, inr, ℕ, ◌+◌, ◌<◌, ◌≤◌, Bool, true, false, IsTrue, List, [], ◌∷◌, ◌++◌, length, take, get_or, Option, Some, None, refl, sym, ap, ◌∙◌, subst, arith}
-use Rattle.std.specs.List.{AllByRecursion, list_any}
+use Rattle.std.proofs.Common.{◌≡◌, ◌≢◌, ◌⊎◌, inl, inr, ℕ, ◌+◌, ◌<◌, ◌≤◌, Bool, true, false, List, [], ◌∷◌, ◌++◌, length, take, get_or, Some, sym, ap, ◌∙◌, subst, arith}
 use Rattle.std.proofs.lemmas.Bool.{leb-true, true≢false}
 use Rattle.std.proofs.lemmas.List.{take_more, take_all}
 use Rattle.nfs3_types.specs.declared.calls.NfsCall.{NfsCall}
@@ -16,7 +15,7 @@ use Rattle.tree_nodes.specs.Tree.{Tree}
 use Rattle.tree_handles.specs.Binding.{Bindings}
 use Rattle.file_tree.specs.Setting.{under}
 use Rattle.witness_check.specs.Run.{base_of}
-use Rattle.decision_core.specs.Eras.{EraNext, is_placed}
+use Rattle.decision_core.specs.Eras.{is_placed}
 use Rattle.decision_core.proofs.Orders.{all_ahead, all_behind}
 use Rattle.decision_core.proofs.Walk.{for_itself, for_another}
 use Rattle.decision_core.proofs.Skipping.{may_skip}
@@ -28,7 +27,7 @@ use Rattle.decision_law.specs.Machine.{Point, Changes, MayComeOut, Next}
 use Rattle.decision_law.proofs.Placed.{is_call_number}
 use Rattle.decision_walk.specs.declared.way_state.WayState.{WayState}
 use Rattle.decision_walk.specs.Way.{bound_in, WayLeads, may_change}
-use Rattle.decision_walk.specs.Standing.{is_marked, hints_of, numbers_of, has_call, HasBase, EndsBy, binds_in, IsAt}
+use Rattle.decision_walk.specs.Standing.{hints_of, numbers_of, has_call, HasBase, EndsBy, binds_in, IsAt}
 use Rattle.decision_walk.specs.Settling.{LeavesTree, MaySettle, IsSettled, IsAlike, SettlesAt}
 use Rattle.decision_walk.proofs.Looks.{look_keeps}
 use Rattle.decision_walk.proofs.PlacedLaws.{has_more}

@@ -34,6 +34,7 @@ module _ (known : KnownCalls) where
     pub bound : Adds (bound_in known []) (bound_pairs live.bound.items) live.state.binds
     pub trail : TrailLeads (bound_pairs live.bound.items) (base_of known) live.trail.items live.state.tree
 
-  -- what a walk works in has a state that stands so, or none
-  abbrev pub FitsWork : WalkWork → Type 0
-  FitsWork work = IfSome work.live IsLive
+  -- what a walk works in has a state that stands so, or none, and so one beside it
+  pub record FitsWork (work : WalkWork) : Type 0 where
+    pub live : IfSome work.live IsLive
+    pub beside : IfSome work.beside IsLive

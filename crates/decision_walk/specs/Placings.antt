@@ -10,7 +10,6 @@ use Rattle.certificate.specs.declared.plan.Certificate.{Certificate}
 use Rattle.certificate.specs.declared.plan.Place.{Place}
 use Rattle.certificate.specs.Plan.{call_of}
 use Rattle.tree_nodes.specs.Tree.{Tree}
-use Rattle.tree_nodes.specs.Printed.{IsPrintable, tree_text}
 use Rattle.tree_handles.specs.Binding.{Bindings}
 use Rattle.file_tree.specs.Setting.{next_in}
 use Rattle.witness_check.specs.Run.{base_of}
@@ -28,6 +27,8 @@ use Rattle.decision_law.specs.Machine.{Point, Changes, MayComeOut, Next}
 use Rattle.decision_law.specs.Times.{era_of_number}
 use Rattle.decision_walk.specs.declared.attempt.Attempt.{Attempt}
 use Rattle.decision_walk.specs.declared.way_state.WayState.{WayState}
+use Rattle.decision_walk.specs.declared.live.Live.{Live}
+use Rattle.decision_walk.specs.Live.{IsLive}
 use Rattle.decision_walk.specs.Way.{bound_in, WayLeads, longer}
 use Rattle.decision_walk.specs.Standing.{hints_of, numbers_of, is_marked, binds_in, has_call, EndsAfter, IsAt}
 
@@ -148,12 +149,10 @@ abbrev pub IsFound : Bool → Step → Option Attempt → Type 0
 IsFound grows step None = ⊥
 IsFound grows step (Some attempt) = (attempt.grows ≡ grows) × (bound_pairs attempt.bound.items ≡ bound_pairs step.bound.items)
 
--- the way leads with the state's handles to a tree that is printed so
-pub record PrintsAs (known : KnownCalls) (state : WayState) (way : List Place) (text : List ℕ) : Type 0 where
-  pub tree : Tree
-  pub leads : WayLeads known (binds_in known state) (base_of known) way tree
-  pub printable : IsPrintable tree
-  pub is : text ≡ tree_text tree
+-- the way leads with the state's handles to what stands here
+pub record StandsAt (known : KnownCalls) (state : WayState) (way : List Place) (live : Live) : Type 0 where
+  pub live_is : IsLive known live
+  pub leads : WayLeads known (binds_in known state) (base_of known) way live.state.tree
 
 -- the first state's handles name alike what the second's name, and the ways lead to one tree
 pub record SameWay (known : KnownCalls) (state : WayState) (way : List Place) (other : WayState) (other_way : List Place) : Type 0 where

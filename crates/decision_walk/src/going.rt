@@ -21,10 +21,22 @@ impl<'h> HistoryMachine<'h> {
     pub(crate) fn taken_out(&self, work: &mut WalkWork) -> Result<Live, AllocError>
         requires { FitsWork self.now.history.now.known work.old }
         ensures live { IfOk result (IsLive self.now.history.now.known) }
-        ensures work { work.new.live ≡ None }
+        ensures fits { FitsWork self.now.history.now.known work.new }
     {
         match work.live.take() {
             Some(live) => Ok(live),
+            None => self.first_live(),
+        }
+    }
+
+    /// The state that stands beside it, which is taken out, or else what stood at first.
+    pub(crate) fn taken_beside(&self, work: &mut WalkWork) -> Result<Live, AllocError>
+        requires { FitsWork self.now.history.now.known work.old }
+        ensures live { IfOk result (IsLive self.now.history.now.known) }
+        ensures fits { FitsWork self.now.history.now.known work.new }
+    {
+        match work.beside.take() {
+            Some(beside) => Ok(beside),
             None => self.first_live(),
         }
     }

@@ -90,15 +90,17 @@ impl Live {
     }
 }
 
-/// What a walk works in: the state that stands, unless it was spent.
+/// What a walk works in: the state that stands, and one that stands beside it to be compared with, unless they were spent.
 pub struct WalkWork {
     pub(crate) live: Option<Live>,
+    pub(crate) beside: Option<Live>,
 }
 
 impl Drop for WalkWork {
     fn drop(self) {
-        let WalkWork { live } = self;
+        let WalkWork { live, beside } = self;
         drop(live);
+        drop(beside);
     }
 }
 

@@ -89,7 +89,10 @@ impl<'h> Machine for HistoryMachine<'h> {
     }
 
     fn work(&self) -> WalkWork {
-        WalkWork { live: None }
+        WalkWork {
+            live: None,
+            beside: None,
+        }
     }
 
     fn is_placed(&self, state: &WayState, n: u64) -> bool {

@@ -1,66 +1,43 @@
 //! Whether two states come to the same.
 
-ghost use Rattle.std.specs.Prelude.{◌≡◌, ◌++◌, IfSome, IsTrue};
-ghost use Rattle.tree_nodes.specs.Printed.{IsPrintable, tree_text};
+ghost use Rattle.std.specs.Prelude.{◌≡◌, IfSome, IsTrue};
 ghost use Rattle.decision_core.specs.States.{Replaces};
 ghost use Rattle.decision_steps.specs.Bound.{are_bound};
 ghost use Rattle.decision_steps.specs.Listed.{bound_pairs};
 ghost use Rattle.decision_walk.specs.Standing.{binds_in, IsAt};
 ghost use Rattle.decision_walk.specs.Live.{FitsWork};
-ghost use Rattle.decision_walk.specs.Placings.{PrintsAs, SameWay, SameBase};
+ghost use Rattle.decision_walk.specs.Placings.{StandsAt, SameWay, SameBase};
 
-use crate::live::WalkWork;
+use crate::live::{Live, WalkWork};
 use crate::machine::HistoryMachine;
 use crate::way_state::{WayState, same_calls};
 use certificate::Place;
 use decision_steps::{BoundHandle, State};
-use replay_law::Replayable;
+use std::alloc::Global;
+use tree_compare::same_tree;
 
-/// Whether two lists have the same bytes.
-fn same_bytes(one: &[u8], other: &[u8]) -> bool
-    ensures { IsTrue result → one.now ≡ other.now }
+/// Whether the trees of two states are the same.
+fn same_trees(alloc: Global, one: &State, other: &State) -> bool
+    ensures { IsTrue result → one.now.tree ≡ other.now.tree }
 {
-    one == other
-}
-
-/// The printed bytes of a state's tree.
-fn printed(machine: &HistoryMachine<'_>, state: &State) -> Option<Vec<u8>>
-    ensures { IfSome result (λ text. IsPrintable state.now.tree × (text.items ≡ tree_text state.now.tree)) }
-{
-    let mut text = Vec::new(machine.alloc);
-    match state.tree.print_state(&mut text) {
-        Ok(()) => Some(text),
-        Err(_error) => None,
+    match same_tree(alloc, one.tree.nodes(), other.tree.nodes()) {
+        Ok(same) => same,
+        Err(_error) => false,
     }
-}
-
-/// The same, where the state binds these handles alike.
-fn printed_alike(
-    machine: &HistoryMachine<'_>,
-    state: &State,
-    alike: &[BoundHandle],
-) -> Option<Vec<u8>>
-    ensures text { IfSome result (λ text. IsPrintable state.now.tree × (text.items ≡ tree_text state.now.tree)) }
-    ensures alike { IfSome result (λ _. IsTrue (are_bound state.now.binds (bound_pairs alike.now))) }
-{
-    if !state.binds_all(alike) {
-        return None;
-    }
-    printed(machine, state)
 }
 
 impl<'h> HistoryMachine<'h> {
-    /// The printed bytes of the tree to which a way leads with the handles of a state, where these are among them.
-    fn print_way(
+    /// The state to which a way leads with the handles of a state, where these are among them. It is taken out.
+    fn come_alike(
         &self,
         work: &mut WalkWork,
         state: &WayState,
         way: &[Place],
         alike: &[BoundHandle],
-    ) -> Option<Vec<u8>>
+    ) -> Option<Live>
         requires { FitsWork self.now.history.now.known work.old }
         ensures fits { FitsWork self.now.history.now.known work.new }
-        ensures text { IfSome result (λ text. PrintsAs self.now.history.now.known state.now way.now text.items) }
+        ensures stands { IfSome result (StandsAt self.now.history.now.known state.now way.now) }
         ensures alike { IfSome result (λ _. IsTrue (are_bound (binds_in self.now.history.now.known state.now) (bound_pairs alike.now))) }
     {
         let Ok(stood) = self.taken_out(work) else {
@@ -69,12 +46,30 @@ impl<'h> HistoryMachine<'h> {
         let Ok(live) = self.go_to(stood, state.bound.as_slice(), way) else {
             return None;
         };
-        let text = printed_alike(self, &live.state, alike);
-        work.live = Some(live);
-        text
+        if !live.state.binds_all(alike) {
+            work.live = Some(live);
+            return None;
+        }
+        Some(live)
     }
 
-    /// Whether the first state's handles name alike what the second's do, and these ways lead to the same tree.
+    /// The state beside it to which a way leads with the handles of a state. It is taken out.
+    fn come_beside(&self, work: &mut WalkWork, state: &WayState, way: &[Place]) -> Option<Live>
+        requires { FitsWork self.now.history.now.known work.old }
+        ensures fits { FitsWork self.now.history.now.known work.new }
+        ensures stands { IfSome result (StandsAt self.now.history.now.known state.now way.now) }
+    {
+        let Ok(stood) = self.taken_beside(work) else {
+            return None;
+        };
+        let Ok(beside) = self.go_to(stood, state.bound.as_slice(), way) else {
+            return None;
+        };
+        Some(beside)
+    }
+
+    /// Whether the first state's handles name alike what the second's do, and these ways lead to the same tree. The trees are compared
+    /// side by side.
     fn same_way(
         &self,
         work: &mut WalkWork,
@@ -87,13 +82,17 @@ impl<'h> HistoryMachine<'h> {
         ensures fits { FitsWork self.now.history.now.known work.new }
         ensures same { IsTrue result → SameWay self.now.history.now.known state.now way.now other.now other_way.now }
     {
-        let Some(text) = self.print_way(work, state, way, other.bound.as_slice()) else {
+        let Some(live) = self.come_alike(work, state, way, other.bound.as_slice()) else {
             return false;
         };
-        let Some(other_text) = self.print_way(work, other, other_way, &[]) else {
+        let Some(beside) = self.come_beside(work, other, other_way) else {
+            work.live = Some(live);
             return false;
         };
-        same_bytes(text.as_slice(), other_text.as_slice())
+        let same = same_trees(self.alloc, &live.state, &beside.state);
+        work.live = Some(live);
+        work.beside = Some(beside);
+        same
     }
 
     /// Whether their trees at the cut are the same.

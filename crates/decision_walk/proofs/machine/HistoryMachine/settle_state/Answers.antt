@@ -1,4 +1,4 @@
-use Rattle.std.proofs.Common.{◌∙◌, sym, ap, subst}
+use Rattle.std.proofs.Common.{◌∙◌}
 use Rattle.decision_walk.specs.Settling.{SettlesAt}
 use Rattle.decision_walk.proofs.Trails.{same_is_live}
 use Rattle.decision_walk.proofs.StepLaws.{if_ok}
@@ -6,9 +6,11 @@ use Rattle.decision_walk.proofs.SettleLaws.{settles_alike, settles_from, settles
 use Rattle.decision_walk.proofs.machine.HistoryMachine.settle_state.Goals as goal
 
 pub returns-clause-fits : goal.returns-clause-fits
-returns-clause-fits c =
-    same_is_live c.args.self.now.history.now.known c.in_ok-live.live _ (c.in_ok-stands.ensures.stands ∙ c.into_parts-stands.ensures.state)
-    c.into_parts-stands.ensures.bound c.into_parts-stands.ensures.trail c.in_ok-live.ensures.live
+returns-clause-fits c = record {
+  live = same_is_live c.args.self.now.history.now.known c.in_ok-live.live _ (c.in_ok-stands.ensures.stands ∙ c.into_parts-stands.ensures.state)
+      c.into_parts-stands.ensures.bound c.into_parts-stands.ensures.trail c.in_ok-live.ensures.live;
+  beside = c.in_ok-stood.ensures.fits.beside;
+}
 
 pub returns-clause-settled : goal.returns-clause-settled
 returns-clause-settled c =

@@ -18,6 +18,8 @@ step_here-requires-clause-stands c =
     }
 
 pub returns-clause-fits : goal.returns-clause-fits
-returns-clause-fits c =
-    same_is_live c.args.self.now.history.now.known c.in_ok-live.live _ (c.in_ok-stands.ensures.stands ∙ c.into_parts-stands.ensures.state)
-    c.into_parts-stands.ensures.bound c.into_parts-stands.ensures.trail c.in_ok-live.ensures.live
+returns-clause-fits c = record {
+  live = same_is_live c.args.self.now.history.now.known c.in_ok-live.live _ (c.in_ok-stands.ensures.stands ∙ c.into_parts-stands.ensures.state)
+      c.into_parts-stands.ensures.bound c.into_parts-stands.ensures.trail c.in_ok-live.ensures.live;
+  beside = c.in_ok-stood.ensures.fits.beside;
+}
