@@ -1,9 +1,13 @@
 //! The eras of a recording, and how long a server showed life in each.
 
+use crate::seconds::seconds_between;
 use history_file::Event;
 use indexmap::IndexMap;
 use nfs_relay::transaction;
 use std::alloc::{AllocError, Global};
+
+/// Within how many seconds a crash is to be told of.
+const TELLING_SECS: usize = 10;
 
 /// What is known of the eras of a recording. Events are counted from 0 here.
 #[derive(Drop)]
@@ -44,15 +48,15 @@ impl Eras {
         Ok(eras)
     }
 
-    /// Whether what came about before this many events was the crash that ended its era: no call that came later got a reply before it.
-    pub(crate) fn is_of_crash(&self, events: usize) -> bool {
+    /// Whether what came about before this many events was the crash that ended its era: no call that came later got a reply before it, and
+    /// it was told within ten seconds. `moments` has how many events there were at each second.
+    pub(crate) fn is_of_crash(&self, moments: &[usize], events: usize) -> bool {
         let era = self.crashes.partition_point(|crash| *crash < events);
-        if era >= self.crashes.len() {
-            return false;
-        }
-        match self.lives.get(era) {
-            Some(life) => *life < events,
-            None => false,
+        match (self.crashes.get(era), self.lives.get(era)) {
+            (Some(crash), Some(life)) => {
+                *life < events && seconds_between(moments, events, *crash) < TELLING_SECS
+            }
+            _ => false,
         }
     }
 }

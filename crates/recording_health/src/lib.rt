@@ -4,7 +4,11 @@
 mod eras;
 mod finding;
 mod reading;
+mod replies;
+mod seconds;
 mod unanswered;
 
-pub use finding::{Finding, Findings, Recording, findings_of};
+pub use finding::{Finding, Findings, Recording, Watch, findings_of};
 pub use reading::{Reading, reading_of};
+pub use replies::Met;
+pub use unanswered::{Unanswered, unanswered_in};

@@ -1,17 +1,58 @@
 //! The calls of a recording that were never answered.
 
+use crate::replies::procedure_of;
 use history_file::Event;
 use indexmap::IndexMap;
 use nfs_relay::transaction;
+use nfs3_types::Procedure;
 use std::alloc::{AllocError, Global};
 
 /// A call that got no reply.
-#[derive(Clone, Copy)]
-pub(crate) struct Unanswered {
-    pub(crate) lane: u32,
-    pub(crate) xid: u32,
+#[derive(Clone, Copy, Debug, PartialEq, Eq)]
+pub struct Unanswered {
+    /// The lane of the call.
+    pub lane: u32,
+    /// Its transaction number.
+    pub xid: u32,
+    /// How many events there were ahead of it.
+    pub begin: usize,
     /// How many events there were when its lane was closed, or in all.
-    pub(crate) events: usize,
+    pub events: usize,
+    /// How many changes were asked and made on its lane behind it, each behind the reply to the one before; none where it asks for a change
+    /// itself, which may have to wait for the disk.
+    pub overtakers: u64,
+}
+
+/// A call that waits for its reply.
+#[derive(Clone, Copy)]
+struct OpenCall {
+    lane: u32,
+    xid: u32,
+    begin: usize,
+    /// Whether it changes what the server holds, so that its reply may wait for the disk.
+    is_change: bool,
+    /// How many changes had been made in turn on its lane.
+    changes: u64,
+}
+
+/// The changes that were made in turn on a lane: each was asked behind the reply to the one before.
+#[derive(Clone, Copy)]
+struct Turn {
+    changes: u64,
+    /// Where the reply to the last of them stands.
+    at: usize,
+}
+
+impl Turn {
+    const NONE: Turn = Turn { changes: 0, at: 0 };
+}
+
+/// The calls that wait, and what is done on each lane.
+#[derive(Drop)]
+struct Lanes {
+    open: IndexMap<u64, OpenCall>,
+    turns: IndexMap<u32, Turn>,
+    closed: IndexMap<u32, usize>,
 }
 
 /// A call of a lane, as one number.
@@ -19,33 +60,91 @@ fn key_of(lane: u32, xid: u32) -> u64 {
     u64::from(lane) << 32 | u64::from(xid)
 }
 
+/// Whether a call changes what the server holds, or has to have it on disk.
+fn is_change(message: &[u8]) -> bool {
+    match procedure_of(message) {
+        Some(Procedure::Commit | Procedure::MkNod | Procedure::Link) => true,
+        Some(procedure) => procedure.changes_the_tree(),
+        None => false,
+    }
+}
+
+impl Lanes {
+    fn new(alloc: Global) -> Lanes {
+        Lanes {
+            open: IndexMap::new(alloc),
+            turns: IndexMap::new(alloc),
+            closed: IndexMap::new(alloc),
+        }
+    }
+
+    /// What was done on a lane.
+    fn turn(&self, lane: u32) -> Turn {
+        self.turns.get(&lane).copied().unwrap_or(Turn::NONE)
+    }
+
+    /// A call comes, behind so many events.
+    fn call(&mut self, lane: u32, message: &[u8], begin: usize) -> Result<(), AllocError> {
+        let xid = transaction(message);
+        let changes = self.turn(lane).changes;
+        let call = OpenCall {
+            lane,
+            xid,
+            begin,
+            is_change: is_change(message),
+            changes,
+        };
+        self.open.insert(key_of(lane, xid), call)?;
+        Ok(())
+    }
+
+    /// A reply comes, behind so many events.
+    fn reply(&mut self, lane: u32, message: &[u8], at: usize) -> Result<(), AllocError> {
+        let Some(call) = self.open.shift_remove(&key_of(lane, transaction(message))) else {
+            return Ok(());
+        };
+        let turn = self.turn(lane);
+        if call.is_change && (turn.changes == 0 || call.begin > turn.at) {
+            let changes = turn.changes.saturating_add(1);
+            self.turns.insert(lane, Turn { changes, at })?;
+        }
+        Ok(())
+    }
+
+    /// What is known of a call that is still open behind so many events.
+    fn unanswered(&self, call: OpenCall, events: usize) -> Unanswered {
+        let behind = self.turn(call.lane).changes.saturating_sub(call.changes);
+        Unanswered {
+            lane: call.lane,
+            xid: call.xid,
+            begin: call.begin,
+            events: self.closed.get(&call.lane).copied().unwrap_or(events),
+            // The first may have been asked ahead of it.
+            overtakers: if call.is_change {
+                0
+            } else {
+                behind.saturating_sub(1)
+            },
+        }
+    }
+}
+
 /// The calls that got no reply, in the order in which they came.
-pub(crate) fn unanswered_in(
-    alloc: Global,
-    events: &[Event],
-) -> Result<Vec<Unanswered>, AllocError> {
-    let mut open: IndexMap<u64, (u32, u32)> = IndexMap::new(alloc);
-    let mut closed: IndexMap<u32, usize> = IndexMap::new(alloc);
+pub fn unanswered_in(alloc: Global, events: &[Event]) -> Result<Vec<Unanswered>, AllocError> {
+    let mut lanes = Lanes::new(alloc);
     for (index, event) in events.iter().enumerate() {
         match event {
-            Event::Call { lane, message } => {
-                let xid = transaction(message.as_slice());
-                open.insert(key_of(*lane, xid), (*lane, xid))?;
-            }
-            Event::Reply { lane, message } => {
-                open.shift_remove(&key_of(*lane, transaction(message.as_slice())));
-            }
+            Event::Call { lane, message } => lanes.call(*lane, message.as_slice(), index)?,
+            Event::Reply { lane, message } => lanes.reply(*lane, message.as_slice(), index)?,
             Event::Close { lane } => {
-                closed.insert(*lane, index)?;
+                lanes.closed.insert(*lane, index)?;
             }
             Event::Crash => {}
         }
     }
     let mut all = Vec::new(alloc);
-    for (lane, xid) in open.values() {
-        let (lane, xid) = (*lane, *xid);
-        let events = closed.get(&lane).copied().unwrap_or(events.len());
-        all.push(Unanswered { lane, xid, events })?;
+    for call in lanes.open.values() {
+        all.push(lanes.unanswered(*call, events.len()))?;
     }
     Ok(all)
 }

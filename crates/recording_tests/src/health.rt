@@ -4,7 +4,7 @@ use history_file::{Event, SeenEvent};
 use nfs_history::HistoryFault;
 use nfs_relay::{Halt, Refused, ServerEnd};
 use nfs_tap::{NoteFault, PumpEnd};
-use recording_health::{Finding, Reading, Recording, findings_of, reading_of};
+use recording_health::{Finding, Met, Reading, Recording, Watch, findings_of, reading_of};
 use std::alloc::{AllocError, Global};
 use std::test::Fail;
 
@@ -13,8 +13,27 @@ use std::test::Fail;
 enum Step {
     Call(u32, u8),
     Reply(u32, u8),
+    /// A call of this procedure.
+    Ask(u32, u8, u8),
+    /// RPC refuses a call.
+    Refuse(u32, u8),
     Close(u32),
     Crash,
+}
+
+/// The message of a call of NFS version 3 (RFC 5531, section 9), ahead of its arguments.
+fn call_message(xid: u8, procedure: u8) -> [u8; 40] {
+    [
+        0, 0, 0, xid, 0, 0, 0, 0, 0, 0, 0, 2, 0, 1, 134, 163, 0, 0, 0, 3, 0, 0, 0, procedure, 0, 0,
+        0, 0, 0, 0, 0, 0, 0, 0, 0, 0, 0, 0, 0, 0,
+    ]
+}
+
+/// The message of a reply PROC_UNAVAIL.
+fn refusal_message(xid: u8) -> [u8; 24] {
+    [
+        0, 0, 0, xid, 0, 0, 0, 1, 0, 0, 0, 0, 0, 0, 0, 0, 0, 0, 0, 0, 0, 0, 0, 3,
+    ]
 }
 
 fn events_of(alloc: Global, steps: &[Step]) -> Result<Vec<Event>, AllocError> {
@@ -35,6 +54,20 @@ fn events_of(alloc: Global, steps: &[Step]) -> Result<Vec<Event>, AllocError> {
                     message: &[0, 0, 0, *xid, 0, 0, 0, 1],
                 },
             ),
+            Step::Ask(lane, xid, procedure) => Event::from_seen(
+                alloc,
+                &SeenEvent::Call {
+                    lane: *lane,
+                    message: &call_message(*xid, *procedure),
+                },
+            ),
+            Step::Refuse(lane, xid) => Event::from_seen(
+                alloc,
+                &SeenEvent::Reply {
+                    lane: *lane,
+                    message: &refusal_message(*xid),
+                },
+            ),
             Step::Close(lane) => Event::from_seen(alloc, &SeenEvent::Close { lane: *lane }),
             Step::Crash => Event::from_seen(alloc, &SeenEvent::Crash),
         }?;
@@ -44,10 +77,7 @@ fn events_of(alloc: Global, steps: &[Step]) -> Result<Vec<Event>, AllocError> {
 }
 
 /// A file that can be judged.
-const FINE: Reading = Reading {
-    fault: None,
-    judged: 1,
-};
+const FINE: Reading = Reading::NONE;
 
 /// Whether just these findings are made of a recording.
 fn is_found(
@@ -67,6 +97,18 @@ fn is_found_of_cut(
     cut: &[u32],
     wanted: &[Finding],
 ) -> Result<bool, AllocError> {
+    is_found_by_clock(alloc, steps, ends, cut, &[], wanted)
+}
+
+/// The same where there were so many events at each second.
+fn is_found_by_clock(
+    alloc: Global,
+    steps: &[Step],
+    ends: &[ServerEnd],
+    cut: &[u32],
+    moments: &[usize],
+    wanted: &[Finding],
+) -> Result<bool, AllocError> {
     let events = events_of(alloc, steps)?;
     let recording = Recording {
         events: events.as_slice(),
@@ -76,6 +118,12 @@ fn is_found_of_cut(
         untaken: 0,
         unserved: 0,
         missed: 0,
+        untold: 0,
+        watch: Watch {
+            outages: 0,
+            survivals: 0,
+            moments,
+        },
         halt: None,
     };
     let found = findings_of(alloc, recording, FINE)?;
@@ -157,6 +205,116 @@ fn calls_on_lanes_that_were_cut_are_no_fault(rt: HostRuntime) -> Result<(), Fail
     Ok(())
 }
 
+/// A GETATTR isn't answered; behind it files are made and written in turn, and the server is killed.
+const OVERTAKEN: &[Step] = &[
+    Step::Ask(1, 1, 1),
+    Step::Ask(1, 2, 8),
+    Step::Reply(1, 2),
+    Step::Ask(1, 3, 7),
+    Step::Reply(1, 3),
+    Step::Ask(1, 4, 8),
+    Step::Reply(1, 4),
+    Step::Ask(1, 5, 7),
+    Step::Reply(1, 5),
+    Step::Close(1),
+    Step::Crash,
+];
+
+#[test]
+fn a_call_behind_which_changes_are_made_is_left_aside(rt: HostRuntime) -> Result<(), Fail> {
+    let (alloc, wanted) = (rt.alloc(), [Finding::Unanswered(1, 1, 1)]);
+    assert!(rt; is_found_of_cut(alloc, OVERTAKEN, &[], &[1], &wanted)?);
+    // Without the last change there are two behind the first, which may have been asked ahead of it.
+    assert!(rt; is_found_of_cut(alloc, &OVERTAKEN[..7], &[], &[1], &[])?);
+    Ok(())
+}
+
+#[test]
+fn changes_side_by_side_leave_no_call_aside(rt: HostRuntime) -> Result<(), Fail> {
+    let steps = [
+        Step::Ask(1, 1, 1),
+        Step::Ask(1, 2, 8),
+        Step::Ask(1, 3, 8),
+        Step::Ask(1, 4, 8),
+        Step::Ask(1, 5, 8),
+        Step::Reply(1, 2),
+        Step::Reply(1, 3),
+        Step::Reply(1, 4),
+        Step::Reply(1, 5),
+        Step::Close(1),
+    ];
+    assert!(rt; is_found_of_cut(rt.alloc(), &steps, &[], &[1], &[])?);
+    Ok(())
+}
+
+#[test]
+fn a_change_may_wait_for_the_disk(rt: HostRuntime) -> Result<(), Fail> {
+    let steps = [
+        Step::Ask(1, 1, 7),
+        Step::Ask(1, 2, 8),
+        Step::Reply(1, 2),
+        Step::Ask(1, 3, 8),
+        Step::Reply(1, 3),
+        Step::Ask(1, 4, 8),
+        Step::Reply(1, 4),
+        Step::Ask(1, 5, 8),
+        Step::Reply(1, 5),
+        Step::Close(1),
+    ];
+    assert!(rt; is_found_of_cut(rt.alloc(), &steps, &[], &[1], &[])?);
+    Ok(())
+}
+
+#[test]
+fn a_call_that_waits_for_five_seconds_is_left_aside(rt: HostRuntime) -> Result<(), Fail> {
+    let (alloc, steps) = (rt.alloc(), [Step::Call(1, 7), Step::Close(1)]);
+    let wanted = [Finding::Unanswered(1, 1, 7)];
+    assert!(rt; is_found_by_clock(alloc, &steps, &[], &[1], &[0, 1, 1, 1, 1, 1, 2], &wanted)?);
+    assert!(rt; is_found_by_clock(alloc, &steps, &[], &[1], &[0, 0, 1, 1, 1, 1, 2], &[])?);
+    Ok(())
+}
+
+#[test]
+fn a_server_that_ends_ten_seconds_ahead_of_a_crash_is_at_fault(
+    rt: HostRuntime,
+) -> Result<(), Fail> {
+    let alloc = rt.alloc();
+    let steps = [
+        Step::Call(1, 7),
+        Step::Reply(1, 7),
+        Step::Close(1),
+        Step::Crash,
+    ];
+    let ends = [ServerEnd { lane: 1, events: 2 }];
+    let wanted = [Finding::ServerEnded(1, 1)];
+    let moments = [2, 3, 3, 3, 3, 3, 3, 3, 3, 3, 3, 4];
+    assert!(rt; is_found_by_clock(alloc, &steps, &ends, &[], &moments, &wanted)?);
+    assert!(rt; is_found_by_clock(alloc, &steps, &ends, &[], &moments[2..], &[])?);
+    Ok(())
+}
+
+#[test]
+fn calls_that_rpc_refuses_are_counted(rt: HostRuntime) -> Result<(), Fail> {
+    let steps = [
+        Step::Ask(1, 1, 7),
+        Step::Refuse(1, 1),
+        // FSINFO isn't judged.
+        Step::Ask(1, 2, 19),
+        Step::Refuse(1, 2),
+        Step::Ask(2, 3, 8),
+        Step::Refuse(2, 3),
+        Step::Close(1),
+        Step::Close(2),
+    ];
+    let met = Met {
+        count: 2,
+        first: (1, 1),
+    };
+    let wanted = [Finding::RefusedCalls(met)];
+    assert!(rt; is_found(rt.alloc(), &steps, &[], &wanted)?);
+    Ok(())
+}
+
 #[test]
 fn without_a_crash_each_is_at_fault(rt: HostRuntime) -> Result<(), Fail> {
     let alloc = rt.alloc();
@@ -204,6 +362,8 @@ fn records_that_were_not_noted_are_named(rt: HostRuntime) -> Result<(), Fail> {
     let reading = Reading {
         fault: None,
         judged: 0,
+        empty: 2,
+        first_empty: 5,
     };
     let recording = Recording {
         events: &[],
@@ -213,16 +373,26 @@ fn records_that_were_not_noted_are_named(rt: HostRuntime) -> Result<(), Fail> {
         untaken: 2,
         unserved: 3,
         missed: 1,
+        untold: 4,
+        watch: Watch {
+            outages: 1,
+            survivals: 2,
+            moments: &[],
+        },
         halt: Some(Halt::LogFull),
     };
     let found = findings_of(alloc, recording, reading)?;
     let wanted = [
         Finding::Untaken(2),
+        Finding::WentDown(1),
+        Finding::LivedOn(2),
+        Finding::Empty(2, 5),
         Finding::RefusedReply(5, twice),
         Finding::RefusedCall(4, PumpEnd::RecordTooLong),
         Finding::Unserved(3),
         Finding::Missed(1),
         Finding::LogFull,
+        Finding::Untold(4),
         Finding::NothingJudged,
     ];
     assert!(rt; found.all.as_slice() == wanted.as_slice());
@@ -236,8 +406,8 @@ fn files_are_read(rt: HostRuntime) -> Result<(), Fail> {
     assert_eq!(rt;
         empty,
         Reading {
-            fault: None,
-            judged: 0
+            judged: 0,
+            ..Reading::NONE
         }
     );
     let cut = reading_of(alloc, b"NFSHIST1\0\0\0\0\0\0\0\x01")?;
@@ -245,7 +415,8 @@ fn files_are_read(rt: HostRuntime) -> Result<(), Fail> {
         cut,
         Reading {
             fault: Some(HistoryFault::Truncated),
-            judged: 0
+            judged: 0,
+            ..Reading::NONE
         }
     );
     Ok(())
@@ -272,6 +443,29 @@ fn findings_have_words(rt: HostRuntime) -> Result<(), Fail> {
             "what a client sent on lane 4 is no call: RecordTooLong",
         ),
         (Finding::Untaken(7), "the server took none of 7 connections"),
+        (
+            Finding::WentDown(1),
+            "the server ended the recorder's own connection outside a crash: 1 times",
+        ),
+        (
+            Finding::LivedOn(2),
+            "the server was there when a crash was told: 2 times",
+        ),
+        (
+            Finding::RefusedCalls(Met {
+                count: 3,
+                first: (2, 9),
+            }),
+            "RPC refuses 3 calls, the first on lane 2 with transaction number 9",
+        ),
+        (
+            Finding::Empty(2, 5),
+            "2 replies give nothing and no end, the first to call 5",
+        ),
+        (
+            Finding::Untold(4),
+            "4 more findings, for which there was no memory",
+        ),
         (
             Finding::Unserved(3),
             "3 connections of clients weren't served",
