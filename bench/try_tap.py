@@ -689,9 +689,9 @@ def ordered_by_a_file():
 def orders_astray():
     """An order that is unknown, and one that has no line feed at the end: a crash may not be noted."""
     orders = tempfile.mktemp()
-    with open(orders, "w") as file:
-        file.write("crush\ncra")
+    open(orders, "w").close()
     server, tap = Answers(getattr_failed), Tap(words=["--strict", "--seconds", "2", "--orders", orders])
+    open(orders, "a").write("crush\ncra")
     sock = connect()
     sock.sendall(frame(getattr_call(1)))
     assert read_record(sock) is not None
@@ -700,6 +700,24 @@ def orders_astray():
     server.close()
     os.remove(orders)
     assert (status, out) == (1, "unhealthy: 2 orders weren't understood or read\ncalls 1\n"), (status, out, err)
+
+
+def orders_of_before_and_over():
+    """What the orders had before isn't read; where they are written over, that is told, and they are read from their beginning."""
+    orders = tempfile.mktemp()
+    open(orders, "w").write("crash\nend\n")
+    server, tap = Answers(getattr_failed), Tap(words=["--strict", "--orders", orders])
+    sock = connect()
+    sock.sendall(frame(getattr_call(1)))
+    assert read_record(sock) is not None
+    sock.close()
+    open(orders, "w").write("end\n")
+    status, out, err, events = tap.end()
+    server.close()
+    os.remove(orders)
+    assert (status, out) == (1, "unhealthy: 1 orders weren't understood or read\ncalls 1\n"), (status, out, err)
+    assert "the orders had 10 bytes before the recording began" in err and "the orders were written over" in err, err
+    assert 3 not in [event[0] for event in events], events
 
 
 def mended_by_hand():
@@ -751,7 +769,7 @@ def from_a_folder():
 
 
 CASES = [from_a_folder, server_ends_first, call_unanswered, ends_while_busy, answered_twice, record_too_long, garbage, nothing_judged, healthy, refused_call, ends_in_time,
-         ordered_by_a_file, orders_astray, mended_by_hand, part_stands, port_in_use, no_server, no_server_open, half_record, long_header, byte_by_byte, many_lanes, many_in_turn,
+         ordered_by_a_file, orders_astray, orders_of_before_and_over, mended_by_hand, part_stands, port_in_use, no_server, no_server_open, half_record, long_header, byte_by_byte, many_lanes, many_in_turn,
          server_dies_in_reply, half_closed, xid_in_use, not_rpc, late_connections, ended_by_input, crash, bad_root,
          cannot_write, own_port, wrong_root, empty_root, disk_full, log_full]
 

@@ -1,8 +1,10 @@
 //! A recording, from its words to its history file.
 #![tactic(auto)]
 
+mod guard;
 mod part;
 mod probing;
+mod recorder;
 mod root;
 mod runtime;
 mod saving;

@@ -140,19 +140,91 @@ fn write_events<W: Write>(
     Ok(())
 }
 
-/// Writes the history file of what was noted, of a server that held this at first, or nothing.
+/// A history's file, and how many events of a log it has.
+#[derive(Drop)]
+pub(crate) struct LogFile {
+    pub(crate) bytes: Vec<u8>,
+    pub(crate) events: usize,
+}
+
+/// The bytes of an event in a file.
+fn size_of(event: &Event) -> usize {
+    match event {
+        Event::Call { message, .. } => size_with(message.as_slice().len()),
+        Event::Reply { message, .. } => size_with(message.as_slice().len()),
+        Event::Close { .. } => 8,
+        Event::Crash => 4,
+    }
+}
+
+/// The bytes of an event with a message of so many.
+fn size_with(message: usize) -> usize {
+    (message.saturating_add(3) / 4 * 4).saturating_add(12)
+}
+
+/// How many events from the front have room in so many bytes.
+fn fitting(events: &[Event], room: usize) -> usize {
+    let mut left = room;
+    for (index, event) in events.iter().enumerate() {
+        let size = size_of(event);
+        if size > left {
+            return index;
+        }
+        left = left.saturating_sub(size);
+    }
+    events.len()
+}
+
+/// The file of as many events as there is room for behind what a server held at first.
+fn file_within(
+    alloc: Global,
+    beginning: &Beginning,
+    root: &[u8],
+    events: &[Event],
+) -> Result<LogFile, SaveFault> {
+    let head = file_from(alloc, beginning, root, &[])?;
+    let count = fitting(events, HISTORY_LIMIT.saturating_sub(head.len()));
+    drop(head);
+    let front = events.get(..count).unwrap_or(events);
+    Ok(LogFile {
+        bytes: file_from(alloc, beginning, root, front)?,
+        events: front.len(),
+    })
+}
+
+/// The history file of a server that held this at first: of all events, or of as many as there is room for.
+fn file_behind(
+    alloc: Global,
+    beginning: &Beginning,
+    root: &[u8],
+    events: &[Event],
+) -> Result<LogFile, SaveFault> {
+    match file_from(alloc, beginning, root, events) {
+        Ok(bytes) => Ok(LogFile {
+            bytes,
+            events: events.len(),
+        }),
+        Err(SaveFault::CannotWrite) => file_within(alloc, beginning, root, events),
+        Err(SaveFault::NoMemory) => Err(SaveFault::NoMemory),
+    }
+}
+
+/// Writes the history file of what was noted, of a server that held this at first, or nothing, and says how many events it has.
 pub(crate) fn write_log_of<W: Write>(
     alloc: Global,
     beginning: &Option<Beginning>,
     log: &TapLog,
     writer: &mut W,
-) -> Result<(), SaveFault> {
+) -> Result<usize, SaveFault> {
     match beginning {
-        None => write_log(alloc, log, writer),
+        None => {
+            write_log(alloc, log, writer)?;
+            Ok(log.events().len())
+        }
         Some(beginning) => {
-            let file = file_from(alloc, beginning, log.root().as_slice(), log.events())?;
-            write_pieces(writer, file.as_slice())?;
-            Ok(())
+            let file = file_behind(alloc, beginning, log.root().as_slice(), log.events())?;
+            write_pieces(writer, file.bytes.as_slice())?;
+            Ok(file.events)
         }
     }
 }
@@ -162,12 +234,14 @@ pub(crate) fn log_file(
     alloc: Global,
     beginning: &Option<Beginning>,
     log: &TapLog,
-) -> Result<Vec<u8>, SaveFault> {
-    let file = match beginning {
-        None => write_history(alloc, log.root().as_slice(), log.events())?,
-        Some(beginning) => file_from(alloc, beginning, log.root().as_slice(), log.events())?,
-    };
-    Ok(file)
+) -> Result<LogFile, SaveFault> {
+    match beginning {
+        None => Ok(LogFile {
+            bytes: write_history(alloc, log.root().as_slice(), log.events())?,
+            events: log.events().len(),
+        }),
+        Some(beginning) => file_behind(alloc, beginning, log.root().as_slice(), log.events()),
+    }
 }
 
 /// Writes the history file of what was noted.

@@ -6,38 +6,41 @@ ghost use Rattle.program_streams.specs.Told.{memory_line};
 ghost use Rattle.recording_command.specs.Tap.{IsTold};
 ghost use Rattle.recording_command.specs.declared.tap_end.TapEnd.{TapEnd};
 
+use crate::guard::Guard;
 use crate::part::{Part, part_path};
 use crate::probing::{can_write, is_own_port, probe_root};
+use crate::recorder::{Recorder, tell_unfinished, tell_unreadable};
 use crate::root::root_of;
 use crate::runtime::RecordingRuntime;
 use crate::saving::{Beginning, SaveFault, log_file, write_log_of};
 use crate::tap_end::{TapEnd, refusal_of, tell_end};
 use crate::tap_words::TapRequest;
-use crate::watching::await_end;
+use crate::watching::{OrderFile, await_end};
 use folder_start::{FolderFault, folder_start};
 use nfs_relay::{Halt, Order, OrderReader, Relay, RelayRuntime, calls_in};
 use nfs_tap::TapLog;
-use program_streams::{Input, Output, READ_SIZE, line_of};
+use program_streams::{Input, Output, READ_SIZE, are_one_file, line_of};
 use recording_health::{Reading, Recording, findings_of, reading_of};
 use std::alloc::AllocError;
-use std::fs::{self, File};
-use std::io::{ErrorKind, Write};
+use std::fs::{self, File, Metadata};
+use std::io::{self, ErrorKind, Write};
 use std::net::{IpAddr, Ipv4Addr, SocketAddr, TcpListener};
+use std::os::unix::fs::MetadataExt;
 use std::thread::{self, JoinHandle, Scope};
 use tree_starts::{Profile, Start};
 
 /// Does what the lines say of which the bytes are a piece.
 fn take_orders<R: RelayRuntime>(
     rt: &R,
-    relay: &Relay,
+    recorder: &Recorder,
     orders: &mut OrderReader,
     bytes: &[u8],
 ) -> Result<(), AllocError> {
     for byte in bytes {
-        match orders.take(*byte)? {
-            Some(Order::Crash) => relay.crash(rt),
+        match recorder.take_byte(rt, orders, *byte)? {
+            Some(Order::Crash) => recorder.crash(rt),
             Some(Order::Up | Order::End | Order::Unknown) => {
-                relay.miss_order(rt);
+                recorder.relay.miss_order(rt);
                 let _ = eprintln!(rt; "an order is unknown: crash is the only one");
             }
             None => {}
@@ -46,24 +49,10 @@ fn take_orders<R: RelayRuntime>(
     Ok(())
 }
 
-/// Says that the last order has no end, which may be a part of one.
-pub(crate) fn tell_unfinished<R: RelayRuntime>(rt: &R, relay: &Relay, orders: &OrderReader) {
-    if orders.is_amid_line() {
-        relay.miss_order(rt);
-        let _ = eprintln!(rt; "the last order isn't done: it has no line feed");
-    }
-}
-
-/// Says that the orders can't be read any more.
-pub(crate) fn tell_unreadable<R: RelayRuntime>(rt: &R, relay: &Relay) {
-    relay.miss_order(rt);
-    let _ = eprintln!(rt; "the orders can't be read any more");
-}
-
 /// Hands the orders on an input to the relay, to the end of the input.
 fn read_orders<R: RelayRuntime, I: Input>(
     rt: &R,
-    relay: &Relay,
+    recorder: &Recorder,
     input: &mut I,
 ) -> Result<(), AllocError> {
     let mut buffer = vec![in rt.alloc(); 0; READ_SIZE]?;
@@ -71,13 +60,13 @@ fn read_orders<R: RelayRuntime, I: Input>(
     for _ in rt.forever() {
         match input.read(buffer.as_mut_slice()) {
             Ok(0) => {
-                tell_unfinished(rt, relay, &orders);
+                tell_unfinished(rt, &recorder.relay, &orders);
                 return Ok(());
             }
-            Ok(count) => take_orders(rt, relay, &mut orders, &buffer[..count])?,
+            Ok(count) => take_orders(rt, recorder, &mut orders, &buffer[..count])?,
             Err(error) if error.kind() == ErrorKind::Interrupted => {}
             Err(_) => {
-                tell_unreadable(rt, relay);
+                tell_unreadable(rt, &recorder.relay);
                 return Ok(());
             }
         }
@@ -85,19 +74,17 @@ fn read_orders<R: RelayRuntime, I: Input>(
     unreachable!()
 }
 
-/// Writes what the log of a relay that has ended holds, and says how many calls that is.
-fn save<R: RelayRuntime, W: Write>(
-    rt: &R,
-    relay: &Relay,
-    beginning: &Option<Beginning>,
-    file: &mut W,
-) -> TapEnd {
-    let halt = relay.reason(rt);
-    let log = relay.log().lock(rt);
-    match write_log_of(rt.alloc(), beginning, &log, file) {
-        Ok(()) => {
-            let calls = calls_in(log.events());
-            tell_halt(rt, halt, calls);
+/// Writes what the log of a relay that has ended holds, and says how many calls that is. What has no room in a history's file behind what the
+/// server held at first isn't written, and that is told.
+fn save<R: RelayRuntime, W: Write>(rt: &R, recorder: &Recorder, file: &mut W) -> TapEnd {
+    let halt = recorder.relay.reason(rt);
+    let log = recorder.relay.log().lock(rt);
+    match write_log_of(rt.alloc(), &recorder.beginning, &log, file) {
+        Ok(count) => {
+            let events = log.events();
+            let calls = calls_in(events.get(..count).unwrap_or(events));
+            let is_cut = count < events.len();
+            tell_halt(rt, if is_cut { Some(Halt::LogFull) } else { halt }, calls);
             TapEnd::Written(calls)
         }
         Err(SaveFault::CannotWrite) => TapEnd::CannotWrite,
@@ -125,14 +112,26 @@ fn begin_part<'s, E, R: RelayRuntime>(
     scope.spawn(move || part.follow(rt, relay)).ok()
 }
 
+/// Begins to look after the server, in a thread of its own. Where there is none, that is said, and the recording goes on.
+fn begin_guard<'s, E, R: RelayRuntime>(
+    scope: &Scope<'s, E>,
+    rt: &'s R,
+    recorder: &'s Recorder,
+) -> Option<JoinHandle<()>> {
+    if !recorder.guard.is_on() {
+        return None;
+    }
+    let guarding = scope.spawn(move || recorder.guard.follow(rt, &recorder.relay));
+    if guarding.is_err() {
+        recorder.relay.miss_order(rt);
+        let _ = eprintln!(rt; "the server isn't looked after: no thread");
+    }
+    guarding.ok()
+}
+
 /// The file that grows beside a recording. Where it can't be made, that is said, and the recording goes on.
-fn make_part<R: RecordingRuntime>(
-    rt: &R,
-    relay: &Relay,
-    beginning: &Option<Beginning>,
-    path: &str,
-) -> Option<Part> {
-    match Part::beside(rt, relay, beginning, path) {
+fn make_part<R: RecordingRuntime>(rt: &R, recorder: &Recorder, path: &str) -> Option<Part> {
+    match Part::beside(rt, &recorder.relay, &recorder.beginning, path) {
         Ok(part) => Some(part),
         Err(_) => {
             let _ = eprintln!(rt;
@@ -157,30 +156,24 @@ fn begin_relay<'s, E, R: RelayRuntime>(
 fn begin_recording<'s, E, R: RelayRuntime>(
     scope: &Scope<'s, E>,
     rt: &'s R,
-    relay: &'s Relay,
-    beginning: &'s Option<Beginning>,
+    recorder: &'s Recorder,
     listener: TcpListener,
     mut file: File,
 ) -> Option<JoinHandle<TapEnd>> {
     let recording = scope.spawn(move || {
-        relay.run(rt, listener);
-        save(rt, relay, beginning, &mut file)
+        recorder.relay.run(rt, listener);
+        save(rt, recorder, &mut file)
     });
     recording.ok()
 }
 
 /// Writes the history of a relay that has ended, unless it couldn't begin.
-fn save_ended<R: RecordingRuntime>(
-    rt: &R,
-    relay: &Relay,
-    beginning: &Option<Beginning>,
-    path: &str,
-) -> TapEnd {
-    if let Some(refusal) = refusal_of(relay.reason(rt)) {
+fn save_ended<R: RecordingRuntime>(rt: &R, recorder: &Recorder, path: &str) -> TapEnd {
+    if let Some(refusal) = refusal_of(recorder.relay.reason(rt)) {
         return refusal;
     }
     match fs::create(rt, path) {
-        Ok(mut file) => save(rt, relay, beginning, &mut file),
+        Ok(mut file) => save(rt, recorder, &mut file),
         Err(_) => TapEnd::CannotWrite,
     }
 }
@@ -188,56 +181,81 @@ fn save_ended<R: RecordingRuntime>(
 /// Records so many connections as the relay takes.
 fn record_lanes<R: RecordingRuntime>(
     rt: &R,
-    relay: &Relay,
-    beginning: &Option<Beginning>,
+    recorder: &Recorder,
     listener: TcpListener,
     path: &str,
 ) -> TapEnd {
-    relay.run(rt, listener);
-    save_ended(rt, relay, beginning, path)
+    recorder.relay.run(rt, listener);
+    save_ended(rt, recorder, path)
+}
+
+/// The number of a file, on its device.
+fn number_of(known: io::Result<Metadata>) -> Option<(u64, u64)> {
+    let known = known.ok()?;
+    Some((known.dev(), known.ino()))
+}
+
+/// What became of a recording whose file was made at a path ahead of it: one that isn't there any more isn't written.
+fn end_at<R: RecordingRuntime>(
+    rt: &R,
+    path: &str,
+    made: Option<(u64, u64)>,
+    end: TapEnd,
+) -> TapEnd {
+    match end {
+        TapEnd::Written(_) if number_of(fs::metadata(rt, path)) != made => {
+            let _ = eprintln!(rt; "the history was taken away while it was recorded");
+            TapEnd::CannotWrite
+        }
+        end => end,
+    }
 }
 
 /// Records until the input ends. The file is made first, since the recording may end before the input does.
 fn record_until_end<R: RecordingRuntime, I: Input>(
     rt: &R,
-    relay: &Relay,
-    beginning: &Option<Beginning>,
+    recorder: &Recorder,
     listener: TcpListener,
     path: &str,
     input: &mut I,
 ) -> TapEnd {
+    let relay = &recorder.relay;
     let Ok(file) = fs::create(rt, path) else {
         relay.finish(rt);
         return TapEnd::CannotWrite;
     };
-    thread::scope(thread::scope_env(), rt, |scope| {
-        let Some(recording) = begin_recording(scope, rt, relay, beginning, listener, file) else {
+    let made = number_of(file.metadata());
+    let end = thread::scope(thread::scope_env(), rt, |scope| {
+        let Some(recording) = begin_recording(scope, rt, recorder, listener, file) else {
             relay.finish(rt);
             let _ = fs::remove_file(rt, path);
             return TapEnd::NoThread;
         };
-        if let Err(AllocError) = read_orders(rt, relay, input) {
+        if let Err(AllocError) = read_orders(rt, recorder, input) {
+            relay.miss_order(rt);
             let _ = eprintln!(rt; "the recording ends: out of memory");
         }
         relay.finish(rt);
         recording.join(rt)
-    })
+    });
+    end_at(rt, path, made, end)
 }
 
 /// Records until one of the ends comes that the words name, or all connections have.
 fn record_to_ends<R: RecordingRuntime>(
     rt: &R,
-    relay: &Relay,
-    beginning: &Option<Beginning>,
+    recorder: &Recorder,
     listener: TcpListener,
     request: &TapRequest<'_>,
-    orders: Option<File>,
+    orders: Option<OrderFile>,
 ) -> TapEnd {
+    let relay = &recorder.relay;
     let is_run = thread::scope(thread::scope_env(), rt, |scope| {
         let Some(recording) = begin_relay(scope, rt, relay, listener) else {
             return false;
         };
-        if let Err(AllocError) = await_end(rt, relay, &request.ends, orders) {
+        if let Err(AllocError) = await_end(rt, recorder, &request.ends, orders) {
+            relay.miss_order(rt);
             let _ = eprintln!(rt; "the recording ends: out of memory");
         }
         relay.finish(rt);
@@ -245,7 +263,7 @@ fn record_to_ends<R: RecordingRuntime>(
         true
     });
     if is_run {
-        save_ended(rt, relay, beginning, request.history)
+        save_ended(rt, recorder, request.history)
     } else {
         relay.finish(rt);
         TapEnd::NoThread
@@ -255,42 +273,59 @@ fn record_to_ends<R: RecordingRuntime>(
 /// Records in the way that the words ask for.
 fn record_as<R: RecordingRuntime, I: Input>(
     rt: &R,
-    relay: &Relay,
-    beginning: &Option<Beginning>,
+    recorder: &Recorder,
     listener: TcpListener,
     request: &TapRequest<'_>,
-    orders: Option<File>,
+    orders: Option<OrderFile>,
     input: &mut I,
 ) -> TapEnd {
     if request.ends.is_any() {
-        record_to_ends(rt, relay, beginning, listener, request, orders)
+        record_to_ends(rt, recorder, listener, request, orders)
     } else if request.lanes.is_some() {
-        record_lanes(rt, relay, beginning, listener, request.history)
+        record_lanes(rt, recorder, listener, request.history)
     } else {
-        record_until_end(rt, relay, beginning, listener, request.history, input)
+        record_until_end(rt, recorder, listener, request.history, input)
     }
+}
+
+/// Records in the way that the words ask for, and looks after the server meanwhile where they ask for that.
+fn record_guarded<R: RecordingRuntime, I: Input>(
+    rt: &R,
+    recorder: &Recorder,
+    listener: TcpListener,
+    request: &TapRequest<'_>,
+    orders: Option<OrderFile>,
+    input: &mut I,
+) -> TapEnd {
+    thread::scope(thread::scope_env(), rt, |scope| {
+        let guarding = begin_guard(scope, rt, recorder);
+        let end = record_as(rt, recorder, listener, request, orders, input);
+        if let Some(guarding) = guarding {
+            guarding.join(rt);
+        }
+        end
+    })
 }
 
 /// Records, while a file grows beside it.
 fn record_beside<R: RecordingRuntime, I: Input>(
     rt: &R,
-    relay: &Relay,
-    beginning: &Option<Beginning>,
+    recorder: &Recorder,
     listener: TcpListener,
     request: &TapRequest<'_>,
-    orders: Option<File>,
+    orders: Option<OrderFile>,
     input: &mut I,
     part: Option<Part>,
 ) -> TapEnd {
     let Some(part) = part else {
-        return record_as(rt, relay, beginning, listener, request, orders, input);
+        return record_guarded(rt, recorder, listener, request, orders, input);
     };
     thread::scope(thread::scope_env(), rt, |scope| {
-        let following = begin_part(scope, rt, relay, part);
+        let following = begin_part(scope, rt, &recorder.relay, part);
         if following.is_none() {
             let _ = eprintln!(rt; "what is noted isn't kept on disk meanwhile: no thread");
         }
-        let end = record_as(rt, relay, beginning, listener, request, orders, input);
+        let end = record_guarded(rt, recorder, listener, request, orders, input);
         if let Some(following) = following {
             following.join(rt);
         }
@@ -301,11 +336,10 @@ fn record_beside<R: RecordingRuntime, I: Input>(
 /// Records, and keeps on disk what is noted meanwhile, until the history is written.
 fn record_kept<R: RecordingRuntime, I: Input>(
     rt: &R,
-    relay: &Relay,
-    beginning: &Option<Beginning>,
+    recorder: &Recorder,
     listener: TcpListener,
     request: &TapRequest<'_>,
-    orders: Option<File>,
+    orders: Option<OrderFile>,
     input: &mut I,
 ) -> TapEnd {
     let Ok(path) = part_path(rt.alloc(), request.history) else {
@@ -314,44 +348,61 @@ fn record_kept<R: RecordingRuntime, I: Input>(
     if fs::metadata(rt, path.as_str()).is_ok() {
         return TapEnd::PartStands;
     }
-    let part = make_part(rt, relay, beginning, path.as_str());
-    let end = record_beside(rt, relay, beginning, listener, request, orders, input, part);
-    if matches!(end, TapEnd::Written(_)) || relay.log().lock(rt).events().is_empty() {
+    let part = make_part(rt, recorder, path.as_str());
+    let end = record_beside(rt, recorder, listener, request, orders, input, part);
+    if matches!(end, TapEnd::Written(_)) || recorder.relay.log().lock(rt).events().is_empty() {
         let _ = fs::remove_file(rt, path.as_str());
     }
     end
 }
 
+/// What is read of the history of a log, as it is in its file, and whether the file has no room for all of it.
+#[derive(Clone, Copy)]
+struct ReadBack {
+    reading: Reading,
+    is_cut: bool,
+}
+
 /// What is read of the history of a log, as it is in its file.
-fn reading<R: RecordingRuntime>(
-    rt: &R,
-    relay: &Relay,
-    beginning: &Option<Beginning>,
-) -> Result<Reading, AllocError> {
-    let log = relay.log().lock(rt);
-    match log_file(rt.alloc(), beginning, &log) {
-        Ok(bytes) => reading_of(rt.alloc(), bytes.as_slice()),
+fn read_back<R: RecordingRuntime>(rt: &R, recorder: &Recorder) -> Result<ReadBack, AllocError> {
+    let log = recorder.relay.log().lock(rt);
+    match log_file(rt.alloc(), &recorder.beginning, &log) {
+        Ok(file) => Ok(ReadBack {
+            reading: reading_of(rt.alloc(), file.bytes.as_slice())?,
+            is_cut: file.events < log.events().len(),
+        }),
         // It was written, so that this is for memory.
         Err(_) => Err(AllocError),
     }
 }
 
+/// Nothing was read.
+const UNREAD: ReadBack = ReadBack {
+    reading: Reading::NONE,
+    is_cut: false,
+};
+
 /// What was wrong with the server, in lines; for whoever wants it the history is read too.
 fn findings<R: RecordingRuntime>(
     rt: &R,
-    relay: &Relay,
-    beginning: &Option<Beginning>,
+    recorder: &Recorder,
     request: &TapRequest<'_>,
 ) -> Result<String, AllocError> {
     let alloc = rt.alloc();
-    let reading = if request.is_strict {
-        reading(rt, relay, beginning)?
+    let read = if request.is_strict {
+        read_back(rt, recorder)?
     } else {
-        Reading::NONE
+        UNREAD
     };
-    let halt = relay.reason(rt);
+    let relay = &recorder.relay;
+    let halt = if read.is_cut {
+        Some(Halt::LogFull)
+    } else {
+        relay.reason(rt)
+    };
     let log = relay.log().lock(rt);
     let health = relay.health().lock(rt);
+    let known = recorder.guard.known().lock(rt);
     let recording = Recording {
         events: log.events(),
         ends: health.ends(),
@@ -360,9 +411,11 @@ fn findings<R: RecordingRuntime>(
         untaken: health.untaken(),
         unserved: health.unserved(),
         missed: health.missed(),
+        untold: health.more(),
+        watch: known.watch(),
         halt,
     };
-    let found = findings_of(alloc, recording, reading)?;
+    let found = findings_of(alloc, recording, read.reading)?;
     let mut lines = String::new(alloc);
     for finding in found.all.iter() {
         lines.push_str(line_of(alloc, "unhealthy: ", finding)?.as_str())?;
@@ -380,12 +433,11 @@ struct Ended {
 /// Says what was wrong with the server: in lines of the answer where the words ask for it, else on standard error.
 fn with_findings<R: RecordingRuntime>(
     rt: &R,
-    relay: &Relay,
-    beginning: &Option<Beginning>,
+    recorder: &Recorder,
     request: &TapRequest<'_>,
     calls: usize,
 ) -> Result<Ended, AllocError> {
-    let lines = findings(rt, relay, beginning, request)?;
+    let lines = findings(rt, recorder, request)?;
     if lines.is_empty() {
         return Ok(Ended {
             end: TapEnd::Written(calls),
@@ -430,23 +482,26 @@ fn beginning_of<R: RecordingRuntime>(
 fn orders_of<R: RecordingRuntime>(
     rt: &R,
     request: &TapRequest<'_>,
-) -> Result<Option<File>, TapEnd> {
+) -> Result<Option<OrderFile>, TapEnd> {
     let Some(path) = request.ends.orders else {
         return Ok(None);
     };
-    match File::open(rt, path) {
-        Ok(file) => Ok(Some(file)),
-        Err(_) => Err(TapEnd::NoOrders),
+    // What is read isn't written over.
+    if are_one_file(rt, path, request.history) {
+        return Err(TapEnd::CannotWrite);
+    }
+    match OrderFile::open(rt, path) {
+        Some(file) => Ok(Some(file)),
+        None => Err(TapEnd::NoOrders),
     }
 }
 
 /// What a recording begins with.
 #[derive(Drop)]
 struct Opened {
-    relay: Relay,
-    beginning: Option<Beginning>,
+    recorder: Recorder,
     listener: TcpListener,
-    orders: Option<File>,
+    orders: Option<OrderFile>,
 }
 
 /// Opens what a recording needs.
@@ -474,9 +529,14 @@ fn open<R: RecordingRuntime>(rt: &R, request: &TapRequest<'_>) -> Result<Opened,
         request.lanes,
         request.is_quiet,
     );
+    // Where connections are counted the server may count them too.
+    let is_guarded = request.is_strict && request.lanes.is_none();
     Ok(Opened {
-        relay,
-        beginning,
+        recorder: Recorder {
+            relay,
+            beginning,
+            guard: Guard::new(rt.alloc(), request.server, is_guarded),
+        },
         listener,
         orders,
     })
@@ -486,16 +546,15 @@ fn open<R: RecordingRuntime>(rt: &R, request: &TapRequest<'_>) -> Result<Opened,
 fn record<R: RecordingRuntime, I: Input>(rt: &R, request: &TapRequest<'_>, input: &mut I) -> Ended {
     let none = String::new(rt.alloc());
     let Opened {
-        relay,
-        beginning,
+        recorder,
         listener,
         orders,
     } = match open(rt, request) {
         Ok(opened) => opened,
         Err(end) => return Ended { end, lines: none },
     };
-    match record_kept(rt, &relay, &beginning, listener, request, orders, input) {
-        TapEnd::Written(calls) => match with_findings(rt, &relay, &beginning, request, calls) {
+    match record_kept(rt, &recorder, listener, request, orders, input) {
+        TapEnd::Written(calls) => match with_findings(rt, &recorder, request, calls) {
             Ok(ended) => ended,
             Err(AllocError) => Ended {
                 end: TapEnd::NoMemory,
