@@ -314,20 +314,30 @@ def limits():
     yield Case("995,906 events", many_calls(497_953, True), 0, "calls 497953", told=["^lane 1: record not taken: the log is full, at "] * 2)
 
 
+def judged_messages() -> tuple[bytes, bytes]:
+    """A GETATTR of the root and its reply, as records."""
+    handle = struct.pack(">I", len(ROOT)) + ROOT
+    attributes = struct.pack(">5I", 2, 0o755, 2, 0, 0) + bytes(64)
+    return framed(call(1, 1, handle)), framed(reply(1, bytes(4) + attributes))
+
+
 def strict() -> list[Case]:
     """What `--strict` says of captures that lack something, and of one that doesn't."""
-    right = of_one(asks(0, FIRST), gives(0, ONE))
-    late = of_one(asks(0, FIRST), gives(0, ONE))
+    ask, give = judged_messages()
+    right = of_one(asks(0, ask), gives(0, give))
+    late = of_one(asks(0, ask), gives(0, give))
     late[2].time, late[3].time = late[3].time, late[2].time
     files = {
         "nothing": (captured(right)[0], 0),
-        "a segment": (captured(of_one(asks(0, FIRST), asks(2 * SIZE, THIRD)))[0], 1),
-        "a call": (captured(of_one(gives(0, ONE), asks(0, FIRST)))[0], 1),
+        "a segment": (captured(of_one(asks(0, ask), gives(0, give), asks(2 * len(ask), THIRD)))[0], 1),
+        "a call": (captured(of_one(gives(0, give), asks(0, ask)))[0], 1),
+        "a reply": (captured(of_one(asks(0, ask), gives(0, give), asks(len(ask), SECOND)))[0], 1),
         "all calls": (captured(right[:2])[0], 1),
+        "all judged calls": (captured(of_one(asks(0, FIRST), gives(0, ONE)))[0], 1),
         "the beginning": (captured(right[2:])[0], 1),
         "the last byte": (captured(right)[0][:-1], 1),
         "the order of time": (captured(late)[0], 1),
-        "bytes by a snap length": (captured(of_one(asks(0, FIRST), asks(SIZE, framed(call(2, 7, bytes(200))))), snap=150)[0], 1),
+        "bytes by a snap length": (captured(of_one(asks(0, ask), gives(0, give), asks(len(ask), framed(call(2, 7, bytes(200))))), snap=150)[0], 1),
     }
     return [Case(f"strict, lacks {name}", data, status, r"calls \d+", words=(*GIVEN, "--strict")) for name, (data, status) in files.items()]
 

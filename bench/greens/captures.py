@@ -1,8 +1,5 @@
 """Rows of `import --strict`, and of `search` and `report` behind it: captures that lack something."""
-import struct
-
 import capture_cases as cases
-from differ import layouts as nfs
 
 from .runs import Answer, Setting
 from .table import Row
@@ -21,16 +18,9 @@ def imported(make):
     return trial
 
 
-def messages():
-    """A GETATTR of the root and its reply, as records."""
-    handle = struct.pack(">I", len(cases.ROOT)) + cases.ROOT
-    attributes = struct.pack(">5I", 2, 0o755, 2, 0, 0) + bytes(64)
-    return cases.framed(cases.call(1, nfs.GETATTR, handle)), cases.framed(cases.reply(1, bytes(4) + attributes))
-
-
 def with_lost_end():
     """A call, its reply, and a call whose reply was dropped at the end of the capture."""
-    (ask, give), second = messages(), cases.framed(cases.call(2, 0))
+    (ask, give), second = cases.judged_messages(), cases.framed(cases.call(2, 0))
     return cases.of_one(cases.asks(0, ask), cases.gives(0, give), cases.asks(len(ask), second))
 
 
@@ -40,7 +30,7 @@ def without_judged():
 
 def of_two_servers():
     """Connections to one port of two hosts."""
-    ask, give = messages()
+    ask, give = cases.judged_messages()
     other = cases.Conversation((cases.End(cases.CLIENT, 701), cases.End(b"\x0a\0\0\x03", cases.NFS_PORT)), (1_000, 5_000))
     pairs = [(lane, sent) for lane in (cases.talk(), other) for sent in (cases.asks(flags=cases.SYN), cases.gives(flags=cases.SYN | cases.ACK),
                                                                         cases.asks(0, ask), cases.gives(0, give))]
@@ -49,7 +39,7 @@ def of_two_servers():
 
 def reset_by_server():
     """The server resets the connection amid a call."""
-    ask, give = messages()
+    ask, give = cases.judged_messages()
     second = cases.framed(cases.call(2, 0))
     return cases.of_one(cases.asks(0, ask), cases.gives(0, give), cases.asks(len(ask), second), cases.gives(len(give), flags=cases.RST | cases.ACK))
 
@@ -57,7 +47,7 @@ def reset_by_server():
 def with_other_packet(protocol: int, content: bytes):
     """The same call, and a packet that is passed over."""
     def make():
-        ask, give = messages()
+        ask, give = cases.judged_messages()
         packets = cases.of_one(cases.asks(0, ask), cases.gives(0, give))
         return [*packets, cases.Packet(packets[-1].time, None, protocol, content, "passed over")]
     return make
@@ -69,8 +59,8 @@ CAPTURES = [
     Row("(c) import: two servers", "Two servers at one port are one history", "import --strict, search, report", imported(of_two_servers)),
     Row("import: reset by the server", "The server resets a connection amid a call", "import --strict, search, report", imported(reset_by_server), wants="told",
         least="reset|ended|unanswered"),
-    Row("import: an ARP packet", "Standard error says that a packet was passed over, and docs/CAPTURES.md that status 0 comes where no such line is said",
-        "import --strict, search, report", imported(with_other_packet(0x0806, bytes(28)))),
-    Row("import: a broken header", "A packet has a header that no packet has", "import --strict, search, report",
-        imported(with_other_packet(0x0800, b"\x45\0\0\x14" + bytes(4)))),
+    Row("import: an ARP packet", "Nothing: no segment of TCP is in it. Standard error says that a packet was passed over",
+        "import --strict, search, report", imported(with_other_packet(0x0806, bytes(28))), wants="told", least="packets passed over: 1: not IP"),
+    Row("import: a broken header", "A packet has a header of sixteen bytes, and no packet has one of less than twenty", "import --strict, search, report",
+        imported(with_other_packet(0x0800, b"\x44\0\0\x14" + bytes(16))), least="a header that no packet has"),
 ]

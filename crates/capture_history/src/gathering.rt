@@ -42,11 +42,24 @@ fn client_of(segment: &Segment<'_>, port: u16) -> Endpoint {
     }
 }
 
+/// Where a segment's replies come from: its end that isn't the client's.
+fn server_of(segment: &Segment<'_>, port: u16) -> Endpoint {
+    if client_of(segment, port) == segment.source {
+        segment.destination
+    } else {
+        segment.source
+    }
+}
+
 /// Connections, and which one is the last between two ends.
 #[derive(Drop)]
 struct Connections<'a> {
     all: Vec<Connection<'a>>,
     latest: BTreeMap<Ends, usize>,
+    /// Where the first of them goes.
+    server: Option<Endpoint>,
+    /// How many go elsewhere.
+    elsewhere: u64,
 }
 
 impl<'a> Connections<'a> {
@@ -54,6 +67,20 @@ impl<'a> Connections<'a> {
         Connections {
             all: Vec::new(alloc),
             latest: BTreeMap::new(alloc),
+            server: None,
+            elsewhere: 0,
+        }
+    }
+
+    /// Counts a connection to this server, where the first went to another one.
+    fn count_server(&mut self, server: Endpoint) {
+        let known = self.server;
+        let Some(first) = known else {
+            self.server = Some(server);
+            return;
+        };
+        if first != server {
+            self.elsewhere = self.elsewhere.saturating_add(1);
         }
     }
 
@@ -68,6 +95,7 @@ impl<'a> Connections<'a> {
         let connection = Connection::new(alloc, client_of(segment, port));
         self.all.push(connection)?;
         self.latest.insert(ends_of(segment), index)?;
+        self.count_server(server_of(segment, port));
         Ok(index)
     }
 
@@ -143,6 +171,7 @@ pub fn gather<'a>(
     for connection in lanes.all.iter() {
         passed.add_connection(connection);
     }
+    passed.other_servers = lanes.elsewhere;
     Ok(Gathered {
         lanes: lanes.all,
         others: others.all,

@@ -19,6 +19,8 @@ pub struct PassedCounts {
     pub one_way: u64,
     /// So many began ahead of the capture.
     pub without_beginning: u64,
+    /// So many go to another server than the first of them.
+    pub other_servers: u64,
 }
 
 impl PassedCounts {
@@ -33,6 +35,7 @@ impl PassedCounts {
         too_early: 0,
         one_way: 0,
         without_beginning: 0,
+        other_servers: 0,
     };
 
     /// Counts a connection to the server.

@@ -3,13 +3,14 @@
 ghost use Rattle.std.specs.Prelude.{◌≡◌, ◌<◌, true, IsTrue, IfOk};
 ghost use Rattle.std.specs.Io.KnownBytes.{Appends};
 ghost use Rattle.program_streams.specs.Told.{memory_line};
-ghost use Rattle.import_command.specs.Whole.{IsWhole};
+ghost use Rattle.import_command.specs.Whole.{AreAnswered, IsWhole, MissesNothing};
 
 use crate::import_words::ImportRequest;
 use capture_history::{CaptureLog, ImportFault, LaneNote, PassedCounts, import_capture};
-use history_file::{WriteFault, write_history};
+use history_file::{Event, WriteFault, write_history};
 use nfs_relay::calls_in;
 use program_streams::{DigitsFault, Output, Report, decode_digits, line_of, tell_answer};
+use recording_health::{Reading, Unanswered, reading_of, unanswered_in};
 use std::alloc::{AllocError, Global};
 use std::fs;
 use std::io::{Eprint, Read};
@@ -62,6 +63,10 @@ fn tell_passed<R: Eprint>(rt: &R, passed: PassedCounts) {
         let count = passed.without_beginning;
         let _ = eprintln!(rt; "connections that began before the capture: {count}");
     }
+    if passed.other_servers > 0 {
+        let count = passed.other_servers;
+        let _ = eprintln!(rt; "connections to another server than the first: {count}");
+    }
 }
 
 /// Says so where the words give a handle of no bytes, which is seldom meant.
@@ -71,20 +76,92 @@ fn tell_empty<R: Eprint>(rt: &R, request: &ImportRequest<'_>) {
     }
 }
 
-/// Whether nothing of the server's connections is wanting in the capture, and there are calls.
-fn is_whole(log: &CaptureLog, calls: usize) -> bool
-    ensures { IsTrue result → IsWhole log.now calls }
+/// What is counted of a history that is made of a capture.
+#[derive(Clone, Copy)]
+struct Counts {
+    /// Its calls.
+    calls: usize,
+    /// Those of them that got no reply.
+    unanswered: usize,
+    /// What `check` would say of its file, where it is asked, and how many calls are judged.
+    reading: Reading,
+}
+
+/// Counts what is asked of a history, of which this is the file. Only where the words ask for it the file is read again.
+fn counts_of(
+    alloc: Global,
+    request: &ImportRequest<'_>,
+    events: &[Event],
+    unanswered: &[Unanswered],
+    file: &[u8],
+) -> Result<Counts, AllocError> {
+    let reading = if request.is_strict {
+        reading_of(alloc, file)?
+    } else {
+        Reading::NONE
+    };
+    Ok(Counts {
+        calls: calls_in(events),
+        unanswered: unanswered.len(),
+        reading,
+    })
+}
+
+/// Whether no packet is known to be wanting, and all connections go to one server.
+fn misses_nothing(passed: PassedCounts) -> bool
+    ensures { IsTrue result → MissesNothing passed }
 {
-    let passed = log.passed;
-    log.cut.is_none()
+    passed.malformed == 0
         && passed.cut_headers == 0
         && passed.cut_payloads == 0
         && passed.fragments == 0
         && passed.too_early == 0
         && passed.one_way == 0
         && passed.without_beginning == 0
+        && passed.other_servers == 0
+}
+
+/// Whether each call got its reply, and some are judged.
+fn are_answered(counts: Counts) -> bool
+    ensures { IsTrue result → AreAnswered counts }
+{
+    counts.unanswered == 0
+        && counts.reading.fault.is_none()
+        && counts.reading.judged > 0
+        && counts.calls > 0
+}
+
+/// Whether nothing of the server's connections is wanting in the capture, and there are judged calls.
+fn is_whole(log: &CaptureLog, counts: Counts) -> bool
+    ensures { IsTrue result → IsWhole log.now counts }
+{
+    log.cut.is_none()
         && log.import.notes.is_empty()
-        && calls > 0
+        && misses_nothing(log.passed)
+        && are_answered(counts)
+}
+
+/// Says which call got no reply first, and how many didn't.
+fn tell_unanswered<R: Eprint>(rt: &R, unanswered: &[Unanswered]) {
+    if let Some(first) = unanswered.first() {
+        let (count, lane, xid) = (unanswered.len(), first.lane, first.xid);
+        let _ = eprintln!(rt;
+            "unanswered calls: {count}: the first on lane {lane} with transaction number {xid}"
+        );
+    }
+}
+
+/// Says what is found in reading the history's file.
+fn tell_reading<R: Eprint>(rt: &R, reading: Reading) {
+    match reading.fault {
+        Some(fault) => {
+            let _ = eprintln!(rt; "check refuses the history: {fault}");
+        }
+        None if reading.judged == 0 => {
+            let _ = eprintln!(rt; "no call is judged: is the port that of NFS?");
+        }
+        None => {}
+    }
 }
 
 /// Says what of a capture isn't in its history.
@@ -115,16 +192,36 @@ fn is_capture<R: Files>(rt: &R, path: &str, capture: &[u8]) -> bool {
 }
 
 /// The status: 1 where it is asked whether the capture lacks something, and it does.
-fn status_of(request: &ImportRequest<'_>, log: &CaptureLog, calls: usize) -> u8
+fn status_of(request: &ImportRequest<'_>, log: &CaptureLog, counts: Counts) -> u8
     ensures bound { result < 3 }
     // With `is_strict` 0 is said of a whole capture alone.
-    ensures strict { request.now.is_strict ≡ true → result ≡ 0 → IsWhole log.now calls }
+    ensures strict { request.now.is_strict ≡ true → result ≡ 0 → IsWhole log.now counts }
 {
-    if request.is_strict && !is_whole(log, calls) {
+    if request.is_strict && !is_whole(log, counts) {
         1
     } else {
         0
     }
+}
+
+/// Says what of a capture isn't in its history, of which this is the file, and how many calls it has.
+fn told<R: AllocGlobal + Eprint>(
+    rt: &R,
+    request: &ImportRequest<'_>,
+    log: &CaptureLog,
+    file: &[u8],
+) -> Result<Report, AllocError>
+    ensures { IfOk result (λ report. report.status < 3) }
+{
+    let (alloc, events) = (rt.alloc(), log.import.log.events());
+    let unanswered = unanswered_in(alloc, events)?;
+    let counts = counts_of(alloc, request, events, unanswered.as_slice(), file)?;
+    tell_empty(rt, request);
+    tell_lacks(rt, request.port, log, counts.calls);
+    tell_unanswered(rt, unanswered.as_slice());
+    tell_reading(rt, counts.reading);
+    let status = status_of(request, log, counts);
+    Ok(Report::new(status, line_of(alloc, "calls ", &counts.calls)?))
 }
 
 /// Writes the history of a capture, and says how many calls it has.
@@ -147,11 +244,7 @@ fn save<R: Files + AllocGlobal + Eprint>(
     {
         return Report::refused(alloc, "cannot write");
     }
-    let calls = calls_in(import.log.events());
-    tell_empty(rt, request);
-    tell_lacks(rt, request.port, log, calls);
-    let status = status_of(request, log, calls);
-    Ok(Report::new(status, line_of(alloc, "calls ", &calls)?))
+    told(rt, request, log, file.as_slice())
 }
 
 /// What is said where a capture gives no history.
