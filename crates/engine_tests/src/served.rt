@@ -173,6 +173,56 @@ fn clients_are_served_side_by_side_and_recorded(rt: HostRuntime) -> Result<(), F
     Ok(())
 }
 
+/// Whether a client that sends no call is hung up on.
+fn is_hung_up_on<R: RelayRuntime>(rt: &R, port: u16) -> bool {
+    match connect(rt, port) {
+        Ok(mut stream) => sends(&mut stream, b"\x80\0\0\x08garbage!") && ends(&mut stream),
+        Err(_) => false,
+    }
+}
+
+/// Whether the bundled server at a port tells of a connection that it ended before its client did.
+fn tells_unserved<R: RecordingRuntime>(rt: &R, port: u16) -> bool {
+    let line = format!(in rt.alloc();
+        "nfsbench serve --port {port} --lanes 1 --calls 3 /tmp/nfsbench_{port}.served /tmp/nfsbench_{port}.certificate"
+    );
+    says(rt, line, &mut b"".as_slice(), b"unserved: 1\n", 1)
+}
+
+/// Whether the history and the certificate of a server without calls are written.
+fn are_empty<R: RecordingRuntime>(rt: &R, port: u16) -> io::Result<bool> {
+    let history = take_file(rt, port, "served")?;
+    let certificate = take_file(rt, port, "certificate")?;
+    Ok(
+        count_calls(rt.alloc(), history.as_slice()) == Some(0)
+            && certificate.as_slice() == b"witness 1\nend\n".as_slice(),
+    )
+}
+
+#[test]
+fn a_client_that_sends_no_call_is_told(rt: HostRuntime) -> Result<(), Fail> {
+    // The prover knows the types that a function names.
+    let _listener: Option<TcpListener> = None;
+    let _stream: Option<TcpStream> = None;
+    let port = free_port(&rt)?;
+    let all = thread::scope(thread::scope_env(), &rt, |scope| {
+        let _listener: Option<TcpListener> = None;
+        let _stream: Option<TcpStream> = None;
+        let called = scope.spawn(|| {
+            let _stream: Option<TcpStream> = None;
+            is_hung_up_on(&rt, port)
+        });
+        let is_told = tells_unserved(&rt, port);
+        match called {
+            Ok(called) => is_told && called.join(&rt),
+            Err(_) => false,
+        }
+    });
+    assert!(rt; all);
+    assert!(rt; are_empty(&rt, port)?);
+    Ok(())
+}
+
 /// Whether the bundled server refuses to serve, with this line.
 fn refuses<R: RecordingRuntime>(rt: &R, port: u16, lanes: u32, files: &str, text: &[u8]) -> bool {
     let line = format!(in rt.alloc();
@@ -201,7 +251,7 @@ fn what_serve_cannot_have_is_refused(rt: HostRuntime) -> Result<(), Fail> {
 }
 
 /// What is said of each fault.
-const FAULTS: [(RunFault, u8, &str); 10] = [
+const FAULTS: [(RunFault, u8, &str); 11] = [
     (RunFault::BadPlan(7), 2, "refused: BadPlan 7\n"),
     (
         RunFault::Start(HistoryFault::BadStart(5)),
@@ -232,6 +282,7 @@ const FAULTS: [(RunFault, u8, &str); 10] = [
         "close: MissingPass\n",
     ),
     (RunFault::Close(CloseFault::Torn(3)), 1, "close: Torn 3\n"),
+    (RunFault::Unserved(2), 1, "unserved: 2\n"),
 ];
 
 #[test]

@@ -6,11 +6,12 @@ use crate::part::{follow, make_part};
 use crate::words::ServeRequest;
 use journal_server::{OpenGate, Pass, Server, SimDevice};
 use nfs_relay::RelayRuntime;
+use program_streams::are_one_file;
 use recording_command::{Part, RecordingRuntime};
 use server_connection::{Allowance, Export, Room, StreamEnd, serve_export};
 use std::net::{Shutdown, TcpListener, TcpStream};
 use std::sync::Mutex;
-use std::sync::atomic::{AtomicBool, Ordering};
+use std::sync::atomic::{AtomicBool, AtomicU64, Ordering};
 use std::thread::{self, JoinHandle, Scope};
 use std::time::Duration;
 
@@ -21,6 +22,8 @@ pub(crate) type SimServer = Server<OpenGate, SimDevice>;
 pub(crate) struct Served {
     pub(crate) outputs: Outputs,
     pub(crate) passes: Vec<Pass>,
+    /// How many connections the server ended before their clients did.
+    pub(crate) unserved: u64,
 }
 
 /// What the threads of connections share.
@@ -32,6 +35,8 @@ pub(crate) struct Serving<'a> {
     pub(crate) is_open: &'a Mutex<bool>,
     /// Whether all connections have ended.
     pub(crate) has_ended: &'a AtomicBool,
+    /// How many the server ended before their clients did.
+    pub(crate) unserved: &'a AtomicU64,
     /// How many records of a connection are answered at most.
     pub(crate) records: u64,
     /// What the history has room for.
@@ -76,6 +81,9 @@ impl Serving<'_> {
         );
         let _ = stream.shutdown(Shutdown::Both);
         drop(self.server.leave(rt, &mut pass));
+        if is_unserved(end) {
+            self.unserved.fetch_add(1, Ordering::SeqCst);
+        }
         tell_end(rt, pass.lane(), end);
         Ok(pass)
     }
@@ -89,6 +97,15 @@ impl Serving<'_> {
         let stream = self.take(rt);
         self.serve(rt, stream)
     }
+}
+
+/// Whether a client sent what got no reply, and its connection was ended. A connection that was reset, as some clients leave, isn't such a
+/// one, nor is one that had as many replies as it may have.
+fn is_unserved(end: StreamEnd) -> bool {
+    matches!(
+        end,
+        StreamEnd::Full | StreamEnd::RecordTooLong | StreamEnd::Refused(_) | StreamEnd::NoMemory
+    )
 }
 
 /// Says how a connection ended, unless all that came was read.
@@ -174,7 +191,12 @@ pub(crate) fn serve_lanes<R: RecordingRuntime>(
     thread::scope(thread::scope_env(), rt, |scope| {
         let mut is_open = serving.is_open.lock(rt);
         let lanes = begin_lanes(scope, rt, serving, request.lanes)?;
-        let outputs = Outputs::create(rt, request.history, request.certificate)?;
+        let read = [request.start, None];
+        let outputs = Outputs::create(rt, request.history, request.certificate, &read)?;
+        // A link that led nowhere may lead to what grows beside the history.
+        if are_one_file(rt, path, request.history) || are_one_file(rt, path, request.certificate) {
+            return Err(RunFault::CannotWrite);
+        }
         let following = match make_part(rt, path, head) {
             Some(part) => begin_part(scope, rt, serving, part),
             None => None,
@@ -182,6 +204,10 @@ pub(crate) fn serve_lanes<R: RecordingRuntime>(
         *is_open = true;
         drop(is_open);
         let passes = await_lanes(rt, serving, lanes, following)?;
-        Ok(Served { outputs, passes })
+        Ok(Served {
+            outputs,
+            passes,
+            unserved: serving.unserved.load(Ordering::SeqCst),
+        })
     })
 }

@@ -2,9 +2,19 @@
 
 use crate::fault::RunFault;
 use crate::recorded::RunTexts;
-use program_streams::write_pieces;
+use program_streams::{are_one_file, write_pieces};
 use std::fs::{self, File};
 use std::rt::Files;
+
+/// Whether a file that is written is one of those that are read, by whatever name.
+pub(crate) fn is_read<R: Files>(rt: &R, path: &str, read: &[Option<&str>]) -> bool {
+    for other in read {
+        if matches!(*other, Some(other) if are_one_file(rt, path, other)) {
+            return true;
+        }
+    }
+    false
+}
 
 /// The two files that a run writes.
 #[derive(Drop)]
@@ -14,22 +24,30 @@ pub(crate) struct Outputs {
 }
 
 impl Outputs {
-    /// The files at these paths, made empty. One path can't be both.
+    /// The files at these paths, made empty. One file can't be both, or one of those that are read.
     pub(crate) fn create<R: Files<File = File>>(
         rt: &R,
         history: &str,
         certificate: &str,
+        read: &[Option<&str>],
     ) -> Result<Outputs, RunFault> {
-        if history == certificate {
+        if are_one_file(rt, history, certificate)
+            || is_read(rt, history, read)
+            || is_read(rt, certificate, read)
+        {
             return Err(RunFault::CannotWrite);
         }
-        let Ok(history) = fs::create(rt, history) else {
+        let Ok(history_file) = fs::create(rt, history) else {
             return Err(RunFault::CannotWrite);
         };
+        // A link that led nowhere may lead to the history now.
+        if are_one_file(rt, history, certificate) {
+            return Err(RunFault::CannotWrite);
+        }
         match fs::create(rt, certificate) {
-            Ok(certificate) => Ok(Outputs {
-                history,
-                certificate,
+            Ok(certificate_file) => Ok(Outputs {
+                history: history_file,
+                certificate: certificate_file,
             }),
             Err(_) => Err(RunFault::CannotWrite),
         }

@@ -64,7 +64,8 @@ fn save<R: Files<File = File>>(
     request: &RunRequest<'_>,
     recorded: &RunTexts,
 ) -> Result<(), RunFault> {
-    Outputs::create(rt, request.history, request.certificate)?.write(recorded)
+    let read = [Some(request.plan), request.start];
+    Outputs::create(rt, request.history, request.certificate, &read)?.write(recorded)
 }
 
 /// Runs the plan that a text says, as [`run_text`], and writes both files that are asked for.

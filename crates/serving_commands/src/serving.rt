@@ -15,7 +15,7 @@ use std::alloc::{AllocError, Global};
 use std::fs;
 use std::net::{IpAddr, Ipv4Addr, SocketAddr, TcpListener};
 use std::sync::Mutex;
-use std::sync::atomic::AtomicBool;
+use std::sync::atomic::{AtomicBool, AtomicU64};
 
 /// A server that begins so, over a device that doesn't fail. It is strict where the words or the beginning ask for it.
 fn server_from(
@@ -40,6 +40,7 @@ fn save(alloc: Global, server: SimServer, served: Served) -> Result<RunTexts, Ru
     let Served {
         mut outputs,
         passes,
+        unserved: _,
     } = served;
     let closed = server.close(passes)?;
     let recorded = record_closed(alloc, closed)?;
@@ -61,6 +62,7 @@ fn serve_beside<R: RecordingRuntime>(
         listener,
         is_open: &Mutex::new(false),
         has_ended: &AtomicBool::new(false),
+        unserved: &AtomicU64::new(0),
         records: request.calls,
         room: &Room::of_history(head.len()),
         export: request.export,
@@ -70,7 +72,8 @@ fn serve_beside<R: RecordingRuntime>(
 
 /// Serves the connections that the words ask for by a server that begins so, and writes what it recorded: first each connection is taken on a
 /// thread of its own, and when all have ended the server closes. It waits as long as clients let it. What is recorded meanwhile is in a file
-/// beside the history, which goes once the history is written.
+/// beside the history, which goes once the history is written. Where a connection was ended since its client sent what got no reply, that is
+/// the fault, and both files are written.
 pub fn serve<R: RecordingRuntime>(
     rt: &R,
     request: &ServeRequest<'_>,
@@ -92,13 +95,18 @@ pub fn serve<R: RecordingRuntime>(
         return Err(RunFault::CannotWrite);
     }
     let server = server_from(rt.alloc(), request, beginning)?;
-    let recorded = match serve_beside(rt, request, &server, &listener, path.as_str()) {
-        Ok(served) => save(rt.alloc(), server, served)?,
+    let served = match serve_beside(rt, request, &server, &listener, path.as_str()) {
+        Ok(served) => served,
         Err(fault) => {
             drop(server.close(Vec::new(rt.alloc())));
             return Err(fault);
         }
     };
+    let unserved = served.unserved;
+    let recorded = save(rt.alloc(), server, served)?;
     let _ = fs::remove_file(rt, path.as_str());
+    if unserved > 0 {
+        return Err(RunFault::Unserved(unserved));
+    }
     Ok(recorded)
 }
