@@ -23,11 +23,8 @@ fn refusal_of(alloc: Global, fault: FileFault) -> Result<Report, AllocError>
     }
 }
 
-/// Says why the events end where they do, if bytes are left behind them.
+/// Says where the events end, and why: what was noted behind them isn't there, if anything was.
 fn tell_end<R: Eprint>(rt: &R, bytes: usize, mended: &Mended<'_>) {
-    if mended.end == End::Whole {
-        return;
-    }
     let (at, end) = (mended.events_end, mended.end);
     let _ = eprintln!(rt; "the whole events end at byte {at} of {bytes}: {end}");
 }
