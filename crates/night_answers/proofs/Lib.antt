@@ -1,0 +1,2 @@
+mod Notes
+mod Reading
