@@ -79,7 +79,7 @@ pub(crate) fn numbers_told(
         eras: noted.eras,
         calls: noted.calls,
         replies: noted.replies,
-        judged_and_answered: judged.answered,
+        judged_and_answered: judged.answered.all,
         troubles: troubles.more().saturating_add(troubles.kept().len() as u64),
     }
 }

@@ -190,7 +190,8 @@ fn judged<R: RecordingRuntime>(
     let facts = NightFacts {
         troubles,
         end,
-        at_least: request.limits.at_least.saturating_add(noted.walked),
+        at_least: request.at_least().saturating_add(noted.walked),
+        wanted: request.wanted().saturating_add(noted.walked),
         walked: noted.walked,
     };
     let judged = judge_night(rt, &facts, history, effort_of(request))?;

@@ -69,8 +69,8 @@ pub struct CrashWords<'a> {
 pub struct LimitWords {
     /// How many seconds a reply may take.
     pub reply_seconds: u32,
-    /// How many judged calls have to be answered.
-    pub at_least: u64,
+    /// How many judged calls have to be answered, where that is said.
+    pub at_least: Option<u64>,
     /// How many seconds it may take to judge the history.
     pub search_seconds: u32,
     /// How many states may stand at once meanwhile.
@@ -106,6 +106,9 @@ const ORDER_SECONDS: u32 = 600;
 const SEARCH_SECONDS: u32 = 60;
 
 const STATES: u32 = 10_000;
+
+/// How many calls have to be answered for a yes, where the words don't say.
+const WANTED: u64 = 100;
 
 /// A number from 0 on.
 fn any_number<'a>(alloc: Global, name: &'a str, most: u64, help: &'a str) -> Arg<'a> {
@@ -263,7 +266,7 @@ fn with_limits<'a>(alloc: Global, command: Command<'a>) -> Result<Command<'a>, A
             alloc,
             "at-least",
             MOST,
-            "How many judged calls have to be answered, 1 if not said",
+            "How many judged calls have to be answered; a yes wants 100, or a tenth of --calls, if not said",
         ))?
         .arg(number(
             alloc,
@@ -347,7 +350,7 @@ fn crash_words<'a>(test: &ArgMatches<'a>) -> CrashWords<'a> {
 fn limit_words(test: &ArgMatches<'_>) -> LimitWords {
     LimitWords {
         reply_seconds: test.get_one("reply-seconds").unwrap_or(REPLY_SECONDS),
-        at_least: test.get_one("at-least").unwrap_or(1),
+        at_least: test.get_one("at-least"),
         search_seconds: test.get_one("search-seconds").unwrap_or(SEARCH_SECONDS),
         states: test.get_one("states").unwrap_or(STATES),
     }
@@ -370,6 +373,24 @@ pub fn test_request<'a>(test: &ArgMatches<'a>) -> Option<TestRequest<'a>> {
         is_json: test.get_flag("json"),
         is_quiet: test.get_flag("quiet"),
     })
+}
+
+impl TestRequest<'_> {
+    /// How many judged calls have to be answered, so that the server isn't at fault.
+    pub(crate) fn at_least(&self) -> u64 {
+        self.limits.at_least.unwrap_or(1)
+    }
+
+    /// How many have to be answered for a yes: as many as is said, or else a hundred, or a tenth of the calls of an era where that is less.
+    pub(crate) fn wanted(&self) -> u64 {
+        match self.limits.at_least {
+            Some(calls) => calls,
+            None => {
+                let all = u64::from(self.clients.clients).saturating_mul(self.clients.calls_each());
+                WANTED.min(all / 10)
+            }
+        }
+    }
 }
 
 impl ClientsWords<'_> {

@@ -7,6 +7,8 @@ use Rattle.nfs_history.specs.History.{IsCallsFile}
 use Rattle.nfs_history.specs.declared.fault.HistoryFault.{HistoryFault}
 use Rattle.nfs_history.specs.FirstFault.{FirstFault}
 use Rattle.history_report.specs.Counted.{report_of}
+use Rattle.night_answers.specs.declared.answers.Idleness.{Idleness}
+use Rattle.night_answers.specs.Answers.{idle_answers, idle_procedure, is_idle}
 use Rattle.deciding_command.specs.declared.file_decision.FileDecision.{FileDecision}
 use Rattle.deciding_command.specs.declared.file_decision.FileDecision.TheVariants as decisions
 use Rattle.deciding_command.specs.FileDecision.{IsWithoutWitnessAt, IsNeverAccepted}
@@ -16,6 +18,7 @@ use Rattle.night_lanes.specs.declared.troubles.TroubleKind.TheVariants as kinds
 use Rattle.night_lanes.specs.declared.troubles.Troubles.{Troubles}
 use Rattle.night_verdict.specs.declared.judging.Answered.{Answered}
 use Rattle.night_verdict.specs.declared.facts.NightEnd.{NightEnd}
+use Rattle.night_verdict.specs.declared.facts.NightFacts.{NightFacts}
 use Rattle.night_verdict.specs.declared.facts.NightEnd.TheVariants as ends
 use Rattle.night_verdict.specs.declared.verdict.Cause.{Cause}
 use Rattle.night_verdict.specs.declared.verdict.Cause.TheVariants as causes
@@ -39,6 +42,7 @@ is_astray (ends.OrdersEnded crash) = true
 is_astray (ends.NoOrder crash seconds) = true
 is_astray (ends.OtherOrder crash) = true
 is_astray (ends.Unreadable crash) = true
+is_astray (ends.MoreOrders crash) = true
 is_astray end = false
 
 -- what the clients of a server that was killed see
@@ -67,9 +71,15 @@ IsExcused bytes count =
     ((known : KnownCalls) × IsCallsFile bytes known × (count ≡ (report_of known.eras known.calls).excused))
     ⊎ ((fault : HistoryFault) × FirstFault bytes fault × (count ≡ 0))
 
--- both numbers of a history
+-- so much did the answers do nothing
+abbrev pub IsIdleness : List ℕ → Idleness → Type 0
+IsIdleness bytes found =
+    ((known : KnownCalls) × IsCallsFile bytes known × (found.idle ≡ idle_answers known.calls) × (found.procedure ≡ idle_procedure known.calls))
+    ⊎ ((fault : HistoryFault) × FirstFault bytes fault × (found.idle ≡ 0) × (found.procedure ≡ None))
+
+-- all that is counted of a history
 abbrev pub AreAnswered : List ℕ → Answered → Type 0
-AreAnswered bytes count = IsAnswered bytes count.all × IsExcused bytes count.excused
+AreAnswered bytes count = IsAnswered bytes count.all × IsExcused bytes count.excused × IsIdleness bytes count.idleness
 
 -- those are over a quarter: the server may have done nothing that was asked of it
 abbrev pub is_mostly_excused : ℕ → ℕ → Bool
@@ -123,21 +133,32 @@ unless_few false verdict = verdict
 abbrev pub is_few : Bool → Bool → Bool
 is_few astray few = not astray && few
 
-abbrev pub unless_excused : Bool → NightVerdict → NightVerdict
-unless_excused true verdict = IsDoubt doubts.Excused
-unless_excused false verdict = verdict
+-- a server that did too little gets no yes: too many failures that may answer any call, too many answers that did nothing, or fewer calls
+-- than a night is wanted to have
+abbrev pub little_by : Bool → Bool → Bool → Option Doubt
+little_by true idle short = Some doubts.Excused
+little_by false true short = Some doubts.Idle
+little_by false false true = Some doubts.Few
+little_by false false false = None
 
-abbrev pub verdict_in_health : Troubles → NightEnd → Bool → Bool → FileDecision → NightVerdict
-verdict_in_health troubles end few excused (decisions.BadHistory fault) = IsDoubt doubts.BadHistory
-verdict_in_health troubles end few excused (decisions.NoWitness event call) = unless_few few (No causes.NoWitness)
-verdict_in_health troubles end few excused (decisions.Undecided reason) = unless_few few (IsDoubt doubts.Undecided)
-verdict_in_health troubles end few excused (decisions.Yes text) = unless_few few (unless_excused excused (unless_doubt (doubt_of troubles end)))
+abbrev pub little_of : ℕ → Answered → Option Doubt
+little_of wanted count = little_by (is_mostly_excused count.all count.excused) (is_idle count.all count.idleness) (nat_lt count.all wanted)
+
+abbrev pub first_doubt : Option Doubt → Option Doubt → Option Doubt
+first_doubt (Some doubt) other = Some doubt
+first_doubt None other = other
+
+abbrev pub verdict_in_health : Troubles → NightEnd → Bool → Option Doubt → FileDecision → NightVerdict
+verdict_in_health troubles end few little (decisions.BadHistory fault) = IsDoubt doubts.BadHistory
+verdict_in_health troubles end few little (decisions.NoWitness event call) = unless_few few (No causes.NoWitness)
+verdict_in_health troubles end few little (decisions.Undecided reason) = unless_few few (IsDoubt doubts.Undecided)
+verdict_in_health troubles end few little (decisions.Yes text) = unless_few few (unless_doubt (first_doubt little (doubt_of troubles end)))
 
 abbrev pub unless_cause : Option Cause → NightVerdict → NightVerdict
 unless_cause (Some cause) verdict = No cause
 unless_cause None verdict = verdict
 
-abbrev pub verdict_of : Troubles → NightEnd → ℕ → ℕ → ℕ → FileDecision → NightVerdict
-verdict_of troubles end at_least answered excused decision =
-    unless_cause (health_of troubles end)
-    (verdict_in_health troubles end (is_few (is_astray end) (nat_lt answered at_least)) (is_mostly_excused answered excused) decision)
+abbrev pub verdict_of : NightFacts → Answered → FileDecision → NightVerdict
+verdict_of facts count decision =
+    unless_cause (health_of facts.troubles.now facts.end)
+    (verdict_in_health facts.troubles.now facts.end (is_few (is_astray facts.end) (nat_lt count.all facts.at_least)) (little_of facts.wanted count) decision)

@@ -22,6 +22,8 @@ pub enum NightEnd {
     OtherOrder(u32),
     /// The orders for that crash can't be read.
     Unreadable(u32),
+    /// Another order came after those of that crash, which was the last that was asked for.
+    MoreOrders(u32),
     /// No thread can be made.
     NoThread,
     /// Memory ran out.
@@ -37,6 +39,8 @@ pub struct NightFacts<'a> {
     pub end: NightEnd,
     /// How many judged calls of the history had to be answered at least, those of the walk among them.
     pub at_least: u64,
+    /// How many of them a night is wanted to have before a yes is said, though fewer aren't the server's fault.
+    pub wanted: u64,
     /// How many calls of the history are the walk's.
     pub walked: u64,
 }
@@ -65,6 +69,7 @@ pub(crate) fn is_astray(end: NightEnd) -> bool
             | NightEnd::NoOrder(_, _)
             | NightEnd::OtherOrder(_)
             | NightEnd::Unreadable(_)
+            | NightEnd::MoreOrders(_)
     )
 }
 

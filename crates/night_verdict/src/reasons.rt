@@ -2,7 +2,7 @@
 
 use crate::facts::NightFacts;
 use crate::judging::Judgement;
-use crate::telling::{cause_words, decision_line, doubt_line};
+use crate::telling::{cause_words, doubt_text};
 use crate::verdict::{Cause, Doubt, NightVerdict, doubt_of, health_of, is_few};
 use deciding_command::FileDecision;
 use std::alloc::{AllocError, Global};
@@ -16,7 +16,7 @@ pub struct Reasons {
     pub enough: Option<String>,
     /// No order explains the history, or it isn't decided whether one does.
     pub order: Option<String>,
-    /// This side hindered the night.
+    /// The server did too little, or this side hindered the night.
     pub doubt: Option<String>,
 }
 
@@ -33,11 +33,6 @@ fn cause_text(
     }
 }
 
-/// A line without its line feed.
-fn without_end(alloc: Global, line: &str) -> Result<Option<String>, AllocError> {
-    Ok(Some(String::from_str(alloc, line.trim_end())?))
-}
-
 /// Why the history isn't explained.
 fn order_text(
     alloc: Global,
@@ -49,27 +44,37 @@ fn order_text(
         FileDecision::NoWitness { .. } => {
             cause_text(alloc, facts, judged, Some(Cause::NoWitness))
         }
-        _ => {
-            let line = decision_line(alloc, &judged.decision)?;
-            without_end(alloc, line.as_str())
+        FileDecision::BadHistory(_) => Ok(Some(doubt_text(
+            alloc,
+            facts,
+            judged,
+            Doubt::BadHistory,
+        )?)),
+        FileDecision::Undecided(_) => {
+            Ok(Some(doubt_text(alloc, facts, judged, Doubt::Undecided)?))
         }
     }
 }
 
-/// What hindered the night on this side, where the server was in health.
-fn doubt_text(
+/// The doubt that a history which some order explains leaves, or what hindered the night on this side.
+fn doubt_left(facts: &NightFacts<'_>, judged: &Judgement) -> Option<Doubt> {
+    if let NightVerdict::Doubt(doubt) = judged.verdict
+        && matches!(doubt, Doubt::Excused | Doubt::Idle | Doubt::Few)
+    {
+        return Some(doubt);
+    }
+    doubt_of(facts)
+}
+
+/// What is in doubt where the server was in health.
+fn doubt_reason(
     alloc: Global,
     facts: &NightFacts<'_>,
     judged: &Judgement,
 ) -> Result<Option<String>, AllocError> {
-    let doubt = match judged.verdict {
-        NightVerdict::Doubt(Doubt::Excused) => Some(Doubt::Excused),
-        _ => doubt_of(facts),
-    };
-    match doubt {
+    match doubt_left(facts, judged) {
         Some(doubt) if health_of(facts).is_none() => {
-            let line = doubt_line(alloc, facts, judged, doubt)?;
-            without_end(alloc, line.as_str())
+            Ok(Some(doubt_text(alloc, facts, judged, doubt)?))
         }
         _ => Ok(None),
     }
@@ -81,7 +86,7 @@ pub fn reasons_of(
     facts: &NightFacts<'_>,
     judged: &Judgement,
 ) -> Result<Reasons, AllocError> {
-    let enough = if is_few(facts, judged.answered) {
+    let enough = if is_few(facts, judged.answered.all) {
         Some(Cause::TooFew)
     } else {
         None
@@ -90,6 +95,6 @@ pub fn reasons_of(
         health: cause_text(alloc, facts, judged, health_of(facts))?,
         enough: cause_text(alloc, facts, judged, enough)?,
         order: order_text(alloc, facts, judged)?,
-        doubt: doubt_text(alloc, facts, judged)?,
+        doubt: doubt_reason(alloc, facts, judged)?,
     })
 }

@@ -1,11 +1,12 @@
 //! What is said of a night.
 
 ghost use Rattle.std.specs.Prelude.{◌≡◌, ◌↔◌, IsTrue, Some, nat_lt};
-ghost use Rattle.night_verdict.specs.Verdict.{verdict_of, verdict_in_health, unless_doubt, unless_few, unless_excused, health_of, doubt_of, is_astray, is_few, is_mostly_excused, is_not_up, is_whole};
+ghost use Rattle.night_verdict.specs.Verdict.{verdict_of, verdict_in_health, unless_doubt, unless_few, little_by, little_of, first_doubt, health_of, doubt_of, is_astray, is_few, is_mostly_excused, is_not_up, is_whole};
 
 use crate::facts::{NightEnd, NightFacts, has_trouble_of_server, is_astray};
 use crate::judging::Answered;
 use deciding_command::FileDecision;
+use night_answers::is_idle;
 
 /// Why the server is at fault.
 #[derive(Clone, Copy, PartialEq, Eq)]
@@ -31,6 +32,10 @@ pub enum Doubt {
     Trouble,
     /// Over a quarter of the replies are failures that may answer any call.
     Excused,
+    /// Too many of the answers, or of those to one procedure, did nothing.
+    Idle,
+    /// Fewer judged calls were answered than a night is wanted to have.
+    Few,
     /// It isn't decided whether some order explains the history.
     Undecided,
 }
@@ -88,10 +93,10 @@ pub(crate) fn doubt_of(facts: &NightFacts<'_>) -> Option<Doubt>
 }
 
 /// What is said where some order explains the history, and the server was in health.
-fn unless_doubt(facts: &NightFacts<'_>) -> NightVerdict
-    ensures { result ≡ unless_doubt (doubt_of facts.now.troubles.now facts.now.end) }
+fn unless_doubt(doubt: Option<Doubt>) -> NightVerdict
+    ensures { result ≡ unless_doubt doubt }
 {
-    match doubt_of(facts) {
+    match doubt {
         Some(doubt) => NightVerdict::Doubt(doubt),
         None => NightVerdict::Yes,
     }
@@ -108,32 +113,60 @@ fn unless_few(few: bool, verdict: NightVerdict) -> NightVerdict
     }
 }
 
-/// What is said unless the server may have done nothing that was asked of it.
-fn unless_excused(excused: bool, verdict: NightVerdict) -> NightVerdict
-    ensures { result ≡ unless_excused excused verdict }
+/// Why a server that did too little gets no yes, if it did.
+fn little_by(excused: bool, idle: bool, short: bool) -> Option<Doubt>
+    ensures { result ≡ little_by excused idle short }
 {
     if excused {
-        NightVerdict::Doubt(Doubt::Excused)
-    } else {
-        verdict
+        return Some(Doubt::Excused);
+    }
+    if idle {
+        return Some(Doubt::Idle);
+    }
+    if short {
+        return Some(Doubt::Few);
+    }
+    None
+}
+
+/// Why a server whose answers come to this gets no yes, if it did too little.
+pub(crate) fn little_of(facts: &NightFacts<'_>, answered: Answered) -> Option<Doubt>
+    ensures { result ≡ little_of facts.now.wanted answered }
+{
+    little_by(
+        is_mostly_excused(answered),
+        is_idle(answered.all, answered.idleness),
+        answered.all < facts.wanted,
+    )
+}
+
+/// The first of two doubts, if there is one.
+fn first_doubt(one: Option<Doubt>, other: Option<Doubt>) -> Option<Doubt>
+    ensures { result ≡ first_doubt one other }
+{
+    match one {
+        Some(doubt) => Some(doubt),
+        None => other,
     }
 }
 
-/// What is said of a night in health, by what is decided of its history, whether too few calls were answered, and whether too many by a
-/// failure that may answer any call.
+/// What is said of a night in health, by what is decided of its history, whether too few calls were answered, and whether the server did too
+/// little.
 fn verdict_in_health(
     facts: &NightFacts<'_>,
     few: bool,
-    excused: bool,
+    little: Option<Doubt>,
     decision: &FileDecision,
 ) -> NightVerdict
-    ensures { result ≡ verdict_in_health facts.now.troubles.now facts.now.end few excused decision.now }
+    ensures { result ≡ verdict_in_health facts.now.troubles.now facts.now.end few little decision.now }
 {
     match decision {
         FileDecision::BadHistory(_) => NightVerdict::Doubt(Doubt::BadHistory),
         FileDecision::NoWitness { .. } => unless_few(few, NightVerdict::No(Cause::NoWitness)),
         FileDecision::Undecided(_) => unless_few(few, NightVerdict::Doubt(Doubt::Undecided)),
-        FileDecision::Yes(_) => unless_few(few, unless_excused(excused, unless_doubt(facts))),
+        FileDecision::Yes(_) => {
+            unless_few(few, unless_doubt(first_doubt(little, doubt_of(facts))))
+        }
     }
 }
 
@@ -157,14 +190,14 @@ pub(crate) fn verdict_of(
     answered: Answered,
     decision: &FileDecision,
 ) -> NightVerdict
-    ensures { result ≡ verdict_of facts.now.troubles.now facts.now.end facts.now.at_least answered.all answered.excused decision.now }
+    ensures { result ≡ verdict_of facts.now answered decision.now }
 {
     match health_of(facts) {
         Some(cause) => NightVerdict::No(cause),
         None => verdict_in_health(
             facts,
             is_few(facts, answered.all),
-            is_mostly_excused(answered),
+            little_of(facts, answered),
             decision,
         ),
     }
