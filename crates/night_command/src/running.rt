@@ -12,6 +12,7 @@ use night_verdict::NightEnd;
 use program_streams::Input;
 use recording_command::RecordingRuntime;
 use std::alloc::{AllocError, Global};
+use std::fs;
 use tree_starts::Start;
 
 /// A night whose last client has ended.
@@ -63,6 +64,18 @@ fn settings_of(request: &TestRequest<'_>, reserved: usize) -> Option<Settings> {
     })
 }
 
+/// The orders of a file that is written to, or of a named pipe.
+fn file_orders<R: RecordingRuntime>(
+    rt: &R,
+    path: &str,
+    seconds: u32,
+) -> Result<Orders, AllocError> {
+    match fs::metadata(rt, path) {
+        Ok(about) if about.is_file() => Orders::from_file(rt.alloc(), seconds),
+        _ => Orders::new(rt.alloc(), true, Some(seconds)),
+    }
+}
+
 /// Has the clients call over the crashes that the orders tell of.
 fn run_ordered<R: RecordingRuntime, I: Input>(
     rt: &R,
@@ -74,7 +87,7 @@ fn run_ordered<R: RecordingRuntime, I: Input>(
     let plan = plan_of(request);
     match request.crashes.orders {
         Some(path) => {
-            let mut orders = Orders::new(rt.alloc(), true, Some(request.crashes.order_seconds))?;
+            let mut orders = file_orders(rt, path, request.crashes.order_seconds)?;
             let mut file = GrowingFile::new(rt, path);
             Ok(run_eras(rt, night, clients, &plan, &mut orders, &mut file))
         }

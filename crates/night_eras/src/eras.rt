@@ -109,7 +109,8 @@ fn run_to_crash<R: ClientsRuntime, I: Input>(
     })
 }
 
-/// Waits for the word that the server was started again, sees whether it had been killed, and waits for it.
+/// Waits for the word that the server was started again, sees whether it had been killed, and waits for it. One that was stopped answers on its
+/// old connection when it goes on, so that is asked once more.
 fn await_return<R: ClientsRuntime + Eprint, I: Input>(
     rt: &R,
     plan: &ErasPlan,
@@ -126,6 +127,9 @@ fn await_return<R: ClientsRuntime + Eprint, I: Input>(
     let limit = Duration::from_secs(u64::from(plan.up_seconds));
     if !is_up_within(rt, &plan.server, limit) {
         return Err(NightEnd::NotUp(crash, plan.up_seconds));
+    }
+    if old.is_answered(rt.alloc()) {
+        return Err(NightEnd::NotDown(crash));
     }
     plan.tell(rt, crash, "the server is up");
     Ok(())
@@ -169,5 +173,5 @@ pub fn run_eras<R: ClientsRuntime + Eprint, I: Input>(
     }
     let era = night.begin(rt, clients.len());
     drop(run_owned(rt, night, clients, era, plan.quota(rt)));
-    NightEnd::Whole
+    orders.end_after(input, plan.rounds)
 }

@@ -16,6 +16,9 @@ const PIECE: usize = 256;
 /// How many milliseconds are between two looks at a file that may grow.
 const PAUSE: u64 = 20;
 
+/// How often an input is looked at behind the last order at most.
+const LOOKS: u32 = 1_000_000;
+
 /// Where orders come from. They are read one at a time, as they are due.
 #[derive(Drop)]
 pub struct Orders {
@@ -23,6 +26,8 @@ pub struct Orders {
     may_grow: bool,
     /// How many seconds an order may take, if that is limited.
     seconds: Option<u32>,
+    /// Whether a read of the input never waits, as one of a regular file.
+    never_waits: bool,
     reader: OrderReader,
     buffer: Vec<u8>,
     /// What of the buffer was read and not yet taken.
@@ -45,11 +50,19 @@ impl Orders {
         Ok(Orders {
             may_grow,
             seconds,
+            never_waits: false,
             reader: OrderReader::new(alloc),
             buffer: vec![in alloc; 0; PIECE]?,
             from: 0,
             to: 0,
         })
+    }
+
+    /// The same, of an input of which no read waits, as of a regular file. So it is looked at behind the last order too.
+    pub fn from_file(alloc: Global, seconds: u32) -> Result<Orders, AllocError> {
+        let mut orders = Orders::new(alloc, true, Some(seconds))?;
+        orders.never_waits = true;
+        Ok(orders)
     }
 
     /// The next order in the bytes that were read.
@@ -69,10 +82,8 @@ impl Orders {
 
     /// Takes the next order, or reads a piece.
     fn look<I: Input>(&mut self, input: &mut I, crash: u32) -> Result<Look, NightEnd> {
-        match self.take() {
-            Ok(Some(order)) => return Ok(Look::Order(order)),
-            Ok(None) => {}
-            Err(AllocError) => return Err(NightEnd::NoMemory),
+        if let Look::Order(order) = self.look_back()? {
+            return Ok(Look::Order(order));
         }
         match input.read(self.buffer.as_mut_slice()) {
             Ok(0) => Ok(Look::End),
@@ -83,6 +94,15 @@ impl Orders {
             }
             Err(error) if error.kind() == ErrorKind::Interrupted => Ok(Look::More),
             Err(_) => Err(NightEnd::Unreadable(crash)),
+        }
+    }
+
+    /// Takes the next order of those that were read. Nothing is read.
+    fn look_back(&mut self) -> Result<Look, NightEnd> {
+        match self.take() {
+            Ok(Some(order)) => Ok(Look::Order(order)),
+            Ok(None) => Ok(Look::End),
+            Err(AllocError) => Err(NightEnd::NoMemory),
         }
     }
 
@@ -127,5 +147,27 @@ impl Orders {
             }
         }
         unreachable!()
+    }
+
+    /// How a night of so many crashes ends, whose last era is over: whole, unless another order came. Of an input that may wait only what was
+    /// read already is looked at.
+    pub(crate) fn end_after<I: Input>(&mut self, input: &mut I, crashes: u32) -> NightEnd {
+        if crashes == 0 {
+            return NightEnd::Whole;
+        }
+        for _ in 0..LOOKS {
+            let look = if self.never_waits {
+                self.look(input, crashes)
+            } else {
+                self.look_back()
+            };
+            match look {
+                Ok(Look::Order(_)) => return NightEnd::MoreOrders(crashes),
+                Ok(Look::More) => {}
+                Ok(Look::End) => return NightEnd::Whole,
+                Err(end) => return end,
+            }
+        }
+        NightEnd::MoreOrders(crashes)
     }
 }

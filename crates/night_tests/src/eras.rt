@@ -133,6 +133,10 @@ fn another_order(rt: HostRuntime) -> Result<(), Fail> {
     let _listener: Option<TcpListener> = None;
     let _stream: Option<TcpStream> = None;
     assert!(rt; ended(&rt, b"up\n", false, Habit::Answers) == Some((NightEnd::OtherOrder(1), 0)));
+    assert!(rt;
+        ended(&rt, b"crash\nup\ncrash\n", false, Habit::Answers)
+            == Some((NightEnd::MoreOrders(1), 1))
+    );
     Ok(())
 }
 
