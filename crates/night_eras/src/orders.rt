@@ -82,7 +82,7 @@ impl Orders {
 
     /// Takes the next order, or reads a piece.
     fn look<I: Input>(&mut self, input: &mut I, crash: u32) -> Result<Look, NightEnd> {
-        if let Look::Order(order) = self.look_back()? {
+        if let Some(order) = self.look_back()? {
             return Ok(Look::Order(order));
         }
         match input.read(self.buffer.as_mut_slice()) {
@@ -98,10 +98,9 @@ impl Orders {
     }
 
     /// Takes the next order of those that were read. Nothing is read.
-    fn look_back(&mut self) -> Result<Look, NightEnd> {
+    fn look_back(&mut self) -> Result<Option<Order>, NightEnd> {
         match self.take() {
-            Ok(Some(order)) => Ok(Look::Order(order)),
-            Ok(None) => Ok(Look::End),
+            Ok(order) => Ok(order),
             Err(AllocError) => Err(NightEnd::NoMemory),
         }
     }
@@ -149,25 +148,31 @@ impl Orders {
         unreachable!()
     }
 
-    /// How a night of so many crashes ends, whose last era is over: whole, unless another order came. Of an input that may wait only what was
-    /// read already is looked at.
+    /// Whether another order is there behind the last one, as far as a look doesn't wait: of an input that may wait only what was read already
+    /// is looked at.
+    fn has_more<I: Input>(&mut self, input: &mut I, crash: u32) -> Result<bool, NightEnd> {
+        if !self.never_waits {
+            return Ok(self.look_back()?.is_some());
+        }
+        for _ in 0..LOOKS {
+            match self.look(input, crash)? {
+                Look::Order(_) => return Ok(true),
+                Look::More => {}
+                Look::End => return Ok(false),
+            }
+        }
+        Ok(true)
+    }
+
+    /// How a night of so many crashes ends, whose last era is over: whole, unless another order came.
     pub(crate) fn end_after<I: Input>(&mut self, input: &mut I, crashes: u32) -> NightEnd {
         if crashes == 0 {
             return NightEnd::Whole;
         }
-        for _ in 0..LOOKS {
-            let look = if self.never_waits {
-                self.look(input, crashes)
-            } else {
-                self.look_back()
-            };
-            match look {
-                Ok(Look::Order(_)) => return NightEnd::MoreOrders(crashes),
-                Ok(Look::More) => {}
-                Ok(Look::End) => return NightEnd::Whole,
-                Err(end) => return end,
-            }
+        match self.has_more(input, crashes) {
+            Ok(false) => NightEnd::Whole,
+            Ok(true) => NightEnd::MoreOrders(crashes),
+            Err(end) => end,
         }
-        NightEnd::MoreOrders(crashes)
     }
 }
