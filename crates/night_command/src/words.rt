@@ -108,7 +108,7 @@ const SEARCH_SECONDS: u32 = 60;
 const STATES: u32 = 10_000;
 
 /// How many calls have to be answered for a yes, where the words don't say.
-const WANTED: u64 = 100;
+const ENOUGH: u64 = 100;
 
 /// A number from 0 on.
 fn any_number<'a>(alloc: Global, name: &'a str, most: u64, help: &'a str) -> Arg<'a> {
@@ -387,7 +387,7 @@ impl TestRequest<'_> {
             Some(calls) => calls,
             None => {
                 let all = u64::from(self.clients.clients).saturating_mul(self.clients.calls_each());
-                WANTED.min(all / 10)
+                ENOUGH.min(all / 10)
             }
         }
     }
