@@ -175,6 +175,14 @@ fn written_report<'n, R: RecordingRuntime>(
     said_of(rt.alloc(), request, verdict, &report, is_kept && is_written)
 }
 
+/// How many calls a night is wanted to have; none where its orders went astray or this side hindered it, so that this is told.
+fn wanted_of(request: &TestRequest<'_>, end: NightEnd, troubles: &Troubles, noted: Noted) -> u64 {
+    if end != NightEnd::Whole || !troubles.kept().is_empty() {
+        return 0;
+    }
+    request.wanted().saturating_add(noted.walked)
+}
+
 /// Judges a night by the bytes of its history.
 fn judged<R: RecordingRuntime>(
     rt: &R,
@@ -191,7 +199,7 @@ fn judged<R: RecordingRuntime>(
         troubles,
         end,
         at_least: request.at_least().saturating_add(noted.walked),
-        wanted: request.wanted().saturating_add(noted.walked),
+        wanted: wanted_of(request, end, troubles, noted),
         walked: noted.walked,
     };
     let judged = judge_night(rt, &facts, history, effort_of(request))?;
