@@ -85,3 +85,17 @@ fn calls_by_their_begins_and_ends(rt: HostRuntime) {
     let at_one_place = [span(1, 1, 4), span(101, 2, 4)];
     assert!(rt; told_of(rt.alloc(), &at_one_place) == 8);
 }
+
+/// Beside a write that is open, a read of what it writes is tried twice, and the write once; one state stands at a time.
+#[test]
+fn limits_are_met_to_the_last(rt: HostRuntime) {
+    let early = [
+        Event::Called(1),
+        Event::Called(101),
+        Event::Answered(101),
+        Event::Answered(1),
+    ];
+    assert!(rt; told(rt.alloc(), &early, 1, 3) == 9);
+    assert!(rt; told(rt.alloc(), &early, 1, 2) == 7);
+    assert!(rt; told(rt.alloc(), &early, 0, 3) == 8);
+}
