@@ -4,7 +4,10 @@ mod samples;
 
 use first_look::look;
 use nfs_history::read_calls;
-use samples::{EARLY_HANDLE, NO_ROOT, TWO_VERIFIERS, UNKNOWN_HANDLE, VERIFIERS_OF_TWO_ERAS};
+use samples::{
+    EACH_GIVEN, EARLY_HANDLE, FAILED_USE, FIRST_OF_A_RENAME, NO_ROOT, NOTHING_JUDGED,
+    SECOND_OF_A_RENAME, TWO_UNKNOWN_HANDLES, TWO_VERIFIERS, UNKNOWN_HANDLE, VERIFIERS_OF_TWO_ERAS,
+};
 use std::alloc::Global;
 use std::test::Fail;
 
@@ -56,5 +59,45 @@ fn a_handle_that_is_given_later_is_found(rt: HostRuntime) -> Result<(), Fail> {
 #[test]
 fn a_root_handle_that_no_call_uses_is_told(rt: HostRuntime) -> Result<(), Fail> {
     assert_eq!(rt; found_in(rt.alloc(), NO_ROOT)?, (None, Some(1), true));
+    Ok(())
+}
+
+#[test]
+fn a_call_that_fails_uses_no_handle(rt: HostRuntime) -> Result<(), Fail> {
+    assert_eq!(rt; found_in(rt.alloc(), FAILED_USE)?, (None, None, false));
+    Ok(())
+}
+
+#[test]
+fn the_first_unknown_handle_is_told(rt: HostRuntime) -> Result<(), Fail> {
+    assert_eq!(rt;
+        found_in(rt.alloc(), TWO_UNKNOWN_HANDLES)?,
+        (None, Some(2), false)
+    );
+    Ok(())
+}
+
+#[test]
+fn each_reply_that_gives_a_handle_is_looked_at(rt: HostRuntime) -> Result<(), Fail> {
+    assert_eq!(rt; found_in(rt.alloc(), EACH_GIVEN)?, (None, None, false));
+    Ok(())
+}
+
+#[test]
+fn both_handles_of_a_rename_are_looked_at(rt: HostRuntime) -> Result<(), Fail> {
+    assert_eq!(rt;
+        found_in(rt.alloc(), FIRST_OF_A_RENAME)?,
+        (None, Some(1), false)
+    );
+    assert_eq!(rt;
+        found_in(rt.alloc(), SECOND_OF_A_RENAME)?,
+        (None, Some(1), false)
+    );
+    Ok(())
+}
+
+#[test]
+fn where_no_call_is_judged_none_lacks_the_root_handle(rt: HostRuntime) -> Result<(), Fail> {
+    assert_eq!(rt; found_in(rt.alloc(), NOTHING_JUDGED)?, (None, None, false));
     Ok(())
 }
