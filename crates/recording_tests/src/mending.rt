@@ -1,8 +1,8 @@
 //! Files that were left as they were written so far, made by hand after `docs/FORMATS.md`, cut at each byte.
 
 use history_file::{FileFault, SeenEvent, WriteFault};
-use history_mending::{End, append_event, mend, mended_file, part_head, part_head_from};
-use nfs_history::EventFault;
+use history_mending::{End, append_event, mend, mended_file, part_head, part_head_from, put_next};
+use nfs_history::{Event, EventFault, Message};
 use nfs3_types::Name;
 use std::alloc::{AllocError, Global};
 use std::test::Fail;
@@ -263,5 +263,60 @@ fn what_is_appended_is_as_made_by_hand(rt: HostRuntime) -> Result<(), Fail> {
     let second = is_second_written(alloc);
     assert!(rt; first == Ok(true));
     assert!(rt; second == Ok(true));
+    Ok(())
+}
+
+/// So many crashes.
+fn crashes(alloc: Global, count: usize) -> Result<Vec<Event>, AllocError> {
+    let mut events = Vec::new(alloc);
+    for _ in 0..count {
+        events.push(Event::Crash)?;
+    }
+    Ok(events)
+}
+
+/// So many replies of so many bytes each.
+fn replies(alloc: Global, count: usize, size: usize) -> Result<Vec<Event>, AllocError> {
+    let bytes = Vec::from_elem(alloc, 0u8, size)?;
+    let mut events = Vec::new(alloc);
+    for _ in 0..count {
+        let message = Message::from_slice(alloc, bytes.as_slice())?;
+        events.push(Event::Reply { lane: 7, message })?;
+    }
+    Ok(events)
+}
+
+/// How many events are put first, into how many bytes, and how many behind them.
+fn put_twice(alloc: Global, events: &[Event]) -> Result<(usize, usize, usize), WriteFault> {
+    let mut text = Vec::new(alloc);
+    let first = put_next(&mut text, events, 0)?;
+    let size = text.len();
+    let second = put_next(&mut text, events, first)?;
+    Ok((first, size, second))
+}
+
+#[test]
+fn events_are_put_in_pieces(rt: HostRuntime) -> Result<(), Fail> {
+    let alloc = rt.alloc();
+    let many = crashes(alloc, 1_025)?;
+    let large = replies(alloc, 3, 131_072)?;
+    let put_of_many = put_twice(alloc, many.as_slice());
+    let put_of_large = put_twice(alloc, large.as_slice());
+    assert!(rt; put_of_many == Ok((1_024, 4_096, 1)));
+    assert!(rt; put_of_large == Ok((2, 262_168, 1)));
+    Ok(())
+}
+
+#[test]
+fn what_is_too_large_is_not_appended(rt: HostRuntime) -> Result<(), Fail> {
+    let alloc = rt.alloc();
+    let bytes = Vec::from_elem(alloc, 0u8, 2_097_153)?;
+    let mut out = Vec::new(alloc);
+    let long = append_call(&mut out, bytes.as_slice());
+    let whole = append_call(&mut out, &bytes[1..]);
+    let root = part_head(alloc, &bytes[..65]).err();
+    assert!(rt; long == Err(WriteFault::TooLarge));
+    assert!(rt; whole == Ok(()));
+    assert!(rt; root == Some(WriteFault::TooLarge));
     Ok(())
 }
