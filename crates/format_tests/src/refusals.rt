@@ -1,7 +1,7 @@
 //! What can't be written is refused by name.
 
 use certificate::{Bind, Certificate, CertificateFault, EraPlan};
-use history_file::{WriteFault, write_history};
+use history_file::{Event, Message, WriteFault, write_history};
 use nfs3_types::{FileHandle, ItemList};
 use std::alloc::{AllocError, Global};
 use std::test::Fail;
@@ -81,5 +81,23 @@ fn a_root_handle_over_its_limit_is_not_written(rt: HostRuntime) -> Result<(), Fa
         Err(fault) => Some(fault),
     };
     assert_eq!(rt; long, Some(WriteFault::TooLarge));
+    Ok(())
+}
+
+/// Why a history of one reply of so many bytes isn't written.
+fn fault_of_reply(alloc: Global, size: usize) -> Result<Option<WriteFault>, AllocError> {
+    let bytes = Vec::from_elem(alloc, 0u8, size)?;
+    let message = Message::from_slice(alloc, bytes.as_slice())?;
+    let mut events = Vec::new(alloc);
+    events.push(Event::Reply { lane: 1, message })?;
+    Ok(write_history(alloc, &[0], events.as_slice()).err())
+}
+
+#[test]
+fn a_message_over_its_limit_is_not_written(rt: HostRuntime) -> Result<(), Fail> {
+    let long = fault_of_reply(rt.alloc(), 2_097_153)?;
+    assert_eq!(rt; long, Some(WriteFault::TooLarge));
+    let whole = fault_of_reply(rt.alloc(), 2_097_152)?;
+    assert_eq!(rt; whole, None);
     Ok(())
 }

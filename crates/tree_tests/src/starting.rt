@@ -20,6 +20,41 @@ fn one_file(alloc: Global) -> Result<Start, StartFault> {
     Start::new(alloc, objects)
 }
 
+/// Why a directory of this name, in this object, can't stand beside that file.
+fn refusal(alloc: Global, parent: u64, name: &[u8]) -> Result<Option<StartFault>, AllocError> {
+    // No name here is so long.
+    if name.len() > 2_000_000 {
+        return Ok(None);
+    }
+    let mut objects = Vec::new(alloc);
+    objects.push(StartObject {
+        parent: 0,
+        name: Name::from_slice(alloc, b"a".as_slice())?,
+        node: StartNode::File(Data::from_slice(alloc, b"abc".as_slice())?),
+    })?;
+    objects.push(StartObject {
+        parent,
+        name: Name::from_slice(alloc, name)?,
+        node: StartNode::Directory,
+    })?;
+    Ok(Start::new(alloc, objects).err())
+}
+
+#[test]
+fn what_is_no_start_is_refused_by_name(rt: HostRuntime) -> Result<(), Fail> {
+    let alloc = rt.alloc();
+    let long = Vec::from_elem(alloc, 97u8, 1_048_577)?;
+    let taken = refusal(alloc, 0, b"a".as_slice())?;
+    let below = refusal(alloc, 1, b"b".as_slice())?;
+    let large = refusal(alloc, 0, long.as_slice())?;
+    let right = refusal(alloc, 0, b"b".as_slice())?;
+    assert!(rt; taken == Some(StartFault::BadStart(2)));
+    assert!(rt; below == Some(StartFault::BadStart(2)));
+    assert!(rt; large == Some(StartFault::TooLarge(2)));
+    assert!(rt; right == None);
+    Ok(())
+}
+
 /// Whether its tree is printed as that of a file which was written.
 fn is_printed(alloc: Global) -> Result<bool, StartFault> {
     let start = one_file(alloc)?;
