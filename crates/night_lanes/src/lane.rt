@@ -1,6 +1,6 @@
 //! A connection of a client, and what is on its way on it.
 
-ghost use Rattle.std.specs.Prelude.{◌≡◌, ◌++◌, [], IfOk, OnOk, OnErr, Some};
+ghost use Rattle.std.specs.Prelude.{◌≡◌, ◌<◌, ◌++◌, [], length, IsTrue, IfOk, OnOk, OnErr, Some, None};
 ghost use Rattle.history_file.specs.Event.Event.{call};
 ghost use Rattle.xdr_records.specs.Record.{record_text};
 ghost use Rattle.rpc_client.specs.Asking.{message_text};
@@ -76,7 +76,7 @@ impl Lane {
         client: u32,
         quota: Quota,
     ) -> Result<Lane, AllocError>
-        ensures whose { IfOk result (λ lane. (lane.number ≡ number) × (lane.era ≡ era) × (lane.client ≡ client)) }
+        ensures whose { IfOk result (λ lane. (lane.number ≡ number) × (lane.era ≡ era) × (lane.client ≡ client) × (lane.quota ≡ quota)) }
         ensures empty { IfOk result (λ lane. (lane.outgoing ≡ []) × (lane.pending.last ≡ 0) × (lane.pending.calls.items ≡ [])) }
     {
         Ok(Lane {
@@ -94,7 +94,12 @@ impl Lane {
     }
 
     /// Whether the client is to make another call now.
-    pub fn wants(&self, depth: u32, now: Option<Instant>) -> bool {
+    pub fn wants(&self, depth: u32, now: Option<Instant>) -> bool
+        // No more calls than that are on their way, and none is made that the client isn't to make.
+        ensures may { IsTrue result → (length self.now.pending.calls.items < depth) × (0 < self.now.quota.calls) }
+        // Before the time is over it makes each of its calls.
+        ensures gives { self.now.quota.until ≡ None → length self.now.pending.calls.items < depth → 0 < self.now.quota.calls → IsTrue result }
+    {
         let is_late = match (self.quota.until, now) {
             (Some(until), Some(now)) => now >= until,
             _ => false,
@@ -114,6 +119,8 @@ impl Lane {
         ensures queued { OnOk result (self.new.outgoing ≡ self.old.outgoing ++ record_text (message_text xid who asked.now)) }
         ensures kept { OnErr result (self.new.outgoing ≡ self.old.outgoing) }
         ensures unnoted { OnErr result (Stays (N.recording notes.old) (N.recording notes.new)) }
+        // Nothing else becomes of the lane.
+        ensures rest { self.new ≡ record self.old { outgoing = self.new.outgoing; message = self.new.message } }
     {
         self.message.clear();
         put_message(&mut self.message, xid, who, asked)?;

@@ -1,6 +1,6 @@
 //! The calls of a lane that are on their way.
 
-ghost use Rattle.std.specs.Prelude.{ℕ, ◌≡◌, ◌<◌, ◌+◌, ◌++◌, ◌∷◌, [], length, remove, IfOk, IfSome, IfNone, OnOk, slice_get};
+ghost use Rattle.std.specs.Prelude.{ℕ, ◌≡◌, ◌<◌, ◌+◌, ◌++◌, ◌∷◌, [], length, remove, IfOk, IfSome, IfNone, OnOk, OnErr, slice_get};
 ghost use Rattle.night_lanes.specs.Standing.{place_of, standing_of};
 ghost use Rattle.night_lanes.specs.declared.open_calls.Standing.TheVariants as standings;
 
@@ -83,7 +83,8 @@ impl OpenCalls {
 
     /// A call was noted under the next transaction number.
     pub fn open(&mut self, opened: OpenCall) -> Result<(), AllocError>
-        ensures { OnOk result ((self.new.last ≡ opened.xid) × (self.new.calls.items ≡ self.old.calls.items ++ opened ∷ [])) }
+        ensures opened { OnOk result ((self.new.last ≡ opened.xid) × (self.new.calls.items ≡ self.old.calls.items ++ opened ∷ [])) }
+        ensures kept { OnErr result ((self.new.last ≡ self.old.last) × (self.new.calls.items ≡ self.old.calls.items)) }
     {
         let xid = opened.xid;
         self.calls.push(opened)?;
