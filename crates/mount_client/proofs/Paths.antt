@@ -10,10 +10,15 @@ use Rattle.mount_client.specs.Mounting.{IsMountCall}
 abbrev mounting : ℕ → List ℕ → CallValue
 mounting procedure args = record { xid = 1; program = 100005; version = 3; procedure = procedure; flavor = 1; args = args }
 
+-- what was appended to nothing, in two parts
+pub joined : (head start front message args : List ℕ) → start ≡ [] → front ≡ start ++ head → message ≡ front ++ args → message ≡ head ++ args
+joined head start front message args empty first second =
+    let begun : front ≡ head = first ∙ ap (λ (xs : List ℕ). xs ++ head) empty in
+    second ∙ ap (λ (xs : List ℕ). xs ++ args) begun
+
 -- a head that any arguments may follow, and behind it the path
 pub is_asked : (procedure : ℕ) (path head start front message : List ℕ) → length path ≤ 1024 → ((args : List ℕ) → IsCall (head ++ args) (record { xid = 1; program = 100005; version = 3; procedure = procedure; flavor = 1; args = args })) → start ≡ [] → front ≡ start ++ head → message ≡ front ++ opaque_text path → IsMountCall procedure path message
 is_asked procedure path head start front message within spelled empty first second =
     let args = opaque_text path in
-    let begun : front ≡ head = first ∙ ap (λ (xs : List ℕ). xs ++ head) empty in
-    let all : message ≡ head ++ args = second ∙ ap (λ (xs : List ℕ). xs ++ args) begun in
+    let all : message ≡ head ++ args = joined head start front message args empty first second in
     (args, subst (λ (xs : List ℕ). IsCall xs (mounting procedure args)) (sym all) (spelled args), opaque_spelled 1024 path (omega (arith, within)) within)

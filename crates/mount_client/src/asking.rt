@@ -1,5 +1,8 @@
 //! The messages of MNT and UMNT.
 
+ghost use Rattle.std.specs.Prelude.{◌≡◌, ◌++◌, IfOk};
+ghost use Rattle.xdr_records.specs.Texts.{opaque_text};
+ghost use Rattle.rpc_client.specs.Asking.{head_text};
 ghost use Rattle.mount_client.specs.Mounting.{IsAsked};
 
 use crate::fault::MountFault;
@@ -32,7 +35,10 @@ pub(crate) fn message_of(
     procedure: u32,
     path: &[u8],
 ) -> Result<Vec<u8>, MountFault>
-    ensures { IsAsked procedure path.now result }
+    ensures asked { IsAsked procedure path.now result }
+    // It is asked as this user.
+    ensures whom { IfOk result (λ message. message.items
+        ≡ head_text 1 who (record { program = 100005; version = 3; procedure = procedure }) ++ opaque_text path.now) }
 {
     if path.len() > PATH_LIMIT {
         return Err(MountFault::PathTooLong);
