@@ -1,6 +1,6 @@
 //! Numbers that look as if they came by chance.
 
-ghost use Rattle.std.specs.Prelude.{◌≤◌};
+ghost use Rattle.std.specs.Prelude.{◌<◌, ◌≤◌};
 
 /// Gives the same numbers for the same seed (splitmix64).
 #[derive(Clone, Copy)]
@@ -28,14 +28,16 @@ impl Random {
 
     /// The next number, below the bound, or 0.
     pub fn below(&mut self, bound: u64) -> u64
-        ensures { result ≤ bound }
+        ensures within { result ≤ bound }
+        ensures below { 0 < bound → result < bound }
     {
         if bound == 0 { 0 } else { self.next() % bound }
     }
 
     /// The next number of 32 bits, below the bound, or 0.
     pub fn small(&mut self, bound: u32) -> u32
-        ensures { result ≤ bound }
+        ensures within { result ≤ bound }
+        ensures below { 0 < bound → result < bound }
     {
         self.below(u64::from(bound)) as u32
     }
