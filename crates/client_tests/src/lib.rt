@@ -11,3 +11,5 @@ mod messages;
 mod mounts;
 #[cfg(test)]
 mod walks;
+#[cfg(test)]
+mod wishes;

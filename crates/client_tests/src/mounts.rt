@@ -86,6 +86,32 @@ fn statuses_have_words(rt: HostRuntime) -> Result<(), Fail> {
     Ok(())
 }
 
+/// Whether what is said of a reply with this status begins so.
+fn is_named(alloc: Global, status: u32, name: &str) -> bool {
+    match said(alloc, [1, 0, 0, 0, 0, status].as_slice()) {
+        Ok(text) => text.as_str().starts_with(name),
+        Err(_) => false,
+    }
+}
+
+/// The names of RFC 1813, section 5.1.5.
+#[test]
+fn statuses_have_their_names(rt: HostRuntime) {
+    for (status, name) in [
+        (1, "MNT3ERR_PERM: "),
+        (2, "MNT3ERR_NOENT: "),
+        (5, "MNT3ERR_IO: "),
+        (13, "MNT3ERR_ACCES: "),
+        (20, "MNT3ERR_NOTDIR: "),
+        (22, "MNT3ERR_INVAL: "),
+        (63, "MNT3ERR_NAMETOOLONG: "),
+        (10_004, "MNT3ERR_NOTSUPP: "),
+        (10_006, "MNT3ERR_SERVERFAULT: "),
+    ] {
+        assert!(rt; is_named(rt.alloc(), status, name));
+    }
+}
+
 #[test]
 fn results_are_read(rt: HostRuntime) -> Result<(), Fail> {
     let alloc = rt.alloc();

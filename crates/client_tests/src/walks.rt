@@ -79,6 +79,21 @@ fn noted(walked: &WalkedExport, procedure: Procedure) -> usize {
     count
 }
 
+/// Whether the transaction numbers of the calls that are noted rise, from this one on.
+fn rises_from(walked: &WalkedExport, first: u32) -> bool {
+    let mut last = 0u32;
+    for exchange in walked.noted.as_slice() {
+        let Ok(head) = read_call(exchange.call.as_slice()) else {
+            return false;
+        };
+        if head.xid <= last || (last == 0 && head.xid != first) {
+            return false;
+        }
+        last = head.xid;
+    }
+    last > 0
+}
+
 /// How many LOOKUPs, how many READDIRPLUSes, how many exchanges in all are noted, and how many calls were made, where the tree is found.
 fn counts<R: TestRuntime>(rt: &R, conduct: Conduct) -> Option<(usize, usize, usize, u64)> {
     let walked = end_at(rt, conduct)?.ok()?;
@@ -119,6 +134,25 @@ fn a_server_needs_time(rt: HostRuntime) -> Result<(), Fail> {
         "/: READDIRPLUS failed with status 10008: the server needs more time (NFS3ERR_JUKEBOX): run again later",
     );
     assert!(rt; late);
+    Ok(())
+}
+
+/// Whether a tree is found, and the numbers of the calls that are noted rise from this one on.
+fn has_numbers_from<R: TestRuntime>(rt: &R, conduct: Conduct, first: u32) -> bool {
+    match end_at(rt, conduct) {
+        Some(Ok(walked)) => is_tree(&walked) && rises_from(&walked, first),
+        _ => false,
+    }
+}
+
+/// A server may take a call whose number came before for that call once more, and answer as it did. Behind GETATTR of the root comes its list,
+/// also where the server needs more time for it: then it is asked twice more.
+#[test]
+fn each_call_has_a_number_of_its_own(rt: HostRuntime) -> Result<(), Fail> {
+    let _listener: Option<TcpListener> = None;
+    let _stream: Option<TcpStream> = None;
+    assert!(rt; has_numbers_from(&rt, Conduct::Names, 2));
+    assert!(rt; has_numbers_from(&rt, Conduct::NeedsTime(2), 4));
     Ok(())
 }
 
