@@ -39,6 +39,31 @@ fn causes_are_counted_over_a_crash(rt: HostRuntime) -> Result<(), Fail> {
     Ok(())
 }
 
+/// A plain history of version 2, whose server held the file `f` at first: CREATE of `a` in the root, and LOOKUP of `g` there answered NOENT.
+const STARTED: &[u8] =
+    b"NFSHIST2\0\0\0\x01\0\0\0\0\0\0\0\0\0\0\0\x01\0\0\0\0\0\0\0\0\0\0\0\x01f\0\0\0\0\0\0\x01\0\0\0\0\0\0\0\x04\
+      \0\0\0\0\0\0\0\x01\0\0\0\x54\0\0\0\x01\0\0\0\0\0\0\0\x02\0\x01\x86\xa3\0\0\0\x03\0\0\0\x08\
+      \0\0\0\0\0\0\0\0\0\0\0\0\0\0\0\0\0\0\0\x01\0\0\0\0\0\0\0\x01a\0\0\0\
+      \0\0\0\0\0\0\0\0\0\0\0\0\0\0\0\0\0\0\0\0\0\0\0\0\0\0\0\0\
+      \0\0\0\x01\0\0\0\x01\0\0\0\x34\0\0\0\x01\0\0\0\x01\0\0\0\0\0\0\0\0\0\0\0\0\0\0\0\0\0\0\0\0\
+      \0\0\0\x01\0\0\0\x01\x01\0\0\0\0\0\0\0\0\0\0\0\0\0\0\0\
+      \0\0\0\0\0\0\0\x01\0\0\0\x38\0\0\0\x02\0\0\0\0\0\0\0\x02\0\x01\x86\xa3\0\0\0\x03\0\0\0\x03\
+      \0\0\0\0\0\0\0\0\0\0\0\0\0\0\0\0\0\0\0\x01\0\0\0\0\0\0\0\x01g\0\0\0\
+      \0\0\0\x01\0\0\0\x01\0\0\0\x20\0\0\0\x02\0\0\0\x01\0\0\0\0\0\0\0\0\0\0\0\0\0\0\0\0\0\0\0\x02\0\0\0\0";
+
+/// Both calls in order. What the first one made is object 2, behind the one that was there.
+const IN_ORDER: &[u8] = b"witness 1\nbind 01 2\nplace 1\nplace 2\nend\n";
+
+#[test]
+fn causes_are_counted_beside_what_was_there_at_first(rt: HostRuntime) -> Result<(), Fail> {
+    let counts = count_causes(rt.alloc(), STARTED, IN_ORDER)?;
+    assert_eq!(rt;
+        counts.map(|counts| counts.of(Cause::NameIsAbsent)),
+        Some(1)
+    );
+    Ok(())
+}
+
 #[test]
 fn what_is_not_well_formed_has_none(rt: HostRuntime) -> Result<(), Fail> {
     let alloc = rt.alloc();
@@ -49,9 +74,28 @@ fn what_is_not_well_formed_has_none(rt: HostRuntime) -> Result<(), Fail> {
 
 #[test]
 fn causes_have_names(rt: HostRuntime) -> Result<(), Fail> {
-    let names = causes().map(cause_name);
-    for (place, name) in names.iter().enumerate() {
-        assert_eq!(rt; names.iter().position(|other| other == name), Some(place));
-    }
+    let wanted = [
+        "HandleIsntLive",
+        "HandleOfNoDirectory",
+        "ReadLinkOfNoLink",
+        "FileIsDirectory",
+        "FileIsLink",
+        "NameIsAbsent",
+        "NameIsPresent",
+        "CreateOverDirectory",
+        "RemoveOfDirectory",
+        "RmDirOfNoDirectory",
+        "RmDirOfFilledDirectory",
+        "RenameOntoNoDirectory",
+        "RenameOntoDirectory",
+        "RenameOntoFilledDirectory",
+        "RenameBelowItself",
+        "NameIsntPlain",
+        "NameHasOddByte",
+        "SetAttrWithGuard",
+        "ListingWithCookie",
+        "AnyListing",
+    ];
+    assert!(rt; causes().map(cause_name) == wanted);
     Ok(())
 }

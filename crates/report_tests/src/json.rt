@@ -200,3 +200,101 @@ fn what_was_not_read_has_a_reason_alone(rt: HostRuntime) -> Result<(), Fail> {
     );
     Ok(())
 }
+
+/// Whether the object of a verdict names its fault and the fault's one number as this line does, the number under this name.
+fn is_named(
+    alloc: Global,
+    verdict: FileVerdict,
+    front: &str,
+    line: &str,
+    value: &str,
+) -> Result<bool, Fail> {
+    let (name, number) = line.split_once(' ').unwrap_or(("", ""));
+    let wanted = format!(in alloc; "{{{front},\"fault\":\"{name}\",\"{value}\":{number}}}")?;
+    is_told(alloc, verdict, wanted.as_str())
+}
+
+/// Whether a fault of a plan is named so.
+fn is_no_named(alloc: Global, fault: Fault, value: &str) -> Result<bool, Fail> {
+    let line = fault.to_string(alloc)?;
+    let verdict = FileVerdict::No(fault);
+    is_named(alloc, verdict, "\"verdict\":\"no\"", line.as_str(), value)
+}
+
+/// What stands ahead of a fault of a history.
+const REFUSED: &str = "\"verdict\":\"refused\",\"reason\":\"bad history\"";
+
+/// Whether a fault of a history is named so.
+fn is_refused_named(alloc: Global, fault: HistoryFault, value: &str) -> Result<bool, Fail> {
+    let line = fault.to_string(alloc)?;
+    let verdict = FileVerdict::BadHistory(fault);
+    is_named(alloc, verdict, REFUSED, line.as_str(), value)
+}
+
+/// Whether a fault of a history without a value is named as its line does.
+fn is_refused_alone(alloc: Global, fault: HistoryFault) -> Result<bool, Fail> {
+    let line = fault.to_string(alloc)?;
+    let wanted = format!(in alloc; "{{{REFUSED},\"fault\":\"{line}\"}}")?;
+    is_refused(alloc, fault, wanted.as_str())
+}
+
+#[test]
+fn each_fault_of_a_plan_has_its_name(rt: HostRuntime) -> Result<(), Fail> {
+    for (fault, value) in [
+        (Fault::Unknown(11), "call"),
+        (Fault::WrongEra(12), "call"),
+        (Fault::Twice(13), "call"),
+        (Fault::NotToPlace(14), "call"),
+        (Fault::Missing(15), "call"),
+        (Fault::BadCut(16), "era"),
+    ] {
+        assert!(rt; is_no_named(rt.alloc(), fault, value)?);
+    }
+    Ok(())
+}
+
+#[test]
+fn each_fault_of_a_history_has_its_name(rt: HostRuntime) -> Result<(), Fail> {
+    for (fault, value) in [
+        (HistoryFault::BadEvent(21), "event"),
+        (HistoryFault::LaneClosed(22), "event"),
+        (HistoryFault::BadRpc(23), "event"),
+        (HistoryFault::NoSuchCall(24), "event"),
+        (HistoryFault::Sealed(25), "call"),
+        (HistoryFault::BadArgs(26), "call"),
+        (HistoryFault::BadResult(27), "call"),
+    ] {
+        assert!(rt; is_refused_named(rt.alloc(), fault, value)?);
+    }
+    for fault in [
+        HistoryFault::BadMagic,
+        HistoryFault::Truncated,
+        HistoryFault::Trailing,
+        HistoryFault::BadProfile,
+    ] {
+        assert!(rt; is_refused_alone(rt.alloc(), fault)?);
+    }
+    Ok(())
+}
+
+#[test]
+fn what_lies_outside_has_its_name(rt: HostRuntime) -> Result<(), Fail> {
+    for (which, name) in [
+        (Which::Link, "Link"),
+        (Which::Node, "Node"),
+        (Which::CountDiffers, "CountDiffers"),
+    ] {
+        let alloc = rt.alloc();
+        let wanted = format!(in alloc;
+            "{{{REFUSED},\"fault\":\"Outside\",\"call\":5,\"which\":\"{name}\"}}"
+        )?;
+        assert!(rt;
+            is_refused(
+                alloc,
+                HistoryFault::Outside { call: 5, which },
+                wanted.as_str()
+            )?
+        );
+    }
+    Ok(())
+}

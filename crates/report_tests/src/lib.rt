@@ -11,10 +11,14 @@ mod json;
 #[cfg(test)]
 mod looks;
 #[cfg(test)]
+mod orders;
+#[cfg(test)]
 mod pages;
 #[cfg(test)]
 mod pictures;
 #[cfg(test)]
 mod reasons;
+#[cfg(test)]
+mod refused;
 #[cfg(test)]
 mod words;
