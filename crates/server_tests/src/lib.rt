@@ -5,6 +5,8 @@
 #[cfg(test)]
 mod book_memory;
 #[cfg(test)]
+mod calls;
+#[cfg(test)]
 mod changes;
 #[cfg(test)]
 mod clients;
