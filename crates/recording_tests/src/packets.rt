@@ -145,3 +145,52 @@ fn cut_files_are_refused(rt: HostRuntime) {
     };
     assert!(rt; unknown);
 }
+
+/// The link type of the first packet of the first file, with this word in its header, the lowest byte first.
+fn link_with(alloc: Global, word: [u8; 4]) -> Option<LinkType> {
+    let mut file = LITTLE;
+    file[20] = word[0];
+    file[21] = word[1];
+    file[22] = word[2];
+    file[23] = word[3];
+    let packets = read_packets(alloc, &file).ok()?;
+    packets.first().map(|packet| packet.link)
+}
+
+/// Those of tcpdump.org's list; two more are written for raw packets. The bits above the low sixteen speak of check sums behind a packet.
+#[test]
+fn link_types_have_numbers(rt: HostRuntime) {
+    for (word, link) in [
+        ([0, 0, 0, 0], LinkType::Null),
+        ([1, 0, 0, 0], LinkType::Ethernet),
+        ([1, 0, 0, 84], LinkType::Ethernet),
+        ([12, 0, 0, 0], LinkType::Raw),
+        ([14, 0, 0, 0], LinkType::Raw),
+        ([101, 0, 0, 0], LinkType::Raw),
+        ([108, 0, 0, 0], LinkType::Loop),
+        ([113, 0, 0, 0], LinkType::Cooked),
+        ([228, 0, 0, 0], LinkType::Ipv4),
+        ([229, 0, 0, 0], LinkType::Ipv6),
+        ([20, 1, 0, 0], LinkType::Cooked2),
+    ] {
+        assert!(rt; link_with(rt.alloc(), word) == Some(link));
+    }
+}
+
+/// The bytes of the simple packet of the blocks, which has four, where its interface has no limit.
+fn unlimited(alloc: Global) -> Result<Vec<u8>, CaptureFault> {
+    let mut file = BLOCKS;
+    file[40] = 0;
+    file[152] = 4;
+    let packets = read_packets(alloc, &file)?;
+    match packets.get(1) {
+        Some(packet) => Ok(Vec::from_slice(alloc, packet.bytes)?),
+        None => Ok(Vec::new(alloc)),
+    }
+}
+
+#[test]
+fn a_limit_of_0_is_none(rt: HostRuntime) -> Result<(), Fail> {
+    assert!(rt; unlimited(rt.alloc())?.as_slice() == [49, 50, 51, 52].as_slice());
+    Ok(())
+}
