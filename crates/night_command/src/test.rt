@@ -42,6 +42,15 @@ fn has_orders<R: RecordingRuntime>(rt: &R, request: &TestRequest<'_>) -> bool {
     }
 }
 
+/// Tells that no crash is made where none is asked for. Standard input isn't looked at then, since it may be another program's.
+fn tell_of_no_crash<R: RecordingRuntime>(rt: &R, request: &TestRequest<'_>) {
+    if request.crashes.rounds == 0 && !request.is_quiet {
+        let _ = eprintln!(rt;
+            "no crash is made, and no order is read: --rounds says how many are to come"
+        );
+    }
+}
+
 /// Opens a night, and has its clients call.
 fn open_and_run<R: RecordingRuntime, I: Input>(
     rt: &R,
@@ -49,6 +58,7 @@ fn open_and_run<R: RecordingRuntime, I: Input>(
     input: &mut I,
 ) -> Result<Ran, NightRefusal> {
     let opened = open_night(rt, request)?;
+    tell_of_no_crash(rt, request);
     let ran = run_night(rt, request, opened, input)?;
     if ran.end == NightEnd::Whole {
         leave(rt, request);
