@@ -16,8 +16,8 @@ use std::fmt;
 /// How many changes are made in turn behind a call that was left aside.
 const OVERTAKERS: u64 = 3;
 
-/// How many seconds a call waits that was left aside.
-const WAITING_SECS: usize = 5;
+/// How many seconds a call waits that was left aside. A right server may have to wait for its disk.
+const WAITING_SECS: usize = 30;
 
 /// One kind of what was wrong.
 #[derive(Clone, Copy, Debug, PartialEq, Eq)]

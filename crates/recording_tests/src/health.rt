@@ -266,11 +266,15 @@ fn a_change_may_wait_for_the_disk(rt: HostRuntime) -> Result<(), Fail> {
 }
 
 #[test]
-fn a_call_that_waits_for_five_seconds_is_left_aside(rt: HostRuntime) -> Result<(), Fail> {
+fn a_call_that_waits_for_thirty_seconds_is_left_aside(rt: HostRuntime) -> Result<(), Fail> {
     let (alloc, steps) = (rt.alloc(), [Step::Call(1, 7), Step::Close(1)]);
     let wanted = [Finding::Unanswered(1, 1, 7)];
-    assert!(rt; is_found_by_clock(alloc, &steps, &[], &[1], &[0, 1, 1, 1, 1, 1, 2], &wanted)?);
-    assert!(rt; is_found_by_clock(alloc, &steps, &[], &[1], &[0, 0, 1, 1, 1, 1, 2], &[])?);
+    let mut moments = [1usize; 32];
+    moments[0] = 0;
+    moments[31] = 2;
+    assert!(rt; is_found_by_clock(alloc, &steps, &[], &[1], &moments, &wanted)?);
+    moments[1] = 0;
+    assert!(rt; is_found_by_clock(alloc, &steps, &[], &[1], &moments, &[])?);
     Ok(())
 }
 
