@@ -1,6 +1,7 @@
 """Rows of commands that get no memory, and a recorder that gets none while something happens."""
 import os
 import resource
+import struct
 import subprocess
 import time
 
@@ -31,6 +32,10 @@ int posix_memalign(void **made, size_t to, size_t size) { *made = memalign(to, s
 """
 
 
+# The head of a capture of Ethernet frames, in microseconds.
+PCAP = struct.pack("<IHHiIII", 0xA1B2C3D4, 2, 4, 0, 0, 262144, 1)
+
+
 def short_of_memory(setting: Setting, happens) -> Answer:
     """While something happens the recorder gets no memory."""
     library, mark = setting.folder / "armed.so", setting.folder / "armed"
@@ -55,10 +60,12 @@ def end_by_server(recording: Recording, client: Visitor) -> None:
     time.sleep(1)
 
 
-def no_memory(*line: str):
-    """The command may have 40 MB in all, its file has 64 MB."""
+def no_memory(*line: str, front: bytes = b""):
+    """The command may have 40 MB in all, its file has 64 MB. It begins as a history does, or so."""
     def trial(setting: Setting) -> Answer:
         history = setting.history()
+        if front:
+            history.write_bytes(front)
         os.truncate(history, 64 << 20)
         limit = lambda: resource.setrlimit(resource.RLIMIT_AS, (40 << 20, 40 << 20))
         return setting.run(*line, history, setting.folder / "certificate", preexec_fn=limit)
@@ -68,5 +75,5 @@ def no_memory(*line: str):
 MEMORY = [
     Row("(g) no memory to check", "There is no memory for the history", "check", no_memory("check"), "out of memory"),
     Row("(g) no memory to mend", "There is no memory for the part", "mend", no_memory("mend"), "out of memory"),
-    Row("(g) no memory to import", "There is no memory for the capture", "import", no_memory("import", "--port", "2049"), "out of memory"),
+    Row("(g) no memory to import", "There is no memory for the capture", "import", no_memory("import", "--port", "2049", front=PCAP), "out of memory"),
 ]

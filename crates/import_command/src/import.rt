@@ -13,7 +13,7 @@ use program_streams::{DigitsFault, Output, Report, decode_digits, line_of, tell_
 use recording_health::{Reading, Unanswered, reading_of, unanswered_in};
 use std::alloc::{AllocError, Global};
 use std::fs;
-use std::io::{Eprint, Read};
+use std::io::{Eprint, ErrorKind, Read};
 use std::rt::Files;
 
 /// The bytes of a root's handle, if one is said; nothing inside where its words are no hex.
@@ -265,8 +265,10 @@ fn import_bytes<R: Files + AllocGlobal + Eprint>(
 ) -> Result<Report, AllocError>
     ensures { IfOk result (λ report. report.status < 3) }
 {
-    let Ok(capture) = fs::read(rt, request.capture) else {
-        return Report::refused(rt.alloc(), "unreadable capture");
+    let capture = match fs::read(rt, request.capture) {
+        Ok(capture) => capture,
+        Err(error) if error.kind() == ErrorKind::OutOfMemory => return Err(AllocError),
+        Err(_) => return Report::refused(rt.alloc(), "unreadable capture"),
     };
     match import_capture(rt.alloc(), capture.as_slice(), request.port, root) {
         Ok(log) => save(rt, request, capture.as_slice(), &log),
