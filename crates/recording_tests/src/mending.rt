@@ -310,11 +310,13 @@ fn events_are_put_in_pieces(rt: HostRuntime) -> Result<(), Fail> {
 #[test]
 fn what_is_too_large_is_not_appended(rt: HostRuntime) -> Result<(), Fail> {
     let alloc = rt.alloc();
-    let bytes = Vec::from_elem(alloc, 0u8, 2_097_153)?;
+    let long = Vec::from_elem(alloc, 0u8, 2_097_153)?;
+    let whole = Vec::from_elem(alloc, 0u8, 2_097_152)?;
+    let root = Vec::from_elem(alloc, 0u8, 65)?;
     let mut out = Vec::new(alloc);
-    let long = append_call(&mut out, bytes.as_slice());
-    let whole = append_call(&mut out, &bytes[1..]);
-    let root = part_head(alloc, &bytes[..65]).err();
+    let long = append_call(&mut out, long.as_slice());
+    let whole = append_call(&mut out, whole.as_slice());
+    let root = part_head(alloc, root.as_slice()).err();
     assert!(rt; long == Err(WriteFault::TooLarge));
     assert!(rt; whole == Ok(()));
     assert!(rt; root == Some(WriteFault::TooLarge));
