@@ -206,9 +206,11 @@ fn a_client_that_sends_no_call_is_told(rt: HostRuntime) -> Result<(), Fail> {
     let _stream: Option<TcpStream> = None;
     let port = free_port(&rt)?;
     let all = thread::scope(thread::scope_env(), &rt, |scope| {
+        // The prover knows the types that a function names.
         let _listener: Option<TcpListener> = None;
         let _stream: Option<TcpStream> = None;
         let called = scope.spawn(|| {
+            let _listener: Option<TcpListener> = None;
             let _stream: Option<TcpStream> = None;
             is_hung_up_on(&rt, port)
         });
