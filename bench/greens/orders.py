@@ -28,7 +28,7 @@ def killed_too_often(setting: Setting) -> Answer:
         for _ in range(2):
             has_begun(tried, SHORT["clients"] - 1)
             tried.crash(Crash(after=1))
-    return night(setting, RIGHT, {"rounds": 1, "calls": 2000}, meanwhile=tell)
+    return night(setting, RIGHT, {"rounds": 1, "calls": 10000}, meanwhile=tell)
 
 
 def written_over(setting: Setting) -> Answer:
