@@ -1,5 +1,6 @@
 """Servers that are wrong. Each is a fault beside those of `wrong`, which `wrong_server.py` serves."""
 import sys
+import time
 
 from differ import layouts as nfs
 from differ.rpc import PROC_UNAVAIL, SUCCESS
@@ -254,6 +255,21 @@ class SwallowsUntilCrash(Faulty):
         return super().crash()
 
 
+class SlowBehindCrash(Faulty):
+    """Behind the first crash a call takes half a second."""
+    has_crashed = False
+
+    def outgoing(self, call: Call) -> tuple[bytes, bool]:
+        if self.has_crashed:
+            self.happens(call.name)
+            time.sleep(0.5)
+        return super().outgoing(call)
+
+    def crash(self) -> list[Change]:
+        self.has_crashed = True
+        return super().crash()
+
+
 class SwallowsGetattr(Faulty):
     """No GETATTR is ever answered."""
 
@@ -282,7 +298,7 @@ class RefusesByRpc(Faulty):
 
 KINDS = [AppliesNone, EverySecond, OtherFile, ReplyBefore, OnlyOtherNumbers, CacheByNumber, CrossesLanes, GivesNoByte, WritesNoByte, ListsNoName,
          ListsTooSmall, NothingAtAll, EndlessList, DiskFull, FailsWrites, FailsReads, FailsRemoves, FailsCommits, FailsLists, FailsFifth, FailsAll,
-         SwallowsUntilCrash, SwallowsGetattr, RefusesByRpc]
+         SwallowsUntilCrash, SlowBehindCrash, SwallowsGetattr, RefusesByRpc]
 
 
 def serve() -> None:

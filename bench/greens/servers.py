@@ -3,7 +3,7 @@ from wrong.nights import Crash, Night
 
 from .faults import (RIGHT, AppliesNone, CacheByNumber, CrossesLanes, DiskFull, EndlessList, EverySecond, FailsAll, FailsCommits, FailsFifth, FailsLists,
                      FailsReads, FailsRemoves, FailsWrites, GivesNoByte, ListsNoName, ListsTooSmall, NothingAtAll, OnlyOtherNumbers, OtherFile, RefusesByRpc,
-                     ReplyBefore, SwallowsUntilCrash, WritesNoByte, fault)
+                     ReplyBefore, SlowBehindCrash, SwallowsUntilCrash, WritesNoByte, fault)
 from .nights import SHORT, has_begun, night
 from .runs import Answer, Setting
 from .scripts import theirs
@@ -57,7 +57,9 @@ SERVERS = [
     server_row("lists are too small", ListsTooSmall, "^(no|undecided): ", given={"calls": 200}),
     server_row("no byte and no name", NothingAtAll, "^(no|undecided): ", given={"calls": 200}),
     server_row("a list without end", EndlessList, "^(no|undecided|refused): "),
-    server_row("swallows until the crash", SwallowsUntilCrash, "^no: no reply", often=20, given={"calls": 300, "depth": 16}, crashes=ONE_CRASH),
+    server_row("swallows until the crash", SwallowsUntilCrash, "^(no: no reply|undecided: .*never answered)", often=20,
+               given={"calls": 300, "depth": 16}, crashes=ONE_CRASH),
+    server_row("slow behind a crash", SlowBehindCrash, "^undecided: .*weren't looked at", given={"calls": 300, "seconds": 3}, crashes=ONE_CRASH),
     server_row("refused by RPC", RefusesByRpc, "^no: .*RPC refused"),
     Row("(h) crossed lanes", CrossesLanes.line(), "test, the server has crosses_lanes",
         lambda setting: night(setting, fault(CrossesLanes), {"depth": 1, "calls": 200, "seed": 5}), "^no: "),

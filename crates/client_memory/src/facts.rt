@@ -71,6 +71,8 @@ pub struct Facts {
     pub written: Option<Written>,
     /// What has to be looked at.
     pub debt: Debt,
+    /// It was known before the last crash, and hasn't been looked at behind it.
+    pub is_unread: bool,
     /// How many looks at it are worth a call, since it changed.
     pub looks: u32,
 }
@@ -87,6 +89,7 @@ impl Facts {
             changed: None,
             written: None,
             debt: Debt::Paid,
+            is_unread: false,
             looks: 0,
         }
     }

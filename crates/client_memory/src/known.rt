@@ -196,7 +196,19 @@ impl Known {
     pub(crate) fn doubt(&mut self) {
         for object in self.objects.iter_mut() {
             object.facts.debt = Debt::Name;
+            object.facts.is_unread = true;
         }
+    }
+
+    /// How many objects are still to be looked up, or to be looked at, since the last crash.
+    pub(crate) fn unread(&self) -> usize {
+        let mut count = 0usize;
+        for object in self.objects.iter() {
+            if object.facts.is_unread && matches!(object.facts.debt, Debt::Name | Debt::Object) {
+                count = count.saturating_add(1);
+            }
+        }
+        count
     }
 
     /// What was written has to be looked at.
@@ -214,10 +226,12 @@ impl Known {
             return;
         };
         if let Some(facts) = self.facts_at(index) {
-            facts.debt = match facts.debt {
-                Debt::Name => Debt::Asked,
-                _ => Debt::Paid,
-            };
+            if facts.debt == Debt::Name {
+                facts.debt = Debt::Asked;
+            } else {
+                facts.debt = Debt::Paid;
+                facts.is_unread = false;
+            }
         }
     }
 

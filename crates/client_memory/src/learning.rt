@@ -137,6 +137,12 @@ impl Memory {
         self.past_due = self.known.past_count();
     }
 
+    /// How many objects that were known before the last crash, and names that calls may have given or taken then, are still to be looked up or
+    /// to be looked at.
+    pub fn unread(&self) -> usize {
+        self.known.unread().saturating_add(self.past_due)
+    }
+
     /// The name that has to be looked up first, of an object that isn't known.
     pub fn unseen(&self) -> Option<&DirectoryName> {
         match self.unseen.get(0) {

@@ -148,4 +148,9 @@ impl Client {
     {
         self.memory.new_era();
     }
+
+    /// How many objects and names that were known before the last crash are still to be looked at behind it.
+    pub fn unread(&self) -> u64 {
+        self.memory.unread() as u64
+    }
 }

@@ -1,5 +1,6 @@
 //! The files of a night, and its report.
 
+use crate::aside::left_aside_in;
 use crate::folder::Folder;
 use crate::opening::WALK_LANE;
 use crate::running::Ran;
@@ -10,7 +11,7 @@ use history_file::Event;
 use nfs_tap::TapLog;
 use night_lanes::Troubles;
 use night_report::{Finding, NightReport, Numbers, Request, junit_xml, report_json};
-use night_verdict::{Judgement, NightVerdict, Reasons};
+use night_verdict::{Judgement, LeftAside, NightVerdict, Reasons};
 use recording_command::RecordingRuntime;
 use std::alloc::{AllocError, Global};
 
@@ -39,16 +40,19 @@ pub(crate) struct Noted {
     pub(crate) replies: u64,
     /// How many of the calls are the walk's, each of which has its reply.
     pub(crate) walked: u64,
+    /// The calls that the server left aside.
+    pub(crate) left_aside: Option<LeftAside>,
 }
 
 impl Noted {
     /// What a log has.
-    pub(crate) fn in_log(log: &TapLog) -> Noted {
+    pub(crate) fn in_log(alloc: Global, log: &TapLog) -> Result<Noted, AllocError> {
         let mut noted = Noted {
             eras: 1,
             calls: 0,
             replies: 0,
             walked: 0,
+            left_aside: left_aside_in(alloc, log.events())?,
         };
         for event in log.events() {
             match event {
@@ -63,7 +67,7 @@ impl Noted {
                 Event::Close { .. } => {}
             }
         }
-        noted
+        Ok(noted)
     }
 }
 

@@ -1,6 +1,7 @@
 //! The command `nfsbench test`: a night of a server, from its words to its last line.
 #![tactic(auto)]
 
+mod aside;
 mod files;
 mod folder;
 mod growing;

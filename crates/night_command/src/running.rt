@@ -6,9 +6,8 @@ use crate::words::{TestRequest, mix_of};
 use nfs3_types::FileHandle;
 use night_calls::{Client, Mix};
 use night_clients::Night;
-use night_eras::{ErasPlan, Orders, run_eras};
+use night_eras::{ErasEnd, ErasPlan, Orders, run_eras};
 use night_lanes::{Depth, Settings};
-use night_verdict::NightEnd;
 use program_streams::Input;
 use recording_command::RecordingRuntime;
 use std::alloc::{AllocError, Global};
@@ -20,7 +19,7 @@ use tree_starts::Start;
 pub(crate) struct Ran {
     pub(crate) night: Night,
     pub(crate) start: Start,
-    pub(crate) end: NightEnd,
+    pub(crate) eras: ErasEnd,
 }
 
 /// The clients that a request asks for.
@@ -83,7 +82,7 @@ fn run_ordered<R: RecordingRuntime, I: Input>(
     night: &Night,
     clients: Vec<Client>,
     input: &mut I,
-) -> Result<NightEnd, AllocError> {
+) -> Result<ErasEnd, AllocError> {
     let plan = plan_of(request);
     match request.crashes.orders {
         Some(path) => {
@@ -116,6 +115,6 @@ pub(crate) fn run_night<R: RecordingRuntime, I: Input>(
     };
     let clients = clients_of(rt.alloc(), request, &root)?;
     let night = Night::new(rt.alloc(), log, settings)?;
-    let end = run_ordered(rt, request, &night, clients, input)?;
-    Ok(Ran { night, start, end })
+    let eras = run_ordered(rt, request, &night, clients, input)?;
+    Ok(Ran { night, start, eras })
 }

@@ -15,6 +15,7 @@ use deciding_command::{Effort, FileDecision};
 use failure_causes::{CauseCounts, count_causes};
 use history_file::WriteFault;
 use json_reports::refusal_line;
+use night_eras::ErasEnd;
 use night_lanes::{Counts, Troubles};
 use night_report::{NightReport, Numbers, json_line};
 use night_verdict::{
@@ -175,19 +176,36 @@ fn written_report<'n, R: RecordingRuntime>(
     said_of(rt.alloc(), request, verdict, &report, is_kept && is_written)
 }
 
-/// How many calls a night is wanted to have; none where its orders went astray or this side hindered it, so that this is told.
-fn wanted_of(request: &TestRequest<'_>, end: NightEnd, troubles: &Troubles, noted: Noted) -> u64 {
-    if end != NightEnd::Whole || !troubles.kept().is_empty() {
-        return 0;
+/// What is known of a night. Where its orders went astray or this side hindered it that is told, and not that too little was done.
+fn facts_of<'t>(
+    request: &TestRequest<'_>,
+    eras: ErasEnd,
+    troubles: &'t Troubles,
+    noted: Noted,
+) -> NightFacts<'t> {
+    let is_undisturbed = eras.end == NightEnd::Whole && troubles.kept().is_empty();
+    let (wanted, left_aside, unread) = if is_undisturbed {
+        let wanted = request.wanted().saturating_add(noted.walked);
+        (wanted, noted.left_aside, eras.unread)
+    } else {
+        (0, None, 0)
+    };
+    NightFacts {
+        troubles,
+        end: eras.end,
+        at_least: request.at_least().saturating_add(noted.walked),
+        wanted,
+        walked: noted.walked,
+        left_aside,
+        unread,
     }
-    request.wanted().saturating_add(noted.walked)
 }
 
 /// Judges a night by the bytes of its history.
 fn judged<R: RecordingRuntime>(
     rt: &R,
     request: &TestRequest<'_>,
-    end: NightEnd,
+    eras: ErasEnd,
     troubles: &Troubles,
     noted: Noted,
     history: &[u8],
@@ -195,13 +213,7 @@ fn judged<R: RecordingRuntime>(
     ensures known { IfOk result (λ told. told.last.status < 3) }
     ensures status { IfOk result (λ told. told.last.status ≡ night_status told.judged.verdict) }
 {
-    let facts = NightFacts {
-        troubles,
-        end,
-        at_least: request.at_least().saturating_add(noted.walked),
-        wanted: wanted_of(request, end, troubles, noted),
-        walked: noted.walked,
-    };
+    let facts = facts_of(request, eras, troubles, noted);
     let judged = judge_night(rt, &facts, history, effort_of(request))?;
     let causes = causes_of(rt.alloc(), history, &judged)?;
     told_of(rt.alloc(), &facts, judged, noted, causes)
@@ -224,10 +236,16 @@ fn judged_report<R: RecordingRuntime>(
     let is_kept = folder.write(rt, "history", history)?;
     let troubles = ran.night.troubles().lock(rt);
     let counts = ran.night.counts().lock(rt);
-    let told = judged(rt, request, ran.end, &troubles, noted, history)?;
+    let told = judged(rt, request, ran.eras, &troubles, noted, history)?;
     written_report(
         rt, request, ran, &told, &counts, &troubles, history, is_kept,
     )
+}
+
+/// How much the log of a night has.
+fn noted_of<R: RecordingRuntime>(rt: &R, ran: &Ran) -> Result<Noted, AllocError> {
+    let log = ran.night.log().lock(rt);
+    Noted::in_log(rt.alloc(), &log)
 }
 
 /// Judges a night, writes its files, and gives its lines and its status.
@@ -238,8 +256,8 @@ pub(crate) fn end_report<R: RecordingRuntime>(
 ) -> Result<Report, AllocError>
     ensures { IfOk result (λ report. report.status < 3) }
 {
+    let noted = noted_of(rt, ran)?;
     let log = ran.night.log().lock(rt);
-    let noted = Noted::in_log(&log);
     let history = night_history(rt.alloc(), profile_of(request), &ran.start, &log);
     drop(log);
     match history {

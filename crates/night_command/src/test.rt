@@ -60,7 +60,7 @@ fn open_and_run<R: RecordingRuntime, I: Input>(
     let opened = open_night(rt, request)?;
     tell_of_no_crash(rt, request);
     let ran = run_night(rt, request, opened, input)?;
-    if ran.end == NightEnd::Whole {
+    if ran.eras.end == NightEnd::Whole {
         leave(rt, request);
     }
     Ok(ran)

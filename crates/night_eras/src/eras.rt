@@ -48,6 +48,24 @@ impl ErasPlan {
     }
 }
 
+/// How the eras of a night ended.
+#[derive(Clone, Copy, PartialEq, Eq)]
+pub struct ErasEnd {
+    /// Whether each of them came about.
+    pub end: NightEnd,
+    /// How many objects and names that clients knew before the last crash they didn't look at behind it.
+    pub unread: u64,
+}
+
+/// How many objects and names these clients still have to look at.
+fn unread_by(clients: &[Client]) -> u64 {
+    let mut count = 0u64;
+    for client in clients {
+        count = count.saturating_add(client.unread());
+    }
+    count
+}
+
 /// Has clients call in an era that has begun, and gives them back.
 fn run_owned<R: ClientsRuntime>(
     rt: &R,
@@ -163,15 +181,18 @@ pub fn run_eras<R: ClientsRuntime + Eprint, I: Input>(
     plan: &ErasPlan,
     orders: &mut Orders,
     input: &mut I,
-) -> NightEnd {
+) -> ErasEnd {
     let mut clients = clients;
     for crash in 1..plan.rounds.saturating_add(1) {
         match run_round(rt, night, clients, plan, orders, input, crash) {
             Ok(same) => clients = same,
-            Err(end) => return end,
+            Err(end) => return ErasEnd { end, unread: 0 },
         }
     }
     let era = night.begin(rt, clients.len());
-    drop(run_owned(rt, night, clients, era, plan.quota(rt)));
-    orders.end_after(input, plan.rounds)
+    let clients = run_owned(rt, night, clients, era, plan.quota(rt));
+    ErasEnd {
+        end: orders.end_after(input, plan.rounds),
+        unread: unread_by(clients.as_slice()),
+    }
 }

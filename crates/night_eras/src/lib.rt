@@ -4,5 +4,5 @@
 mod eras;
 mod orders;
 
-pub use eras::{ErasPlan, run_eras};
+pub use eras::{ErasEnd, ErasPlan, run_eras};
 pub use orders::Orders;

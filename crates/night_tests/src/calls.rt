@@ -118,3 +118,36 @@ fn names_are_looked_up(rt: HostRuntime) -> Result<(), Fail> {
     assert!(rt; with.next()?.procedure() == Procedure::Lookup);
     Ok(())
 }
+
+/// How much these clients have still to look at.
+fn unread_by(all: &[Client]) -> u64 {
+    let mut count = 0u64;
+    for client in all {
+        count = count.saturating_add(client.unread());
+    }
+    count
+}
+
+/// How much a client of two hundred calls has still to look at: ahead of a crash, right behind it, eight calls later, and a hundred more.
+fn unread_around(alloc: Global) -> Result<[u64; 4], AllocError> {
+    let mut server = LittleServer::new(alloc);
+    let mut seen = Seen::new();
+    let mut all = clients_of(alloc, 7, Mix::Private, 1)?;
+    steps(all.as_mut_slice(), &mut server, &mut seen, 200)?;
+    let ahead = unread_by(all.as_slice());
+    for client in all.iter_mut() {
+        client.new_era();
+    }
+    let behind = unread_by(all.as_slice());
+    steps(all.as_mut_slice(), &mut server, &mut seen, 8)?;
+    let soon = unread_by(all.as_slice());
+    steps(all.as_mut_slice(), &mut server, &mut seen, 100)?;
+    Ok([ahead, behind, soon, unread_by(all.as_slice())])
+}
+
+#[test]
+fn what_was_known_is_looked_at_behind_a_crash(rt: HostRuntime) -> Result<(), Fail> {
+    let [ahead, behind, soon, later] = unread_around(rt.alloc())?;
+    assert!(rt; ahead == 0 && behind > 8 && soon > 0 && later == 0);
+    Ok(())
+}

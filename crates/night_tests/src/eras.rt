@@ -63,7 +63,7 @@ fn run<R: ClientsRuntime + Eprint>(
     let mut orders = Orders::new(rt.alloc(), may_grow, Some(1)).ok()?;
     let mut input = told;
     let plan = plan_at(server);
-    Some(run_eras(rt, night, clients, &plan, &mut orders, &mut input))
+    Some(run_eras(rt, night, clients, &plan, &mut orders, &mut input).end)
 }
 
 /// How many crashes were noted.

@@ -1,6 +1,6 @@
 -- For the prover, and for callers.
 -- What is said of a night (words of this project's own).
-use Rattle.std.specs.Prelude.{◌≡◌, ◌⊎◌, ℕ, ◌<◌, ◌/◌, ◌&&◌, not, nat_lt, Bool, true, false, IsTrue, List, [], ◌∷◌, Option, Some, None}
+use Rattle.std.specs.Prelude.{◌≡◌, ◌⊎◌, ℕ, ◌<◌, ◌/◌, ◌&&◌, not, nat_lt, Bool, true, false, IsTrue, List, [], ◌∷◌, Option, Some, None, is_some}
 use Rattle.std.specs.List.{list_any}
 use Rattle.nfs_history.specs.declared.knowing.KnownCalls.{KnownCalls}
 use Rattle.nfs_history.specs.History.{IsCallsFile}
@@ -133,16 +133,20 @@ unless_few false verdict = verdict
 abbrev pub is_few : Bool → Bool → Bool
 is_few astray few = not astray && few
 
--- a server that did too little gets no yes: too many failures that may answer any call, too many answers that did nothing, or fewer calls
--- than a night is wanted to have
-abbrev pub little_by : Bool → Bool → Bool → Option Doubt
-little_by true idle short = Some doubts.Excused
-little_by false true short = Some doubts.Idle
-little_by false false true = Some doubts.Few
-little_by false false false = None
+-- a night in which too little was done gets no yes: too many failures that may answer any call, too many answers that did nothing, calls that were
+-- left aside, objects that weren't looked at behind the last crash, or fewer calls than a night is wanted to have
+abbrev pub little_by : Bool → Bool → Bool → Bool → Bool → Option Doubt
+little_by true idle aside unread short = Some doubts.Excused
+little_by false true aside unread short = Some doubts.Idle
+little_by false false true unread short = Some doubts.LeftAside
+little_by false false false true short = Some doubts.Unread
+little_by false false false false true = Some doubts.Few
+little_by false false false false false = None
 
-abbrev pub little_of : ℕ → Answered → Option Doubt
-little_of wanted count = little_by (is_mostly_excused count.all count.excused) (is_idle count.all count.idleness) (nat_lt count.all wanted)
+abbrev pub little_of : NightFacts → Answered → Option Doubt
+little_of facts count =
+    little_by (is_mostly_excused count.all count.excused) (is_idle count.all count.idleness) (is_some facts.left_aside) (nat_lt 0 facts.unread)
+    (nat_lt count.all facts.wanted)
 
 abbrev pub first_doubt : Option Doubt → Option Doubt → Option Doubt
 first_doubt (Some doubt) other = Some doubt
@@ -161,4 +165,4 @@ unless_cause None verdict = verdict
 abbrev pub verdict_of : NightFacts → Answered → FileDecision → NightVerdict
 verdict_of facts count decision =
     unless_cause (health_of facts.troubles.now facts.end)
-    (verdict_in_health facts.troubles.now facts.end (is_few (is_astray facts.end) (nat_lt count.all facts.at_least)) (little_of facts.wanted count) decision)
+    (verdict_in_health facts.troubles.now facts.end (is_few (is_astray facts.end) (nat_lt count.all facts.at_least)) (little_of facts count) decision)

@@ -30,6 +30,17 @@ pub enum NightEnd {
     NoMemory,
 }
 
+/// Calls that a server never answered, though it went on behind them.
+#[derive(Clone, Copy, PartialEq, Eq)]
+pub struct LeftAside {
+    /// How many there are.
+    pub count: u64,
+    /// The lane of the first.
+    pub lane: u32,
+    /// Its transaction number.
+    pub xid: u32,
+}
+
 /// What is known of a night, beside its history.
 #[derive(Clone, Copy)]
 pub struct NightFacts<'a> {
@@ -43,6 +54,10 @@ pub struct NightFacts<'a> {
     pub wanted: u64,
     /// How many calls of the history are the walk's.
     pub walked: u64,
+    /// The calls that were left aside, if any were: a crash excuses what waits for its reply, but not for long.
+    pub left_aside: Option<LeftAside>,
+    /// How many objects and names that clients knew before the last crash they didn't look at behind it, so that nobody saw whether they survived.
+    pub unread: u64,
 }
 
 /// Whether the server made a trouble. The others are this side's: its log, and its memory.

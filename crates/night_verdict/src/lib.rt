@@ -8,7 +8,7 @@ mod telling;
 mod verdict;
 mod writing;
 
-pub use facts::{NightEnd, NightFacts, is_of_server};
+pub use facts::{LeftAside, NightEnd, NightFacts, is_of_server};
 pub use judging::{Answered, Judgement, judge_night};
 pub use reasons::{Reasons, reasons_of};
 pub use telling::verdict_report;

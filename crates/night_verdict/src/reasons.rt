@@ -16,7 +16,7 @@ pub struct Reasons {
     pub enough: Option<String>,
     /// No order explains the history, or it isn't decided whether one does.
     pub order: Option<String>,
-    /// The server did too little, or this side hindered the night.
+    /// Too little was done, or this side hindered the night.
     pub doubt: Option<String>,
 }
 
@@ -59,7 +59,10 @@ fn order_text(
 /// The doubt that a history which some order explains leaves, or what hindered the night on this side.
 fn doubt_left(facts: &NightFacts<'_>, judged: &Judgement) -> Option<Doubt> {
     if let NightVerdict::Doubt(doubt) = judged.verdict
-        && matches!(doubt, Doubt::Excused | Doubt::Idle | Doubt::Few)
+        && matches!(
+            doubt,
+            Doubt::Excused | Doubt::Idle | Doubt::LeftAside | Doubt::Unread | Doubt::Few
+        )
     {
         return Some(doubt);
     }

@@ -3,7 +3,7 @@
 ghost use Rattle.std.specs.Prelude.{◌≡◌, ◌<◌, ◌++◌, ◌∷◌, [], codes, IfOk, string_bytes};
 ghost use Rattle.night_verdict.specs.Words.{night_status, first_line, lead_of, IsLineOf};
 
-use crate::facts::{NightEnd, NightFacts, first_of_server};
+use crate::facts::{LeftAside, NightEnd, NightFacts, first_of_server};
 use crate::judging::{Answered, Judgement};
 use crate::verdict::{Cause, Doubt, NightVerdict};
 use deciding_command::{FileDecision, reason_line};
@@ -165,6 +165,23 @@ fn idle_words(alloc: Global, answered: Answered) -> Result<String, AllocError> {
     )
 }
 
+/// The words of calls that were left aside, if any were.
+fn aside_words(alloc: Global, aside: Option<LeftAside>) -> Result<String, AllocError> {
+    match aside {
+        Some(LeftAside { count, lane, xid }) => format!(in alloc;
+            "{count} calls were never answered, though changes asked behind them on their lanes were answered: the first is transaction {xid} of lane {lane}"
+        ),
+        None => Ok(String::new(alloc)),
+    }
+}
+
+/// The words of what wasn't looked at behind the last crash.
+fn unread_words(alloc: Global, unread: u64) -> Result<String, AllocError> {
+    format!(in alloc;
+        "{unread} objects or names that clients knew before the last crash weren't looked at behind it: say more --calls, or more --seconds"
+    )
+}
+
 /// The words of a night of few calls.
 fn few_words(alloc: Global, facts: &NightFacts<'_>, all: u64) -> Result<String, AllocError> {
     let answered = all.saturating_sub(facts.walked);
@@ -186,6 +203,8 @@ fn doubt_words(
         Doubt::Trouble => side_words(alloc, facts.troubles.kept().first()),
         Doubt::Excused => excused_words(alloc, judged.answered),
         Doubt::Idle => idle_words(alloc, judged.answered),
+        Doubt::LeftAside => aside_words(alloc, facts.left_aside),
+        Doubt::Unread => unread_words(alloc, facts.unread),
         Doubt::Few => few_words(alloc, facts, judged.answered.all),
         Doubt::BadHistory | Doubt::Undecided => decision_words(alloc, &judged.decision),
     }

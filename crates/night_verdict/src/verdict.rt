@@ -34,6 +34,10 @@ pub enum Doubt {
     Excused,
     /// Too many of the answers, or of those to one procedure, did nothing.
     Idle,
+    /// Calls were never answered, though the server went on behind them.
+    LeftAside,
+    /// Not all that clients knew before the last crash was looked at behind it.
+    Unread,
     /// Fewer judged calls were answered than a night is wanted to have.
     Few,
     /// It isn't decided whether some order explains the history.
@@ -113,9 +117,9 @@ fn unless_few(few: bool, verdict: NightVerdict) -> NightVerdict
     }
 }
 
-/// Why a server that did too little gets no yes, if it did.
-fn little_by(excused: bool, idle: bool, short: bool) -> Option<Doubt>
-    ensures { result ≡ little_by excused idle short }
+/// Why a night in which too little was done gets no yes, if it was.
+fn little_by(excused: bool, idle: bool, aside: bool, unread: bool, short: bool) -> Option<Doubt>
+    ensures { result ≡ little_by excused idle aside unread short }
 {
     if excused {
         return Some(Doubt::Excused);
@@ -123,19 +127,27 @@ fn little_by(excused: bool, idle: bool, short: bool) -> Option<Doubt>
     if idle {
         return Some(Doubt::Idle);
     }
+    if aside {
+        return Some(Doubt::LeftAside);
+    }
+    if unread {
+        return Some(Doubt::Unread);
+    }
     if short {
         return Some(Doubt::Few);
     }
     None
 }
 
-/// Why a server whose answers come to this gets no yes, if it did too little.
+/// Why a night whose answers come to this gets no yes, if too little was done.
 pub(crate) fn little_of(facts: &NightFacts<'_>, answered: Answered) -> Option<Doubt>
-    ensures { result ≡ little_of facts.now.wanted answered }
+    ensures { result ≡ little_of facts.now answered }
 {
     little_by(
         is_mostly_excused(answered),
         is_idle(answered.all, answered.idleness),
+        facts.left_aside.is_some(),
+        facts.unread > 0,
         answered.all < facts.wanted,
     )
 }
@@ -150,8 +162,7 @@ fn first_doubt(one: Option<Doubt>, other: Option<Doubt>) -> Option<Doubt>
     }
 }
 
-/// What is said of a night in health, by what is decided of its history, whether too few calls were answered, and whether the server did too
-/// little.
+/// What is said of a night in health, by what is decided of its history, whether too few calls were answered, and whether too little was done.
 fn verdict_in_health(
     facts: &NightFacts<'_>,
     few: bool,
