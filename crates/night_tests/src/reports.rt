@@ -2,7 +2,9 @@
 
 use nfs3_types::{Answer, Failure, NfsReply, Optional, Procedure, WccData};
 use night_lanes::{Counts, Trouble, TroubleKind, Troubles};
-use night_report::{Finding, NightReport, Numbers, Request, explanation, junit_xml, report_json};
+use night_report::{
+    Finding, NightReport, Numbers, Request, explanation, junit_xml, report_json, rights_hint,
+};
 use std::alloc::{AllocError, Global};
 use std::test::Fail;
 
@@ -377,5 +379,24 @@ fn a_red_night_in_json(rt: HostRuntime) -> Result<(), Fail> {
 }
 ";
     assert!(rt; is_red_told(rt.alloc(), 1, Text::Json, wanted)?);
+    Ok(())
+}
+
+/// Whether there is a hint about rights where so many of seven replies are denials.
+fn is_hinted(alloc: Global, denied: u32) -> Result<bool, AllocError> {
+    let mut counts = Counts::new(alloc)?;
+    for number in 0..7 {
+        counts.count_reply(Procedure::GetAttr);
+        if number < denied {
+            counts.count_result(&failed(Failure::Access))?;
+        }
+    }
+    Ok(rights_hint(&counts).is_some())
+}
+
+#[test]
+fn over_a_quarter_of_denials_hint_at_rights(rt: HostRuntime) -> Result<(), Fail> {
+    assert!(rt; !is_hinted(rt.alloc(), 1)?);
+    assert!(rt; is_hinted(rt.alloc(), 2)?);
     Ok(())
 }
