@@ -3,13 +3,16 @@
 
 Each `use Rattle.CRATE.specs.M.{..}`, `use Rattle.CRATE.proofs.M.{..}` and `ghost use` of a crate of the repository (of COPY, where one is named): its
 file has to be there and to have each name that is asked of it. Of specs.declared and specs.contracts, and of proofs/ that follow an item, the item has
-to be in src/. The kit's libraries are left out. Also whether the crate's line in crates.txt lists that crate, whether the crate's files name each library
+to be in src/. A path by a door (`pub use low;` in src/, `pub use Rattle.low.specs as low_specs` in specs/Lib.antt, the same of proofs/) is followed to
+the crate that it leads to, over any number of doors. The kit's libraries are left out. Also whether the crate's line in crates.txt lists that crate, whether the crate's files name each library
 that the line lists, whether Lib.antt names each file, whether each module of src/ has its `mod`, and whether the text of each edit stands once in its
 file. Prints what isn't so, and exits with 1 then.
 """
 import os
 import re
 import sys
+
+from doors import by_doors
 
 top = os.path.abspath(sys.argv[1] if len(sys.argv) > 1 else os.path.join(os.path.dirname(os.path.abspath(__file__)), ".."))
 wrong = []
@@ -58,6 +61,7 @@ def names(group):
 
 
 def look(where, crate, kind, words, group):
+    crate, words = by_doors(crate, kind, words, top)
     folder = f"{top}/crates/{crate}"
     if kind == "specs" and words and words[0] in ("declared", "contracts"):
         text, rest = module(crate, words[1:])
@@ -177,6 +181,8 @@ for folder, folders, files in os.walk(f"{top}/crates"):
                 words = [word.strip() for word in one.split("::")]
                 if words[0] in deps[own] and words[0] in deps:
                     count += 1
+                    while len(words) > 2 and words[1] in deps and words[1] in shown(words[0]):
+                        words = words[1:]
                     if len(words) > 1 and words[1] not in shown(words[0]):
                         wrong.append(f"{where}: {words[0]} shows no {words[1]}")
                 elif words[0] == "crate" and len(words) > 1:
@@ -188,7 +194,7 @@ for crate in deps:
     base = f"{top}/crates/{crate}"
     texts = [read(os.path.join(at, name)) for kind in ("src", "specs", "proofs") for at, _, names in os.walk(f"{base}/{kind}") for name in names]
     for word in sorted(deps[crate]):
-        if not any(re.search(rf"\b{word}::|\bRattle\.{word}\b|\buse {word}\b", text) for text in texts):
+        if not any(re.search(rf"(?<!::)\b{word}::|\bRattle\.{word}\b|\buse {word}\b", text) for text in texts):
             wrong.append(f"crates.txt lists {word} for {crate}, which names it nowhere")
     for kind in ("specs", "proofs"):
         if not os.path.isdir(f"{base}/{kind}"):

@@ -2,8 +2,8 @@
 """Tells what a gate costs, step by step: gate_cost.py CLONE [COUNT], started beside `rt ci` in that clone.
 
 Every two seconds it reads from /proc which programs the gate runs, and how many seconds of a processor each has taken. When the gate has
-ended, or at an interrupt, it prints the COUNT (40) dearest steps in minutes, and the sums of each kind: `proof` of a crate (of a program
-too), `tests` (their proof and their compilation), `edit` (the wrong bodies of must-fail/, with what they begin and end with), `compile`
+ended, or at an interrupt, it prints the COUNT (40) dearest steps in minutes, each with the most memory that it took at once, in GB, and the sums
+of each kind: `proof` of a crate (of a program too), `tests` (their proof and their compilation), `edit` (the wrong bodies of must-fail/, with what they begin and end with), `compile`
 (a program, by each compiler), `run` and `rt` itself. What a program takes after the last look at it isn't seen, a second on average, so
 `time ./.ci/run` tells a little more. Beside other work the minutes are more: tell them beside those of one proof.
 """
@@ -15,10 +15,11 @@ import time
 
 PAUSE = 2
 TICK = os.sysconf("SC_CLK_TCK")
+PAGE = os.sysconf("SC_PAGE_SIZE")
 
 
 def processes():
-    """Each process: its parent, when it began, and the seconds of a processor that it has taken."""
+    """Each process: its parent, when it began, the seconds of a processor that it has taken, and the bytes of memory that it holds."""
     found = {}
     for process in filter(str.isdigit, os.listdir("/proc")):
         try:
@@ -26,7 +27,7 @@ def processes():
                 fields = file.read().rsplit(")", 1)[1].split()
         except OSError:
             continue
-        found[int(process)] = int(fields[1]), fields[19], (int(fields[11]) + int(fields[12])) / TICK
+        found[int(process)] = int(fields[1]), fields[19], (int(fields[11]) + int(fields[12])) / TICK, int(fields[21]) * PAGE
     return found
 
 
@@ -56,23 +57,33 @@ def is_below(found, process, gate):
     return process == gate
 
 
+def began_in(process):
+    """The folder in which a process was begun: `rt ci NAME..` goes on in a copy."""
+    try:
+        with open(f"/proc/{process}/environ", "rb") as file:
+            return next((it[4:].decode(errors="replace") for it in file.read().split(b"\0") if it.startswith(b"PWD=")), "")
+    except OSError:
+        return ""
+
+
 def gate_in(clone):
     """The process of the gate that runs in the clone."""
     for process in processes():
         words, folder = words_of(process)
-        if folder == clone and re.search(r"python\S* \S*/rt ci\b", words):
+        if clone in (folder, began_in(process)) and re.search(r"python\S* \S*/rt ci\b", words):
             return process
     return None
 
 
-def watch(gate, seconds):
-    """Notes what the gate's programs take, until it has ended."""
+def watch(gate, seconds, most):
+    """Notes what the gate's programs take, and the most memory of each step, until the gate has ended."""
     steps = {}
     while True:
         found = processes()
         if gate not in found:
             return
-        for process, (_, began, taken) in found.items():
+        held = collections.Counter()
+        for process, (_, began, taken, memory) in found.items():
             key = process, began
             if key not in steps and is_below(found, process, gate):
                 steps[key] = step_of(*words_of(process))
@@ -81,6 +92,9 @@ def watch(gate, seconds):
                 if steps[key][1] in ("rt", "run"):
                     steps[key] = step_of(*words_of(process))
                 seconds[key] = (steps[key], taken)
+                held[steps[key]] += memory
+        for step, memory in held.items():
+            most[step] = max(most.get(step, 0), memory)
         time.sleep(PAUSE)
 
 
@@ -90,9 +104,9 @@ def main():
     while gate is None:
         time.sleep(1)
         gate = gate_in(clone)
-    seconds = {}
+    seconds, most = {}, {}
     try:
-        watch(gate, seconds)
+        watch(gate, seconds, most)
     except KeyboardInterrupt:
         pass
     each, kinds = collections.Counter(), collections.Counter()
@@ -100,7 +114,7 @@ def main():
         each[name, kind] += taken / 60
         kinds[kind] += taken / 60
     for (name, kind), minutes in each.most_common(count):
-        print(f"{minutes:7.1f} {name} {kind}")
+        print(f"{minutes:7.1f} {most.get((name, kind), 0) / 1e9:5.1f} GB {name} {kind}")
     for kind, minutes in kinds.most_common():
         print(f"{minutes:7.1f} all {kind}")
     print(f"{sum(kinds.values()):7.1f} in all")

@@ -1,12 +1,15 @@
 #!/usr/bin/env python3
-"""Gives a copy of the repository the libraries that `rt ci` proved in another one: take_kept.py COPY PROVED [CRATE..]
+"""Gives a copy of the repository the libraries that `rt ci` proved elsewhere: take_kept.py COPY PROVED [CRATE..]
 
-PROVED is a copy in which `rt ci` runs, or ran. `rt check` proves each library below a crate again in a copy that has none; this puts those of
+PROVED is the word `kept`, for what `rt ci` of kit 13f keeps on this machine beside the kit, also by `rt ci NAME..`, whichever copy it ran in.
+Or, with any kit: a copy in which `rt ci` runs, or ran. `rt check` proves each library below a crate again in a copy that has none; this puts those of
 PROVED whose sources are the same into the crates' out/ of COPY, so that a check of CRATE (of all crates, where none is named) begins above
 them. It says how many crates have their library, and which have none: those that changed, those above them, and those that the run hasn't
 come to. Call it again as the run gets on. All libraries of COPY have to come of one run. No verdict rests on it: `rt ci` reads nothing of
 what was in out/.
 """
+import importlib.machinery
+import importlib.util
 import os
 import shutil
 import sys
@@ -46,8 +49,47 @@ def take(crate, proved) -> bool:
     return True
 
 
+def loaded_rt():
+    """The program rt as a module: what it keeps has names by sums that it alone works out."""
+    path = os.path.realpath(shutil.which("rt"))
+    loader = importlib.machinery.SourceFileLoader("rt_program", path)
+    made = importlib.util.module_from_spec(importlib.util.spec_from_loader("rt_program", loader))
+    sys.modules["rt_program"] = made
+    loader.exec_module(made)
+    return made
+
+
+def take_from_store(copy: str, names: list) -> list:
+    """Gives a copy the libraries below these crates (all, if none is named) that are kept beside the kit, and returns the names of the others."""
+    rt = loaded_rt()
+    os.chdir(copy)
+    rt.Crate.allowed, rt.Crate.cuts_libraries = rt.handles_of(copy), True
+    crates = {it.name: it for it in rt.crates_of(copy)}
+    below = {it.name for name in names for it in crates[name].below()} if names else {*crates}
+    libraries = sorted((it for it in crates.values() if it.name in below and not it.is_program), key=lambda it: len(it.below()))
+    kept, without = rt.Kept([*crates.values()]), []
+    for crate in libraries:
+        if {it.name for it in crate.below()} & {*without}:
+            without.append(crate.name)
+            continue
+        key, mark = kept.key(crate), f"{crate.folder}/out/rlib/of_the_gate"
+        if not (crate.is_built() and os.path.isfile(mark)):
+            if not os.path.isdir(kept.place(crate, False, key)) or not kept.give(crate, False, key):
+                without.append(crate.name)
+                continue
+            with open(f"{crate.folder}/out/rlib/stamp", "w", encoding="utf-8") as stamp:
+                stamp.write(crate.stamp())
+            open(mark, "w", encoding="utf-8").close()
+        kept.is_built(crate)
+    print(f"{len(libraries) - len(without)} crates have their library; without:", *(without or ["none"]))
+    return without
+
+
 def main() -> int:
     words = sys.argv[1:]
+    if len(words) >= 2 and words[1] == "kept" and os.path.isfile(f"{words[0]}/crates.txt"):
+        take_from_store(os.path.realpath(words[0]), words[2:])
+        return 0
     if len(words) < 2 or not all(os.path.isfile(f"{it}/crates.txt") for it in words[:2]):
         print(__doc__, file=sys.stderr)
         return 2

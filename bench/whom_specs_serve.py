@@ -14,6 +14,8 @@ import os
 import re
 import sys
 
+from doors import by_doors
+
 # The crates with calls whose clauses are believed, and the names of these calls; "" for all public calls and traits of the crate.
 ROOTS = {
     # a yes and a no
@@ -55,8 +57,8 @@ def uses(text):
     """The imports of a file: of each name the definition that it stands for, and of each name of a module or a type what is in it."""
     names, spaces = {}, {}
     for crate, path, given, alias in IMPORT.findall(text):
-        parts = path.split(".")
-        if parts[0] == "declared":
+        crate, parts = by_doors(crate, "specs", path.split("."))
+        if not parts or parts[0] == "declared":
             continue
         if given:
             for name in re.split(r",\s*", given.strip()):
