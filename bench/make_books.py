@@ -1,5 +1,5 @@
 #!/usr/bin/env python3
-"""Writes commands for crates/journal_cases, and what it has to answer: make_books.py FOLDER [COMMANDS [SEED]].
+"""Writes commands for crates/server_cases, and what it has to answer: make_books.py FOLDER [COMMANDS [SEED]].
 
 First come books whose commands and answers were written by hand. The other commands are drawn at random, and a model of a
 book, written apart from the crates' code, says what each is answered. FOLDER gets `stdin` with a command a line, and `stdout`

@@ -1,7 +1,7 @@
 #!/usr/bin/env python3
 """Writes what a program is run on, cases by their names, and the answers that it has to give.
 
-make_cases.py FOLDER        stdin and stdout of FOLDER, that is of crates/verdict_cases
+make_cases.py FOLDER        stdin and stdout of FOLDER, that is of crates/command_cases, whose command lines stay after them
 
 A case is a history and a certificate, a text of a format, a history file of which lines are shown, or one of which a certificate is
 searched. The answers stand beside the cases in `cases/`, as RFC 1813, RFC 5531, docs/PROFILE.md and docs/FORMATS.md have them. None is

@@ -1,5 +1,5 @@
 #!/usr/bin/env python3
-"""Writes commands for crates/journal_cases, and what it has to answer: make_servers.py FOLDER [COMMANDS [SEED]].
+"""Writes commands for crates/server_cases, and what it has to answer: make_servers.py FOLDER [COMMANDS [SEED]].
 
 A model of a journal server, written apart from the crates' code, says what each command is answered. FOLDER gets `stdin` with
 a command a line, and `stdout` with an answer a line. First come servers whose commands try one rule each in every way, some of

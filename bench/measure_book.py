@@ -1,7 +1,7 @@
 #!/usr/bin/env python3
 """Measures what a journal server's book costs: measure_book.py PROGRAM [CALLS].
 
-PROGRAM is crates/journal_cases, built; CALLS is how many calls come in the longest run, 1,000,000 if it is left out. Told are
+PROGRAM is crates/server_cases, built; CALLS is how many calls come in the longest run, 1,000,000 if it is left out. Told are
 seconds of a processor, calls a second, and bytes of memory a call beside the text of the commands, which is held. All of it is
 with the reading of the commands and the writing of the answers.
 """

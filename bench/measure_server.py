@@ -1,7 +1,7 @@
 #!/usr/bin/env python3
 """Measures the journal server: measure_server.py PROGRAM [CALLS [TIMES]].
 
-PROGRAM is crates/server_soak, built; CALLS is how many calls all threads of a run make together, 20,000 if it is left out; each run
+PROGRAM is crates/server_cases, built; CALLS is how many calls all threads of a run make together, 20,000 if it is left out; each run
 is made TIMES times, 3 if that is left out, and the best one is told. The threads call the server in memory. Told are calls a second
 by threads, for WRITEs to a file of each thread's own (`private`), for CREATE, WRITE, RENAME and REMOVE in one directory (`shared`),
 and for four READs to each WRITE over eight files (`reads`). The last column is how long the book's steps (begin, place, flush where
@@ -17,7 +17,7 @@ KINDS, THREADS = ("private", "shared", "reads"), (1, 2, 4, 8)
 
 def run(program: str, threads: int, kind: str, calls: int) -> tuple[int, int]:
     """Calls a second, and for one thread the nanoseconds of the book's steps."""
-    told = subprocess.run([program, "bench", str(threads), kind, str(calls)], capture_output=True, text=True, check=True).stdout
+    told = subprocess.run([program], input=f"bench {threads} {calls} {kind}\n", capture_output=True, text=True, check=True).stdout
     if not told.endswith("yes\n"):
         sys.exit(f"{threads} threads, {kind}: {told}")
     speed = re.search(r"calls a second (\d+)", told)

@@ -1,7 +1,7 @@
 #!/usr/bin/env python3
 """Refuses each allocation in turn of what reads, writes, judges and searches: refuse_cases.py PROGRAM
 
-PROGRAM is `verdict_cases`, which makes a call once more where memory ran out, and wants that nothing stands half written then. So with
+PROGRAM is `command_cases`, which makes a call once more where memory ran out, and wants that nothing stands half written then. So with
 any one allocation refused a run prints the answer, or it ends with a status other than 0 and no answer: the program's own reading and
 writing may fail too. The cases are made of the histories of cases/recorded.txt: each history with its certificate, both read and written
 again, its messages, their arguments and results, its records as a stream, and a search by one worker. Prints a table, and ends with

@@ -52,7 +52,7 @@ def main():
     wrong = 0
     for path in sorted(glob.glob(crates + "/*/src/**/*.rt", recursive=True)):
         name = os.path.relpath(path, crates)
-        if name.split("/")[0].endswith(("_tests", "_cases")) or name.startswith("server_soak/"):
+        if name.split("/")[0].endswith(("_tests", "_cases")):
             continue
         with open(path) as file:
             found = list(made_by_hand(file.read().split("\n")))

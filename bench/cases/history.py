@@ -1,4 +1,6 @@
 """History files and certificates (docs/FORMATS.md), and the cases that are made of them."""
+import pathlib
+
 from cases.xdr import DIR, LNK, REG, double, name, opaque, word
 
 PROGRAM, VERSION = 100003, 3
@@ -99,6 +101,9 @@ class Cases:
         self.add(case, "%s\n%s\n%s\n" % (case, line, text), answer)
 
     def write(self, folder):
-        for file, lines in (("stdin", self.asked), ("stdout", self.answered)):
-            with open("%s/%s" % (folder, file), "w") as out:
-                out.write("".join(lines))
+        """Writes the cases in place of those in the two files of a folder. The command lines after them stay."""
+        for file, first, lines in (("stdin", "nfsbench", self.asked), ("stdout", "$ nfsbench", self.answered)):
+            path = pathlib.Path(folder, file)
+            old = path.read_text() if path.exists() else ""
+            at = ("\n" + old).find("\n" + first)
+            path.write_text("".join(lines) + (old[at:] if at >= 0 else ""))

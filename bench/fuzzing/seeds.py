@@ -29,8 +29,8 @@ def with_partners(folder: pathlib.Path) -> list:
 
 
 def stored_pairs(top: pathlib.Path) -> list:
-    """Of the cases of verdict_cases the shortest few of each verdict."""
-    text = (top / "crates/verdict_cases/stdin").read_text()
+    """Of the cases of command_cases the shortest few of each verdict."""
+    text = (top / "crates/command_cases/stdin").read_text()
     found = sorted(((bytes.fromhex(history), certificate.encode()) for history, certificate in BUNDLE.findall(text)), key=lambda it: len(it[0] + it[1]))
     counts, kept = {}, []
     for pair in found:
@@ -70,9 +70,9 @@ def spelled(text: str) -> bytes:
 
 
 def streams(top: pathlib.Path) -> list:
-    """The calls to each server of journal_cases, as records of a stream, in parts."""
+    """The calls to each server of server_cases, as records of a stream, in parts."""
     found = []
-    for block in (top / "crates/journal_cases/stdin").read_text().split("\n\n"):
+    for block in (top / "crates/server_cases/stdin").read_text().split("\n\n"):
         calls = [spelled(line.split(" ")[2]) for line in block.split("\n") if line.startswith("call ") and len(line.split(" ")) == 3]
         records = [struct.pack(">I", 1 << 31 | len(it)) + it for it in calls if len(it) < 1_000]
         found += [b"".join(records[at:at + 12]) for at in range(0, min(len(records), 36), 12)]

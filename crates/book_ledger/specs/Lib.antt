@@ -9,3 +9,4 @@ pub mod Turns
 pub mod Inside
 pub mod Undoing
 pub mod PlaceSteps
+pub use Rattle.book_laws.specs as book_laws_specs

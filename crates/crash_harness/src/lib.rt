@@ -6,5 +6,6 @@ mod end;
 mod run;
 
 pub use end::RunEnd;
+pub use journal_server;
 pub use plan_text::{Plan, PlanFault, read_plan};
 pub use run::{run_plan, run_plan_from};

@@ -12,7 +12,7 @@ use Rattle.nfs_history.specs.Success.{succeeded}
 use Rattle.cut_check.specs.declared.effect.Effect.{Effect}
 use Rattle.cut_check.specs.declared.effect.Effect.TheVariants.{Lasting, Nothing}
 use Rattle.cut_check.specs.Effect.{is_synchronous, effect_of}
-use Rattle.decision_law.specs.NeverLost.{IsLasting, IsCommitted, IsShownLater, IsNeverLost, AreRight}
+use Rattle.decision_walk.specs.decision_law_specs.NeverLost.{IsLasting, IsCommitted, IsShownLater, IsNeverLost, AreRight}
 use Rattle.decision_walk.specs.Standing.{is_marked, hints_of}
 use Rattle.decide.specs.Marking.{Lasts, CommitsIt, ShowsIt, IsSaved, IsKept, AreNeverLost}
 

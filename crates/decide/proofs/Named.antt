@@ -11,8 +11,8 @@ use Rattle.decision_core.specs.declared.deciding.Event.{Event}
 use Rattle.decision_core.specs.declared.deciding.Event.TheVariants.{Called, Answered, AtOnce, Passed}
 use Rattle.decision_core.specs.Times.{Times}
 use Rattle.decision_core.specs.Events.{Tells, IsAnswer}
-use Rattle.decision_law.specs.Times.{answered_end, era_start, times_of}
-use Rattle.decision_law.proofs.Numbered.{wanted_end}
+use Rattle.decision_walk.specs.decision_law_specs.Times.{answered_end, era_start, times_of}
+use Rattle.decision_walk.proofs.decision_law_laws.Numbered.{wanted_end}
 use Rattle.decide.specs.declared.verifiers.Shown.{Shown}
 use Rattle.decide.specs.Decision.{IsAnsweredAt, TellsOf}
 use Rattle.decide.specs.Verifiers.{IsShownIn}

@@ -9,9 +9,9 @@ use Rattle.nfs_history.specs.declared.knowing.KnownCalls.{KnownCalls}
 use Rattle.nfs_history.specs.Precedence.{call_at}
 use Rattle.decision_core.specs.declared.spans.Span.{Span}
 use Rattle.decision_core.specs.Spanned.{AreSpansOf}
-use Rattle.decision_law.specs.Spans.{IsOfCall, IsOfCrash, AreSpans}
-use Rattle.decision_law.specs.Times.{AreTimed, crash_at, era_start, may_stand, times_of}
-use Rattle.decision_law.proofs.Told.{spans_tell}
+use Rattle.decision_walk.specs.decision_law_specs.Spans.{IsOfCall, IsOfCrash, AreSpans}
+use Rattle.decision_walk.specs.decision_law_specs.Times.{AreTimed, crash_at, era_start, may_stand, times_of}
+use Rattle.decision_walk.proofs.decision_law_laws.Told.{spans_tell}
 use Rattle.decide.specs.Spanning.{crash_list, call_span, crash_span, call_spans, crash_spans, all_spans}
 
 -- ---- lists

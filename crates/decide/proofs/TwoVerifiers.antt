@@ -4,7 +4,7 @@ use Rattle.std.specs.Prelude.{IfSome}
 use Rattle.nfs_history.specs.declared.recorded.RecordedCall.{RecordedCall}
 use Rattle.nfs_history.specs.declared.knowing.KnownCalls.{KnownCalls}
 use Rattle.nfs_history.specs.Precedence.{call_at}
-use Rattle.decision_law.specs.Laws.{ShowsTwoVerifiers}
+use Rattle.decision_walk.specs.decision_law_specs.Laws.{ShowsTwoVerifiers}
 use Rattle.decide.specs.declared.verifiers.Shown.{Shown}
 use Rattle.decide.specs.Verifiers.{IsShown, IsShownIn}
 

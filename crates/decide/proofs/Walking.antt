@@ -19,12 +19,12 @@ use Rattle.history_file.specs.Owning.{all_happened}
 use Rattle.decide.specs.Spanning.{crash_list, all_spans}
 use Rattle.decide.proofs.Named.{named_at}
 use Rattle.decide.proofs.SpanLaws.{spans_are_of_times}
-use Rattle.decision_law.specs.Laws.{binds_of}
-use Rattle.decision_law.specs.Machine.{Next, first_point}
-use Rattle.decision_law.specs.Plans.{eras_of_plan}
-use Rattle.decision_law.specs.Times.{AreTimed, era_start, numbering_of, times_of}
-use Rattle.decision_law.proofs.Orders.{is_order}
-use Rattle.decision_law.proofs.Starts.{are_timed}
+use Rattle.decision_walk.specs.decision_law_specs.Laws.{binds_of}
+use Rattle.decision_walk.specs.decision_law_specs.Machine.{Next, first_point}
+use Rattle.decision_walk.specs.decision_law_specs.Plans.{eras_of_plan}
+use Rattle.decision_walk.specs.decision_law_specs.Times.{AreTimed, era_start, numbering_of, times_of}
+use Rattle.decision_walk.proofs.decision_law_laws.Orders.{is_order}
+use Rattle.decision_walk.proofs.decision_law_laws.Starts.{are_timed}
 use Rattle.decision_walk.specs.Standing.{hints_of}
 use Rattle.decide.specs.Decision.{HasNoWitness, Walks, TellsOf}
 use Rattle.decide.specs.Marking.{AreNeverLost}

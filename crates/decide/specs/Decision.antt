@@ -12,7 +12,7 @@ use Rattle.decision_core.specs.declared.deciding.Event.{Event}
 use Rattle.decision_core.specs.declared.deciding.Walked.{Walked}
 use Rattle.decision_core.specs.declared.deciding.Walked.TheVariants.{NoWitness, Left}
 use Rattle.decision_core.specs.Events.{Tells}
-use Rattle.decision_law.specs.Times.{AreTimed, era_start, times_of}
+use Rattle.decision_walk.specs.decision_law_specs.Times.{AreTimed, era_start, times_of}
 use Rattle.decide.specs.declared.decision.Decision.{Decision}
 use Rattle.decide.specs.declared.decision.Decision.TheVariants.{Yes, No, Undecided, NoMemory}
 

@@ -18,7 +18,7 @@ use Rattle.cut_check.specs.declared.effect.Effect.TheVariants.{Lasting}
 use Rattle.cut_check.specs.Effect.{effect_of}
 use Rattle.cut_check.specs.Stable.{IsAmong}
 use Rattle.cut_check.specs.Verifier.{verifier_of}
-use Rattle.decision_law.specs.NeverLost.{IsNeverLost, written, committed}
+use Rattle.decision_walk.specs.decision_law_specs.NeverLost.{IsNeverLost, written, committed}
 use Rattle.decision_walk.specs.Standing.{is_marked}
 
 -- the call succeeded, and is on stable storage by itself

@@ -6,7 +6,7 @@ use Rattle.history_file.specs.Event.Event.{call, reply, close, crash}
 use Rattle.nfs_history.specs.declared.recorded.RecordedCall.{RecordedCall}
 use Rattle.nfs_history.specs.declared.knowing.KnownCalls.{KnownCalls}
 use Rattle.decision_core.specs.declared.spans.Span.{Span}
-use Rattle.decision_law.specs.Times.{may_stand, answered_end}
+use Rattle.decision_walk.specs.decision_law_specs.Times.{may_stand, answered_end}
 
 -- where the crashes stand among events that are numbered from i on, and behind them where the events end
 abbrev pub crash_list : ℕ → List Event → List ℕ

@@ -5,7 +5,7 @@ ghost use Rattle.certificate.specs.declared.plan.Certificate.{Certificate};
 ghost use Rattle.witness_check.specs.Witness.{IsWitness};
 ghost use Rattle.nfs_history.specs.declared.knowing.KnownCalls.{KnownCalls};
 ghost use Rattle.nfs_history.specs.History.{recording_of};
-ghost use Rattle.decision_law.specs.Times.{AreTimed, era_start};
+ghost use Rattle.decision_walk.specs.decision_law_specs.Times.{AreTimed, era_start};
 ghost use Rattle.decide.specs.Decision.{Says, Walks, TellsOf};
 ghost use Rattle.decide.specs.Marking.{AreNeverLost};
 

@@ -3,7 +3,7 @@
 ghost use Rattle.std.specs.Prelude.{◌≡◌, ◌++◌, ◌∷◌, [], ◌+◌, ◌<◌, ◌^◌, ℕ, List, cond, length, IfOk};
 ghost use Rattle.history_file.specs.Owning.{happened, all_happened};
 ghost use Rattle.order_check.specs.Places.{is_wanted};
-ghost use Rattle.decision_law.specs.Times.{may_stand, may_be_taken};
+ghost use Rattle.decision_walk.specs.decision_law_specs.Times.{may_stand, may_be_taken};
 ghost use Rattle.decide.specs.Spanning.{noted, crash_list, call_span, call_spans, crash_spans, all_spans};
 
 use decision_core::Span;

@@ -1,7 +1,7 @@
 //! Two write verifiers in one era.
 
 ghost use Rattle.std.specs.Prelude.{◌≡◌, IfSome, IsTrue};
-ghost use Rattle.decision_law.specs.Laws.{ShowsTwoVerifiers};
+ghost use Rattle.decision_walk.specs.decision_law_specs.Laws.{ShowsTwoVerifiers};
 ghost use Rattle.decide.specs.Verifiers.{IsShown, IsShownIn};
 
 use cut_check::shown_verifier;

@@ -7,7 +7,7 @@ ghost use Rattle.deciding_command.specs.Told.{line_of_no};
 use crate::file_decision::FileDecision;
 use crate::hints::Hint;
 use decide::Undecided;
-use decision_walk::Why;
+use decide::decision_walk::Why;
 use program_streams::{Report, line_of};
 use std::alloc::{AllocError, Global};
 

@@ -12,3 +12,4 @@ mod Sameness
 mod Taking
 mod StepLaws
 mod SettleLaws
+pub use Rattle.decision_law.proofs as decision_law_laws

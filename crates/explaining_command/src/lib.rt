@@ -11,5 +11,6 @@ mod telling;
 mod unexplained;
 
 pub use deciding::{decision_text, explain_history, explain_unreadable};
+pub use deciding_command;
 pub use explain_words::{ExplainRequest, explain_command, explain_request};
 pub use explaining::explain_read;

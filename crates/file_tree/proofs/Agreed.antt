@@ -8,8 +8,8 @@ use Rattle.nfs3_types.specs.declared.replies.DirectoryEntryPlus.{DirectoryEntryP
 use Rattle.nfs3_types.specs.declared.replies.NfsReply.{NfsReply}
 use Rattle.reply_attributes.specs.Attributes.{entries_of, type_and_size}
 use Rattle.tree_nodes.specs.Tree.{Names, Tree}
-use Rattle.tree_handles.specs.Binding.{Bindings}
-use Rattle.tree_handles.specs.Live.{directory_of}
+use Rattle.tree_answers.specs.tree_handles_specs.Binding.{Bindings}
+use Rattle.tree_answers.specs.tree_handles_specs.Live.{directory_of}
 use Rattle.file_tree.specs.Change.{Change}
 use Rattle.file_tree.specs.Change.Change.{Keep}
 use Rattle.file_tree.specs.Strict.{entry_agrees, entries_agree}

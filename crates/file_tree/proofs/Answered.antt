@@ -21,9 +21,9 @@ use Rattle.tree_nodes.specs.declared.node.Content.{Content}
 use Rattle.tree_nodes.specs.declared.node.Content.TheVariants as contents
 use Rattle.tree_nodes.specs.Tree.{Names, Tree, entry_of}
 use Rattle.tree_nodes.proofs.Chains.{chained, passed, same_some}
-use Rattle.tree_handles.specs.Binding.{Bindings, gives_object}
+use Rattle.tree_answers.specs.tree_handles_specs.Binding.{Bindings, gives_object}
 use Rattle.tree_starts.specs.Names.{is_plain}
-use Rattle.tree_handles.specs.Live.{directory_of}
+use Rattle.tree_answers.specs.tree_handles_specs.Live.{directory_of}
 use Rattle.tree_answers.specs.Asked.{first_place}
 use Rattle.tree_answers.specs.Listing.{readdirplus_is_legal}
 use Rattle.file_tree.specs.AtPlace.{IsAtPlace}

@@ -14,8 +14,8 @@ use Rattle.reply_attributes.specs.declared.role.Role.TheVariants.{First, Second,
 use Rattle.reply_attributes.specs.Attributes.{post_attr, pre_size, entries_of, type_and_size}
 use Rattle.tree_nodes.specs.declared.node.Node.{Node}
 use Rattle.tree_nodes.specs.Tree.{Names, Tree}
-use Rattle.tree_handles.specs.Binding.{Bindings}
-use Rattle.tree_handles.specs.Live.{live_entry, directory_of}
+use Rattle.tree_answers.specs.tree_handles_specs.Binding.{Bindings}
+use Rattle.tree_answers.specs.tree_handles_specs.Live.{live_entry, directory_of}
 use Rattle.tree_answers.specs.Asked.{first_handle, second_handle, first_place}
 use Rattle.file_tree.specs.Strict.{told, fits, had_size, handle_agrees, answer_agrees, entry_agrees, entries_agree, agrees, told_by, told_at}
 

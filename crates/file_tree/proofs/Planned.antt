@@ -16,16 +16,16 @@ use Rattle.tree_nodes.specs.Tree.{Names, Tree, entry_of, same_path, is_bare}
 use Rattle.tree_nodes.specs.Moved.{is_from}
 use Rattle.tree_nodes.proofs.Found.{found_stands, same_lists}
 use Rattle.tree_nodes.proofs.Chains.{chained, mapped, isnt, absent}
-use Rattle.tree_handles.specs.Binding.{Bindings, gives_object}
+use Rattle.tree_answers.specs.tree_handles_specs.Binding.{Bindings, gives_object}
 use Rattle.nfs3_types.specs.declared.calls.StableHow.{StableHow}
 use Rattle.nfs3_types.specs.declared.calls.WriteArguments.{WriteArguments}
 use Rattle.nfs3_types.specs.declared.calls.SetAttrArguments.{SetAttrArguments}
-use Rattle.tree_handles.specs.Live.{FileEntry, live_entry, directory_of, file_of}
+use Rattle.tree_answers.specs.tree_handles_specs.Live.{FileEntry, live_entry, directory_of, file_of}
 use Rattle.file_tree.specs.Written.{reaches, write_at, write_change, set_attributes}
 use Rattle.tree_starts.specs.Names.{is_plain}
-use Rattle.tree_handles.specs.Entry.{entry_at, named}
-use Rattle.tree_handles.specs.Kind.{is_directory}
-use Rattle.tree_handles.proofs.Paths.{same_object}
+use Rattle.tree_answers.specs.tree_handles_specs.Entry.{entry_at, named}
+use Rattle.tree_answers.specs.tree_handles_specs.Kind.{is_directory}
+use Rattle.tree_answers.proofs.tree_handles_laws.Paths.{same_object}
 use Rattle.file_tree.specs.Change.Change.{Keep, Put, Remove, Move}
 use Rattle.file_tree.specs.Made.{only_if, first_size, first_verifier, create_absent, set_size, make_entry}
 use Rattle.file_tree.specs.Removed.{remove_entry, remove_directory, may_replace, rename_at}

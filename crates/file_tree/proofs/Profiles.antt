@@ -9,8 +9,8 @@ use Rattle.tree_starts.specs.declared.profile.Profile.{Profile}
 use Rattle.tree_starts.specs.declared.profile.Profile.TheVariants.{Plain, Strict}
 use Rattle.tree_nodes.specs.Tree.{Tree}
 use Rattle.tree_nodes.proofs.Chains.{chained}
-use Rattle.tree_handles.specs.Binding.{Bindings}
-use Rattle.tree_handles.specs.Live.{live_entry}
+use Rattle.tree_answers.specs.tree_handles_specs.Binding.{Bindings}
+use Rattle.tree_answers.specs.tree_handles_specs.Live.{live_entry}
 use Rattle.file_tree.specs.Change.{Change}
 use Rattle.file_tree.specs.Judging.{lets, kept_if, change_under}
 use Rattle.file_tree.specs.Setting.{under, next_in}

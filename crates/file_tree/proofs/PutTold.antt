@@ -11,10 +11,10 @@ use Rattle.tree_nodes.specs.Numbered.{IsNumbered}
 use Rattle.tree_nodes.specs.Tree.{Names, Tree, entry_of, parent}
 use Rattle.tree_nodes.proofs.Beside.{no_longer}
 use Rattle.tree_nodes.proofs.Chains.{chained}
-use Rattle.tree_handles.specs.Binding.{Bindings, object_of}
+use Rattle.tree_answers.specs.tree_handles_specs.Binding.{Bindings, object_of}
 use Rattle.tree_starts.specs.Names.{is_dot, is_two_dots, is_plain}
-use Rattle.tree_handles.specs.Entry.{entry_at}
-use Rattle.tree_handles.specs.Live.{live_entry, as_directory, directory_of}
+use Rattle.tree_answers.specs.tree_handles_specs.Entry.{entry_at}
+use Rattle.tree_answers.specs.tree_handles_specs.Live.{live_entry, as_directory, directory_of}
 use Rattle.tree_answers.specs.Look.{object_at, object_named}
 use Rattle.file_tree.specs.AtPlace.{IsAtPlace}
 use Rattle.file_tree.specs.Change.{Change}

@@ -12,8 +12,8 @@ use Rattle.reply_attributes.specs.declared.role.Role.{Role}
 use Rattle.reply_attributes.specs.declared.role.Role.TheVariants.{First, Second, Answer}
 use Rattle.reply_attributes.specs.Attributes.{post_attr, pre_size, entries_of}
 use Rattle.tree_nodes.specs.Tree.{Tree}
-use Rattle.tree_handles.specs.Binding.{Bindings}
-use Rattle.tree_handles.specs.Live.{live_entry, as_directory, directory_of}
+use Rattle.tree_answers.specs.tree_handles_specs.Binding.{Bindings}
+use Rattle.tree_answers.specs.tree_handles_specs.Live.{live_entry, as_directory, directory_of}
 use Rattle.tree_answers.specs.Asked.{first_handle, second_handle, first_place}
 use Rattle.tree_answers.specs.Look.{object_named}
 use Rattle.file_tree.specs.Strict.{told, told_of, fits, had_size, handle_agrees, answer_agrees, entry_agrees, entries_agree, agrees, judged}

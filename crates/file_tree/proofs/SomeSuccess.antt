@@ -42,11 +42,11 @@ use Rattle.tree_nodes.specs.declared.node.Node.{Node}
 use Rattle.tree_nodes.specs.Files.{node_limit}
 use Rattle.tree_nodes.specs.Tree.{Names, Tree, entry_of}
 use Rattle.tree_nodes.proofs.Chains.{chained, passed}
-use Rattle.tree_handles.specs.Binding.{Bindings, same_bytes, is_bound, is_named, gives_object}
+use Rattle.tree_answers.specs.tree_handles_specs.Binding.{Bindings, same_bytes, is_bound, is_named, gives_object}
 use Rattle.tree_starts.specs.Names.{is_plain}
-use Rattle.tree_handles.specs.Kind.{is_link}
-use Rattle.tree_handles.specs.Live.{FileEntry, live_entry, directory_of, file_of}
-use Rattle.tree_handles.proofs.HandleOf.{handle_of, is_among_names}
+use Rattle.tree_answers.specs.tree_handles_specs.Kind.{is_link}
+use Rattle.tree_answers.specs.tree_handles_specs.Live.{FileEntry, live_entry, directory_of, file_of}
+use Rattle.tree_answers.proofs.tree_handles_laws.HandleOf.{handle_of, is_among_names}
 use Rattle.tree_answers.specs.Look.{shows, getattr_is_legal, object_named, is_object_named, lookup_is_legal, has_text, readlink_is_legal, same_flag, read_is_right, read_is_legal, commit_is_legal}
 use Rattle.tree_answers.specs.Listing.{is_listing, readdir_is_legal, readdirplus_is_legal, are_all_listed}
 use Rattle.file_tree.specs.Change.{Change}

@@ -9,9 +9,9 @@ use Rattle.nfs3_types.specs.declared.replies.NfsReply.{NfsReply}
 use Rattle.nfs3_types.specs.declared.replies.Outcome.TheVariants.{Received}
 use Rattle.nfs3_types.specs.Procedures.{is_answered, failure_in}
 use Rattle.tree_nodes.specs.Tree.{Tree}
-use Rattle.tree_handles.specs.Binding.{Bindings, is_named}
-use Rattle.tree_handles.specs.Kind.{is_link}
-use Rattle.tree_handles.specs.Live.{live_entry, directory_of, file_of}
+use Rattle.tree_answers.specs.tree_handles_specs.Binding.{Bindings, is_named}
+use Rattle.tree_answers.specs.tree_handles_specs.Kind.{is_link}
+use Rattle.tree_answers.specs.tree_handles_specs.Live.{live_entry, directory_of, file_of}
 use Rattle.tree_answers.specs.Look.{object_named}
 use Rattle.file_tree.specs.Success.{next_tree, change_taken}
 

@@ -7,7 +7,7 @@ use Rattle.nfs3_types.specs.declared.replies.Outcome.TheVariants.{Received, Take
 use Rattle.tree_starts.specs.declared.profile.Profile.{Profile}
 use Rattle.tree_starts.specs.declared.profile.Profile.TheVariants.{Plain, Strict}
 use Rattle.tree_nodes.specs.Tree.{Tree}
-use Rattle.tree_handles.specs.Binding.{Bindings}
+use Rattle.tree_answers.specs.tree_handles_specs.Binding.{Bindings}
 use Rattle.file_tree.specs.Change.{Change}
 use Rattle.file_tree.specs.Strict.{agrees, judged}
 use Rattle.file_tree.specs.Success.{changed, change_of}

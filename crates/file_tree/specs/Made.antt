@@ -19,8 +19,8 @@ use Rattle.nfs3_types.specs.Limits.{file_limit}
 use Rattle.tree_nodes.specs.Files.{node_limit, file_node}
 use Rattle.tree_stores.specs.Files.{resized}
 use Rattle.tree_nodes.specs.Tree.{Names, Tree, entry_of}
-use Rattle.tree_handles.specs.Binding.{Bindings, gives_object}
-use Rattle.tree_handles.specs.Live.{directory_of}
+use Rattle.tree_answers.specs.tree_handles_specs.Binding.{Bindings, gives_object}
+use Rattle.tree_answers.specs.tree_handles_specs.Live.{directory_of}
 use Rattle.tree_starts.specs.Names.{is_plain}
 
 -- a value where a test passes

@@ -10,11 +10,11 @@ use Rattle.tree_nodes.specs.declared.node.Node.{Node}
 use Rattle.tree_nodes.specs.declared.node.Content.{Content}
 use Rattle.tree_nodes.specs.Tree.{Names, Tree, same_path, is_bare}
 use Rattle.tree_nodes.specs.Moved.{is_from}
-use Rattle.tree_handles.specs.Binding.{Bindings}
-use Rattle.tree_handles.specs.Live.{directory_of}
+use Rattle.tree_answers.specs.tree_handles_specs.Binding.{Bindings}
+use Rattle.tree_answers.specs.tree_handles_specs.Live.{directory_of}
 use Rattle.tree_starts.specs.Names.{is_plain}
-use Rattle.tree_handles.specs.Entry.{named}
-use Rattle.tree_handles.specs.Kind.{is_directory}
+use Rattle.tree_answers.specs.tree_handles_specs.Entry.{named}
+use Rattle.tree_answers.specs.tree_handles_specs.Kind.{is_directory}
 use Rattle.tree_answers.specs.Look.{same_flag}
 use Rattle.file_tree.specs.Made.{only_if}
 

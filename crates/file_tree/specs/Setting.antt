@@ -10,7 +10,7 @@ use Rattle.tree_starts.specs.Start.{object_made}
 use Rattle.tree_starts.specs.declared.profile.Profile.{Profile}
 use Rattle.tree_starts.specs.declared.profile.Profile.TheVariants.{Plain, Strict}
 use Rattle.tree_nodes.specs.Tree.{Tree}
-use Rattle.tree_handles.specs.Binding.{Bindings}
+use Rattle.tree_answers.specs.tree_handles_specs.Binding.{Bindings}
 use Rattle.file_tree.specs.Strict.{judged}
 use Rattle.file_tree.specs.Success.{next_tree}
 

@@ -18,9 +18,9 @@ use Rattle.reply_attributes.specs.Attributes.{post_attr, pre_size, entries_of, t
 use Rattle.tree_nodes.specs.declared.node.Content.{Content}
 use Rattle.tree_nodes.specs.declared.node.Content.TheVariants as contents
 use Rattle.tree_nodes.specs.Tree.{Names, Tree, entry_of}
-use Rattle.tree_handles.specs.Binding.{Bindings}
-use Rattle.tree_handles.specs.Live.{live_entry, directory_of}
-use Rattle.tree_handles.specs.Entry.{entry_at}
+use Rattle.tree_answers.specs.tree_handles_specs.Binding.{Bindings}
+use Rattle.tree_answers.specs.tree_handles_specs.Live.{live_entry, directory_of}
+use Rattle.tree_answers.specs.tree_handles_specs.Entry.{entry_at}
 use Rattle.tree_answers.specs.Asked.{first_handle, second_handle, first_place}
 use Rattle.tree_answers.specs.Look.{object_named}
 

@@ -20,7 +20,7 @@ use Rattle.file_tree.specs.Change.{Change}
 use Rattle.file_tree.specs.Change.Change.{Keep, Put, Remove, Move}
 use Rattle.tree_nodes.specs.Tree.{Tree}
 use Rattle.tree_nodes.specs.Moved.{moved}
-use Rattle.tree_handles.specs.Binding.{Bindings}
+use Rattle.tree_answers.specs.tree_handles_specs.Binding.{Bindings}
 use Rattle.tree_answers.specs.Look.{getattr_is_legal, lookup_is_legal, readlink_is_legal, read_is_legal, commit_is_legal}
 use Rattle.nfs3_types.specs.Procedures.{is_answered, failure_in}
 use Rattle.tree_answers.specs.Failure.{is_permitted}

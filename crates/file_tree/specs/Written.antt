@@ -11,8 +11,8 @@ use Rattle.nfs3_types.specs.Limits.{file_limit}
 use Rattle.tree_nodes.specs.Files.{file_node}
 use Rattle.tree_stores.specs.Files.{written}
 use Rattle.tree_nodes.specs.Tree.{Tree}
-use Rattle.tree_handles.specs.Binding.{Bindings}
-use Rattle.tree_handles.specs.Live.{FileEntry, live_entry, file_of}
+use Rattle.tree_answers.specs.tree_handles_specs.Binding.{Bindings}
+use Rattle.tree_answers.specs.tree_handles_specs.Live.{FileEntry, live_entry, file_of}
 use Rattle.file_tree.specs.Made.{only_if, set_size}
 
 -- SETATTR, RFC 1813, section 3.3.2: with a size a file is cut, or filled with zeros, to it; without one the tree stays

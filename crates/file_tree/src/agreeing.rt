@@ -7,7 +7,7 @@ ghost use Rattle.reply_attributes.specs.declared.role.Role.TheVariants.{Second};
 ghost use Rattle.tree_answers.specs.Asked.{first_place, second_handle};
 ghost use Rattle.tree_nodes.specs.Numbered.{IsNumbered};
 ghost use Rattle.tree_nodes.specs.Place.{path_of};
-ghost use Rattle.tree_handles.specs.Standing.{place_of};
+ghost use Rattle.tree_answers.specs.tree_handles_specs.Standing.{place_of};
 ghost use Rattle.file_tree.specs.Change.{Change};
 ghost use Rattle.file_tree.specs.Planning.{Does};
 ghost use Rattle.file_tree.specs.Strict.{is_size, fits, had_size, told_at, handle_agrees, answer_agrees, entry_agrees, entries_agree, agrees};
@@ -18,8 +18,8 @@ use crate::object_change::ObjectChange;
 use crate::told::{told, told_after, told_at, told_of};
 use nfs3_types::{DirectoryEntryPlus, DirectoryName, FileHandle, NfsCall, NfsReply};
 use reply_attributes::{Role, entries_of, post_attr, pre_size, type_and_size};
+use tree_answers::tree_handles::{View, directory_of, entry_at};
 use tree_answers::{first_handle, first_place, second_handle};
-use tree_handles::{View, directory_of, entry_at};
 use tree_nodes::Nodes;
 
 /// Whether a size is a file's length.

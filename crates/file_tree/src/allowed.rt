@@ -4,8 +4,8 @@ ghost use Rattle.std.specs.Prelude.{◌≡◌, IfOk, Option, None, false, is_som
 ghost use Rattle.std.specs.Option.{option_copied, option_map_or};
 ghost use Rattle.tree_nodes.specs.Tree.{Tree};
 ghost use Rattle.tree_nodes.specs.declared.node.Node.{Node};
-ghost use Rattle.tree_handles.specs.Kind.{is_link};
-ghost use Rattle.tree_handles.specs.Live.{live_entry};
+ghost use Rattle.tree_answers.specs.tree_handles_specs.Kind.{is_link};
+ghost use Rattle.tree_answers.specs.tree_handles_specs.Live.{live_entry};
 ghost use Rattle.file_tree.specs.Change.{Change};
 ghost use Rattle.file_tree.specs.Planning.{Plans};
 ghost use Rattle.file_tree.specs.Success.{change_taken};
@@ -17,7 +17,7 @@ use nfs3_types::{DirectoryName, FileHandle, NfsCall};
 use replay_law::StepFault;
 use std::alloc::{AllocError, Global};
 use tree_answers::object_named;
-use tree_handles::{View, directory_of, file_of, is_link, live_entry};
+use tree_answers::tree_handles::{View, directory_of, file_of, is_link, live_entry};
 
 /// A LOOKUP finds an object that has a handle.
 fn may_be_found(view: &View<'_>, place: &DirectoryName) -> bool

@@ -13,7 +13,7 @@ use crate::object_change::ObjectChange;
 use nfs3_types::{CreateArguments, CreateMode, FILE_LIMIT, FileHandle, Verifier};
 use replay_law::StepFault;
 use std::alloc::{AllocError, Global};
-use tree_handles::{View, directory_of, gives_object, is_plain};
+use tree_answers::tree_handles::{View, directory_of, gives_object, is_plain};
 use tree_nodes::{Content, File, Node, Nodes};
 use tree_stores::FileBytes;
 

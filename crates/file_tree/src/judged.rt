@@ -13,7 +13,7 @@ use crate::success::change_of;
 use nfs3_types::{NfsCall, Outcome};
 use replay_law::StepFault;
 use std::alloc::Global;
-use tree_handles::View;
+use tree_answers::tree_handles::View;
 use tree_starts::Profile;
 
 /// Whether a reply, if one came, agrees with the tree as it stands and with the tree after its change.

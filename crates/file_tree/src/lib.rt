@@ -17,6 +17,7 @@ mod write;
 
 pub use setting::TreeSetting;
 pub use tree::FileTree;
-pub use tree_handles::Binds;
+pub use tree_answers;
+pub use tree_answers::tree_handles::Binds;
 pub use tree_nodes::Undo;
 pub use tree_starts::{Profile, SeenStart, Start, StartFault, StartNode, StartObject};

@@ -10,7 +10,7 @@ use crate::object_change::ObjectChange;
 use nfs3_types::{DirectoryName, FileHandle, MkDirArguments, SetAttrArguments, SymLinkArguments};
 use replay_law::StepFault;
 use std::alloc::Global;
-use tree_handles::{
+use tree_answers::tree_handles::{
     View, directory_of, file_of, gives_object, is_directory, is_plain, live_entry, named,
 };
 use tree_nodes::{Bytes, Content, Node};

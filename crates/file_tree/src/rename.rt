@@ -10,7 +10,7 @@ ghost use Rattle.file_tree.specs.Removed.{may_replace, rename_at, rename};
 use crate::object_change::ObjectChange;
 use nfs3_types::RenameArguments;
 use replay_law::StepFault;
-use tree_handles::{View, directory_of, is_directory, is_plain, named};
+use tree_answers::tree_handles::{View, directory_of, is_directory, is_plain, named};
 use tree_nodes::{Content, Node, Nodes};
 
 /// Whether such an object may take the place of a node, if any: both are directories, or neither is.

@@ -1,6 +1,6 @@
 //! What a run of calls is judged by.
 
-use tree_handles::Binds;
+use tree_answers::tree_handles::Binds;
 use tree_starts::{Profile, Start};
 
 /// What stays the same over a run: what the handles name, what stood at first, and how strictly replies are judged.

@@ -17,11 +17,11 @@ use nfs3_types::{
 };
 use replay_law::StepFault;
 use std::alloc::Global;
+use tree_answers::tree_handles::View;
 use tree_answers::{
     commit_is_legal, getattr_is_legal, is_permitted, lookup_is_legal, read_is_legal,
     readdir_is_legal, readdirplus_is_legal, readlink_is_legal,
 };
-use tree_handles::View;
 
 /// The tree stays, where this is right.
 fn keep_if<'a>(right: bool) -> Result<ObjectChange<'a>, StepFault>

@@ -17,7 +17,7 @@ ghost use Rattle.file_tree.specs.Success.{changed};
 use crate::object_change::ObjectChange;
 use nfs3_types::{DirectoryName, FileType};
 use tree_answers::object_named;
-use tree_handles::{View, directory_of};
+use tree_answers::tree_handles::{View, directory_of};
 use tree_nodes::{Content, Nodes};
 
 /// The number of an object's type, and of a file its length.

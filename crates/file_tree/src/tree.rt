@@ -23,7 +23,7 @@ use nfs3_types::{NfsCall, Outcome};
 use replay_law::{Replayable, StepFault};
 use std::alloc::{AllocError, Global};
 use std::marker::Model;
-use tree_handles::{Binds, View};
+use tree_answers::tree_handles::{Binds, View};
 use tree_nodes::{Nodes, Undo};
 use tree_starts::{Profile, SeenStart};
 

@@ -9,7 +9,7 @@ ghost use Rattle.file_tree.specs.Written.{level_rank, reaches, write_at, write_c
 use crate::object_change::ObjectChange;
 use nfs3_types::{StableHow, WriteArguments};
 use replay_law::StepFault;
-use tree_handles::{View, file_of};
+use tree_answers::tree_handles::{View, file_of};
 use tree_nodes::{File, Nodes, front, is_within_limit};
 
 /// How much a level promises.

@@ -1,20 +1,14 @@
-//! What becomes of a history where events are put behind the others, one by one. Each fault is a case of `verdict_cases`.
+//! What becomes of a history to which events are appended one by one. Each fault is a case of `command_cases`.
 
-use crate::events::{call, create, created, reply, write};
-use crate::reading::EXAMPLE;
+use crate::histories::{Happened, answered, built};
+use crate::reading::{CREATE, EXAMPLE, WRITE};
 use nfs_history::{Event, History, HistoryFault, Meaning, RecordedCall, read_history};
-use nfs3_types::FileHandle;
 use std::alloc::{AllocError, Global};
 use std::test::Fail;
 
-/// A history of no events.
-fn empty(alloc: Global) -> Result<History, HistoryFault> {
-    History::build(alloc, FileHandle::from_slice(alloc, &[0])?, Vec::new(alloc))
-}
-
 /// What the events of another history give, appended one by one.
 fn appended(alloc: Global, other: &History) -> Result<History, HistoryFault> {
-    let mut history = empty(alloc)?;
+    let mut history = built(alloc, &[])?;
     for event in other.events() {
         let copy = Event::from_seen(alloc, &event.as_seen())?;
         history.append(copy)?;
@@ -37,14 +31,35 @@ fn are_same(history: &History, other: &History) -> bool {
         return false;
     }
     let (calls, others) = (history.recorded_calls(), other.recorded_calls());
+    for (call, other) in calls.iter().zip(others) {
+        if !is_same(call, other) {
+            return false;
+        }
+    }
     calls.len() == others.len()
-        && calls
-            .iter()
-            .zip(others)
-            .all(|(call, other)| is_same(call, other))
 }
 
-/// Why an event isn't put behind the others, where the history stays as it was.
+/// Whether a history with so many events, calls and eras is what its events give, appended one by one.
+fn is_as_appended(
+    alloc: Global,
+    history: &History,
+    (events, calls, eras): (usize, u64, u64),
+) -> Result<bool, HistoryFault> {
+    let appended = appended(alloc, history)?;
+    let counted = history.events().len() == events
+        && history.calls() == calls
+        && history.eras() == eras;
+    Ok(counted && are_same(&appended, history))
+}
+
+#[test]
+fn events_one_by_one_give_what_is_read(rt: HostRuntime) -> Result<(), Fail> {
+    let history = read_history(rt.alloc(), EXAMPLE)?;
+    assert!(rt; is_as_appended(rt.alloc(), &history, (6, 3, 1))?);
+    Ok(())
+}
+
+/// Why an event isn't appended, if the history stays as it was.
 fn refusal(history: &mut History, event: Event) -> Option<HistoryFault> {
     let before = (history.events().len(), history.calls(), history.eras());
     match history.append(event) {
@@ -56,29 +71,11 @@ fn refusal(history: &mut History, event: Event) -> Option<HistoryFault> {
     }
 }
 
-/// What the example's events give, one by one.
-fn appended_example(alloc: Global) -> Result<History, HistoryFault> {
-    let read = read_history(alloc, EXAMPLE)?;
-    appended(alloc, &read)
-}
-
-/// Whether that is what is read.
-fn is_as_read(alloc: Global) -> Result<bool, HistoryFault> {
-    let history = appended_example(alloc)?;
-    let read = read_history(alloc, EXAMPLE)?;
-    Ok(are_same(&history, &read))
-}
-
-#[test]
-fn events_one_by_one_give_what_is_read(rt: HostRuntime) -> Result<(), Fail> {
-    assert!(rt; is_as_read(rt.alloc())?);
-    Ok(())
-}
-
-/// Whether a crash is put behind the example, once a reply to no call was refused.
+/// Whether a crash is appended to the example's events, after a reply to no call was refused.
 fn goes_on(alloc: Global) -> Result<bool, HistoryFault> {
-    let mut history = appended_example(alloc)?;
-    let unasked = reply(alloc, 1, created(), 9)?;
+    let read = read_history(alloc, EXAMPLE)?;
+    let mut history = appended(alloc, &read)?;
+    let unasked = answered(alloc, 1, 9, CREATE)?;
     let refused = refusal(&mut history, unasked) == Some(HistoryFault::NoSuchCall(7));
     history.reserve()?;
     history.append(Event::Crash)?;
@@ -86,54 +83,36 @@ fn goes_on(alloc: Global) -> Result<bool, HistoryFault> {
 }
 
 #[test]
-fn a_history_goes_on_behind_a_refusal(rt: HostRuntime) -> Result<(), Fail> {
+fn a_history_goes_on_after_a_refusal(rt: HostRuntime) -> Result<(), Fail> {
     assert!(rt; goes_on(rt.alloc())?);
     Ok(())
 }
 
 /// Event `number` of a long history: two calls, a reply to the first, and a close or, at each tenth time, a crash.
-fn long_event(alloc: Global, number: u8) -> Result<Event, AllocError> {
+fn long_event(number: u32) -> Happened {
     let round = number / 4;
-    let lane = u32::from(round / 10) + 1;
+    let lane = round / 10 + 1;
     match number % 4 {
-        0 => call(alloc, lane, create(), number),
-        1 => call(alloc, lane, write(), number),
-        2 => reply(alloc, lane, created(), number - 2),
-        _ if round % 10 == 9 => Ok(Event::Crash),
-        _ => Ok(Event::Close {
-            lane: 100 + u32::from(round),
-        }),
+        0 => Happened::Asked(lane, number, CREATE),
+        1 => Happened::Asked(lane, number, WRITE),
+        2 => Happened::Answered(lane, number - 2, CREATE),
+        _ if round % 10 == 9 => Happened::Crashed,
+        _ => Happened::Closed(100 + round),
     }
 }
 
-/// The long history, of events one by one.
-fn long_appended(alloc: Global) -> Result<History, HistoryFault> {
-    let mut history = empty(alloc)?;
-    for number in 0..200u8 {
-        history.append(long_event(alloc, number)?)?;
+/// The long history, which is built of its events.
+fn long_history(alloc: Global) -> Result<History, HistoryFault> {
+    let mut list = Vec::new(alloc);
+    for number in 0..200 {
+        list.push(long_event(number))?;
     }
-    Ok(history)
-}
-
-/// The same, built of its events.
-fn long_built(alloc: Global) -> Result<History, HistoryFault> {
-    let mut events = Vec::new(alloc);
-    for number in 0..200u8 {
-        events.push(long_event(alloc, number)?)?;
-    }
-    History::build(alloc, FileHandle::from_slice(alloc, &[0])?, events)
-}
-
-/// Whether both are the same, of so many events, calls and eras.
-fn are_both(alloc: Global, events: usize, calls: u64, eras: u64) -> Result<bool, HistoryFault> {
-    let built = long_built(alloc)?;
-    let appended = long_appended(alloc)?;
-    let counted = built.events().len() == events && built.calls() == calls && built.eras() == eras;
-    Ok(counted && are_same(&appended, &built))
+    built(alloc, list.as_slice())
 }
 
 #[test]
 fn many_events_give_what_is_built_of_them(rt: HostRuntime) -> Result<(), Fail> {
-    assert!(rt; are_both(rt.alloc(), 200, 100, 6)?);
+    let history = long_history(rt.alloc())?;
+    assert!(rt; is_as_appended(rt.alloc(), &history, (200, 100, 6))?);
     Ok(())
 }

@@ -1,4 +1,4 @@
-//! A put that is refused memory. What items are in bytes is a case of `verdict_cases`.
+//! A put that is refused memory. What items are in bytes is a case of `command_cases`.
 
 use std::alloc::{AllocError, Global};
 use std::test::Fail;
@@ -24,27 +24,26 @@ fn put(out: &mut Vec<u8>, item: Item) -> Result<(), AllocError> {
     }
 }
 
-// A byte that stands ahead of what is put.
-fn one_byte(alloc: Global) -> Result<Vec<u8>, AllocError> {
+/// A 7, which is made once more where memory was refused.
+fn seven(alloc: Global) -> Result<Vec<u8>, AllocError> {
     match Vec::from_slice(alloc, &[7]) {
         Err(_) => Vec::from_slice(alloc, &[7]),
         bytes => bytes,
     }
 }
 
-/// Whether an item that is put behind a byte gives these, and leaves the byte alone where it is refused memory; it is put once more then.
+/// Whether an item that is put after a 7 gives these bytes. Where it is refused memory the 7 has to be alone, and it is put once more.
 fn is_put(alloc: Global, item: Item, want: &[u8]) -> Result<bool, AllocError> {
-    let mut out = one_byte(alloc)?;
+    let mut out = seven(alloc)?;
+    let mut kept = true;
     if put(&mut out, item).is_err() {
-        if out.as_slice() != [7].as_slice() {
-            return Ok(false);
-        }
+        kept = out.as_slice() == [7].as_slice();
         put(&mut out, item)?;
     }
-    Ok(out.as_slice() == want)
+    Ok(kept && out.as_slice() == want)
 }
 
-/// An item of each kind, and its bytes behind a 7 (RFC 4506, section 4).
+/// An item of each kind, and its bytes after a 7 (RFC 4506, section 4).
 const ITEMS: [(Item, &[u8]); 5] = [
     (Item::Word(9), b"\x07\0\0\0\x09"),
     (Item::LongWord(9), b"\x07\0\0\0\0\0\0\0\x09"),
@@ -55,10 +54,9 @@ const ITEMS: [(Item, &[u8]); 5] = [
 
 // It passes as well where any one allocation is refused, as by `rt try --test --fail-alloc N`.
 #[test]
-fn a_refused_put_leaves_what_stands(rt: HostRuntime) -> Result<(), Fail> {
+fn a_refused_put_leaves_what_is_there(rt: HostRuntime) -> Result<(), Fail> {
     for (item, want) in ITEMS {
-        let well = is_put(rt.alloc(), item, want)?;
-        assert!(rt; well, "{want:?}");
+        assert!(rt; is_put(rt.alloc(), item, want)?, "{want:?}");
     }
     Ok(())
 }

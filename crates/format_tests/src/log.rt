@@ -11,7 +11,7 @@ pub(crate) fn new_log(alloc: Global) -> Result<TapLog, AllocError> {
     Ok(TapLog::new(alloc, FileHandle::from_slice(alloc, &[0])?))
 }
 
-/// What a log is told of.
+/// What a log is told.
 #[derive(Clone, Copy)]
 enum Told {
     Call(u32, &'static [u8]),
@@ -29,23 +29,6 @@ fn note(log: &mut TapLog, told: Told) -> Result<(), NoteFault> {
     }
 }
 
-/// Whether what a log is told of one after the other comes out so.
-fn all_end(log: &mut TapLog, steps: &[(Told, Result<(), NoteFault>)]) -> bool {
-    for (told, want) in steps {
-        if note(log, *told) != *want {
-            return false;
-        }
-    }
-    true
-}
-
-fn is_call(event: Option<&Event>, lane: u32, bytes: &[u8]) -> bool {
-    match event {
-        Some(Event::Call { lane: on, message }) => *on == lane && message.as_slice() == bytes,
-        _ => false,
-    }
-}
-
 /// A call, a crash and a close, and what none of them lets follow.
 const CALL_AND_CRASH: &[(Told, Result<(), NoteFault>)] = &[
     (Told::Call(1, CALL), Ok(())),
@@ -56,14 +39,6 @@ const CALL_AND_CRASH: &[(Told, Result<(), NoteFault>)] = &[
     (Told::Call(3, b""), Err(NoteFault::BadRpc)),
     (Told::Close(4), Ok(())),
 ];
-
-#[test]
-fn notes_what_may_follow(rt: HostRuntime) -> Result<(), Fail> {
-    let mut log = new_log(rt.alloc())?;
-    assert!(rt; all_end(&mut log, CALL_AND_CRASH));
-    assert!(rt; log.events().len() == 3 && is_call(log.events().first(), 1, CALL));
-    Ok(())
-}
 
 /// A call and its reply, and a call and its lane's close.
 const REPLY_AND_CLOSE: &[(Told, Result<(), NoteFault>)] = &[
@@ -76,18 +51,45 @@ const REPLY_AND_CLOSE: &[(Told, Result<(), NoteFault>)] = &[
     (Told::Close(1), Err(NoteFault::LaneClosed)),
 ];
 
+/// Whether each of these ends so, one after the other.
+fn all_end(log: &mut TapLog, steps: &[(Told, Result<(), NoteFault>)]) -> bool {
+    for (told, want) in steps {
+        if note(log, *told) != *want {
+            return false;
+        }
+    }
+    true
+}
+
+/// Whether a log has so many events, of which the first is the call on lane 1, and the root handle 0.
+fn has(log: &TapLog, count: usize) -> bool {
+    let is_call = match log.events().first() {
+        Some(Event::Call { lane: 1, message }) => message.as_slice() == CALL,
+        _ => false,
+    };
+    is_call && log.events().len() == count && log.root().as_slice() == [0].as_slice()
+}
+
+/// Whether a log that is told these ends so, and has so many events then.
+fn notes(
+    alloc: Global,
+    steps: &[(Told, Result<(), NoteFault>)],
+    count: usize,
+) -> Result<bool, AllocError> {
+    let mut log = new_log(alloc)?;
+    Ok(all_end(&mut log, steps) && has(&log, count))
+}
+
 #[test]
-fn notes_a_reply_and_a_close_once(rt: HostRuntime) -> Result<(), Fail> {
-    let mut log = new_log(rt.alloc())?;
-    assert!(rt; all_end(&mut log, REPLY_AND_CLOSE));
-    assert!(rt; log.events().len() == 4 && log.root().as_slice() == [0].as_slice());
+fn notes_what_may_follow_once(rt: HostRuntime) -> Result<(), Fail> {
+    assert!(rt; notes(rt.alloc(), CALL_AND_CRASH, 3)? && notes(rt.alloc(), REPLY_AND_CLOSE, 4)?);
     Ok(())
 }
 
 #[test]
 fn room_is_kept_for_closes(rt: HostRuntime) -> Result<(), Fail> {
     let log = new_log(rt.alloc())?;
-    // Ahead of the events stand 20 bytes; a record takes 12 bytes more than its message, and a close 8.
+    // The head takes 20 bytes, a record 12 more than its message, and a close 8.
     let most = 268_435_456 - (20 + 12 + 4_096 * 8);
     assert!(rt; log.has_room(most) && !log.has_room(most + 1));
     Ok(())
@@ -106,23 +108,25 @@ fn note_again(log: &mut TapLog, told: Told) -> Result<bool, NoteFault> {
     Ok(kept)
 }
 
-/// Notes a call, its reply, a close and a crash on each of six lanes.
-fn note_rounds(log: &mut TapLog) -> Result<bool, NoteFault> {
-    let mut kept = true;
-    for lane in 0..6 {
-        kept &= note_again(log, Told::Call(lane, CALL))?;
-        kept &= note_again(log, Told::Reply(lane, REPLY))?;
-        kept &= note_again(log, Told::Close(lane))?;
-        kept &= note_again(log, Told::Crash)?;
+/// What is told at the n-th time: a call, its reply, a close and a crash on each of six lanes, and then a call on each of twenty.
+fn told_at(number: u32) -> Told {
+    let lane = number / 4;
+    if number >= 24 {
+        return Told::Call(number, CALL);
     }
-    Ok(kept)
+    match number % 4 {
+        0 => Told::Call(lane, CALL),
+        1 => Told::Reply(lane, REPLY),
+        2 => Told::Close(lane),
+        _ => Told::Crash,
+    }
 }
 
-/// Notes a call on each of twenty more.
-fn note_calls(log: &mut TapLog) -> Result<bool, NoteFault> {
+/// Notes all of these, and says whether the log was left as it was at each refusal.
+fn note_all(log: &mut TapLog) -> Result<bool, NoteFault> {
     let mut kept = true;
-    for lane in 6..26 {
-        kept &= note_again(log, Told::Call(lane, CALL))?;
+    for number in 0..44 {
+        kept &= note_again(log, told_at(number))?;
     }
     Ok(kept)
 }
@@ -134,7 +138,7 @@ fn a_refused_growth_leaves_the_log(rt: HostRuntime) -> Result<(), Fail> {
         Ok(log) => log,
         Err(AllocError) => new_log(rt.alloc())?,
     };
-    assert!(rt; note_rounds(&mut log)? && note_calls(&mut log)?);
-    assert!(rt; log.events().len() == 44 && log.note_call(7, CALL) == Err(NoteFault::XidInUse));
+    assert!(rt; note_all(&mut log)?);
+    assert!(rt; log.events().len() == 44 && log.note_call(30, CALL) == Err(NoteFault::XidInUse));
     Ok(())
 }

@@ -1,37 +1,35 @@
-//! What a history shows of a file and of events. Each fault of a file is a case of `verdict_cases`.
+//! What a history shows of a file and of events. Each fault of a file is a case of `command_cases`.
 
-use crate::events::{call, create, created, reply, write};
+use crate::histories::{Happened, built, file};
+use crate::requests::{Request, SYNCED};
 use nfs_history::{Event, History, HistoryFault, read_history};
-use nfs3_types::FileHandle;
 use std::alloc::Global;
 use std::test::Fail;
 
-/// CREATE of "a" and WRITE of "abc" on lane 1, then READ on lane 2, each with its reply.
+/// CREATE of "a" and WRITE of "abc" on lane 1, then READ on lane 2, each with its reply (docs/FORMATS.md).
 pub(crate) const EXAMPLE: &[u8] = b"\
-    \x4e\x46\x53\x48\x49\x53\x54\x31\x00\x00\x00\x01\x00\x00\x00\x00\x00\x00\x00\x06\
-    \x00\x00\x00\x00\x00\x00\x00\x01\x00\x00\x00\x54\x00\x00\x00\x01\x00\x00\x00\x00\
-    \x00\x00\x00\x02\x00\x01\x86\xa3\x00\x00\x00\x03\x00\x00\x00\x08\x00\x00\x00\x00\
-    \x00\x00\x00\x00\x00\x00\x00\x00\x00\x00\x00\x00\x00\x00\x00\x01\x00\x00\x00\x00\
-    \x00\x00\x00\x01\x61\x00\x00\x00\x00\x00\x00\x00\x00\x00\x00\x00\x00\x00\x00\x00\
-    \x00\x00\x00\x00\x00\x00\x00\x00\x00\x00\x00\x00\x00\x00\x00\x00\x00\x00\x00\x01\
-    \x00\x00\x00\x01\x00\x00\x00\x34\x00\x00\x00\x01\x00\x00\x00\x01\x00\x00\x00\x00\
-    \x00\x00\x00\x00\x00\x00\x00\x00\x00\x00\x00\x00\x00\x00\x00\x00\x00\x00\x00\x01\
-    \x00\x00\x00\x01\xaa\x00\x00\x00\x00\x00\x00\x00\x00\x00\x00\x00\x00\x00\x00\x00\
-    \x00\x00\x00\x00\x00\x00\x00\x01\x00\x00\x00\x48\x00\x00\x00\x02\x00\x00\x00\x00\
-    \x00\x00\x00\x02\x00\x01\x86\xa3\x00\x00\x00\x03\x00\x00\x00\x07\x00\x00\x00\x00\
-    \x00\x00\x00\x00\x00\x00\x00\x00\x00\x00\x00\x00\x00\x00\x00\x01\xaa\x00\x00\x00\
-    \x00\x00\x00\x00\x00\x00\x00\x00\x00\x00\x00\x03\x00\x00\x00\x02\x00\x00\x00\x03\
-    \x61\x62\x63\x00\x00\x00\x00\x01\x00\x00\x00\x01\x00\x00\x00\x34\x00\x00\x00\x02\
-    \x00\x00\x00\x01\x00\x00\x00\x00\x00\x00\x00\x00\x00\x00\x00\x00\x00\x00\x00\x00\
-    \x00\x00\x00\x00\x00\x00\x00\x00\x00\x00\x00\x00\x00\x00\x00\x03\x00\x00\x00\x02\
-    \x00\x00\x00\x00\x00\x00\x00\x01\x00\x00\x00\x00\x00\x00\x00\x02\x00\x00\x00\x3c\
-    \x00\x00\x00\x03\x00\x00\x00\x00\x00\x00\x00\x02\x00\x01\x86\xa3\x00\x00\x00\x03\
-    \x00\x00\x00\x06\x00\x00\x00\x00\x00\x00\x00\x00\x00\x00\x00\x00\x00\x00\x00\x00\
-    \x00\x00\x00\x01\xaa\x00\x00\x00\x00\x00\x00\x00\x00\x00\x00\x00\x00\x00\x00\x0a\
-    \x00\x00\x00\x01\x00\x00\x00\x02\x00\x00\x00\x30\x00\x00\x00\x03\x00\x00\x00\x01\
-    \x00\x00\x00\x00\x00\x00\x00\x00\x00\x00\x00\x00\x00\x00\x00\x00\x00\x00\x00\x00\
-    \x00\x00\x00\x00\x00\x00\x00\x03\x00\x00\x00\x01\x00\x00\x00\x03\x61\x62\x63\x00\
+    NFSHIST1\0\0\0\x01\0\0\0\0\0\0\0\x06\
+    \0\0\0\0\0\0\0\x01\0\0\0T\
+    \0\0\0\x01\0\0\0\0\0\0\0\x02\0\x01\x86\xa3\0\0\0\x03\0\0\0\x08\0\0\0\0\0\0\0\0\0\0\0\0\0\0\0\0\0\0\0\x01\0\0\0\0\
+    \0\0\0\x01a\0\0\0\0\0\0\0\0\0\0\0\0\0\0\0\0\0\0\0\0\0\0\0\0\0\0\0\0\0\0\0\
+    \0\0\0\x01\0\0\0\x01\0\0\0\x34\
+    \0\0\0\x01\0\0\0\x01\0\0\0\0\0\0\0\0\0\0\0\0\0\0\0\0\0\0\0\0\0\0\0\x01\0\0\0\x01\xaa\0\0\0\0\0\0\0\0\0\0\0\0\0\0\0\
+    \0\0\0\0\0\0\0\x01\0\0\0H\
+    \0\0\0\x02\0\0\0\0\0\0\0\x02\0\x01\x86\xa3\0\0\0\x03\0\0\0\x07\0\0\0\0\0\0\0\0\0\0\0\0\0\0\0\0\0\0\0\x01\xaa\0\0\0\
+    \0\0\0\0\0\0\0\0\0\0\0\x03\0\0\0\x02\0\0\0\x03abc\0\
+    \0\0\0\x01\0\0\0\x01\0\0\0\x34\
+    \0\0\0\x02\0\0\0\x01\0\0\0\0\0\0\0\0\0\0\0\0\0\0\0\0\0\0\0\0\0\0\0\0\0\0\0\0\0\0\0\x03\0\0\0\x02\0\0\0\0\0\0\0\x01\
+    \0\0\0\0\0\0\0\x02\0\0\0\x3c\
+    \0\0\0\x03\0\0\0\0\0\0\0\x02\0\x01\x86\xa3\0\0\0\x03\0\0\0\x06\0\0\0\0\0\0\0\0\0\0\0\0\0\0\0\0\0\0\0\x01\xaa\0\0\0\
+    \0\0\0\0\0\0\0\0\0\0\0\x0a\
+    \0\0\0\x01\0\0\0\x02\0\0\0\x30\
+    \0\0\0\x03\0\0\0\x01\0\0\0\0\0\0\0\0\0\0\0\0\0\0\0\0\0\0\0\0\0\0\0\0\0\0\0\x03\0\0\0\x01\0\0\0\x03abc\0\
 ";
+
+/// The same CREATE and WRITE.
+pub(crate) const CREATE: Request = Request::Create(0, b'a', Some(0xaa));
+
+pub(crate) const WRITE: Request = Request::Write(0xaa, SYNCED, b"abc");
 
 fn message_of(event: &Event) -> &[u8] {
     match event {
@@ -45,7 +43,9 @@ fn are_shown(events: &[Event]) -> bool {
     let [first, second, third, _, _, _] = events else {
         return false;
     };
-    message_of(first) == create() && message_of(second) == created() && message_of(third) == write()
+    message_of(first) == &EXAMPLE[32..116]
+        && message_of(second) == &EXAMPLE[128..180]
+        && message_of(third) == &EXAMPLE[192..264]
 }
 
 /// Whether a history has the example's three calls.
@@ -57,10 +57,15 @@ fn has_calls(history: &History) -> bool {
     third && history.era(2) == 1 && history.outcome(1).is_some()
 }
 
+/// Whether the example is read, with its events and calls.
+fn is_read(alloc: Global) -> Result<bool, HistoryFault> {
+    let history = read_history(alloc, EXAMPLE)?;
+    Ok(are_shown(history.events()) && has_calls(&history))
+}
+
 #[test]
 fn a_history_shows_its_events_and_calls(rt: HostRuntime) -> Result<(), Fail> {
-    let history = read_history(rt.alloc(), EXAMPLE)?;
-    assert!(rt; are_shown(history.events()) && has_calls(&history));
+    assert!(rt; is_read(rt.alloc())?);
     Ok(())
 }
 
@@ -72,26 +77,71 @@ fn ends(history: &History) -> (u64, Option<u64>) {
     }
 }
 
-/// What is built of the example's CREATE and its reply, and one more event.
-fn built_with(alloc: Global, last: Event) -> Result<History, HistoryFault> {
-    let mut events = Vec::new(alloc);
-    events.push(call(alloc, 1, create(), 1)?)?;
-    events.push(reply(alloc, 1, created(), 1)?)?;
-    events.push(last)?;
-    History::build(alloc, FileHandle::from_slice(alloc, &[0])?, events)
-}
+/// An event after the CREATE and its reply, and when the last call begins and ends then.
+const BUILT: [(Happened, (u64, Option<u64>)); 2] = [
+    (Happened::Closed(1), (1, Some(2))),
+    (Happened::Asked(1, 2, WRITE), (3, None)),
+];
 
 /// Whether a history of these three events has its root, and a last call with this begin and end.
-fn is_built(alloc: Global, last: Event, want: (u64, Option<u64>)) -> Result<bool, HistoryFault> {
-    let history = built_with(alloc, last)?;
+fn is_built(alloc: Global, last: Happened, want: (u64, Option<u64>)) -> Result<bool, HistoryFault> {
+    let list = [Happened::Done(1, 1, CREATE), last];
+    let history = built(alloc, &list)?;
     let whole = history.events().len() == 3 && history.root().as_slice() == [0].as_slice();
     Ok(whole && ends(&history) == want)
 }
 
 #[test]
 fn a_history_is_built_of_events(rt: HostRuntime) -> Result<(), Fail> {
-    assert!(rt; is_built(rt.alloc(), Event::Close { lane: 1 }, (1, Some(2)))?);
-    let again = call(rt.alloc(), 1, write(), 2)?;
-    assert!(rt; is_built(rt.alloc(), again, (3, None))?);
+    for (last, want) in BUILT {
+        assert!(rt; is_built(rt.alloc(), last, want)?);
+    }
+    Ok(())
+}
+
+const READ: Happened = Happened::Asked(2, 3, Request::Read(0xaa, b"abc"));
+
+const WAS_READ: Happened = Happened::Done(2, 3, Request::Read(0xaa, b"abc"));
+
+const CREATED: Happened = Happened::Asked(1, 1, CREATE);
+
+/// Events of a file, how many eras they have, and the era of each call.
+const ERAS: &[(&[Happened], u64, &[u64])] = &[
+    (&[], 1, &[]),
+    (&[Happened::Crashed, WAS_READ], 2, &[2]),
+    (&[WAS_READ, Happened::Crashed], 2, &[1]),
+    (&[Happened::Crashed, Happened::Crashed, READ], 3, &[3]),
+    (
+        &[CREATED, Happened::Crashed, Happened::Crashed, READ],
+        3,
+        &[1, 3],
+    ),
+    (&[CREATED, Happened::Crashed, WAS_READ], 2, &[1, 2]),
+    (&[Happened::Closed(1), Happened::Crashed, READ], 2, &[2]),
+];
+
+/// Whether the calls have these eras.
+fn calls_have(history: &History, eras: &[u64]) -> bool {
+    for index in 0..history.calls() {
+        match eras.get(index as usize) {
+            Some(era) if history.era(index + 1) == *era => {}
+            _ => return false,
+        }
+    }
+    eras.len() as u64 == history.calls()
+}
+
+/// Whether a file has so many eras, and calls of these.
+fn has_eras(alloc: Global, file: &[u8], eras: u64, of_calls: &[u64]) -> Result<bool, HistoryFault> {
+    let history = read_history(alloc, file)?;
+    Ok(history.eras() == eras && calls_have(&history, of_calls))
+}
+
+#[test]
+fn each_call_has_its_era(rt: HostRuntime) -> Result<(), Fail> {
+    for (list, eras, of_calls) in ERAS {
+        let file = file(rt.alloc(), list)?;
+        assert!(rt; has_eras(rt.alloc(), file.as_slice(), *eras, of_calls)?);
+    }
     Ok(())
 }

@@ -2,7 +2,7 @@
 
 use std::io::{self, ErrorKind, Read, Write};
 
-/// What a stream gives behind its bytes.
+/// What a stream gives after its bytes.
 #[derive(Clone, Copy)]
 pub(crate) enum Then {
     End,
@@ -12,21 +12,17 @@ pub(crate) enum Then {
     Zeros,
 }
 
-/// Gives some bytes, at most so many at a time.
+/// Gives some bytes, at most so many at a time, and then this.
 #[derive(Clone, Copy)]
-pub(crate) struct Stream<'a> {
-    pub(crate) bytes: &'a [u8],
-    pub(crate) at_once: usize,
-    pub(crate) then: Then,
-}
+pub(crate) struct Stream<'a>(pub(crate) &'a [u8], pub(crate) usize, pub(crate) Then);
 
 impl Read for Stream<'_> {
     fn read(&mut self, buf: &mut [u8]) -> io::Result<usize> {
-        if !self.bytes.is_empty() {
-            let most = self.at_once.min(buf.len());
-            return self.bytes.read(&mut buf[..most]);
+        if !self.0.is_empty() {
+            let most = self.1.min(buf.len());
+            return self.0.read(&mut buf[..most]);
         }
-        match self.then {
+        match self.2 {
             Then::Fault => Err(io::Error::from(ErrorKind::ConnectionReset)),
             Then::Zeros if !buf.is_empty() => {
                 buf[0] = 0;

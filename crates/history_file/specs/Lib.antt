@@ -8,3 +8,4 @@ pub mod FileFaults
 pub mod FileReading
 pub mod Writing
 pub mod FaultText
+pub use Rattle.tree_starts.specs as tree_starts_specs

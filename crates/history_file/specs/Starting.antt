@@ -3,7 +3,7 @@
 use Rattle.std.specs.Prelude.{ℕ, zero, suc, ◌+◌, nat_le, Bool, if◌then◌else◌, List, [], ◌∷◌, ◌++◌, Result, Ok, Err}
 use Rattle.xdr_records.specs.Grammar.{Grammar, ◌>>=◌, either}
 use Rattle.xdr_records.specs.Grammar.Grammar.{one_long, one_opaque, named, nothing, refused}
-use Rattle.nfs3_types.specs.Limits.{file_limit}
+use Rattle.tree_starts.specs.nfs3_types_specs.Limits.{file_limit}
 use Rattle.tree_starts.specs.Start.{Key, key_of, is_parent, may_be_named, start_limit, text_limit}
 use Rattle.tree_starts.specs.declared.object.StartObject.{StartObject}
 use Rattle.tree_starts.specs.declared.object.StartNode.{StartNode}

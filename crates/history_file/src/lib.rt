@@ -16,5 +16,6 @@ pub use file::{SeenRecording, read_file};
 pub use items::ItemFault;
 pub use limits::{EVENT_LIMIT, HISTORY_LIMIT};
 pub use starting::read_objects;
+pub use tree_starts;
 pub use version::{Version, version_of};
 pub use writing::{WriteFault, write_history, write_history_from};

@@ -1,6 +1,6 @@
 //! The limits of a history file, this project's own.
 
-use nfs3_types::HANDLE_LIMIT;
+use tree_starts::nfs3_types::HANDLE_LIMIT;
 
 /// The most bytes of a history file.
 pub const HISTORY_LIMIT: usize = 268_435_456;

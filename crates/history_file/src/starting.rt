@@ -10,8 +10,8 @@ ghost use Rattle.history_file.specs.FileReading.{told, reading_of};
 
 use crate::fault::FileFault;
 use crate::items::{ItemFault, long, opaque, word};
-use nfs3_types::FILE_LIMIT;
 use std::alloc::Global;
+use tree_starts::nfs3_types::FILE_LIMIT;
 use tree_starts::{Profile, START_LIMIT, SeenNode, SeenObject, SeenStart, StartTable, TEXT_LIMIT};
 use xdr_records::Reader;
 

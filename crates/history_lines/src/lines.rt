@@ -6,7 +6,7 @@ ghost use Rattle.history_lines.specs.Printable.{IsLine};
 
 use crate::events::{BegunFile, UnreadEvents};
 use crate::look::{About, Look};
-use crate::messages::{Asked, push_call, push_reply};
+use crate::messages::{Asked, add_call, add_reply};
 use crate::start_lines::StartLines;
 use crate::text::{Line, Text};
 use history_file::{FileFault, SeenEvent};
@@ -15,26 +15,41 @@ use rpc_reader::{CallHead, ReplyHead, RpcFault, read_call, read_reply};
 use std::alloc::{AllocError, Global};
 
 /// The text of a line, as far as it is the same for each event.
-fn begin_text<'a>(alloc: Global, look: &'a Look, number: u64) -> Result<Text<'a>, AllocError> {
+fn begin_text<'a>(alloc: Global, look: &'a Look, number: u64) -> Text<'a> {
     let mut text = Text::of_look(alloc, look);
-    text.push_decimal(number)?;
-    Ok(text)
+    text.add_decimal(number);
+    text
 }
 
 /// Appends the connection of an event.
-fn push_lane(text: &mut Text<'_>, lane: u32) -> Result<(), AllocError> {
-    text.push_number(" lane ", u64::from(lane))
+fn add_lane(text: &mut Text<'_>, lane: u32) {
+    text.add_number(" lane ", u64::from(lane));
 }
 
 /// Appends what a verdict says of a call.
-fn push_mark(text: &mut Text<'_>, look: &Look, call: u64) -> Result<(), AllocError> {
+fn add_mark(text: &mut Text<'_>, look: &Look, call: u64) {
     if look.marks.fault == Some(call) {
-        return text.push_words(" <- the call at fault");
+        text.add_words(" <- the call at fault");
+    } else if look.marks.other == Some(call) {
+        text.add_words(" <- at fault with this one");
     }
-    if look.marks.other == Some(call) {
-        return text.push_words(" <- at fault with this one");
+}
+
+/// Appends what the message of a call says.
+fn add_call_message(
+    alloc: Global,
+    text: &mut Text<'_>,
+    call: u64,
+    message: &[u8],
+    read: &Result<CallHead<'_>, RpcFault>,
+) {
+    match read {
+        Ok(head) => {
+            text.add_word(" xid 0x", head.xid);
+            add_call(alloc, text, &Asked::of_head(call, head), head.args);
+        }
+        Err(_) => text.add_bytes(" no RPC call ", message),
     }
-    Ok(())
 }
 
 /// The text of a call, which is event `number`.
@@ -46,19 +61,38 @@ fn call_text<'a>(
     lane: u32,
     message: &[u8],
     read: &Result<CallHead<'_>, RpcFault>,
-) -> Result<Text<'a>, AllocError> {
-    let mut text = begin_text(alloc, look, number)?;
-    text.push_number(" call ", call)?;
-    push_lane(&mut text, lane)?;
+) -> Text<'a> {
+    let mut text = begin_text(alloc, look, number);
+    text.add_number(" call ", call);
+    add_lane(&mut text, lane);
+    add_call_message(alloc, &mut text, call, message, read);
+    add_mark(&mut text, look, call);
+    text
+}
+
+/// Appends which call a reply answers.
+fn add_answered(text: &mut Text<'_>, asked: Option<Asked>) {
+    match asked {
+        Some(asked) => text.add_number(" reply to call ", asked.number),
+        None => text.add_words(" reply to no call"),
+    }
+}
+
+/// Appends what the message of a reply says.
+fn add_reply_message(
+    alloc: Global,
+    text: &mut Text<'_>,
+    asked: Option<Asked>,
+    message: &[u8],
+    read: &Result<ReplyHead<'_>, RpcFault>,
+) {
     match read {
         Ok(head) => {
-            text.push_word(" xid 0x", head.xid)?;
-            push_call(alloc, &mut text, &Asked::of_head(call, head), head.args)?;
+            text.add_word(" xid 0x", head.xid);
+            add_reply(alloc, text, asked, &head.body);
         }
-        Err(_) => text.push_bytes(" no RPC call ", message)?,
+        Err(_) => text.add_bytes(" no RPC reply ", message),
     }
-    push_mark(&mut text, look, call)?;
-    Ok(text)
 }
 
 /// The text of a reply, which is event `number`.
@@ -70,37 +104,28 @@ fn reply_text<'a>(
     lane: u32,
     message: &[u8],
     read: &Result<ReplyHead<'_>, RpcFault>,
-) -> Result<Text<'a>, AllocError> {
-    let mut text = begin_text(alloc, look, number)?;
-    match asked {
-        Some(asked) => text.push_number(" reply to call ", asked.number)?,
-        None => text.push_words(" reply to no call")?,
-    }
-    push_lane(&mut text, lane)?;
-    match read {
-        Ok(head) => {
-            text.push_word(" xid 0x", head.xid)?;
-            push_reply(alloc, &mut text, asked, &head.body)?;
-        }
-        Err(_) => text.push_bytes(" no RPC reply ", message)?,
-    }
-    Ok(text)
+) -> Text<'a> {
+    let mut text = begin_text(alloc, look, number);
+    add_answered(&mut text, asked);
+    add_lane(&mut text, lane);
+    add_reply_message(alloc, &mut text, asked, message, read);
+    text
 }
 
 fn close_line(alloc: Global, look: &Look, number: u64, lane: u32) -> Result<Line, AllocError>
     ensures { IfOk result IsLine }
 {
-    let mut text = begin_text(alloc, look, number)?;
-    text.push_words(" close")?;
-    push_lane(&mut text, lane)?;
+    let mut text = begin_text(alloc, look, number);
+    text.add_words(" close");
+    add_lane(&mut text, lane);
     text.into_line()
 }
 
 fn crash_line(alloc: Global, look: &Look, number: u64) -> Result<Line, AllocError>
     ensures { IfOk result IsLine }
 {
-    let mut text = begin_text(alloc, look, number)?;
-    text.push_words(" crash")?;
+    let mut text = begin_text(alloc, look, number);
+    text.add_words(" crash");
     text.into_line()
 }
 
@@ -168,8 +193,8 @@ impl LineMaker {
         if !is_selected && self.look.sought.is_nothing() {
             return Ok((false, None));
         }
-        let text = call_text(self.alloc, &self.look, number, call, lane, message, read)?;
-        let is_met = self.look.sought.is_met(text.found());
+        let text = call_text(self.alloc, &self.look, number, call, lane, message, read);
+        let is_met = self.look.sought.is_met(text.found()?);
         if !is_selected || !is_met {
             return Ok((is_met, None));
         }
@@ -222,9 +247,9 @@ impl LineMaker {
             return Ok(None);
         }
         let asked = answered.map(|call| call.asked);
-        let text = reply_text(self.alloc, &self.look, number, asked, lane, message, read)?;
+        let text = reply_text(self.alloc, &self.look, number, asked, lane, message, read);
         let is_met_before = answered.map_or(false, |call| call.is_met);
-        if !is_met_before && !self.look.sought.is_met(text.found()) {
+        if !is_met_before && !self.look.sought.is_met(text.found()?) {
             return Ok(None);
         }
         Ok(Some(text.into_line()?))
@@ -332,10 +357,17 @@ impl<'a> ShownEvents<'a> {
 }
 
 /// The lines of a history file: of its profile where it isn't plain, one a starting object, one an event.
-#[derive(Drop)]
 pub struct EventLines<'a> {
     ahead: StartLines<'a>,
     behind: ShownEvents<'a>,
+}
+
+impl Drop for EventLines<'_> {
+    fn drop(self) {
+        let EventLines { ahead, behind } = self;
+        drop(ahead);
+        drop(behind);
+    }
 }
 
 impl<'a> EventLines<'a> {

@@ -12,21 +12,21 @@ fn profile_line(alloc: Global) -> Result<Line, AllocError>
     ensures { IfOk result IsLine }
 {
     let mut text = Text::new(alloc);
-    text.push_words("profile strict")?;
+    text.add_words("profile strict");
     text.into_line()
 }
 
 /// Appends what an object is.
-fn push_node(text: &mut Text<'_>, name: &[u8], node: &SeenNode<'_>) -> Result<(), AllocError> {
+fn add_node(text: &mut Text<'_>, name: &[u8], node: &SeenNode<'_>) {
     match node {
         SeenNode::File(bytes) => {
-            text.push_quoted(" file ", name)?;
-            text.push_bytes(" ", *bytes)
+            text.add_quoted(" file ", name);
+            text.add_bytes(" ", *bytes);
         }
-        SeenNode::Directory => text.push_quoted(" directory ", name),
+        SeenNode::Directory => text.add_quoted(" directory ", name),
         SeenNode::Link(target) => {
-            text.push_quoted(" link ", name)?;
-            text.push_quoted(" to ", *target)
+            text.add_quoted(" link ", name);
+            text.add_quoted(" to ", *target);
         }
     }
 }
@@ -36,9 +36,9 @@ fn object_line(alloc: Global, number: u64, object: &SeenObject<'_>) -> Result<Li
     ensures { IfOk result IsLine }
 {
     let mut text = Text::new(alloc);
-    text.push_number("start ", number)?;
-    text.push_number(" in ", object.parent)?;
-    push_node(&mut text, object.name, &object.node)?;
+    text.add_number("start ", number);
+    text.add_number(" in ", object.parent);
+    add_node(&mut text, object.name, &object.node);
     text.into_line()
 }
 

@@ -4,7 +4,7 @@ use Rattle.nfs3_types.specs.declared.calls.NfsCall.{NfsCall}
 use Rattle.rpc_reader.specs.Values.{CallValue}
 use Rattle.server_requests.specs.Handling.{IsCallMessage, IsRecorded}
 use Rattle.server_requests.proofs.Asked.{asked_of_nfs}
-use Rattle.book_laws.specs.Steps.{IsRecordable}
+use Rattle.recorder.specs.book_laws_specs.Steps.{IsRecordable}
 
 pub can_record : (message : List ℕ) (call : NfsCall) → (head : CallValue) × IsCallMessage message head × IsRecorded head call → IsRecordable message call
 can_record message call is =

@@ -4,10 +4,10 @@ use Rattle.std.specs.Prelude.{◌≡◌, ◌⊎◌, ◌+◌, ◌<◌, ◌≤◌,
 use Rattle.std.specs.declared.vec.Vec.{Vec}
 use Rattle.std.specs.declared.alloc.Global.{Global}
 use Rattle.nfs3_types.specs.declared.replies.NfsReply.{NfsReply}
-use Rattle.book_laws.specs.Book.{Book}
-use Rattle.book_laws.specs.Steps.{Places, Flushes, Answers}
-use Rattle.book_ledger.specs.Sending.{IsSent}
-use Rattle.book_ledger.specs.Refusals.{BeginStops, PlaceStops, FlushStops, AnswerStops, CloseStops, CrashStops, after_place, after_flush, after_crash}
+use Rattle.recorder.specs.book_laws_specs.Book.{Book}
+use Rattle.recorder.specs.book_laws_specs.Steps.{Places, Flushes, Answers}
+use Rattle.recorder.specs.book_ledger_specs.Sending.{IsSent}
+use Rattle.recorder.specs.book_ledger_specs.Refusals.{BeginStops, PlaceStops, FlushStops, AnswerStops, CloseStops, CrashStops, after_place, after_flush, after_crash}
 use Rattle.journal_server.specs.declared.fault.CallFault.{CallFault}
 use Rattle.journal_server.specs.declared.fault.CallFault.TheVariants as call_fault
 use Rattle.journal_server.specs.declared.fault.CrashFault as own

@@ -2,16 +2,16 @@
 -- The words that are printed of a fault: its name, and what it names (words of this project's own); and as what a server tells the faults
 -- of its book.
 use Rattle.std.specs.Prelude.{ℕ, List, ◌++◌, codes, decimal}
-use Rattle.book_ledger.specs.declared.fault.BeginFault.{BeginFault}
-use Rattle.book_ledger.specs.declared.fault.BeginFault.TheVariants as begin_fault
-use Rattle.book_ledger.specs.declared.fault.PlaceFault.{PlaceFault}
-use Rattle.book_ledger.specs.declared.fault.PlaceFault.TheVariants as place_fault
-use Rattle.book_ledger.specs.declared.fault.AnswerFault.{AnswerFault}
-use Rattle.book_ledger.specs.declared.fault.AnswerFault.TheVariants as answer_fault
-use Rattle.book_ledger.specs.declared.fault.CloseFault.{CloseFault}
-use Rattle.book_ledger.specs.declared.fault.CloseFault.TheVariants as close_fault
-use Rattle.book_ledger.specs.declared.fault.CrashFault.{CrashFault}
-use Rattle.book_ledger.specs.declared.fault.CrashFault.TheVariants as book_crash
+use Rattle.recorder.specs.book_ledger_specs.declared.fault.BeginFault.{BeginFault}
+use Rattle.recorder.specs.book_ledger_specs.declared.fault.BeginFault.TheVariants as begin_fault
+use Rattle.recorder.specs.book_ledger_specs.declared.fault.PlaceFault.{PlaceFault}
+use Rattle.recorder.specs.book_ledger_specs.declared.fault.PlaceFault.TheVariants as place_fault
+use Rattle.recorder.specs.book_ledger_specs.declared.fault.AnswerFault.{AnswerFault}
+use Rattle.recorder.specs.book_ledger_specs.declared.fault.AnswerFault.TheVariants as answer_fault
+use Rattle.recorder.specs.book_ledger_specs.declared.fault.CloseFault.{CloseFault}
+use Rattle.recorder.specs.book_ledger_specs.declared.fault.CloseFault.TheVariants as close_fault
+use Rattle.recorder.specs.book_ledger_specs.declared.fault.CrashFault.{CrashFault}
+use Rattle.recorder.specs.book_ledger_specs.declared.fault.CrashFault.TheVariants as book_crash
 use Rattle.journal_server.specs.declared.fault.CallFault.{CallFault}
 use Rattle.journal_server.specs.declared.fault.CallFault.TheVariants as call_fault
 use Rattle.journal_server.specs.declared.fault.JoinFault.{JoinFault}

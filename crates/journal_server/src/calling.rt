@@ -1,7 +1,7 @@
 //! Calls.
 
 ghost use Rattle.std.specs.Prelude.{◌≡◌, ◌≢◌, IfOk, IfErr, OnErr};
-ghost use Rattle.book_laws.specs.Steps.{IsRecordable};
+ghost use Rattle.recorder.specs.book_laws_specs.Steps.{IsRecordable};
 ghost use Rattle.journal_server.specs.Passing.{IsToRecord, IsNoted, IsAsBefore, IsAnswered, MayStop};
 
 use crate::desk::Begun;

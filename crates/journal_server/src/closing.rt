@@ -1,10 +1,10 @@
 //! The end of a server.
 
 ghost use Rattle.std.specs.Prelude.{◌≡◌, ℕ, IfOk, IfErr};
-ghost use Rattle.book_laws.specs.Plan.{plan_of};
+ghost use Rattle.recorder.specs.book_laws_specs.Plan.{plan_of};
 ghost use Rattle.certificate.specs.CertificateText.{IsCertificate};
 ghost use Rattle.witness_check.specs.Witness.{IsWitness};
-ghost use Rattle.book_laws.specs.ServedPlan.{EachServed};
+ghost use Rattle.recorder.specs.book_laws_specs.ServedPlan.{EachServed};
 ghost use Rattle.server_passes.specs.Matching.{IsTold, AreCovered, IsLeastTorn, IsCloseFault, IsFineOrNoMemory, IsThatOrNoMemory};
 ghost use Rattle.server_passes.specs.declared.fault.CloseFault.TheVariants.{Torn};
 

@@ -1,10 +1,10 @@
 //! What stands under the book's lock.
 
 ghost use Rattle.std.specs.Prelude.{◌≡◌, ◌≢◌, [], Some, IsSome, IfSome, IfOk, OnOk, IfErr, length, true};
-ghost use Rattle.book_laws.specs.Book.{tree_of};
-ghost use Rattle.book_laws.specs.Book.Condition.{running};
-ghost use Rattle.book_laws.specs.Steps.{opening_book, IsRecordable, Begins, Places, Answers, Closes, Crashes};
-ghost use Rattle.book_ledger.specs.Sending.{IsSent};
+ghost use Rattle.recorder.specs.book_laws_specs.Book.{tree_of};
+ghost use Rattle.recorder.specs.book_laws_specs.Book.Condition.{running};
+ghost use Rattle.recorder.specs.book_laws_specs.Steps.{opening_book, IsRecordable, Begins, Places, Answers, Closes, Crashes};
+ghost use Rattle.recorder.specs.book_ledger_specs.Sending.{IsSent};
 ghost use Rattle.journal_server.specs.Desks.{BeginRefused, PlaceRefused, HasReplied, IsSettled, FlushRefused, AnswerRefused, CloseRefused, kept_of, CrashRefused};
 
 use crate::fault::{CallFault, CrashFault, JoinFault};

@@ -6,5 +6,6 @@ mod messages;
 
 pub use messages::{put_args, put_result, read_args, read_result};
 pub use nfs3_types::{NfsCall, NfsReply, Outcome};
+pub use nfs3_values;
 pub use nfs3_values::{Kind, MessageFault};
 pub use reply_attributes::{Role, post_attr, pre_size};

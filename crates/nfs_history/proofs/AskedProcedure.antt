@@ -7,8 +7,8 @@ use Rattle.xdr_records.specs.Spelling.{Spells}
 use Rattle.nfs3_types.specs.declared.calls.NfsCall.{NfsCall}
 use Rattle.nfs3_types.specs.declared.calls.NfsCall.TheVariants as calls
 use Rattle.nfs3_types.specs.Procedures.{procedure_called}
-use Rattle.nfs3_values.specs.declared.fault.Kind.{Kind}
-use Rattle.nfs3_values.specs.declared.fault.Kind.TheVariants as kinds
+use Rattle.nfs3_msgs.specs.nfs3_values_specs.declared.fault.Kind.{Kind}
+use Rattle.nfs3_msgs.specs.nfs3_values_specs.declared.fault.Kind.TheVariants as kinds
 use Rattle.nfs3_msgs.specs.Messages.{arguments, IsArguments}
 
 -- the arguments of one procedure, or those of others

@@ -8,7 +8,7 @@ use Rattle.rpc_reader.proofs.OneMessage.{one_head, one_body}
 use Rattle.nfs3_types.specs.declared.calls.NfsCall.{NfsCall}
 use Rattle.nfs3_types.specs.declared.replies.Outcome.{Outcome}
 use Rattle.nfs3_msgs.specs.Messages.{arguments, results, arguments_of, result_of}
-use Rattle.nfs3_values.specs.Told as told
+use Rattle.nfs3_msgs.specs.nfs3_values_specs.Told as told
 use Rattle.nfs_history.specs.declared.fault.CallFault.{CallFault}
 use Rattle.nfs_history.specs.declared.fault.CallFault.TheVariants as faults
 use Rattle.nfs_history.specs.declared.recorded.Meaning.{Meaning}

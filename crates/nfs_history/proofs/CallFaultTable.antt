@@ -8,9 +8,9 @@ use Rattle.nfs3_types.specs.declared.replies.NfsReply.{NfsReply}
 use Rattle.nfs3_types.specs.declared.replies.Outcome.{Outcome}
 use Rattle.nfs3_types.specs.declared.replies.Outcome.TheVariants as outcomes
 use Rattle.rpc_reader.specs.Values.{CallValue, Body}
-use Rattle.nfs3_values.specs.declared.fault.Kind.{Kind}
+use Rattle.nfs3_msgs.specs.nfs3_values_specs.declared.fault.Kind.{Kind}
 use Rattle.nfs3_msgs.specs.Messages.{arguments, results, arguments_of, result_of, IsArguments}
-use Rattle.nfs3_values.specs.Told as told
+use Rattle.nfs3_msgs.specs.nfs3_values_specs.Told as told
 use Rattle.nfs_history.specs.declared.fault.Which.{Which}
 use Rattle.nfs_history.specs.declared.fault.CallFault.{CallFault}
 use Rattle.nfs_history.specs.declared.fault.CallFault.TheVariants as faults

@@ -19,9 +19,9 @@ use Rattle.nfs3_types.specs.declared.calls.NfsCall.{NfsCall}
 use Rattle.nfs3_types.specs.declared.replies.NfsReply.{NfsReply}
 use Rattle.nfs3_types.specs.declared.replies.Outcome.{Outcome}
 use Rattle.nfs3_types.specs.declared.replies.Outcome.TheVariants as outcomes
-use Rattle.nfs3_values.specs.declared.fault.Kind.{Kind}
+use Rattle.nfs3_msgs.specs.nfs3_values_specs.declared.fault.Kind.{Kind}
 use Rattle.nfs3_msgs.specs.Messages.{arguments, results, arguments_of, result_of, IsArguments}
-use Rattle.nfs3_values.specs.Told as told
+use Rattle.nfs3_msgs.specs.nfs3_values_specs.Told as told
 use Rattle.history_file.specs.Event.{Event, Recording}
 use Rattle.history_file.specs.Event.Event.{call, reply, close, crash}
 use Rattle.history_file.specs.HistoryFile.{HistoryFile}

@@ -9,8 +9,8 @@ use Rattle.nfs3_types.specs.declared.replies.NfsReply.{NfsReply}
 use Rattle.nfs3_types.specs.declared.replies.Outcome.{Outcome}
 use Rattle.nfs3_types.specs.declared.replies.Outcome.TheVariants as outcomes
 use Rattle.nfs3_msgs.specs.Messages.{arguments, results}
-use Rattle.nfs3_values.specs.Told as told
-use Rattle.tree_starts.specs.Head.{Head}
+use Rattle.nfs3_msgs.specs.nfs3_values_specs.Told as told
+use Rattle.history_file.specs.tree_starts_specs.Head.{Head}
 use Rattle.history_file.specs.declared.event.Event as owned
 use Rattle.history_file.specs.declared.event.Event.TheVariants as owns
 use Rattle.history_file.specs.Event.{Event, Recording}

@@ -12,7 +12,7 @@ use Rattle.rpc_reader.specs.ReplyHeads.Status.{results_follow, final}
 use Rattle.rpc_reader.specs.Messages.{IsCall, IsEnding}
 use Rattle.nfs3_types.specs.declared.replies.Outcome.{Outcome}
 use Rattle.nfs3_msgs.specs.Messages.{arguments, results, arguments_of, result_of}
-use Rattle.nfs3_values.specs.Told as told
+use Rattle.nfs3_msgs.specs.nfs3_values_specs.Told as told
 use Rattle.nfs_history.specs.declared.recorded.Meaning.{Meaning}
 use Rattle.nfs_history.specs.declared.recorded.Meaning.TheVariants as meanings
 use Rattle.nfs_history.specs.declared.recorded.RecordedCall.{RecordedCall}

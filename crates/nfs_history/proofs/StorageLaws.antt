@@ -8,8 +8,8 @@ use Rattle.nfs3_types.specs.declared.calls.NfsCall.{NfsCall}
 use Rattle.nfs3_types.specs.declared.calls.NfsCall.TheVariants as calls
 use Rattle.nfs3_types.specs.declared.replies.Outcome.{Outcome}
 use Rattle.nfs3_types.specs.Procedures.{procedure_called}
-use Rattle.nfs3_values.specs.declared.fault.Kind.{Kind}
-use Rattle.nfs3_values.specs.Told as told
+use Rattle.nfs3_msgs.specs.nfs3_values_specs.declared.fault.Kind.{Kind}
+use Rattle.nfs3_msgs.specs.nfs3_values_specs.Told as told
 use Rattle.nfs3_msgs.specs.Messages.{arguments, arguments_of, result_of}
 use Rattle.nfs_history.specs.declared.recorded.Meaning.{Meaning}
 use Rattle.nfs_history.specs.declared.recorded.Meaning.TheVariants as meanings

@@ -7,7 +7,7 @@ use Rattle.nfs3_types.specs.declared.replies.NfsReply.{NfsReply}
 use Rattle.nfs3_types.specs.declared.replies.Outcome.{Outcome}
 use Rattle.nfs3_types.specs.declared.replies.Outcome.TheVariants as outcomes
 use Rattle.nfs3_types.specs.Procedures.{is_answered}
-use Rattle.tree_starts.specs.Head.{Head}
+use Rattle.history_file.specs.tree_starts_specs.Head.{Head}
 use Rattle.history_file.specs.declared.event.Event as owned
 use Rattle.history_file.specs.Event.{Event, Recording}
 use Rattle.history_file.specs.Event.Event.{call, reply, close, crash}

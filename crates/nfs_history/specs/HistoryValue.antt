@@ -3,7 +3,7 @@
 -- happened, in order (Herlihy and Wing 1990, section 2; eras lie between crashes, Izraelevitz, Mendes and Scott 2016); and for how
 -- many events that come next room is set aside.
 use Rattle.std.specs.Prelude.{ℕ, List}
-use Rattle.tree_starts.specs.Head.{Head}
+use Rattle.history_file.specs.tree_starts_specs.Head.{Head}
 use Rattle.history_file.specs.declared.event.Event.{Event}
 use Rattle.nfs_history.specs.declared.recorded.RecordedCall.{RecordedCall}
 

@@ -1,7 +1,7 @@
 -- For the prover.
 -- What of the parts in memory of a history, and of what it is judged by, is seen.
 use Rattle.std.specs.Prelude.{ℕ, ◌+◌, ◌≤◌, List, map, vec_len, vec_capacity}
-use Rattle.tree_starts.specs.Head.{Head}
+use Rattle.history_file.specs.tree_starts_specs.Head.{Head}
 use Rattle.history_file.specs.declared.event.Event.{Event}
 use Rattle.history_file.specs.Owning.{all_happened}
 use Rattle.nfs_history.specs.declared.checking.OpenCalls.{OpenCalls}

@@ -9,7 +9,7 @@ use Rattle.nfs3_types.specs.declared.replies.Outcome.TheVariants as outcomes
 use Rattle.rpc_reader.specs.Values.{CallValue, Body, sealed_flavor}
 use Rattle.rpc_reader.specs.Messages.{IsCall}
 use Rattle.xdr_records.specs.Unread.{At}
-use Rattle.nfs3_values.specs.declared.fault.Kind.{Kind}
+use Rattle.nfs3_msgs.specs.nfs3_values_specs.declared.fault.Kind.{Kind}
 use Rattle.nfs3_msgs.specs.Messages.{arguments_of, result_of}
 use Rattle.nfs_history.specs.declared.fault.Which.{Which}
 use Rattle.nfs_history.specs.declared.fault.CallFault.{CallFault}

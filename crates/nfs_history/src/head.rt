@@ -2,10 +2,10 @@
 
 ghost use Rattle.std.specs.Prelude.{◌≡◌, IfOk};
 
+use history_file::tree_starts::{Profile, SeenStart, Start};
 use nfs3_types::FileHandle;
 use std::alloc::{AllocError, Global};
 use std::marker::Model;
-use tree_starts::{Profile, SeenStart, Start};
 
 /// What a history begins with: the handle of its root directory, what the server held, and how strictly its replies are judged.
 pub struct OwnedHead {
@@ -27,7 +27,7 @@ impl Drop for OwnedHead {
 }
 
 impl Model for OwnedHead {
-    ghost use Rattle.tree_starts.specs.Head.{Head};
+    ghost use Rattle.history_file.specs.tree_starts_specs.Head.{Head};
 
     ghost Value = { Head };
 
@@ -101,7 +101,7 @@ impl<'a> Drop for LentHead<'a> {
 }
 
 impl<'a> Model for LentHead<'a> {
-    ghost use Rattle.tree_starts.specs.Head.{Head};
+    ghost use Rattle.history_file.specs.tree_starts_specs.Head.{Head};
 
     ghost Value = { Head };
 

@@ -2,7 +2,7 @@
 
 ghost use Rattle.std.specs.Prelude.{◌≡◌, ◌+◌, ◌≤◌, ◌<◌, ◌^◌, [], ◌∷◌, ◌++◌, length, slice_get, slice_set, vec_len, vec_capacity, true, IfOk, IfErr, IsOk, OnOk, OnErr, Some, option_map, option_and_then};
 ghost use Rattle.std.specs.Option.{option_copied};
-ghost use Rattle.tree_starts.specs.Head.{plain_head};
+ghost use Rattle.history_file.specs.tree_starts_specs.Head.{plain_head};
 ghost use Rattle.history_file.specs.Event.Event.{call, reply, crash};
 ghost use Rattle.history_file.specs.Owning.{happened, all_happened};
 ghost use Rattle.history_file.specs.declared.event.Event.TheVariants as events;
@@ -29,11 +29,11 @@ use crate::knowing::KnownCalls;
 use crate::limits::outside_model;
 use crate::matching::{SeenCall, SeenReply, transaction};
 use crate::recorded::{Meaning, RecordedCall, find_call};
+use history_file::tree_starts::{Profile, Start};
 use history_file::{Event, Message, lend_events};
 use nfs3_types::{FileHandle, NfsCall, NfsReply, Outcome};
 use std::alloc::{AllocError, Global};
 use std::marker::Model;
-use tree_starts::{Profile, Start};
 
 /// What is read of events: the calls, and what the events leave open.
 struct ReadCalls {

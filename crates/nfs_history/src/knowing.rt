@@ -21,10 +21,10 @@ use crate::matching::{SeenCall, count_eras, matched_calls};
 use crate::recorded::{CallKind, RecordedCall};
 use crate::storage::{StorageCall, brought_again, storage_again};
 use history_file::SeenEvent;
+use history_file::tree_starts::{Profile, SeenStart};
 use nfs3_types::FileHandle;
 use std::alloc::{AllocError, Global};
 use std::marker::Model;
-use tree_starts::{Profile, SeenStart};
 
 /// What a history is judged by: what it begins with, its eras and its calls, without its events. Each call was
 /// read once, and is read again where its messages stand when it is asked for.

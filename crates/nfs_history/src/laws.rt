@@ -1,7 +1,7 @@
 //! What the files of histories are: each law is the contract of a function that does nothing.
 
 ghost use Rattle.std.specs.Prelude.{◌≡◌, ◌⊎◌, ℕ, List};
-ghost use Rattle.tree_starts.specs.Start.{IsStart};
+ghost use Rattle.history_file.specs.tree_starts_specs.Start.{IsStart};
 ghost use Rattle.nfs_history.specs.declared.fault.HistoryFault.{HistoryFault};
 ghost use Rattle.nfs_history.specs.declared.history.History.{History};
 ghost use Rattle.nfs_history.specs.declared.knowing.KnownCalls.{KnownCalls};

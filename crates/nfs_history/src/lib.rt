@@ -19,6 +19,9 @@ mod storage;
 pub use checking::{LaneState, OpenCalls};
 pub use fault::{CallFault, EventFault, HistoryFault, Which};
 pub use history::History;
+pub use history_file::tree_starts::{
+    Profile, SeenNode, SeenObject, SeenStart, Start, StartFault, StartNode, StartObject,
+};
 pub use history_file::{Event, FileFault, Message, WriteFault, write_history, write_history_from};
 pub use knowing::KnownCalls;
 pub use laws::{
@@ -29,6 +32,3 @@ pub use lent::LentCalls;
 pub use reading::{read_calls, read_history};
 pub use recorded::{CallKind, Meaning, RecordedCall, find_call};
 pub use storage::{StorageCall, commit_success, succeeded, write_success};
-pub use tree_starts::{
-    Profile, SeenNode, SeenObject, SeenStart, Start, StartFault, StartNode, StartObject,
-};

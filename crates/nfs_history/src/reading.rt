@@ -12,10 +12,10 @@ use crate::fault::HistoryFault;
 use crate::head::LentHead;
 use crate::history::History;
 use crate::knowing::KnownCalls;
+use history_file::tree_starts::Start;
 use history_file::{SeenRecording, copy_events, read_file};
 use nfs3_types::FileHandle;
 use std::alloc::Global;
-use tree_starts::Start;
 
 /// What is known of the calls of the history that a file holds. The first fault is named: those of the file, then those
 /// of its events, then those of its calls. No message is copied: the calls point into the bytes.

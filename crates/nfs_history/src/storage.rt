@@ -8,8 +8,8 @@ ghost use Rattle.xdr_records.specs.Grammar.Grammar.{one_opaque};
 ghost use Rattle.nfs3_types.specs.declared.calls.NfsCall.TheVariants as calls;
 ghost use Rattle.nfs3_types.specs.declared.calls.WriteArguments.{WriteArguments};
 ghost use Rattle.nfs3_types.specs.declared.calls.CommitArguments.{CommitArguments};
-ghost use Rattle.nfs3_values.specs.Calls.{write_arguments, commit_arguments};
-ghost use Rattle.nfs3_values.specs.Told.{kind_of, told, Reads, IsButForMemory};
+ghost use Rattle.nfs3_msgs.specs.nfs3_values_specs.Calls.{write_arguments, commit_arguments};
+ghost use Rattle.nfs3_msgs.specs.nfs3_values_specs.Told.{kind_of, told, Reads, IsButForMemory};
 ghost use Rattle.nfs3_msgs.specs.Messages.{arguments_of, result_of};
 ghost use Rattle.nfs_history.specs.Matching.{seen_call};
 ghost use Rattle.nfs_history.specs.History.{IsRecorded};
@@ -22,11 +22,11 @@ use crate::effects::{has_no_effect, results_of};
 use crate::judging::body_of;
 use crate::matching::SeenCall;
 use crate::recorded::{Meaning, RecordedCall};
+use nfs3_msgs::nfs3_values::{XdrValue, fault_at};
 use nfs3_msgs::{MessageFault, read_result};
 use nfs3_types::{
     Answer, CommitSuccess, NfsCall, NfsReply, Outcome, Procedure, StableHow, WriteSuccess,
 };
-use nfs3_values::{XdrValue, fault_at};
 use rpc_reader::read_call;
 use std::alloc::{AllocError, Global};
 use std::marker::Model;
@@ -98,7 +98,7 @@ fn ended(reader: &Reader<'_>) -> Result<(), MessageFault>
 }
 
 /// The arguments of a WRITE at the front of what is left.
-#[tactic(auto, unfolding(nfs3_values::specs::Calls::write_arguments, nfs3_values::specs::Bytes::handle, nfs3_values::specs::Bytes::file_data))]
+#[tactic(auto, unfolding(nfs3_msgs::specs::Arguments::write_arguments, nfs3_msgs::specs::Arguments::handle, nfs3_msgs::specs::Arguments::file_data))]
 fn write_from<'a>(alloc: Global, reader: &mut Reader<'a>) -> Result<SeenWrite<'a>, MessageFault>
     ensures { Reads write_arguments reader.old reader.new result }
 {
@@ -117,7 +117,7 @@ fn write_from<'a>(alloc: Global, reader: &mut Reader<'a>) -> Result<SeenWrite<'a
 }
 
 /// The arguments of a COMMIT at the front of what is left.
-#[tactic(auto, unfolding(nfs3_values::specs::Calls::commit_arguments, nfs3_values::specs::Bytes::handle))]
+#[tactic(auto, unfolding(nfs3_msgs::specs::Arguments::commit_arguments, nfs3_msgs::specs::Arguments::handle))]
 fn commit_from<'a>(alloc: Global, reader: &mut Reader<'a>) -> Result<SeenCommit<'a>, MessageFault>
     ensures { Reads commit_arguments reader.old reader.new result }
 {

@@ -4,9 +4,9 @@ use Rattle.std.specs.Prelude.{IfOk}
 use Rattle.program_streams.specs.Told.{Answer}
 use Rattle.witness_check.specs.declared.verdict.FileVerdict.{FileVerdict}
 use Rattle.witness_check.specs.declared.verdict.FileVerdict.TheVariants.{Yes, No, BadHistory, BadText}
-use Rattle.judging_commands.specs.Report.{status_of, IsSaidOfRead}
-use Rattle.judging_commands.specs.Reported.{IsReportedOfRead}
-use Rattle.judging_commands.specs.Objects.{HasStatusOfRead}
+use Rattle.showing_command.specs.judging_commands_specs.Report.{status_of, IsSaidOfRead}
+use Rattle.showing_command.specs.judging_commands_specs.Reported.{IsReportedOfRead}
+use Rattle.showing_command.specs.judging_commands_specs.Objects.{HasStatusOfRead}
 
 verdict_below : (verdict : FileVerdict) → status_of verdict < 3
 verdict_below Yes = omega arith

@@ -6,7 +6,7 @@ use Rattle.program_streams.specs.Told.{Answer}
 use Rattle.serving_commands.specs.declared.fault.RunFault.{RunFault}
 use Rattle.serving_commands.specs.declared.recorded.RunTexts.{RunTexts}
 use Rattle.serving_commands.specs.Recording.{IsRecording}
-use Rattle.judging_commands.specs.Report.{IsSaidOfFiles, line_of}
+use Rattle.showing_command.specs.judging_commands_specs.Report.{IsSaidOfFiles, line_of}
 use Rattle.nfsbench_engine.specs.Ran.{IsSaidOfRan, IsSaidOfServed, IsYesBehind, run_lines}
 
 pub yes_said : (recorded : RunTexts) → IsRecording recorded → IsSaidOfFiles recorded.history.items recorded.certificate.items 0 (line_of Yes)

@@ -11,8 +11,8 @@ use Rattle.serving_commands.specs.declared.recorded.Counts.{Counts}
 use Rattle.serving_commands.specs.declared.recorded.RunTexts.{RunTexts}
 use Rattle.serving_commands.specs.Recording.{IsRecording}
 use Rattle.serving_commands.specs.Told.{fault_status, fault_line}
-use Rattle.judging_commands.specs.Report.{line_of, status_of}
-use Rattle.judging_commands.specs.Reported.{number_line}
+use Rattle.showing_command.specs.judging_commands_specs.Report.{line_of, status_of}
+use Rattle.showing_command.specs.judging_commands_specs.Reported.{number_line}
 
 abbrev pub run_lines : Counts → List ℕ
 run_lines counts =

@@ -6,7 +6,7 @@ ghost use Rattle.program_streams.specs.Told.{memory_line};
 
 use crate::files::{explain_paths, read_history_file};
 use crate::runs::tell_known;
-use explaining_command::{ExplainRequest, explain_history, explain_unreadable};
+use night_command::explaining_command::{ExplainRequest, explain_history, explain_unreadable};
 use program_streams::{Output, Report};
 use recording_command::RecordingRuntime;
 use std::alloc::AllocError;

@@ -1,15 +1,17 @@
 //! Files, as they can be read.
 
 ghost use Rattle.std.specs.Prelude.{◌≡◌, ℕ, false, List, IfOk, Option};
-ghost use Rattle.judging_commands.specs.Report.{IsSaidOfRead};
-ghost use Rattle.judging_commands.specs.Reported.{IsReportedOfRead};
-ghost use Rattle.judging_commands.specs.Objects.{HasStatusOfRead};
-ghost use Rattle.explaining_command.specs.Explained.{IsExplained};
+ghost use Rattle.showing_command.specs.judging_commands_specs.Report.{IsSaidOfRead};
+ghost use Rattle.showing_command.specs.judging_commands_specs.Reported.{IsReportedOfRead};
+ghost use Rattle.showing_command.specs.judging_commands_specs.Objects.{HasStatusOfRead};
+ghost use Rattle.night_command.specs.explaining_command_specs.Explained.{IsExplained};
 
-use explaining_command::explain_read;
 use history_file::HISTORY_LIMIT;
-use judging_commands::{judge_read, judge_read_as_json, report_read, report_read_as_json};
+use night_command::explaining_command::explain_read;
 use program_streams::{InputFault, Report, Stream, read_all};
+use showing_command::judging_commands::{
+    judge_read, judge_read_as_json, report_read, report_read_as_json,
+};
 use std::alloc::AllocError;
 use std::fs::{File, OpenFile};
 use std::io::Read;

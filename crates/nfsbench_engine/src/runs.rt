@@ -7,12 +7,12 @@ ghost use Rattle.serving_commands.specs.Recording.{IsRecording};
 ghost use Rattle.nfsbench_engine.specs.Ran.{IsSaidOfRan, IsSaidOfRun, IsSaidOfServed, IsYesBehind, MayTellOf, run_lines};
 
 use crate::files::{read_history_file, read_plan_file};
-use judging_commands::{judge_files, put_number};
 use program_streams::{Output, Report, tell, tell_answer, tell_want_of_memory};
 use recording_command::RecordingRuntime;
 use serving_commands::{
     Beginning, Counts, RunFault, RunRequest, RunTexts, ServeRequest, fault_report, run, serve,
 };
+use showing_command::judging_commands::{judge_files, put_number};
 use std::alloc::{AllocError, Global};
 use std::rt::Files;
 

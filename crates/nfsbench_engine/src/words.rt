@@ -2,10 +2,10 @@
 
 ghost use Rattle.std.specs.Prelude.{◌≡◌, ◌⊎◌, ◌<◌, ◌≤◌, ℕ, true, false, List, length, Option, IfSome, IfOk, IsOk, OnErr, Ok};
 ghost use Rattle.std.specs.Io.KnownBytes.{Appends};
-ghost use Rattle.judging_commands.specs.Bundle.{IsAcceptedBundle, IsRefutedBundle};
-ghost use Rattle.judging_commands.specs.Objects.{HasStatusOfRead};
-ghost use Rattle.judging_commands.specs.Report.{IsSaid, IsSaidOfRead, MayTell, no_line};
-ghost use Rattle.judging_commands.specs.Reported.{IsReportedOfRead};
+ghost use Rattle.showing_command.specs.judging_commands_specs.Bundle.{IsAcceptedBundle, IsRefutedBundle};
+ghost use Rattle.showing_command.specs.judging_commands_specs.Objects.{HasStatusOfRead};
+ghost use Rattle.showing_command.specs.judging_commands_specs.Report.{IsSaid, IsSaidOfRead, MayTell, no_line};
+ghost use Rattle.showing_command.specs.judging_commands_specs.Reported.{IsReportedOfRead};
 ghost use Rattle.program_streams.specs.Streams.{AppendsFront, GivesAll, HasRoom};
 ghost use Rattle.program_streams.specs.Told.{Tells, memory_line};
 ghost use Rattle.witness_check.specs.declared.fault.Fault.{Fault};
@@ -24,18 +24,18 @@ use deciding_command::{
     prefix_history, prefix_request,
 };
 use drawing_command::{DrawRequest, draw_command, draw_request};
-use explaining_command::{ExplainRequest, explain_command, explain_request};
 use import_command::{ImportRequest, import_command, import_request, run_import};
-use judging_commands::{
-    SearchRequest, json_option, refused_as_json, run_bundle, search_command, search_history,
-    search_request,
-};
 use mending_command::{MendRequest, mend_command, mend_request, run_mend};
+use night_command::explaining_command::{ExplainRequest, explain_command, explain_request};
 use night_command::{TestRequest, run_test, test_command, test_request};
 use program_streams::{Input, Output, Report, tell, tell_answer, tell_want_of_memory};
 use recording_command::{RecordingRuntime, TapRequest, run_tap, tap_command, tap_request};
 use serving_commands::{
     RunRequest, ServeRequest, run_command, run_request, serve_command, serve_request,
+};
+use showing_command::judging_commands::{
+    SearchRequest, json_option, refused_as_json, run_bundle, search_command, search_history,
+    search_request,
 };
 use showing_command::{
     LookFault, ShowRequest, look_of, show_bytes, show_command, show_judged, show_request,
@@ -136,29 +136,43 @@ fn report_command<'a>(alloc: Global) -> Result<Command<'a>, AllocError> {
     )
 }
 
-/// The command line's grammar.
-fn command<'a>(alloc: Global) -> Result<Command<'a>, AllocError> {
-    Command::new(alloc, "nfsbench")
+/// The program, of which no command is known yet.
+fn program<'a>(alloc: Global) -> Result<Command<'a>, AllocError> {
+    let program = Command::new(alloc, "nfsbench")
         .bin_name("nfsbench")?
         .version("0.1.0")
         .about(
             "Judges histories of NFS version 3 servers. Without a command, reads a bundle from standard input.",
         )
-        .disable_help_subcommand(true)
-        .subcommand(check_command(alloc)?)?
-        .subcommand(report_command(alloc)?)?
-        .subcommand(show_command(alloc)?)?
-        .subcommand(draw_command(alloc)?)?
-        .subcommand(search_command(alloc)?)?
-        .subcommand(decide_command(alloc)?)?
-        .subcommand(explain_command(alloc)?)?
-        .subcommand(prefix_command(alloc)?)?
-        .subcommand(run_command(alloc)?)?
-        .subcommand(serve_command(alloc)?)?
-        .subcommand(tap_command(alloc)?)?
-        .subcommand(mend_command(alloc)?)?
-        .subcommand(import_command(alloc)?)?
-        .subcommand(test_command(alloc)?)
+        .disable_help_subcommand(true);
+    Ok(program)
+}
+
+/// The program with one command more.
+fn with<'a>(
+    program: Result<Command<'a>, AllocError>,
+    command: Result<Command<'a>, AllocError>,
+) -> Result<Command<'a>, AllocError> {
+    program?.subcommand(command?)
+}
+
+/// The command line's grammar.
+fn command<'a>(alloc: Global) -> Result<Command<'a>, AllocError> {
+    let command = program(alloc);
+    let command = with(command, check_command(alloc));
+    let command = with(command, report_command(alloc));
+    let command = with(command, show_command(alloc));
+    let command = with(command, draw_command(alloc));
+    let command = with(command, search_command(alloc));
+    let command = with(command, decide_command(alloc));
+    let command = with(command, explain_command(alloc));
+    let command = with(command, prefix_command(alloc));
+    let command = with(command, run_command(alloc));
+    let command = with(command, serve_command(alloc));
+    let command = with(command, tap_command(alloc));
+    let command = with(command, mend_command(alloc));
+    let command = with(command, import_command(alloc));
+    with(command, test_command(alloc))
 }
 
 /// What the words behind `check` or `report` ask for.
@@ -171,44 +185,73 @@ fn files_request<'a>(words: &ArgMatches<'a>) -> FilesRequest<'a> {
     }
 }
 
+/// What the words after `tap` ask for, or what is wrong with them.
+fn tap_words<'a>(words: &ArgMatches<'a>) -> Result<Request<'a>, &'static str> {
+    match tap_request(words) {
+        Some(request) => Ok(Request::Tap(request)),
+        None => Err("the value of --host is no IP address"),
+    }
+}
+
+/// What the words after `test` ask for, or what is wrong with them.
+fn test_words<'a>(words: &ArgMatches<'a>) -> Result<Request<'a>, &'static str> {
+    match test_request(words) {
+        Some(request) => Ok(Request::Test(request)),
+        None => Err(
+            "the value of --host is no IP address, or that of --mix isn't private, shared, race or turns",
+        ),
+    }
+}
+
+/// What the words after `show` ask for, or what is wrong with them.
+fn show_words<'a>(words: &ArgMatches<'a>) -> Result<Request<'a>, &'static str> {
+    match show_request(words) {
+        Some(request) => Ok(Request::Show(request)),
+        None => Err("the value of --procedure is no procedure of NFS version 3"),
+    }
+}
+
+/// What the words after a command ask for, or what is wrong with them.
+fn words_of<'a>(verb: &str, words: &ArgMatches<'a>) -> Result<Request<'a>, &'static str> {
+    match verb {
+        "tap" => tap_words(words),
+        "test" => test_words(words),
+        "mend" => Ok(Request::Mend(mend_request(words))),
+        "import" => Ok(Request::Import(import_request(words))),
+        "show" => show_words(words),
+        "draw" => Ok(Request::Draw(draw_request(words))),
+        "search" => Ok(Request::Search(search_request(words))),
+        "decide" => Ok(Request::Decide(decide_request(words))),
+        "explain" => Ok(Request::Explain(explain_request(words))),
+        "prefix" => Ok(Request::Prefix(prefix_request(words))),
+        "run" => Ok(Request::Run(run_request(words))),
+        "serve" => Ok(Request::Serve(serve_request(words))),
+        "report" => Ok(Request::Report(files_request(words))),
+        // The parser knows no other word than `check`.
+        _ => Ok(Request::Check(files_request(words))),
+    }
+}
+
+/// What the parser's matches ask for, or what is wrong with them.
+fn request_of<'a>(matches: &ArgMatches<'a>) -> Result<Request<'a>, &'static str> {
+    match matches.subcommand() {
+        Some((verb, words)) => words_of(verb, words),
+        None => Ok(Request::Bundle),
+    }
+}
+
+/// The parser's text of a mistake.
+fn mistake(alloc: Global, message: &str) -> Result<clap::Error, AllocError> {
+    let mut command = command(alloc)?;
+    command.error(ErrorKind::ValueValidation, message)
+}
+
 /// What the words ask for, or the parser's text.
 fn read_words<'a, S: AsStr>(alloc: Global, words: &'a [S]) -> Result<Request<'a>, clap::Error> {
     let matches = command(alloc)?.try_get_matches_from(words)?;
-    match matches.subcommand() {
-        Some(("tap", tap)) => match tap_request(tap) {
-            Some(request) => Ok(Request::Tap(request)),
-            None => {
-                let message = "the value of --host is no IP address";
-                Err(command(alloc)?.error(ErrorKind::ValueValidation, message)?)
-            }
-        },
-        Some(("test", test)) => match test_request(test) {
-            Some(request) => Ok(Request::Test(request)),
-            None => {
-                let message =
-                    "the value of --host is no IP address, or that of --mix isn't private, shared, race or turns";
-                Err(command(alloc)?.error(ErrorKind::ValueValidation, message)?)
-            }
-        },
-        Some(("mend", mend)) => Ok(Request::Mend(mend_request(mend))),
-        Some(("import", import)) => Ok(Request::Import(import_request(import))),
-        Some(("show", show)) => match show_request(show) {
-            Some(request) => Ok(Request::Show(request)),
-            None => {
-                let message = "the value of --procedure is no procedure of NFS version 3";
-                Err(command(alloc)?.error(ErrorKind::ValueValidation, message)?)
-            }
-        },
-        Some(("draw", draw)) => Ok(Request::Draw(draw_request(draw))),
-        Some(("search", search)) => Ok(Request::Search(search_request(search))),
-        Some(("decide", decide)) => Ok(Request::Decide(decide_request(decide))),
-        Some(("explain", explain)) => Ok(Request::Explain(explain_request(explain))),
-        Some(("prefix", prefix)) => Ok(Request::Prefix(prefix_request(prefix))),
-        Some(("run", run)) => Ok(Request::Run(run_request(run))),
-        Some(("serve", serve)) => Ok(Request::Serve(serve_request(serve))),
-        Some(("report", report)) => Ok(Request::Report(files_request(report))),
-        Some((_, check)) => Ok(Request::Check(files_request(check))),
-        None => Ok(Request::Bundle),
+    match request_of(&matches) {
+        Ok(request) => Ok(request),
+        Err(message) => Err(mistake(alloc, message)?),
     }
 }
 
@@ -386,6 +429,55 @@ fn decide_path<R: RecordingRuntime, O: Output>(
     }
 }
 
+/// Does what was asked for; what may wait is handed back, and nothing is read or written for it.
+fn judge_request<'a, R: Files + AllocGlobal, I: Input, O: Output>(
+    rt: &R,
+    request: Request<'a>,
+    input: &mut I,
+    output: &mut O,
+) -> Result<u8, Waiting<'a>>
+    ensures memory_line { result ≡ Ok 3
+        → Appends (O.contents output.old) (O.contents output.new) memory_line }
+    ensures known { IfOk result (λ given. given < 4) }
+    ensures waiting { OnErr result ((output.new ≡ output.old) × (input.new ≡ input.old)) }
+{
+    match request {
+        Request::Bundle => Ok(run_bundle(rt.alloc(), input, output)),
+        Request::Check(request) => Ok(tell_answer(output, check_files_at(rt, &request))),
+        Request::Report(request) => Ok(tell_answer(output, report_files_at(rt, &request))),
+        Request::Show(request) => Ok(show_path(rt, &request, output)),
+        Request::Draw(request) => Ok(draw_path(rt, &request, output)),
+        Request::Prefix(request) => Ok(prefix_path(rt, &request, output)),
+        Request::Mend(request) => Err(Waiting::Mend(request)),
+        Request::Import(request) => Err(Waiting::Import(request)),
+        Request::Search(request) => Err(Waiting::Search(request)),
+        Request::Decide(request) => Err(Waiting::Decide(request)),
+        Request::Explain(request) => Err(Waiting::Explain(request)),
+        Request::Tap(request) => Err(Waiting::Tap(request)),
+        Request::Run(request) => Err(Waiting::Run(request)),
+        Request::Serve(request) => Err(Waiting::Serve(request)),
+        Request::Test(request) => Err(Waiting::Test(request)),
+    }
+}
+
+/// The same of what words ask for that were said; a mistake in them is told.
+fn judge_said<'a, R: Files + AllocGlobal, S: AsStr, I: Input, O: Output>(
+    rt: &R,
+    words: &'a [S],
+    input: &mut I,
+    output: &mut O,
+) -> Result<u8, Waiting<'a>>
+    ensures memory_line { result ≡ Ok 3
+        → Appends (O.contents output.old) (O.contents output.new) memory_line }
+    ensures known { IfOk result (λ given. given < 4) }
+    ensures waiting { OnErr result ((output.new ≡ output.old) × (input.new ≡ input.old)) }
+{
+    match read_words(rt.alloc(), words) {
+        Ok(request) => judge_request(rt, request, input, output),
+        Err(error) => Ok(tell_parser(rt.alloc(), output, &error)),
+    }
+}
+
 /// Judges what the words of a command line ask for, as [`run_words`]; where they ask for what may wait, that is handed back, and
 /// nothing is read or written.
 pub(crate) fn judge_words<'a, R: Files + AllocGlobal, S: AsStr, I: Input, O: Output>(
@@ -421,24 +513,7 @@ pub(crate) fn judge_words<'a, R: Files + AllocGlobal, S: AsStr, I: Input, O: Out
     if words.len() < 2 {
         return Ok(run_bundle(alloc, input, output));
     }
-    match read_words(alloc, words) {
-        Ok(Request::Bundle) => Ok(run_bundle(alloc, input, output)),
-        Ok(Request::Check(request)) => Ok(tell_answer(output, check_files_at(rt, &request))),
-        Ok(Request::Report(request)) => Ok(tell_answer(output, report_files_at(rt, &request))),
-        Ok(Request::Show(request)) => Ok(show_path(rt, &request, output)),
-        Ok(Request::Draw(request)) => Ok(draw_path(rt, &request, output)),
-        Ok(Request::Prefix(request)) => Ok(prefix_path(rt, &request, output)),
-        Ok(Request::Mend(request)) => Err(Waiting::Mend(request)),
-        Ok(Request::Import(request)) => Err(Waiting::Import(request)),
-        Ok(Request::Search(request)) => Err(Waiting::Search(request)),
-        Ok(Request::Decide(request)) => Err(Waiting::Decide(request)),
-        Ok(Request::Explain(request)) => Err(Waiting::Explain(request)),
-        Ok(Request::Tap(request)) => Err(Waiting::Tap(request)),
-        Ok(Request::Run(request)) => Err(Waiting::Run(request)),
-        Ok(Request::Serve(request)) => Err(Waiting::Serve(request)),
-        Ok(Request::Test(request)) => Err(Waiting::Test(request)),
-        Err(error) => Ok(tell_parser(alloc, output, &error)),
-    }
+    judge_said(rt, words, input, output)
 }
 
 /// Does what the words of a command line ask for, of which the first is the program's name, and gives the exit status: 0 for a yes,

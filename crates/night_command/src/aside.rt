@@ -1,7 +1,7 @@
 //! Calls that the server never answered, though it went on behind them.
 
 use history_file::Event;
-use night_verdict::LeftAside;
+use night_eras::night_verdict::LeftAside;
 use recording_health::{Unanswered, unanswered_in};
 use std::alloc::{AllocError, Global};
 

@@ -6,12 +6,12 @@ use crate::opening::WALK_LANE;
 use crate::running::Ran;
 use crate::why::{Grounds, write_why};
 use crate::words::TestRequest;
-use deciding_command::FileDecision;
+use explaining_command::deciding_command::FileDecision;
 use history_file::Event;
 use nfs_tap::TapLog;
+use night_eras::night_verdict::{Judgement, LeftAside, NightVerdict, Reasons};
 use night_lanes::Troubles;
 use night_report::{Finding, NightReport, Numbers, Request, junit_xml, report_json};
-use night_verdict::{Judgement, LeftAside, NightVerdict, Reasons};
 use recording_command::RecordingRuntime;
 use std::alloc::{AllocError, Global};
 

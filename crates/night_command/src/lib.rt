@@ -13,5 +13,6 @@ mod test;
 mod why;
 mod words;
 
+pub use explaining_command;
 pub use test::run_test;
 pub use words::{TestRequest, test_command, test_request};

@@ -1,7 +1,7 @@
 //! What a night comes to is judged, written and said.
 
 ghost use Rattle.std.specs.Prelude.{◌≡◌, ◌<◌, IfOk};
-ghost use Rattle.night_verdict.specs.Words.{night_status};
+ghost use Rattle.night_eras.specs.night_verdict_specs.Words.{night_status};
 ghost use Rattle.night_command.specs.Status.{told_status};
 
 use crate::files::{Noted, findings_of, numbers_told, reason_lines, request_told, write_files};
@@ -11,17 +11,17 @@ use crate::refusal::NightRefusal;
 use crate::running::Ran;
 use crate::why::Grounds;
 use crate::words::TestRequest;
-use deciding_command::{Effort, FileDecision};
+use explaining_command::deciding_command::{Effort, FileDecision};
 use failure_causes::{CauseCounts, count_causes};
 use history_file::WriteFault;
 use json_reports::refusal_line;
 use night_eras::ErasEnd;
-use night_lanes::{Counts, Troubles};
-use night_report::{NightReport, Numbers, json_line};
-use night_verdict::{
+use night_eras::night_verdict::{
     Judgement, NightEnd, NightFacts, NightVerdict, Reasons, judge_night, night_history, reasons_of,
     verdict_report,
 };
+use night_lanes::{Counts, Troubles};
+use night_report::{NightReport, Numbers, json_line};
 use program_streams::{Report, line_of};
 use recording_command::RecordingRuntime;
 use std::alloc::{AllocError, Global};

@@ -10,7 +10,7 @@ use crate::refusal::NightRefusal;
 use crate::running::{Ran, run_night};
 use crate::summing::{end_report, refused_report};
 use crate::words::TestRequest;
-use night_verdict::NightEnd;
+use night_eras::night_verdict::NightEnd;
 use program_streams::{Input, Output, Report, tell_answer};
 use recording_command::RecordingRuntime;
 use std::alloc::AllocError;

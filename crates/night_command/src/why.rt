@@ -1,7 +1,7 @@
 //! The files that say why a night's last line isn't yes.
 
 use crate::folder::Folder;
-use deciding_command::{Effort, FileDecision};
+use explaining_command::deciding_command::{Effort, FileDecision};
 use explaining_command::decision_text;
 use history_picture::{Page, Request, Window, picture_of, picture_page};
 use nfs_history::{HistoryFault, KnownCalls, read_calls};

@@ -5,4 +5,5 @@ mod eras;
 mod orders;
 
 pub use eras::{ErasEnd, ErasPlan, run_eras};
+pub use night_verdict;
 pub use orders::Orders;

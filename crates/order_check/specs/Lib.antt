@@ -4,3 +4,4 @@ pub mod FirstFault
 pub mod Order
 pub mod FaultText
 pub mod Taking
+pub use Rattle.nfs_history.specs as nfs_history_specs

@@ -8,5 +8,6 @@ mod places;
 mod shape;
 
 pub use fault::{OrderFault, ShapeFault};
+pub use nfs_history;
 pub use order::{check_order, check_order_of_calls};
 pub use shape::{check_shape, check_shape_of_calls};

@@ -7,14 +7,14 @@ ghost use Rattle.nfs3_types.specs.declared.replies.Outcome.TheVariants.{Received
 ghost use Rattle.tree_starts.specs.declared.profile.Profile.TheVariants.{Plain};
 ghost use Rattle.tree_nodes.specs.Printed.{tree_text};
 ghost use Rattle.tree_nodes.specs.Tree.{Tree};
-ghost use Rattle.book_laws.specs.Book.{Book, tree_of};
-ghost use Rattle.book_laws.specs.Plan.{plan_of};
-ghost use Rattle.book_laws.specs.Book.Condition.{running};
-ghost use Rattle.book_laws.specs.Steps.{opening_book, IsUnplaced, IsRecordable, Begins, Places, Flushes, Answers, Closes, Crashes};
+ghost use Rattle.book_ledger.specs.book_laws_specs.Book.{Book, tree_of};
+ghost use Rattle.book_ledger.specs.book_laws_specs.Plan.{plan_of};
+ghost use Rattle.book_ledger.specs.book_laws_specs.Book.Condition.{running};
+ghost use Rattle.book_ledger.specs.book_laws_specs.Steps.{opening_book, IsUnplaced, IsRecordable, Begins, Places, Flushes, Answers, Closes, Crashes};
 ghost use Rattle.book_ledger.specs.PlaceSteps.{entry_put, IsReceived, IsLeft};
 ghost use Rattle.certificate.specs.CertificateText.{IsCertificate};
 ghost use Rattle.witness_check.specs.Witness.{IsWitness};
-ghost use Rattle.book_laws.specs.ServedPlan.{EachServed};
+ghost use Rattle.book_ledger.specs.book_laws_specs.ServedPlan.{EachServed};
 ghost use Rattle.book_ledger.specs.Sending.{IsSent};
 ghost use Rattle.book_ledger.specs.Spelling.{IsSpelledTo, IsPlacedWith};
 ghost use Rattle.book_ledger.specs.Refusals.{IsNow, PlaceStops, BeginRefused, PlaceRefused, FlushRefused, AnswerRefused, CloseRefused, CrashRefused};
@@ -38,7 +38,7 @@ pub struct Book<D: JournalDevice> {
 }
 
 impl<D: JournalDevice> Model for Book<D> {
-    ghost use Rattle.book_laws.specs.Book as machine;
+    ghost use Rattle.book_ledger.specs.book_laws_specs.Book as machine;
     ghost use Rattle.book_ledger.specs.Inside.{book_of, AreTied};
 
     ghost Value = { machine.Book };

@@ -19,9 +19,10 @@ use crate::watching::{OrderFile, await_end};
 use folder_start::{FolderFault, folder_start};
 use nfs_relay::{Halt, Order, OrderReader, Relay, RelayRuntime, calls_in};
 use nfs_tap::TapLog;
+use nfs3_types::FileHandle;
 use program_streams::{Input, Output, READ_SIZE, are_one_file, line_of};
-use recording_health::{Reading, Recording, findings_of, reading_of};
-use std::alloc::AllocError;
+use recording_health::{Finding, Findings, Reading, Recording, findings_of, reading_of};
+use std::alloc::{AllocError, Global};
 use std::fs::{self, File, Metadata};
 use std::io::{self, ErrorKind, Write};
 use std::net::{IpAddr, Ipv4Addr, SocketAddr, TcpListener};
@@ -382,18 +383,12 @@ const UNREAD: ReadBack = ReadBack {
     is_cut: false,
 };
 
-/// What was wrong with the server, in lines; for whoever wants it the history is read too.
-fn findings<R: RecordingRuntime>(
+/// What was wrong with the server, where this was read of the history.
+fn found_in<R: RecordingRuntime>(
     rt: &R,
     recorder: &Recorder,
-    request: &TapRequest<'_>,
-) -> Result<String, AllocError> {
-    let alloc = rt.alloc();
-    let read = if request.is_strict {
-        read_back(rt, recorder)?
-    } else {
-        UNREAD
-    };
+    read: ReadBack,
+) -> Result<Findings, AllocError> {
     let relay = &recorder.relay;
     let halt = if read.is_cut {
         Some(Halt::LogFull)
@@ -415,12 +410,38 @@ fn findings<R: RecordingRuntime>(
         watch: known.watch(),
         halt,
     };
-    let found = findings_of(alloc, recording, read.reading)?;
+    findings_of(rt.alloc(), recording, read.reading)
+}
+
+/// Appends the line of something that was wrong.
+fn add_line(alloc: Global, lines: &mut String, finding: &Finding) -> Result<(), AllocError> {
+    let line = line_of(alloc, "unhealthy: ", finding)?;
+    lines.push_str(line.as_str())?;
+    Ok(())
+}
+
+/// What was wrong, in lines.
+fn lines_of(alloc: Global, found: &[Finding]) -> Result<String, AllocError> {
     let mut lines = String::new(alloc);
-    for finding in found.all.iter() {
-        lines.push_str(line_of(alloc, "unhealthy: ", finding)?.as_str())?;
+    for finding in found {
+        add_line(alloc, &mut lines, finding)?;
     }
     Ok(lines)
+}
+
+/// What was wrong with the server, in lines; for whoever wants it the history is read too.
+fn findings<R: RecordingRuntime>(
+    rt: &R,
+    recorder: &Recorder,
+    request: &TapRequest<'_>,
+) -> Result<String, AllocError> {
+    let read = if request.is_strict {
+        read_back(rt, recorder)?
+    } else {
+        UNREAD
+    };
+    let found = found_in(rt, recorder, read)?;
+    lines_of(rt.alloc(), found.all.as_slice())
 }
 
 /// A recording that ended, and the lines ahead of its last one.
@@ -496,19 +517,28 @@ fn orders_of<R: RecordingRuntime>(
     }
 }
 
-/// What a recording begins with.
+/// What the words name that is read before there is a port for clients.
 #[derive(Drop)]
-struct Opened {
-    recorder: Recorder,
-    listener: TcpListener,
+struct Named {
+    root: FileHandle,
+    beginning: Option<Beginning>,
     orders: Option<OrderFile>,
 }
 
-/// Opens what a recording needs.
-fn open<R: RecordingRuntime>(rt: &R, request: &TapRequest<'_>) -> Result<Opened, TapEnd> {
+/// Reads what the words name.
+fn named_by<R: RecordingRuntime>(rt: &R, request: &TapRequest<'_>) -> Result<Named, TapEnd> {
     let root = root_of(rt, request.root)?;
     let beginning = beginning_of(rt, request)?;
     let orders = orders_of(rt, request)?;
+    Ok(Named {
+        root,
+        beginning,
+        orders,
+    })
+}
+
+/// The port for clients, where the history can be written too.
+fn listen<R: RecordingRuntime>(rt: &R, request: &TapRequest<'_>) -> Result<TcpListener, TapEnd> {
     if is_own_port(rt, request) {
         return Err(TapEnd::CannotListen);
     }
@@ -520,6 +550,29 @@ fn open<R: RecordingRuntime>(rt: &R, request: &TapRequest<'_>) -> Result<Opened,
     if !can_write(rt, request.history) {
         return Err(TapEnd::CannotWrite);
     }
+    Ok(listener)
+}
+
+/// What a recording begins with.
+#[derive(Drop)]
+struct Opened {
+    recorder: Recorder,
+    listener: TcpListener,
+    orders: Option<OrderFile>,
+}
+
+/// What a recording begins with, of what the words name.
+fn opened_of<R: RecordingRuntime>(
+    rt: &R,
+    request: &TapRequest<'_>,
+    named: Named,
+    listener: TcpListener,
+) -> Opened {
+    let Named {
+        root,
+        beginning,
+        orders,
+    } = named;
     probe_root(rt, request, &root);
     let log = TapLog::new(rt.alloc(), root);
     let relay = Relay::new(
@@ -531,7 +584,7 @@ fn open<R: RecordingRuntime>(rt: &R, request: &TapRequest<'_>) -> Result<Opened,
     );
     // Where connections are counted the server may count them too.
     let is_guarded = request.is_strict && request.lanes.is_none();
-    Ok(Opened {
+    Opened {
         recorder: Recorder {
             relay,
             beginning,
@@ -539,7 +592,14 @@ fn open<R: RecordingRuntime>(rt: &R, request: &TapRequest<'_>) -> Result<Opened,
         },
         listener,
         orders,
-    })
+    }
+}
+
+/// Opens what a recording needs.
+fn open<R: RecordingRuntime>(rt: &R, request: &TapRequest<'_>) -> Result<Opened, TapEnd> {
+    let named = named_by(rt, request)?;
+    let listener = listen(rt, request)?;
+    Ok(opened_of(rt, request, named, listener))
 }
 
 /// Records what the words ask for.

@@ -29,6 +29,8 @@ struct OpenCall {
     lane: u32,
     xid: u32,
     begin: usize,
+    /// How many events there were before the first call of its lane and number, if that waits too.
+    first: usize,
     /// Whether it changes what the server holds, so that its reply may wait for the disk.
     is_change: bool,
     /// How many changes had been made in turn on its lane.
@@ -86,21 +88,26 @@ impl Lanes {
     /// A call comes, behind so many events.
     fn call(&mut self, lane: u32, message: &[u8], begin: usize) -> Result<(), AllocError> {
         let xid = transaction(message);
-        let changes = self.turn(lane).changes;
+        let key = key_of(lane, xid);
+        let first = match self.open.get(&key) {
+            Some(call) => call.first,
+            None => begin,
+        };
         let call = OpenCall {
             lane,
             xid,
             begin,
+            first,
             is_change: is_change(message),
-            changes,
+            changes: self.turn(lane).changes,
         };
-        self.open.insert(key_of(lane, xid), call)?;
+        self.open.insert(key, call)?;
         Ok(())
     }
 
     /// A reply comes, behind so many events.
     fn reply(&mut self, lane: u32, message: &[u8], at: usize) -> Result<(), AllocError> {
-        let Some(call) = self.open.shift_remove(&key_of(lane, transaction(message))) else {
+        let Some(call) = self.open.swap_remove(&key_of(lane, transaction(message))) else {
             return Ok(());
         };
         let turn = self.turn(lane);
@@ -109,6 +116,40 @@ impl Lanes {
             self.turns.insert(lane, Turn { changes, at })?;
         }
         Ok(())
+    }
+
+    /// A lane is closed, behind so many events.
+    fn close(&mut self, lane: u32, at: usize) -> Result<(), AllocError> {
+        self.closed.insert(lane, at)?;
+        Ok(())
+    }
+
+    /// An event comes, behind so many others.
+    fn take(&mut self, event: &Event, at: usize) -> Result<(), AllocError> {
+        match event {
+            Event::Call { lane, message } => self.call(*lane, message.as_slice(), at),
+            Event::Reply { lane, message } => self.reply(*lane, message.as_slice(), at),
+            Event::Close { lane } => self.close(*lane, at),
+            Event::Crash => Ok(()),
+        }
+    }
+
+    /// These events come, the first of all.
+    fn take_all(&mut self, events: &[Event]) -> Result<(), AllocError> {
+        for (index, event) in events.iter().enumerate() {
+            self.take(event, index)?;
+        }
+        Ok(())
+    }
+
+    /// The calls that wait, in the order in which they came.
+    fn still_open(&self, alloc: Global) -> Result<Vec<OpenCall>, AllocError> {
+        let mut calls = Vec::new(alloc);
+        for call in self.open.values() {
+            calls.push(*call)?;
+        }
+        calls.sort_unstable_by_key(|call| call.first);
+        Ok(calls)
     }
 
     /// What is known of a call that is still open behind so many events.
@@ -127,24 +168,21 @@ impl Lanes {
             },
         }
     }
+
+    /// What is known of the calls that are still open behind so many events, in the order in which they came.
+    fn all_unanswered(&self, alloc: Global, events: usize) -> Result<Vec<Unanswered>, AllocError> {
+        let calls = self.still_open(alloc)?;
+        let mut all = Vec::new(alloc);
+        for call in calls.iter() {
+            all.push(self.unanswered(*call, events))?;
+        }
+        Ok(all)
+    }
 }
 
 /// The calls that got no reply, in the order in which they came.
 pub fn unanswered_in(alloc: Global, events: &[Event]) -> Result<Vec<Unanswered>, AllocError> {
     let mut lanes = Lanes::new(alloc);
-    for (index, event) in events.iter().enumerate() {
-        match event {
-            Event::Call { lane, message } => lanes.call(*lane, message.as_slice(), index)?,
-            Event::Reply { lane, message } => lanes.reply(*lane, message.as_slice(), index)?,
-            Event::Close { lane } => {
-                lanes.closed.insert(*lane, index)?;
-            }
-            Event::Crash => {}
-        }
-    }
-    let mut all = Vec::new(alloc);
-    for call in lanes.open.values() {
-        all.push(lanes.unanswered(*call, events.len()))?;
-    }
-    Ok(all)
+    lanes.take_all(events)?;
+    lanes.all_unanswered(alloc, events.len())
 }

@@ -11,10 +11,10 @@ use Rattle.history_file.specs.declared.writing.WriteFault.{WriteFault}
 use Rattle.history_file.specs.declared.writing.WriteFault.TheVariants as writes
 use Rattle.server_passes.specs.declared.fault.CloseFault.{CloseFault}
 use Rattle.server_passes.specs.declared.fault.CloseFault.TheVariants as closes
-use Rattle.journal_server.specs.declared.fault.CrashFault.TheVariants as crashes
+use Rattle.crash_harness.specs.journal_server_specs.declared.fault.CrashFault.TheVariants as crashes
 use Rattle.crash_harness.specs.declared.end.RunEnd.{RunEnd}
 use Rattle.crash_harness.specs.declared.end.RunEnd.TheVariants as run_ends
-use Rattle.journal_server.specs.FaultText.{crash_fault_words}
+use Rattle.crash_harness.specs.journal_server_specs.FaultText.{crash_fault_words}
 use Rattle.server_passes.specs.FaultText.{close_fault_words}
 use Rattle.program_streams.specs.Told.{refused_line, memory_line}
 use Rattle.serving_commands.specs.declared.fault.RunFault.{RunFault}

@@ -4,8 +4,8 @@ ghost use Rattle.std.specs.Prelude.{◌≡◌, ◌<◌, IfOk, IsErr};
 ghost use Rattle.serving_commands.specs.Told.{fault_status, fault_line, IsWant};
 
 use crash_harness::RunEnd;
+use crash_harness::journal_server::{CloseFault, CrashFault, JoinFault};
 use history_file::WriteFault;
-use journal_server::{CloseFault, CrashFault, JoinFault};
 use nfs_history::HistoryFault;
 use plan_text::PlanFault;
 use program_streams::{Report, line_of};

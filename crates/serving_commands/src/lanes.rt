@@ -4,7 +4,7 @@ use crate::fault::RunFault;
 use crate::outputs::Outputs;
 use crate::part::{follow, make_part};
 use crate::words::ServeRequest;
-use journal_server::{OpenGate, Pass, Server, SimDevice};
+use crash_harness::journal_server::{OpenGate, Pass, Server, SimDevice};
 use nfs_relay::RelayRuntime;
 use program_streams::are_one_file;
 use recording_command::{Part, RecordingRuntime};

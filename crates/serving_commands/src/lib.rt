@@ -15,5 +15,6 @@ pub use beginning::Beginning;
 pub use fault::{RunFault, fault_report};
 pub use recorded::{Counts, RunTexts};
 pub use running::{run, run_text};
+pub use server_connection;
 pub use serving::serve;
 pub use words::{RunRequest, ServeRequest, run_command, run_request, serve_command, serve_request};

@@ -10,8 +10,8 @@ ghost use Rattle.serving_commands.specs.Recording.{AreCountsOf, IsRecordingOf};
 
 use crate::fault::RunFault;
 use certificate::{Certificate, write_certificate};
+use crash_harness::journal_server::Closed;
 use history_report::{lost_of, report_of};
-use journal_server::Closed;
 use nfs_history::{History, Profile, WriteFault, write_history, write_history_from};
 use std::alloc::Global;
 

@@ -8,7 +8,7 @@ use crate::fault::RunFault;
 use crate::lanes::{Served, Serving, SimServer, serve_lanes};
 use crate::recorded::{RunTexts, record_closed};
 use crate::words::ServeRequest;
-use journal_server::{OpenGate, Profile, Server, SimDevice};
+use crash_harness::journal_server::{OpenGate, Profile, Server, SimDevice};
 use recording_command::{RecordingRuntime, part_path};
 use server_connection::Room;
 use std::alloc::{AllocError, Global};

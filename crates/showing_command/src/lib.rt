@@ -6,6 +6,7 @@ mod marks;
 mod showing;
 mod words;
 
+pub use judging_commands;
 pub use looking::{LookFault, look_of};
 pub use showing::{show_bytes, show_judged};
 pub use words::{ShowRequest, show_command, show_request};

@@ -2,8 +2,8 @@
 use Rattle.std.proofs.Common.{◌≡◌, ℕ, false, List, [], ◌∷◌, ◌++◌, Option, Some, ap, ◌∙◌}
 use Rattle.std.specs.Prelude.{not, ◌&&◌, option_map}
 use Rattle.std.specs.Option.{option_map_or}
-use Rattle.tree_nodes.specs.declared.node.Node.{Node}
-use Rattle.tree_nodes.specs.Tree.{Names, Tree, same_path, is_below}
+use Rattle.tree_handles.specs.tree_nodes_specs.declared.node.Node.{Node}
+use Rattle.tree_handles.specs.tree_nodes_specs.Tree.{Names, Tree, same_path, is_below}
 use Rattle.tree_handles.specs.Kind.{is_directory}
 use Rattle.tree_answers.specs.Causes.{is_filled_directory}
 

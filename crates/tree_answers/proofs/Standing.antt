@@ -4,10 +4,10 @@ use Rattle.std.specs.Prelude.{◌||◌, ◌&&◌, ◌==◌, not, length, slice_i
 use Rattle.std.specs.List.{list_all}
 use Rattle.std.specs.FinMap as map
 use Rattle.std.specs.BTreeSet.{BTreeSet}
-use Rattle.tree_nodes.specs.declared.node.Node.{Node}
-use Rattle.tree_nodes.specs.Tree.{Names, Tree, entry_of, is_in, parent}
-use Rattle.tree_nodes.specs.Place.{path_of, are_among}
-use Rattle.tree_nodes.proofs.Found.{found_stands}
+use Rattle.tree_handles.specs.tree_nodes_specs.declared.node.Node.{Node}
+use Rattle.tree_handles.specs.tree_nodes_specs.Tree.{Names, Tree, entry_of, is_in, parent}
+use Rattle.tree_handles.specs.tree_nodes_specs.Place.{path_of, are_among}
+use Rattle.tree_handles.proofs.tree_nodes_laws.Found.{found_stands}
 use Rattle.tree_starts.specs.Names.{is_dot, is_two_dots}
 use Rattle.tree_handles.specs.Entry.{entry_at}
 use Rattle.tree_answers.specs.Look.{object_at, object_named}

@@ -8,9 +8,9 @@ use Rattle.nfs3_types.specs.declared.calls.CreateMode.TheVariants.{Unchecked, Gu
 use Rattle.nfs3_types.specs.declared.calls.DirectoryName.{DirectoryName}
 use Rattle.nfs3_types.specs.declared.calls.NfsCall.{NfsCall}
 use Rattle.nfs3_types.specs.declared.calls.NfsCall.TheVariants as calls
-use Rattle.tree_nodes.specs.declared.node.Node.{Node}
-use Rattle.tree_nodes.specs.declared.node.Content.{Content}
-use Rattle.tree_nodes.specs.Tree.{Names, Tree, is_bare}
+use Rattle.tree_handles.specs.tree_nodes_specs.declared.node.Node.{Node}
+use Rattle.tree_handles.specs.tree_nodes_specs.declared.node.Content.{Content}
+use Rattle.tree_handles.specs.tree_nodes_specs.Tree.{Names, Tree, is_bare}
 use Rattle.tree_handles.specs.Binding.{Bindings}
 use Rattle.tree_handles.specs.Live.{live_entry, directory_of}
 use Rattle.tree_starts.specs.Names.{is_plain}

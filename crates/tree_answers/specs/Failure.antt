@@ -6,7 +6,7 @@ use Rattle.nfs3_types.specs.declared.calls.NfsCall.{NfsCall}
 use Rattle.nfs3_types.specs.declared.status.Failure.{Failure}
 use Rattle.nfs3_types.specs.declared.status.Failure.TheVariants as status
 use Rattle.nfs3_types.specs.Numbers.{status_number}
-use Rattle.tree_nodes.specs.Tree.{Tree}
+use Rattle.tree_handles.specs.tree_nodes_specs.Tree.{Tree}
 use Rattle.tree_answers.specs.declared.failure.Cause.{Cause}
 use Rattle.tree_answers.specs.declared.failure.Cause.TheVariants as cause
 use Rattle.tree_handles.specs.Binding.{Bindings}

@@ -12,7 +12,7 @@ use Rattle.nfs3_types.specs.declared.replies.ReadDirSuccess.{ReadDirSuccess}
 use Rattle.nfs3_types.specs.declared.replies.ReadDirPlusSuccess.{ReadDirPlusSuccess}
 use Rattle.nfs3_types.specs.declared.replies.NfsReply.{NfsReply}
 use Rattle.nfs3_types.specs.declared.replies.NfsReply.TheVariants as replies
-use Rattle.tree_nodes.specs.Tree.{Names, Tree, is_in}
+use Rattle.tree_handles.specs.tree_nodes_specs.Tree.{Names, Tree, is_in}
 use Rattle.tree_handles.specs.Binding.{Bindings, same_bytes, gives_object}
 use Rattle.tree_handles.specs.Live.{directory_of}
 use Rattle.tree_starts.specs.Names.{is_dot, is_two_dots}

@@ -12,10 +12,10 @@ use Rattle.nfs3_types.specs.declared.replies.Answer.TheVariants.{Done}
 use Rattle.nfs3_types.specs.declared.replies.ReadSuccess.{ReadSuccess}
 use Rattle.nfs3_types.specs.declared.replies.NfsReply.{NfsReply}
 use Rattle.nfs3_types.specs.declared.replies.NfsReply.TheVariants as replies
-use Rattle.tree_nodes.specs.declared.node.Content.{Content}
-use Rattle.tree_nodes.specs.declared.node.Content.TheVariants as contents
-use Rattle.tree_nodes.specs.declared.node.Node.{Node}
-use Rattle.tree_nodes.specs.Tree.{Names, Tree, parent}
+use Rattle.tree_handles.specs.tree_nodes_specs.declared.node.Content.{Content}
+use Rattle.tree_handles.specs.tree_nodes_specs.declared.node.Content.TheVariants as contents
+use Rattle.tree_handles.specs.tree_nodes_specs.declared.node.Node.{Node}
+use Rattle.tree_handles.specs.tree_nodes_specs.Tree.{Names, Tree, parent}
 use Rattle.tree_handles.specs.Binding.{Bindings, same_bytes, is_bound}
 use Rattle.tree_handles.specs.Live.{live_entry, directory_of, file_of}
 use Rattle.tree_starts.specs.Names.{is_dot, is_two_dots}

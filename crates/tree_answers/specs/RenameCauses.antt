@@ -4,8 +4,8 @@ use Rattle.std.specs.Prelude.{Bool, false, not, ◌&&◌, [], ◌∷◌, ◌++�
 use Rattle.std.specs.Option.{option_map_or}
 use Rattle.nfs3_types.specs.declared.calls.NfsCall.{NfsCall}
 use Rattle.nfs3_types.specs.declared.calls.NfsCall.TheVariants as calls
-use Rattle.tree_nodes.specs.declared.node.Node.{Node}
-use Rattle.tree_nodes.specs.Tree.{Names, Tree, same_path, is_below}
+use Rattle.tree_handles.specs.tree_nodes_specs.declared.node.Node.{Node}
+use Rattle.tree_handles.specs.tree_nodes_specs.Tree.{Names, Tree, same_path, is_below}
 use Rattle.tree_handles.specs.Binding.{Bindings}
 use Rattle.tree_handles.specs.Live.{directory_of}
 use Rattle.tree_handles.specs.Entry.{named}

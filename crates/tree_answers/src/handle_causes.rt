@@ -6,8 +6,8 @@ ghost use Rattle.tree_answers.specs.Causes.{content_of, isnt_live, handle_isnt_l
 
 use crate::asked::{file_wanted, first_handle, second_handle, wants_directory};
 use nfs3_types::{FileHandle, NfsCall};
+use tree_handles::tree_nodes::Content;
 use tree_handles::{View, is_directory, is_link, live_entry};
-use tree_nodes::Content;
 
 /// What a live handle names.
 fn content_of<'a>(view: &View<'a>, handle: &FileHandle) -> Option<&'a Content>

@@ -18,3 +18,4 @@ pub use look::{
     commit_is_legal, getattr_is_legal, lookup_is_legal, object_named, readlink_is_legal,
 };
 pub use read::read_is_legal;
+pub use tree_handles;

@@ -2,7 +2,7 @@
 
 ghost use Rattle.std.specs.Prelude.{◌≡◌, IfOk, IsSome, map};
 ghost use Rattle.std.specs.List.{list_all};
-ghost use Rattle.tree_nodes.specs.Place.{path_of};
+ghost use Rattle.tree_handles.specs.tree_nodes_specs.Place.{path_of};
 ghost use Rattle.tree_handles.specs.Standing.{place_of};
 ghost use Rattle.tree_answers.specs.Listing.{may_be_listed, is_listing, readdir_is_legal, has_its_handle, readdirplus_is_legal};
 
@@ -11,8 +11,8 @@ use nfs3_types::{
     Answer, DirectoryEntry, DirectoryEntryPlus, NfsReply, ReadDirArguments, ReadDirPlusArguments,
 };
 use std::alloc::{AllocError, Global};
+use tree_handles::tree_nodes::{Bytes, Nodes};
 use tree_handles::{View, directory_of, entry_at, gives_object, is_dot, is_two_dots};
-use tree_nodes::{Bytes, Nodes};
 
 /// Whether a directory has the name.
 fn may_be_listed(nodes: &Nodes, directory: u64, name: &Bytes) -> bool

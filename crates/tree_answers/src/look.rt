@@ -2,15 +2,15 @@
 
 ghost use Rattle.std.specs.Prelude.{◌≡◌, option_and_then};
 ghost use Rattle.std.specs.Option.{option_copied};
-ghost use Rattle.tree_nodes.specs.Place.{path_of};
+ghost use Rattle.tree_handles.specs.tree_nodes_specs.Place.{path_of};
 ghost use Rattle.tree_handles.specs.Entry.{entry_at};
 ghost use Rattle.tree_answers.specs.Look.{shows, getattr_is_legal, object_at, object_named, lookup_is_legal, has_text, readlink_is_legal, commit_is_legal};
 
 use nfs3_types::{Answer, DirectoryName, FileAttributes, FileHandle, FileType, NfsReply};
+use tree_handles::tree_nodes::{Content, Node, Nodes};
 use tree_handles::{
     View, directory_of, file_of, is_bound, is_dot, is_plain, is_two_dots, live_entry,
 };
-use tree_nodes::{Content, Node, Nodes};
 
 /// Whether attributes are those of such an object, as far as the tree has it.
 fn shows(content: &Content, attributes: &FileAttributes) -> bool

@@ -1,13 +1,13 @@
 //! Why a call may fail at its names, and without a look at the tree (RFC 1813, section 3.3, by procedure).
 
 ghost use Rattle.std.specs.Prelude.{◌≡◌, Some};
-ghost use Rattle.tree_nodes.specs.Tree.{Names, entry_of};
+ghost use Rattle.tree_handles.specs.tree_nodes_specs.Tree.{Names, entry_of};
 ghost use Rattle.tree_answers.specs.Causes.{is_absent, name_is_absent, stops, name_is_present, is_unchecked, create_over_directory, remove_of_directory, rmdir_of_no_directory, is_filled_directory, rmdir_of_filled_directory, isnt_plain, name_isnt_plain, is_odd, has_odd_byte, name_has_odd_byte, setattr_with_guard, listing_with_cookie};
 
 use crate::asked::{entry_wanted, first_place, second_place};
 use nfs3_types::{CreateMode, DirectoryName, NfsCall};
+use tree_handles::tree_nodes::{Content, Node, Nodes};
 use tree_handles::{View, directory_of, is_directory, is_file, is_plain, named};
-use tree_nodes::{Content, Node, Nodes};
 
 /// Whether a live directory has no such entry.
 fn is_absent(view: &View<'_>, place: &DirectoryName) -> bool

@@ -1,14 +1,14 @@
 //! Names in their order, with a sorted set of them: whether a name is among them takes no walk over all of them.
 
 ghost use Rattle.std.specs.Prelude.{◌≡◌, ◌<◌, ◌^◌, ◌++◌, ◌∷◌, [], length, IfOk, IsSome};
-ghost use Rattle.tree_nodes.specs.Place.{path_of};
+ghost use Rattle.tree_handles.specs.tree_nodes_specs.Place.{path_of};
 ghost use Rattle.tree_handles.specs.Standing.{place_of};
 ghost use Rattle.tree_answers.specs.Listing.{are_all_listed, are_distinct};
 
 use std::alloc::{AllocError, Global};
 use std::collections::BTreeSet;
 use std::marker::Model;
-use tree_nodes::{Bytes, Nodes};
+use tree_handles::tree_nodes::{Bytes, Nodes};
 
 /// Names in their order. A contract sees the list of them.
 #[derive(Drop)]

@@ -4,8 +4,8 @@ ghost use Rattle.std.specs.Prelude.{◌≡◌};
 ghost use Rattle.tree_answers.specs.Look.{read_is_right, read_is_legal};
 
 use nfs3_types::{Answer, NfsReply, ReadArguments, ReadSuccess};
+use tree_handles::tree_nodes::reaches_end;
 use tree_handles::{View, file_of};
-use tree_nodes::reaches_end;
 use tree_stores::FileBytes;
 
 /// Whether the answer is what a read of these bytes gives.

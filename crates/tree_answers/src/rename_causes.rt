@@ -3,13 +3,13 @@
 ghost use Rattle.std.specs.Prelude.{◌≡◌, option_and_then};
 ghost use Rattle.std.specs.Option.{option_copied, option_map};
 ghost use Rattle.nfs3_types.specs.declared.calls.NfsCall.TheVariants as calls;
-ghost use Rattle.tree_nodes.specs.Tree.{entry_of};
+ghost use Rattle.tree_handles.specs.tree_nodes_specs.Tree.{entry_of};
 ghost use Rattle.tree_answers.specs.RenameCauses.{source_of, target_of, rename_onto_no_directory, rename_onto_directory, rename_onto_filled_directory, rename_below_itself};
 
 use crate::name_causes::is_filled_directory;
 use nfs3_types::{NfsCall, RenameArguments};
+use tree_handles::tree_nodes::Node;
 use tree_handles::{View, directory_of, is_directory, named};
-use tree_nodes::Node;
 
 /// The source of a RENAME.
 fn source_of<'a>(view: &View<'a>, call: &NfsCall) -> Option<&'a Node>

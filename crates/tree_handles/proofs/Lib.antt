@@ -5,3 +5,4 @@ pub mod Standing
 pub mod Paths
 pub mod Walks
 pub mod HandleOf
+pub use Rattle.tree_nodes.proofs as tree_nodes_laws

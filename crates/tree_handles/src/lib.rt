@@ -15,4 +15,5 @@ pub use binds::Binds;
 pub use entry::{entry_at, named};
 pub use kind::{is_directory, is_file, is_link};
 pub use live::{FileEntry, View, directory_of, file_of, gives_object, is_bound, live_entry};
+pub use tree_nodes;
 pub use tree_starts::{is_dot, is_plain, is_two_dots};

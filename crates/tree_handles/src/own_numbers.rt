@@ -5,7 +5,7 @@ ghost use Rattle.std.specs.Int.{w64, to_be_bytes};
 ghost use Rattle.tree_handles.specs.Finding.{number_of, own_object, Gains, Lacks};
 
 use std::alloc::{AllocError, Global};
-use tree_stores::Slots;
+use tree_nodes::tree_stores::Slots;
 
 /// How far above the number of handles a number may lie, as a multiple: its bytes take no more than that many handles do that are
 /// found by a hash.

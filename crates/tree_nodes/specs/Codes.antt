@@ -3,7 +3,7 @@
 use Rattle.std.specs.Prelude.{◌≡◌, ◌⊎◌, ℕ, List, Option, refl}
 use Rattle.std.specs.Coded.{Coded, code_by, coded_ℕ, coded_list, coded×, coded⊎, coded_option}
 use mathlib.Core.Logic.{inl, inr}
-use Rattle.nfs3_types.specs.declared.attributes.Verifier.{Verifier}
+use Rattle.tree_stores.specs.nfs3_types_specs.declared.attributes.Verifier.{Verifier}
 use Rattle.tree_nodes.specs.declared.node.Node.{Node}
 use Rattle.tree_nodes.specs.declared.node.File.{File}
 use Rattle.tree_nodes.specs.declared.node.Content.{Content}

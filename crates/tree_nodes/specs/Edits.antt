@@ -1,7 +1,7 @@
 -- For the prover.
 -- changes of a file's bytes
 use Rattle.std.specs.Prelude.{ℕ, ◌+◌, ◌≤◌, List, length}
-use Rattle.nfs3_types.specs.Limits.{file_limit}
+use Rattle.tree_stores.specs.nfs3_types_specs.Limits.{file_limit}
 use Rattle.tree_nodes.specs.declared.table.Edit.{Edit}
 use Rattle.tree_nodes.specs.declared.table.Edit.TheVariants.{Write, Resize}
 use Rattle.tree_stores.specs.Files.{written, resized}

@@ -1,7 +1,7 @@
 -- Believed.
 -- a file, and the limit of a tree
 use Rattle.std.specs.Prelude.{ℕ, List, Option}
-use Rattle.nfs3_types.specs.declared.attributes.Verifier.{Verifier}
+use Rattle.tree_stores.specs.nfs3_types_specs.declared.attributes.Verifier.{Verifier}
 use Rattle.tree_nodes.specs.declared.node.Node.{Node}
 use Rattle.tree_nodes.specs.declared.node.Content.TheVariants as contents
 

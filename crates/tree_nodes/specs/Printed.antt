@@ -4,9 +4,9 @@ use Rattle.std.specs.Prelude.{ℕ, ◌-◌, ◌%◌, ◌^◌, ◌<◌, List, ◌
 use Rattle.std.specs.List.{flat_map}
 use Rattle.std.specs.Int.{w32, w64, to_be_bytes}
 use Rattle.std.specs.FinMap as map
-use Rattle.nfs3_types.specs.declared.attributes.FileType.TheVariants as types
-use Rattle.nfs3_types.specs.declared.attributes.Verifier.{Verifier}
-use Rattle.nfs3_types.specs.Numbers.{type_number}
+use Rattle.tree_stores.specs.nfs3_types_specs.declared.attributes.FileType.TheVariants as types
+use Rattle.tree_stores.specs.nfs3_types_specs.declared.attributes.Verifier.{Verifier}
+use Rattle.tree_stores.specs.nfs3_types_specs.Numbers.{type_number}
 use Rattle.tree_nodes.specs.declared.node.Node.{Node}
 use Rattle.tree_nodes.specs.declared.node.Content.{Content}
 use Rattle.tree_nodes.specs.declared.node.Content.TheVariants as contents

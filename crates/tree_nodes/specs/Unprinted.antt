@@ -7,9 +7,9 @@ use Rattle.std.proofs.lemmas.Nat.{from_be_bytes-to_be_bytes_4, from_be_bytes-to_
 use Rattle.std.specs.Int.{w32, w64, from_be_bytes}
 use Rattle.std.specs.List.{flat_map}
 use Rattle.std.specs.FinMap as map
-use Rattle.nfs3_types.specs.declared.attributes.Verifier.{Verifier}
-use Rattle.nfs3_types.specs.declared.attributes.FileType.TheVariants as types
-use Rattle.nfs3_types.specs.Numbers.{type_number}
+use Rattle.tree_stores.specs.nfs3_types_specs.declared.attributes.Verifier.{Verifier}
+use Rattle.tree_stores.specs.nfs3_types_specs.declared.attributes.FileType.TheVariants as types
+use Rattle.tree_stores.specs.nfs3_types_specs.Numbers.{type_number}
 use Rattle.tree_nodes.specs.declared.node.Node.{Node}
 use Rattle.tree_nodes.specs.declared.node.File.{File}
 use Rattle.tree_nodes.specs.declared.node.Content.{Content}

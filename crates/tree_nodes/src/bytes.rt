@@ -7,10 +7,10 @@ ghost use Rattle.std.specs.Cmp.{partial_equiv_from_equiv, partial_order_from_agr
 ghost use Rattle.std.specs.Cmp.Lexicographic.{pointwise, slice_cmp, texts_ties, lists_ties};
 ghost use Rattle.std.proofs.lemmas.Cmp.{nat_list_eq_equiv, nat_list_cmp_total, lists_equiv, lists_total};
 
-use nfs3_types::ShortBytes;
 use std::alloc::{AllocError, Global};
 use std::cmp::Ordering;
 use std::marker::Model;
+use tree_stores::nfs3_types::ShortBytes;
 
 /// Fewer than 2^32 bytes: a name or a link's text. Up to 23 of them stand in the value.
 #[derive(Drop)]

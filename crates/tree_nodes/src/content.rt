@@ -1,9 +1,9 @@
 //! The limit of files, and where a READ reaches the end.
 
 ghost use Rattle.std.specs.Prelude.{◌≡◌, ◌+◌, ◌^◌, ◌<◌, length, take, max, nat_le};
-ghost use Rattle.nfs3_types.specs.Limits.{file_limit};
+ghost use Rattle.tree_stores.specs.nfs3_types_specs.Limits.{file_limit};
 
-use nfs3_types::FILE_LIMIT;
+use tree_stores::nfs3_types::FILE_LIMIT;
 
 /// The first bytes, as many as there are.
 pub fn front(bytes: &[u8], count: usize) -> &[u8]

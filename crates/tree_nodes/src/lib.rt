@@ -15,4 +15,5 @@ pub use bytes::Bytes;
 pub use content::{front, is_within_limit, reaches_end};
 pub use node::{Content, File, Node};
 pub use nodes::Nodes;
+pub use tree_stores;
 pub use undo::Undo;

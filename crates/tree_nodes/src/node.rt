@@ -1,8 +1,8 @@
 //! The nodes of a tree.
 
 use crate::bytes::Bytes;
-use nfs3_types::Verifier;
 use tree_stores::FileBytes;
+use tree_stores::nfs3_types::Verifier;
 
 /// An object with its number.
 #[derive(Drop)]

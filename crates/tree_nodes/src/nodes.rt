@@ -3,7 +3,7 @@
 ghost use Rattle.std.specs.Prelude.{List, ◌≡◌, ◌≢◌, ◌↔◌, ◌<◌, ◌≤◌, ◌+◌, ◌^◌, ℕ, false, true, [], ◌∷◌, ◌++◌, IfOk, OnOk, OnErr, Some, None, IsSome, IfSome, All, length, option_and_then};
 ghost use Rattle.std.specs.Option.{option_copied, option_map};
 ghost use Rattle.std.specs.FinMap as map;
-ghost use Rattle.nfs3_types.specs.Limits.{file_limit};
+ghost use Rattle.tree_stores.specs.nfs3_types_specs.Limits.{file_limit};
 ghost use Rattle.tree_nodes.specs.declared.node.Node.{Node};
 ghost use Rattle.tree_nodes.specs.declared.node.File.{File};
 ghost use Rattle.tree_nodes.specs.declared.node.Content.TheVariants as contents;

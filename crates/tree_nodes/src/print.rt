@@ -2,14 +2,14 @@
 
 ghost use Rattle.std.specs.Prelude.{◌≡◌, ◌+◌, ◌<◌, ◌^◌, ◌++◌, length, OnOk, All};
 ghost use Rattle.std.specs.List.{flat_map};
-ghost use Rattle.nfs3_types.specs.Numbers.{type_number};
+ghost use Rattle.tree_stores.specs.nfs3_types_specs.Numbers.{type_number};
 ghost use Rattle.tree_nodes.specs.Printed.{word_text, long_text, opaque_text, verifier_text, content_text, path_text, entry_text, IsShort, VerifierFits, ContentFits, EntryFits};
 
 use crate::bytes::Path;
 use crate::node::{Content, File, Node};
-use nfs3_types::{FileType, Verifier};
 use std::alloc::AllocError;
 use tree_stores::FileBytes;
+use tree_stores::nfs3_types::{FileType, Verifier};
 
 /// Four bytes.
 #[tactic(auto, unfolding(crate::specs::Printed::word_text))]

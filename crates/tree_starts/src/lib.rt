@@ -12,6 +12,7 @@ mod table;
 
 pub use fault::StartFault;
 pub use names::{is_dot, is_plain, is_two_dots};
+pub use nfs3_types;
 pub use object::{START_LIMIT, StartNode, StartObject, TEXT_LIMIT};
 pub use profile::Profile;
 pub use seen::{SeenNode, SeenObject, SeenStart};

@@ -7,3 +7,4 @@ pub mod Walks
 pub mod Files
 pub mod Paged
 pub mod Undo
+pub use Rattle.nfs3_types.specs as nfs3_types_specs

@@ -7,4 +7,5 @@ pub mod slots;
 
 pub use file_bytes::{FileBytes, FileUndo};
 pub use names::Names;
+pub use nfs3_types;
 pub use slots::Slots;

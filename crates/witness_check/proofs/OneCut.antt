@@ -2,7 +2,7 @@
 use Rattle.std.proofs.Common.{◌≡◌, ℕ, ◌<◌, List, Some, sym, subst, ◌∙◌, arith, inl, inr}
 use Rattle.std.proofs.lemmas.Bool.{cases_lt}
 use Rattle.std.proofs.lemmas.Option.{same_Some}
-use Rattle.nfs_history.specs.declared.recorded.RecordedCall.{RecordedCall}
+use Rattle.order_check.specs.nfs_history_specs.declared.recorded.RecordedCall.{RecordedCall}
 use Rattle.certificate.specs.declared.plan.EraPlan.{EraPlan}
 use Rattle.tree_handles.specs.Binding.{Bindings}
 use Rattle.cut_check.specs.declared.effect.Effect.{Effect}

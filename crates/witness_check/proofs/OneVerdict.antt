@@ -1,12 +1,12 @@
 -- A history and a plan have at most one verdict, and so have two texts.
 use Rattle.std.proofs.Common.{◌≡◌, inl, inr, ℕ, List, refl, sym, ap, subst, ◌∙◌}
 use Rattle.std.proofs.lemmas.Option.{none-some, same_Some}
-use Rattle.nfs_history.specs.declared.knowing.KnownCalls.{KnownCalls}
-use Rattle.nfs_history.specs.declared.fault.HistoryFault.{HistoryFault}
-use Rattle.nfs_history.specs.History.{IsCallsFile}
-use Rattle.nfs_history.specs.FirstFault.{FirstFault}
-use Rattle.nfs_history.proofs.OneHistory.{one_calls}
-use Rattle.nfs_history.proofs.FirstFaultLaws.{file_fault_or_calls, one_first}
+use Rattle.order_check.specs.nfs_history_specs.declared.knowing.KnownCalls.{KnownCalls}
+use Rattle.order_check.specs.nfs_history_specs.declared.fault.HistoryFault.{HistoryFault}
+use Rattle.order_check.specs.nfs_history_specs.History.{IsCallsFile}
+use Rattle.order_check.specs.nfs_history_specs.FirstFault.{FirstFault}
+use Rattle.order_check.proofs.nfs_history_laws.OneHistory.{one_calls}
+use Rattle.order_check.proofs.nfs_history_laws.FirstFaultLaws.{file_fault_or_calls, one_first}
 use Rattle.certificate.specs.declared.plan.Certificate.{Certificate}
 use Rattle.certificate.specs.declared.reading.TextFault.{TextFault}
 use Rattle.certificate.specs.declared.reading.TextFault.TheVariants.{BadLine, NoMemory}

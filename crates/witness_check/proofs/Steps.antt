@@ -12,10 +12,10 @@ use Rattle.tree_starts.specs.Start.{object_made}
 use Rattle.file_tree.specs.Setting.{under}
 use Rattle.replay_law.proofs.Stands.{all_so_far}
 use Rattle.replay_law.proofs.Crashes.{from_base}
-use Rattle.nfs_history.specs.declared.recorded.Meaning.{Meaning}
-use Rattle.nfs_history.specs.declared.recorded.Meaning.TheVariants as meanings
-use Rattle.nfs_history.specs.declared.recorded.RecordedCall.{RecordedCall}
-use Rattle.nfs_history.specs.Precedence.{call_at}
+use Rattle.order_check.specs.nfs_history_specs.declared.recorded.Meaning.{Meaning}
+use Rattle.order_check.specs.nfs_history_specs.declared.recorded.Meaning.TheVariants as meanings
+use Rattle.order_check.specs.nfs_history_specs.declared.recorded.RecordedCall.{RecordedCall}
+use Rattle.order_check.specs.nfs_history_specs.Precedence.{call_at}
 use Rattle.certificate.specs.declared.plan.Place.{Place}
 use Rattle.certificate.specs.declared.plan.Place.TheVariants as variants
 use Rattle.certificate.specs.Plan.{call_of}

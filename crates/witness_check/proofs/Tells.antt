@@ -1,7 +1,7 @@
 -- What the checks behind the shape and the order tell of a plan.
 use Rattle.std.proofs.Common.{◌≡◌, ◌⊎◌, inl, inr, ℕ, Option, Some, Result, Err, refl, subst}
-use Rattle.nfs_history.specs.declared.knowing.KnownCalls.{KnownCalls}
-use Rattle.nfs_history.specs.HistoryValue.{CallsValue}
+use Rattle.order_check.specs.nfs_history_specs.declared.knowing.KnownCalls.{KnownCalls}
+use Rattle.order_check.specs.nfs_history_specs.HistoryValue.{CallsValue}
 use Rattle.certificate.specs.declared.plan.Certificate.{Certificate}
 use Rattle.tree_handles.specs.Binding.{Bindings}
 use Rattle.cut_check.specs.declared.fault.CutFault.{CutFault}

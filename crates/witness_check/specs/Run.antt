@@ -6,11 +6,11 @@ use Rattle.std.specs.List.{filter_map}
 use Rattle.nfs3_types.specs.declared.calls.NfsCall.{NfsCall}
 use Rattle.nfs3_types.specs.declared.replies.Outcome.{Outcome}
 use Rattle.nfs3_types.specs.declared.replies.Outcome.TheVariants as outcomes
-use Rattle.nfs_history.specs.declared.recorded.Meaning.{Meaning}
-use Rattle.nfs_history.specs.declared.recorded.Meaning.TheVariants as meanings
-use Rattle.nfs_history.specs.declared.recorded.RecordedCall.{RecordedCall}
-use Rattle.nfs_history.specs.declared.knowing.KnownCalls.{KnownCalls}
-use Rattle.nfs_history.specs.Precedence.{call_at}
+use Rattle.order_check.specs.nfs_history_specs.declared.recorded.Meaning.{Meaning}
+use Rattle.order_check.specs.nfs_history_specs.declared.recorded.Meaning.TheVariants as meanings
+use Rattle.order_check.specs.nfs_history_specs.declared.recorded.RecordedCall.{RecordedCall}
+use Rattle.order_check.specs.nfs_history_specs.declared.knowing.KnownCalls.{KnownCalls}
+use Rattle.order_check.specs.nfs_history_specs.Precedence.{call_at}
 use Rattle.certificate.specs.declared.plan.Place.{Place}
 use Rattle.certificate.specs.declared.plan.Place.TheVariants.{Answered, Taken}
 use Rattle.certificate.specs.declared.plan.EraPlan.{EraPlan}

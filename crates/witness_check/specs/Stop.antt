@@ -1,9 +1,9 @@
--- Believed.
+-- For the prover, and for callers.
 -- Where a run stops (words of this project's own): the tree that the first illegal step finds.
 use Rattle.std.specs.Prelude.{◌≡◌, ℕ, List, Some, Option}
 use Rattle.nfs3_types.specs.declared.calls.NfsCall.{NfsCall}
 use Rattle.nfs3_types.specs.declared.replies.Outcome.{Outcome}
-use Rattle.nfs_history.specs.declared.knowing.KnownCalls.{KnownCalls}
+use Rattle.order_check.specs.nfs_history_specs.declared.knowing.KnownCalls.{KnownCalls}
 use Rattle.certificate.specs.declared.plan.Certificate.{Certificate}
 use Rattle.replay_law.specs.Run.{Era, TakenStep, state_after, IsFirstIllegal, IsFirstIllegalInEras}
 use Rattle.tree_nodes.specs.Tree.{Tree}

@@ -1,6 +1,6 @@
 -- For the prover.
 -- What the function that goes over a plan's checks says to the prover.
-use Rattle.nfs_history.specs.declared.knowing.KnownCalls.{KnownCalls}
+use Rattle.order_check.specs.nfs_history_specs.declared.knowing.KnownCalls.{KnownCalls}
 use Rattle.certificate.specs.declared.plan.Certificate.{Certificate}
 use Rattle.witness_check.specs.declared.fault.CheckFault.{CheckFault}
 use Rattle.witness_check.specs.declared.fault.CheckFault.TheVariants.{No, Stopped, NoMemory}

@@ -3,9 +3,9 @@
 -- history's, the certificate's text's, the plan's shape, its order, its run, its cuts, its write verifiers (an order of this
 -- project's own).
 use Rattle.std.specs.Prelude.{◌≡◌, ◌⊎◌, ℕ, List, Some}
-use Rattle.nfs_history.specs.declared.knowing.KnownCalls.{KnownCalls}
-use Rattle.nfs_history.specs.History.{IsCallsFile}
-use Rattle.nfs_history.specs.FirstFault.{FirstFault}
+use Rattle.order_check.specs.nfs_history_specs.declared.knowing.KnownCalls.{KnownCalls}
+use Rattle.order_check.specs.nfs_history_specs.History.{IsCallsFile}
+use Rattle.order_check.specs.nfs_history_specs.FirstFault.{FirstFault}
 use Rattle.certificate.specs.declared.plan.Certificate.{Certificate}
 use Rattle.certificate.specs.declared.reading.TextFault.{TextFault}
 use Rattle.certificate.specs.declared.reading.TextFault.TheVariants.{BadLine, NoMemory}

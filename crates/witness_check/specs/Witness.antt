@@ -3,8 +3,8 @@
 -- Mendes and Scott 2016, section 4) with one serial order for the whole history, of which a crash loses the end of an era
 -- (Herlihy and Wing 1990, section 2.2, for what a serial order has to keep to).
 use Rattle.std.specs.Prelude.{ℕ, List}
-use Rattle.nfs_history.specs.declared.knowing.KnownCalls.{KnownCalls}
-use Rattle.nfs_history.specs.History.{IsCallsFile}
+use Rattle.order_check.specs.nfs_history_specs.declared.knowing.KnownCalls.{KnownCalls}
+use Rattle.order_check.specs.nfs_history_specs.History.{IsCallsFile}
 use Rattle.certificate.specs.declared.plan.Certificate.{Certificate}
 use Rattle.certificate.specs.CertificateText.{CertificateText}
 use Rattle.order_check.specs.Shape.{HasShape}

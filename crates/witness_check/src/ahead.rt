@@ -2,9 +2,9 @@
 //! tells, and waits for memory each time. Looks at many steps wait at once.
 
 use crate::run::Found;
+use file_tree::tree_answers::first_handle;
 use nfs3_types::{FileHandle, NfsCall};
 use std::alloc::AllocError;
-use tree_answers::first_handle;
 use tree_handles::Binds;
 use tree_nodes::{Content, Nodes};
 

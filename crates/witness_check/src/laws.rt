@@ -1,7 +1,7 @@
 //! What verdicts are. The functions do nothing: each one's contract is a law.
 
 ghost use Rattle.std.specs.Prelude.{◌≡◌, ℕ, List};
-ghost use Rattle.nfs_history.specs.declared.knowing.KnownCalls.{KnownCalls};
+ghost use Rattle.order_check.specs.nfs_history_specs.declared.knowing.KnownCalls.{KnownCalls};
 ghost use Rattle.certificate.specs.declared.plan.Certificate.{Certificate};
 ghost use Rattle.witness_check.specs.declared.verdict.Verdict.{Verdict};
 ghost use Rattle.witness_check.specs.declared.verdict.FileVerdict.{FileVerdict};

@@ -17,8 +17,8 @@ use crate::fault::{RunEnd, Stop};
 use certificate::{Certificate, EraPlan, Place};
 use cut_check::bindings_of_plan;
 use file_tree::{FileTree, Start, TreeSetting};
-use nfs_history::{KnownCalls, RecordedCall, SeenStart};
 use nfs3_types::{NfsCall, Outcome};
+use order_check::nfs_history::{KnownCalls, RecordedCall, SeenStart};
 use replay_law::{Replay, RunFault, StepFault};
 use std::alloc::{AllocError, Global};
 

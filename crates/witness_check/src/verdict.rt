@@ -1,10 +1,10 @@
 //! The verdict on a history and a certificate.
 
 ghost use Rattle.std.specs.Prelude.{◌≡◌, ℕ, List, IfOk, IfErr, OnOk};
-ghost use Rattle.nfs_history.specs.declared.fault.HistoryFault.{HistoryFault};
-ghost use Rattle.nfs_history.specs.Answers.{IsErrorOf};
-ghost use Rattle.nfs_history.specs.FirstFault.{FirstFault};
-ghost use Rattle.nfs_history.specs.History.{IsCallsFile};
+ghost use Rattle.order_check.specs.nfs_history_specs.declared.fault.HistoryFault.{HistoryFault};
+ghost use Rattle.order_check.specs.nfs_history_specs.Answers.{IsErrorOf};
+ghost use Rattle.order_check.specs.nfs_history_specs.FirstFault.{FirstFault};
+ghost use Rattle.order_check.specs.nfs_history_specs.History.{IsCallsFile};
 ghost use Rattle.witness_check.specs.Witness.{IsWitness};
 ghost use Rattle.witness_check.specs.Verdict.{IsVerdict, IsFileVerdict};
 ghost use Rattle.witness_check.specs.Stop.{IsJudged};
@@ -16,7 +16,7 @@ use crate::fault::{CheckFault, Fault, Stop};
 use crate::run::{rule_of, run_plan};
 use certificate::{Certificate, TextFault, read_certificate};
 use cut_check::{check_cuts_of_calls, check_verifiers_of_calls};
-use nfs_history::{History, HistoryFault, KnownCalls, read_calls};
+use order_check::nfs_history::{History, HistoryFault, KnownCalls, read_calls};
 use order_check::{check_order_of_calls, check_shape_of_calls};
 use std::alloc::{AllocError, Global};
 

@@ -1,8 +1,8 @@
 use Rattle.std.proofs.Common.{rules}
 use Rattle.nfs_history.specs.History.{recording_of}
-use Rattle.decision_law.specs.Laws.{ShowsTwoVerifiers}
-use Rattle.decision_law.specs.Times.{era_start}
-use Rattle.decision_law.proofs.Orders.{no_two_verifiers}
+use Rattle.decision_walk.specs.decision_law_specs.Laws.{ShowsTwoVerifiers}
+use Rattle.decision_walk.specs.decision_law_specs.Times.{era_start}
+use Rattle.decision_walk.proofs.decision_law_laws.Orders.{no_two_verifiers}
 use Rattle.decide.specs.Verifiers.{IsShownIn}
 use Rattle.decide.proofs.Named.{shown_at_end}
 use Rattle.decide.proofs.deciding.told_by_verifiers.Goals as goal

@@ -1,6 +1,6 @@
 use Rattle.std.proofs.Common.{◌≡◌, drop}
 use Rattle.std.specs.List.{list_all}
-use Rattle.tree_handles.specs.Standing.{place_of}
+use Rattle.tree_answers.specs.tree_handles_specs.Standing.{place_of}
 use Rattle.file_tree.specs.Strict.{entry_agrees}
 use Rattle.file_tree.proofs.agreeing.all_agree.Given as goal
 

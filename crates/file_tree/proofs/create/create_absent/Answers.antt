@@ -6,7 +6,7 @@ use Rattle.tree_nodes.specs.declared.node.Node.{Node}
 use Rattle.tree_nodes.specs.Tree.{entry_of}
 use Rattle.tree_nodes.specs.Files.{node_limit, file_node}
 use Rattle.tree_nodes.specs.Place.{node_in}
-use Rattle.tree_handles.specs.Binding.{gives_object}
+use Rattle.tree_answers.specs.tree_handles_specs.Binding.{gives_object}
 use Rattle.file_tree.specs.Change.Change.{Put}
 use Rattle.file_tree.specs.Made.{first_size, first_verifier}
 use Rattle.file_tree.proofs.Planned.{no_node, file_comes}

@@ -5,9 +5,9 @@ use Rattle.std.specs.FinMap as map
 use Rattle.tree_nodes.specs.Tree.{entry_of}
 use Rattle.tree_nodes.specs.Files.{node_limit}
 use Rattle.tree_nodes.specs.Place.{node_in}
-use Rattle.tree_handles.specs.Binding.{gives_object}
+use Rattle.tree_answers.specs.tree_handles_specs.Binding.{gives_object}
 use Rattle.tree_starts.specs.Names.{is_plain}
-use Rattle.tree_handles.proofs.Standing.{led_to}
+use Rattle.tree_answers.proofs.tree_handles_laws.Standing.{led_to}
 use Rattle.file_tree.specs.Change.Change.{Put}
 use Rattle.file_tree.specs.Made.{make_entry}
 use Rattle.file_tree.proofs.Planned.{no_node, entry_comes}

@@ -1,7 +1,7 @@
 use Rattle.std.proofs.Common.{◌≡◌, true, refl, sym, ◌∙◌}
 use Rattle.tree_nodes.specs.declared.node.Node.{Node}
 use Rattle.tree_nodes.specs.Tree.{Names, is_bare}
-use Rattle.tree_handles.proofs.Paths.{placed}
+use Rattle.tree_answers.proofs.tree_handles_laws.Paths.{placed}
 use Rattle.file_tree.specs.Change.Change.{Remove}
 use Rattle.file_tree.proofs.Planned.{named_below, entry_goes}
 use Rattle.file_tree.proofs.naming.remove_entry.Goals as goal

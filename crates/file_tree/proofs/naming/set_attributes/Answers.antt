@@ -1,7 +1,7 @@
 use Rattle.std.proofs.Common.{◌≡◌, true, sym, ◌∙◌, subst}
 use Rattle.std.specs.Prelude.{is_some}
 use Rattle.file_tree.specs.Planning.{Plans}
-use Rattle.tree_handles.proofs.Paths.{placed_file}
+use Rattle.tree_answers.proofs.tree_handles_laws.Paths.{placed_file}
 use Rattle.file_tree.proofs.Planned.{file_sized}
 use Rattle.file_tree.proofs.naming.set_attributes.Goals as goal
 

@@ -4,7 +4,7 @@ use Rattle.std.specs.Option.{option_copied}
 use Rattle.std.specs.FinMap as map
 use Rattle.tree_nodes.specs.Tree.{same_path, is_bare}
 use Rattle.tree_nodes.specs.Moved.{is_from}
-use Rattle.tree_handles.proofs.Paths.{from_child}
+use Rattle.tree_answers.proofs.tree_handles_laws.Paths.{from_child}
 use Rattle.file_tree.specs.Change.Change.{Keep, Move}
 use Rattle.file_tree.specs.Removed.{may_replace}
 use Rattle.file_tree.proofs.Planned.{same_place, stays, goes, doesnt_go}

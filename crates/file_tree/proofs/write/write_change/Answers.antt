@@ -2,7 +2,7 @@ use Rattle.std.proofs.Common.{◌≡◌, true, sym, ap, ◌∙◌, subst, rules,
 use Rattle.std.specs.Prelude.{nat_le, length}
 use Rattle.file_tree.specs.Planning.{Plans}
 use Rattle.file_tree.specs.Written.{reaches, write_at}
-use Rattle.tree_handles.proofs.Paths.{placed_file}
+use Rattle.tree_answers.proofs.tree_handles_laws.Paths.{placed_file}
 use Rattle.file_tree.proofs.Planned.{file_written}
 use Rattle.file_tree.proofs.write.write_change.Goals as goal
 

@@ -1,6 +1,6 @@
 use Rattle.std.proofs.Common.{◌∙◌, subst, sym}
 use Rattle.nfs_history.specs.HistoryValue.{CallsValue}
-use Rattle.book_laws.specs.ServedPlan.{EachServed}
+use Rattle.recorder.specs.book_laws_specs.ServedPlan.{EachServed}
 use Rattle.journal_server.proofs.Telling.{told_same, least_same, fault_same}
 use Rattle.journal_server.proofs.closing.close_book.Goals as goal
 

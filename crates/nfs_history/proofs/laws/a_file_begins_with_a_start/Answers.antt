@@ -1,7 +1,7 @@
 use Rattle.std.proofs.Common.{sym, subst}
 use Rattle.history_file.proofs.FileStart.{file_start}
-use Rattle.tree_starts.specs.Head.{Head}
-use Rattle.tree_starts.specs.Start.{IsStart}
+use Rattle.history_file.specs.tree_starts_specs.Head.{Head}
+use Rattle.history_file.specs.tree_starts_specs.Start.{IsStart}
 use Rattle.nfs_history.proofs.laws.a_file_begins_with_a_start.Goals as goal
 
 pub returns : goal.returns

@@ -1,5 +1,5 @@
 use Rattle.witness_check.specs.declared.verdict.FileVerdict.TheVariants.{Yes}
-use Rattle.judging_commands.specs.Report.{line_of}
+use Rattle.showing_command.specs.judging_commands_specs.Report.{line_of}
 use Rattle.nfsbench_engine.proofs.Yes.{yes_said, served_yes}
 use Rattle.nfsbench_engine.proofs.runs.serve_answer.Goals as goal
 

@@ -1,6 +1,6 @@
 use Rattle.std.proofs.Common.{sym, ap, ◌∙◌}
 use Rattle.std.specs.Prelude.{not, ◌&&◌}
-use Rattle.tree_nodes.specs.Tree.{is_bare}
+use Rattle.tree_handles.specs.tree_nodes_specs.Tree.{is_bare}
 use Rattle.tree_answers.proofs.name_causes.is_filled_directory.Goals as goal
 
 pub returns-then-is_directory : goal.returns-then-is_directory

@@ -1,6 +1,6 @@
 use Rattle.std.proofs.Common.{[], ◌∷◌, ◌++◌, sym, ap, ◌∙◌}
 use Rattle.std.specs.Prelude.{◌&&◌}
-use Rattle.tree_nodes.specs.Tree.{is_below}
+use Rattle.tree_handles.specs.tree_nodes_specs.Tree.{is_below}
 use Rattle.tree_handles.proofs.Standing.{led_to}
 use Rattle.tree_handles.proofs.Paths.{placed, below_child}
 use Rattle.tree_answers.proofs.Naming.{below_source}

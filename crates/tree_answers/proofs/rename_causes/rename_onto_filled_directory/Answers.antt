@@ -1,8 +1,8 @@
 use Rattle.std.proofs.Common.{◌≡◌, true, false, sym, ap, ◌∙◌, eq-eqb}
 use Rattle.std.specs.Prelude.{not, ◌&&◌, ◌==◌}
 use Rattle.std.proofs.lemmas.Bool.{eqb-true}
-use Rattle.tree_nodes.specs.Tree.{same_path}
-use Rattle.tree_nodes.proofs.Chains.{isnt}
+use Rattle.tree_handles.specs.tree_nodes_specs.Tree.{same_path}
+use Rattle.tree_handles.proofs.tree_nodes_laws.Chains.{isnt}
 use Rattle.tree_answers.specs.Causes.{is_filled_directory}
 use Rattle.tree_handles.proofs.Paths.{placed, same_object}
 use Rattle.tree_answers.proofs.Naming.{filled_target}

@@ -1,6 +1,6 @@
 use Rattle.std.proofs.Common.{◌≡◌, ℕ, Err}
 use Rattle.std.proofs.lemmas.Result.{err_from_is_err_and}
-use Rattle.nfs_history.specs.HistoryValue.{CallsValue}
+use Rattle.order_check.specs.nfs_history_specs.HistoryValue.{CallsValue}
 use Rattle.tree_handles.specs.Binding.{Bindings}
 use Rattle.order_check.specs.Shape.{HasShape}
 use Rattle.order_check.specs.Order.{EachEraRespectsOrder}

@@ -1,5 +1,5 @@
 use Rattle.std.proofs.Common.{◌≢◌, ◌⊎◌, inl, inr, rules}
-use Rattle.nfs_history.specs.declared.fault.HistoryFault.TheVariants as faults
+use Rattle.order_check.specs.nfs_history_specs.declared.fault.HistoryFault.TheVariants as faults
 use Rattle.witness_check.proofs.verdict.verdict_on.Goals as goal
 
 -- of two, the one that is left

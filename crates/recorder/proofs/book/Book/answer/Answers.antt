@@ -1,5 +1,5 @@
 use Rattle.std.proofs.Common.{◌≡◌, refl, sym}
-use Rattle.book_laws.specs.Steps.{Answers}
+use Rattle.book_ledger.specs.book_laws_specs.Steps.{Answers}
 use Rattle.book_ledger.specs.Refusals.{AnswerStops}
 use Rattle.book_ledger.proofs.Whole.{tied_at, on_ok_at, if_err_at, sent_whole}
 use Rattle.recorder.proofs.book.Book.answer.Goals as goal

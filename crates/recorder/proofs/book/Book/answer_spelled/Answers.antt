@@ -1,7 +1,7 @@
 use Rattle.std.proofs.Common.{◌≡◌, refl, sym, subst}
-use Rattle.book_laws.specs.Book.{Book}
+use Rattle.book_ledger.specs.book_laws_specs.Book.{Book}
 use Rattle.book_ledger.specs.Spelling.{IsPlacedWith}
-use Rattle.book_laws.specs.Steps.{Answers}
+use Rattle.book_ledger.specs.book_laws_specs.Steps.{Answers}
 use Rattle.book_ledger.specs.Refusals.{AnswerStops}
 use Rattle.book_ledger.proofs.Whole.{tied_at, on_ok_at, if_err_at, sent_whole}
 use Rattle.recorder.proofs.book.Book.answer_spelled.Goals as goal

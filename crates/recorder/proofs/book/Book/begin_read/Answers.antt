@@ -1,5 +1,5 @@
 use Rattle.std.proofs.Common.{◌≡◌, length, refl}
-use Rattle.book_laws.specs.Steps.{Begins}
+use Rattle.book_ledger.specs.book_laws_specs.Steps.{Begins}
 use Rattle.book_ledger.specs.Refusals.{BeginStops}
 use Rattle.book_ledger.proofs.Whole.{tied_if, if_ok_whole, if_err_whole}
 use Rattle.recorder.proofs.book.Book.begin_read.Goals as goal

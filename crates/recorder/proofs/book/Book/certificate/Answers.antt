@@ -1,5 +1,5 @@
 use Rattle.std.proofs.Common.{◌≡◌}
-use Rattle.book_laws.specs.Plan.{plan_of}
+use Rattle.book_ledger.specs.book_laws_specs.Plan.{plan_of}
 use Rattle.book_ledger.proofs.Flushed.{if_ok_holds}
 use Rattle.book_ledger.proofs.Explaining.{explained_so, explains, served_so, serves, written_so, writes}
 use Rattle.recorder.proofs.book.Book.certificate.Goals as goal

@@ -1,5 +1,5 @@
 use Rattle.std.proofs.Common.{◌≡◌, refl}
-use Rattle.book_laws.specs.Steps.{Closes}
+use Rattle.book_ledger.specs.book_laws_specs.Steps.{Closes}
 use Rattle.book_ledger.specs.Refusals.{CloseStops}
 use Rattle.book_ledger.proofs.Whole.{tied_on, on_ok_whole, if_err_whole}
 use Rattle.recorder.proofs.book.Book.close_lane.Goals as goal

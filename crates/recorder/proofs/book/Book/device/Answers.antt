@@ -1,5 +1,5 @@
 use Rattle.std.proofs.Common.{ap}
-use Rattle.book_laws.specs.Book.{Book}
+use Rattle.book_ledger.specs.book_laws_specs.Book.{Book}
 use Rattle.recorder.proofs.book.Book.device.Goals as goal
 
 pub returns : goal.returns

@@ -1,6 +1,6 @@
 use Rattle.std.proofs.Common.{refl, sym, ap, subst, ◌∙◌}
 use Rattle.journal.specs.Device.{Device, settled}
-use Rattle.book_laws.specs.Book.{Book}
+use Rattle.book_ledger.specs.book_laws_specs.Book.{Book}
 use Rattle.book_ledger.specs.Inside.{AreTied}
 use Rattle.book_ledger.proofs.Standing.{down_isnt, dead_isnt, not_running}
 use Rattle.book_ledger.proofs.Flushed.{running_lives, barrier_failed, flushed_so, downed_tied, downed_so}

@@ -1,6 +1,6 @@
 use Rattle.std.proofs.Common.{ap, ◌∙◌}
 use Rattle.nfs_history.specs.HistoryValue.{HistoryValue}
-use Rattle.book_laws.specs.Book.{Book}
+use Rattle.book_ledger.specs.book_laws_specs.Book.{Book}
 use Rattle.recorder.proofs.book.Book.into_history.Goals as goal
 
 pub returns : goal.returns

@@ -1,7 +1,7 @@
 use Rattle.std.proofs.Common.{ℕ, ap, subst, ◌∙◌}
-use Rattle.book_laws.specs.Book.{Book}
-use Rattle.book_laws.specs.Book.Condition.{down}
-use Rattle.book_laws.specs.Steps.{Places}
+use Rattle.book_ledger.specs.book_laws_specs.Book.{Book}
+use Rattle.book_ledger.specs.book_laws_specs.Book.Condition.{down}
+use Rattle.book_ledger.specs.book_laws_specs.Steps.{Places}
 use Rattle.book_ledger.specs.Refusals.{PlaceStops}
 use Rattle.recorder.proofs.book.Book.place_spelled.Goals as goal
 

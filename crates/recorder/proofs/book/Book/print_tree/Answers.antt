@@ -1,7 +1,7 @@
 use Rattle.std.proofs.Common.{ap, ◌∙◌}
 use Rattle.std.proofs.lemmas.Result.{on_ok_weaker}
 use Rattle.tree_nodes.proofs.Chains.{value_of}
-use Rattle.book_laws.specs.Book.{tree_of}
+use Rattle.book_ledger.specs.book_laws_specs.Book.{tree_of}
 use Rattle.book_ledger.proofs.Explaining.{explained_so}
 use Rattle.recorder.proofs.book.Book.print_tree.Goals as goal
 

@@ -1,8 +1,8 @@
 use Rattle.std.proofs.Common.{Err, sym, ap, ◌∙◌, subst}
 use Rattle.std.proofs.lemmas.Result.{err_from_is_err_and}
-use Rattle.book_laws.specs.Book.{Book}
+use Rattle.book_ledger.specs.book_laws_specs.Book.{Book}
 use Rattle.replay_law.specs.declared.replay.StepFault.{StepFault}
-use Rattle.book_laws.specs.Steps.{Places}
+use Rattle.book_ledger.specs.book_laws_specs.Steps.{Places}
 use Rattle.book_ledger.specs.declared.fault.PlaceFault.{PlaceFault}
 use Rattle.book_ledger.specs.JoinedFaults.{of_step, of_device}
 use Rattle.book_ledger.specs.Inside.{book_of}

@@ -1,7 +1,7 @@
 use Rattle.std.proofs.Common.{List, ℕ, sym, subst}
 use Rattle.nfs3_types.specs.declared.replies.Outcome.TheVariants.{Received}
-use Rattle.book_laws.specs.Book.{Book}
-use Rattle.book_laws.specs.Steps.{Places}
+use Rattle.book_ledger.specs.book_laws_specs.Book.{Book}
+use Rattle.book_ledger.specs.book_laws_specs.Steps.{Places}
 use Rattle.book_ledger.specs.declared.fault.PlaceFault.TheVariants.{NoMemory}
 use Rattle.book_ledger.specs.Refusals.{PlaceStops}
 use Rattle.book_ledger.specs.PlaceSteps.{IsLeft}

@@ -1,0 +1,170 @@
+//! Small histories that are decided: a yes, a no at the event that no order explains, and neither.
+
+use crate::histories::Happened::{Answered, Asked, Crashed, Done};
+use crate::histories::{Happened, built};
+use crate::requests::Request::{Guarded, Lookup, MakeDirectory, Read, Remove, Write};
+use crate::requests::{Request, SYNCED, UNSTABLE};
+use decide::{Decision, Limits, decide};
+use nfs_history::{History, HistoryFault};
+use std::alloc::Global;
+use std::test::Fail;
+
+/// What a history is decided as.
+#[derive(Clone, Copy)]
+enum Want {
+    Yes,
+    /// A no at this event, the reply to this call, which is the one that is open then.
+    No(u64, u64),
+    Undecided,
+}
+
+/// CREATE of `a`, a WRITE to it, and a READ that gives no bytes.
+const MADE: Request = Guarded(b'a', 0xaa);
+
+const X: Request = Write(0xaa, UNSTABLE, b"x");
+
+const NONE_READ: Request = Read(0xaa, b"");
+
+/// Five MKDIRs at once, which give no handle.
+const FIVE_MAKERS: &[Happened] = &[
+    Asked(1, 1, MakeDirectory(0, b'a', None)),
+    Asked(2, 1, MakeDirectory(0, b'b', None)),
+    Asked(3, 1, MakeDirectory(0, b'c', None)),
+    Asked(4, 1, MakeDirectory(0, b'd', None)),
+    Asked(5, 1, MakeDirectory(0, b'e', None)),
+    Answered(1, 1, MakeDirectory(0, b'a', None)),
+    Answered(2, 1, MakeDirectory(0, b'b', None)),
+    Answered(3, 1, MakeDirectory(0, b'c', None)),
+    Answered(4, 1, MakeDirectory(0, b'd', None)),
+    Answered(5, 1, MakeDirectory(0, b'e', None)),
+];
+
+/// Histories, how many states there may be at once (1000 are more than a small one needs), and what each is decided as.
+const CASES: &[(&str, &[Happened], usize, Want)] = &[
+    (
+        "two WRITEs at once, and a READ that gives the first one",
+        &[
+            Done(1, 1, MADE),
+            Asked(1, 2, X),
+            Done(2, 3, Write(0xaa, UNSTABLE, b"y")),
+            Answered(1, 2, X),
+            Done(1, 4, Read(0xaa, b"x")),
+        ],
+        1000,
+        Want::Yes,
+    ),
+    (
+        "a READ after a WRITE's reply that gives what was there before",
+        &[Done(1, 1, MADE), Done(1, 2, X), Done(2, 3, NONE_READ)],
+        1000,
+        Want::No(6, 3),
+    ),
+    (
+        "a LOOKUP that finds what a REMOVE took before it",
+        &[
+            Done(1, 1, MADE),
+            Done(1, 2, Remove(b'a')),
+            Done(2, 3, Lookup(0, b'a', 0xaa)),
+        ],
+        1000,
+        Want::No(6, 3),
+    ),
+    (
+        "two GUARDED CREATEs of one name, both of which succeed",
+        &[
+            Asked(1, 1, MADE),
+            Asked(2, 2, Guarded(b'a', 0xbb)),
+            Answered(1, 1, MADE),
+            Answered(2, 2, Guarded(b'a', 0xbb)),
+        ],
+        1000,
+        Want::No(4, 2),
+    ),
+    (
+        "a synced WRITE that a crash lost",
+        &[
+            Done(1, 1, MADE),
+            Done(1, 2, Write(0xaa, SYNCED, b"x")),
+            Crashed,
+            Done(2, 3, NONE_READ),
+        ],
+        1000,
+        Want::No(7, 3),
+    ),
+    (
+        "an UNSTABLE WRITE that a crash lost",
+        &[
+            Done(1, 1, MADE),
+            Done(1, 2, X),
+            Crashed,
+            Done(2, 3, NONE_READ),
+        ],
+        1000,
+        Want::Yes,
+    ),
+    (
+        "a WRITE without a reply, a part of which is there after a crash",
+        &[
+            Done(1, 1, MADE),
+            Asked(1, 2, Write(0xaa, SYNCED, b"xyz")),
+            Crashed,
+            Done(2, 3, Read(0xaa, b"xy")),
+        ],
+        1000,
+        Want::Yes,
+    ),
+    (
+        "a WRITE to a handle that no reply gave",
+        &[Done(1, 1, X)],
+        1000,
+        Want::Undecided,
+    ),
+    // When the first is answered, any of the other four may have been placed before it: 16 sets of calls, whatever their order.
+    (
+        "states that are the same count once",
+        FIVE_MAKERS,
+        16,
+        Want::Yes,
+    ),
+    (
+        "one state less is too few",
+        FIVE_MAKERS,
+        15,
+        Want::Undecided,
+    ),
+];
+
+/// Whether a history is decided so.
+fn comes_to(alloc: Global, history: &History, states: usize, want: Want) -> bool {
+    let limits = Limits {
+        states,
+        steps: 10_000,
+    };
+    match (decide(alloc, history, limits), want) {
+        (Decision::Yes(_), Want::Yes) => true,
+        (Decision::No(refusal), Want::No(event, call)) => {
+            (refusal.event, refusal.call) == (event, call)
+                && refusal.open.as_slice() == [call].as_slice()
+        }
+        (Decision::Undecided(_), Want::Undecided) => true,
+        _ => false,
+    }
+}
+
+fn is_decided(
+    alloc: Global,
+    list: &[Happened],
+    states: usize,
+    want: Want,
+) -> Result<bool, HistoryFault> {
+    let history = built(alloc, list)?;
+    Ok(comes_to(alloc, &history, states, want))
+}
+
+#[test]
+fn small_histories_are_decided(rt: HostRuntime) -> Result<(), Fail> {
+    for (name, list, states, want) in CASES {
+        assert!(rt; is_decided(rt.alloc(), list, *states, *want)?, "{name}");
+    }
+    Ok(())
+}

@@ -1,0 +1,107 @@
+//! Walks over a register: the answers that its calls give by their order alone.
+
+use decision_core::Event::{Answered, AtOnce, Called, Passed};
+use decision_core::{Event, Limits, RegisterMachine, Span, Stop, Walked, decide, timeline};
+use std::alloc::{AllocError, Global};
+use std::test::Fail;
+
+/// What a walk comes to.
+#[derive(Clone, Copy)]
+enum Want {
+    /// This event, from 0, is the one that no order explains.
+    No(usize),
+    /// States are left.
+    Left,
+    TooManyStates,
+    TooManySteps,
+    /// The calls have no events.
+    NoEvents,
+}
+
+/// Whether a walk over these comes to that.
+fn comes_to(alloc: Global, events: &[Event], states: usize, steps: u64, want: Want) -> bool {
+    let limits = Limits { states, steps };
+    match (
+        decide(alloc, &RegisterMachine::new(alloc), events, limits),
+        want,
+    ) {
+        (Ok(Walked::NoWitness { event, .. }), Want::No(at)) => event == at,
+        (Ok(Walked::Left(_)), Want::Left) => true,
+        (Err(Stop::TooManyStates), Want::TooManyStates) => true,
+        (Err(Stop::TooManySteps), Want::TooManySteps) => true,
+        _ => false,
+    }
+}
+
+/// A read beside a write that is open, of what it writes: the read is tried twice, and the write once, with one state at a time.
+const EARLY: &[Event] = &[Called(1), Called(101), Answered(101), Answered(1)];
+
+/// Events, the limits of states and of steps, and what a walk comes to.
+const WALKS: &[(&[Event], usize, u64, Want)] = &[
+    (
+        &[Called(1), Answered(1), Called(100), Answered(100)],
+        9,
+        99,
+        Want::No(3),
+    ),
+    (
+        &[Called(1), Answered(1), Passed, AtOnce(101)],
+        9,
+        99,
+        Want::Left,
+    ),
+    (EARLY, 9, 99, Want::Left),
+    (EARLY, 0, 99, Want::TooManyStates),
+    (EARLY, 9, 1, Want::TooManySteps),
+    (
+        &[Called(1), Called(102), Answered(102), Answered(1)],
+        9,
+        99,
+        Want::No(2),
+    ),
+    (EARLY, 1, 3, Want::Left),
+    (EARLY, 1, 2, Want::TooManySteps),
+    (EARLY, 0, 3, Want::TooManyStates),
+];
+
+#[test]
+fn reads_are_explained_within_limits(rt: HostRuntime) {
+    for (events, states, steps, want) in WALKS {
+        assert!(rt; comes_to(rt.alloc(), events, *states, *steps, *want));
+    }
+}
+
+/// Two calls, each with its begin and its end, and what a walk over them comes to.
+const CALLS: [([(u64, u64, u64); 2], Want); 3] = [
+    ([(1, 1, 2), (100, 4, 4)], Want::No(3)),
+    ([(1, 1, 4), (101, 2, 3)], Want::Left),
+    ([(1, 1, 4), (101, 2, 4)], Want::NoEvents),
+];
+
+fn span((number, begin, end): (u64, u64, u64)) -> Span {
+    Span {
+        number,
+        begin,
+        end: Some(end),
+    }
+}
+
+/// Whether two calls come to that.
+fn come_to(
+    alloc: Global,
+    [first, second]: [(u64, u64, u64); 2],
+    want: Want,
+) -> Result<bool, AllocError> {
+    match timeline(alloc, &[span(first), span(second)], 4)? {
+        Some(events) => Ok(comes_to(alloc, events.as_slice(), 9, 99, want)),
+        None => Ok(matches!(want, Want::NoEvents)),
+    }
+}
+
+#[test]
+fn calls_go_by_their_begins_and_ends(rt: HostRuntime) -> Result<(), Fail> {
+    for (calls, want) in CALLS {
+        assert!(rt; come_to(rt.alloc(), calls, want)?);
+    }
+    Ok(())
+}
