@@ -4,13 +4,14 @@
 A model of a journal server, written apart from the crates' code, says what each command is answered. FOLDER gets `stdin` with
 a command a line, and `stdout` with an answer a line. First come servers whose commands try one rule each in every way, some of
 them once more where objects stand at first or the server is strict, then some whose commands are drawn at random, so many in
-all as COMMANDS says, 6,300 if it is left out. How often each answer was
+all as COMMANDS says, 6,300 if it is left out, and at the end some whose replies are written by hand (`servers/by_hand.py`). How often each answer was
 reached is printed; the status is 1 where one never was.
 """
 import pathlib
 import sys
 
 from books.starts import Opening, drawn_opening
+from servers.by_hand import run_by_hand
 from servers.named import CASES, LAST_CASES, run_large, run_openings, run_other_openings
 from servers.report import print_report
 from servers.run import Run
@@ -48,7 +49,7 @@ def make(commands: int, seed: int) -> Run:
     while run.commands() < commands:
         run_drawn(run)
     run.opening = Opening()
-    for case in LAST_CASES:
+    for case in (*LAST_CASES, run_by_hand):
         case(run)
     if commands >= LARGE_FROM:
         run_other_openings(run)

@@ -1,42 +1,14 @@
-//! Tests of a journal server, through public calls: the bytes of its replies, several threads, memory that runs out, streams that are
-//! served, and runs of plans.
+//! Tests of a journal server and of a recording, through public calls: servers that threads call and for which memory runs out, streams that
+//! are served, plans, journals; folders as starts, what was left on disk, a server's health, and packet captures.
 #![tactic(auto)]
 
 #[cfg(test)]
-mod book_memory;
+mod captures;
 #[cfg(test)]
-mod calls;
+mod journals;
 #[cfg(test)]
-mod changes;
+mod recordings;
 #[cfg(test)]
-mod clients;
+mod servers;
 #[cfg(test)]
-mod crashing;
-#[cfg(test)]
-mod crowd;
-#[cfg(test)]
-mod doors;
-#[cfg(test)]
-mod held;
-#[cfg(test)]
-mod listing;
-#[cfg(test)]
-mod looks;
-#[cfg(test)]
-mod making;
-#[cfg(test)]
-mod memory;
-#[cfg(test)]
-mod moving;
-#[cfg(test)]
-mod objects;
-#[cfg(test)]
-mod pieces;
-#[cfg(test)]
-mod requests;
-#[cfg(test)]
-mod runs;
-#[cfg(test)]
-mod samples;
-#[cfg(test)]
-mod streams;
+mod serving;
