@@ -1,121 +1,115 @@
-//! What no clause says.
+//! The calls that the clients of a night draw, at a server that answers as RFC 1813 asks.
 
-mod answers;
-mod little_server;
 mod seen;
 
-use little_server::{LittleServer, handle, wcc};
-use nfs3_types::{Answer, CreateSuccess, Held, NfsCall, NfsReply, Optional, Procedure, Verifier};
+use crate::server::{COMMON, Habits, Tree, handle_of};
+use nfs3_types::Procedure;
 use night_calls::{Client, Mix};
 use seen::Seen;
 use std::alloc::{AllocError, Global};
 use std::test::Fail;
 
 /// The clients of a night.
-fn clients_of(alloc: Global, seed: u64, mix: Mix, clients: u32) -> Result<Vec<Client>, AllocError> {
+pub(crate) fn clients_of(
+    alloc: Global,
+    seed: u64,
+    mix: Mix,
+    clients: u32,
+) -> Result<Vec<Client>, AllocError> {
     let mut all = Vec::new(alloc);
     for number in 0..clients {
-        let root = handle(alloc, 0)?;
+        let root = handle_of(alloc, 0)?;
         all.push(Client::new(alloc, seed, number, clients, root, mix))?;
     }
     Ok(all)
 }
 
-/// One call of a client, and its reply.
-fn step(client: &mut Client, server: &mut LittleServer, seen: &mut Seen) -> Result<(), AllocError> {
+/// One call of a client, and its reply. Whether it was a MKDIR that succeeded.
+fn step(client: &mut Client, tree: &mut Tree, seen: &mut Seen) -> Result<bool, AllocError> {
     let stamp = client.stamp();
     let call = client.next()?;
-    let reply = server.answer(&call)?;
+    let reply = tree.reply(&call)?;
     seen.see(stamp, &call, &reply);
-    client.learn(&call, &reply)
+    client.learn(&call, &reply)?;
+    Ok(call.procedure() == Procedure::MkDir && reply.failure().is_none())
 }
 
 /// So many calls of each client, in turn.
 fn steps(
     all: &mut [Client],
-    server: &mut LittleServer,
+    tree: &mut Tree,
     seen: &mut Seen,
     calls: u32,
 ) -> Result<(), AllocError> {
     for _ in 0..calls {
         for client in all.iter_mut() {
-            step(client, server, seen)?;
+            step(client, tree, seen)?;
         }
     }
     Ok(())
 }
 
-/// So many calls of each client before the server runs again with another verifier, and as many behind.
+/// So many calls of each client before the server runs again with another verifier, and as many after.
 fn night(alloc: Global, seed: u64, mix: Mix, clients: u32, calls: u32) -> Result<Seen, AllocError> {
-    let mut server = LittleServer::new(alloc);
+    let mut tree = Tree::new(alloc, &[], COMMON)?;
     let mut seen = Seen::new();
     let mut all = clients_of(alloc, seed, mix, clients)?;
-    steps(all.as_mut_slice(), &mut server, &mut seen, calls)?;
-    server.verifier = Verifier { value: 2 };
+    steps(all.as_mut_slice(), &mut tree, &mut seen, calls)?;
+    tree.verifier = 2;
     for client in all.iter_mut() {
         client.new_era();
     }
-    steps(all.as_mut_slice(), &mut server, &mut seen, calls)?;
+    steps(all.as_mut_slice(), &mut tree, &mut seen, calls)?;
     Ok(seen)
 }
 
 #[test]
 fn all_is_asked(rt: HostRuntime) -> Result<(), Fail> {
-    let alloc = rt.alloc();
-    for mix in [Mix::Private, Mix::Shared, Mix::Race, Mix::Turns] {
-        let seen = night(alloc, 7, mix, 4, 500)?;
+    for mix in [Mix::Shared, Mix::Race, Mix::Turns] {
+        let seen = night(rt.alloc(), 7, mix, 4, 500)?;
         assert_eq!(rt; seen.missing(), None);
-        assert_eq!(rt; seen.untold, 0);
+        assert!(rt; seen.untold == 0);
     }
-    let seen = night(alloc, 7, Mix::Private, 4, 500)?;
-    assert!(rt; seen.moves > 0);
-    assert_eq!(rt; seen.names.iter().position(|count| *count == 0), None);
+    let seen = night(rt.alloc(), 7, Mix::Private, 4, 500)?;
+    assert_eq!(rt; seen.missing(), None);
+    assert!(rt; seen.untold == 0 && seen.has_moves_and_names());
     Ok(())
 }
 
 #[test]
 fn a_seed_makes_the_same_calls(rt: HostRuntime) -> Result<(), Fail> {
-    let alloc = rt.alloc();
-    let first = night(alloc, 7, Mix::Turns, 3, 100)?;
-    let same = night(alloc, 7, Mix::Turns, 3, 100)?;
-    let other = night(alloc, 8, Mix::Turns, 3, 100)?;
-    assert_eq!(rt; first.trace, same.trace);
-    assert!(rt; first.trace != other.trace);
+    let first = night(rt.alloc(), 7, Mix::Turns, 3, 100)?.trace;
+    let same = night(rt.alloc(), 7, Mix::Turns, 3, 100)?.trace;
+    let other = night(rt.alloc(), 8, Mix::Turns, 3, 100)?.trace;
+    assert!(rt; first == same && first != other);
     Ok(())
 }
 
-/// A client that has made its directory, whose handle the reply gave or not.
-fn begun(alloc: Global, with_handle: bool) -> Result<Client, AllocError> {
-    let mut client = Client::new(alloc, 7, 0, 1, handle(alloc, 0)?, Mix::Private);
+/// Whether a client looks a name up once it has made its directory, whose handle the reply gave or not, and if the server ran again then.
+fn looks_up(alloc: Global, gives_made: bool, is_new_era: bool) -> Result<bool, AllocError> {
+    let habits = Habits {
+        gives_made,
+        ..COMMON
+    };
+    let mut tree = Tree::new(alloc, &[], habits)?;
+    let mut client = Client::new(alloc, 7, 0, 1, handle_of(alloc, 0)?, Mix::Private);
+    let mut seen = Seen::new();
     for _ in 0..100 {
-        let call = client.next()?;
-        if call.procedure() == Procedure::MkDir {
-            let object = if with_handle {
-                Some(handle(alloc, 1)?)
-            } else {
-                None
-            };
-            let success = CreateSuccess {
-                object,
-                attributes: Optional::none(),
-                wcc: wcc(),
-            };
-            let reply = NfsReply::MkDir(Answer::Done(Held::new(alloc, success)?));
-            client.learn(&call, &reply)?;
+        if step(&mut client, &mut tree, &mut seen)? {
             break;
         }
     }
-    Ok(client)
+    if is_new_era {
+        client.new_era();
+    }
+    Ok(client.next()?.procedure() == Procedure::Lookup)
 }
 
 #[test]
 fn names_are_looked_up(rt: HostRuntime) -> Result<(), Fail> {
-    let alloc = rt.alloc();
-    let mut without = begun(alloc, false)?;
-    assert!(rt; without.next()?.procedure() == Procedure::Lookup);
-    let mut with = begun(alloc, true)?;
-    with.new_era();
-    assert!(rt; with.next()?.procedure() == Procedure::Lookup);
+    let without = looks_up(rt.alloc(), false, false)?;
+    let with = looks_up(rt.alloc(), true, true)?;
+    assert!(rt; without && with);
     Ok(())
 }
 
@@ -128,26 +122,26 @@ fn unread_by(all: &[Client]) -> u64 {
     count
 }
 
-/// How much a client of two hundred calls has still to look at: ahead of a crash, right behind it, eight calls later, and a hundred more.
+/// How much a client of two hundred calls has still to look at: before a crash, right after it, eight calls later, and a hundred more.
 fn unread_around(alloc: Global) -> Result<[u64; 4], AllocError> {
-    let mut server = LittleServer::new(alloc);
+    let mut tree = Tree::new(alloc, &[], COMMON)?;
     let mut seen = Seen::new();
     let mut all = clients_of(alloc, 7, Mix::Private, 1)?;
-    steps(all.as_mut_slice(), &mut server, &mut seen, 200)?;
-    let ahead = unread_by(all.as_slice());
+    steps(all.as_mut_slice(), &mut tree, &mut seen, 200)?;
+    let before = unread_by(all.as_slice());
     for client in all.iter_mut() {
         client.new_era();
     }
-    let behind = unread_by(all.as_slice());
-    steps(all.as_mut_slice(), &mut server, &mut seen, 8)?;
+    let after = unread_by(all.as_slice());
+    steps(all.as_mut_slice(), &mut tree, &mut seen, 8)?;
     let soon = unread_by(all.as_slice());
-    steps(all.as_mut_slice(), &mut server, &mut seen, 100)?;
-    Ok([ahead, behind, soon, unread_by(all.as_slice())])
+    steps(all.as_mut_slice(), &mut tree, &mut seen, 100)?;
+    Ok([before, after, soon, unread_by(all.as_slice())])
 }
 
 #[test]
-fn what_was_known_is_looked_at_behind_a_crash(rt: HostRuntime) -> Result<(), Fail> {
-    let [ahead, behind, soon, later] = unread_around(rt.alloc())?;
-    assert!(rt; ahead == 0 && behind > 8 && soon > 0 && later == 0);
+fn what_was_known_is_looked_at_after_a_crash(rt: HostRuntime) -> Result<(), Fail> {
+    let [before, after, soon, later] = unread_around(rt.alloc())?;
+    assert!(rt; before == 0 && after > 8 && soon > 0 && later == 0);
     Ok(())
 }

@@ -1,16 +1,22 @@
-//! Tests of a night's parts: what its clients draw, note, send and hear, its eras, the walk ahead of it, and the texts kept of it.
-//! Servers in threads of the test answer, or don't.
+//! Tests of a night's parts: what a client of RPC, of MOUNT and of an export's walk says and hears, what the clients of a night draw, note, send and
+//! hear, its eras, and the texts kept of it. One little server answers in threads of the test, or doesn't.
 #![tactic(auto)]
 
 #[cfg(test)]
 mod calls;
 #[cfg(test)]
-mod clients;
-#[cfg(test)]
-mod eras;
+mod connections;
 #[cfg(test)]
 mod lanes;
 #[cfg(test)]
+mod messages;
+#[cfg(test)]
+mod mounts;
+#[cfg(test)]
+mod nights;
+#[cfg(test)]
 mod reports;
 #[cfg(test)]
-mod starts;
+mod server;
+#[cfg(test)]
+mod walks;

@@ -62,66 +62,67 @@ fn sample_troubles(alloc: Global, count: u32) -> Result<Troubles, AllocError> {
     Ok(troubles)
 }
 
-/// A night that is told in parts of this.
-#[derive(Clone, Copy)]
-struct Sample<'a> {
-    line: &'a str,
+/// A night of these counts and troubles: a green one if there is no reason, else a red one.
+fn sample_of<'a>(
     reasons: &'a [String],
-    status: u8,
-    troubles: u32,
-    health: Finding<'a>,
-    order: Finding<'a>,
-}
-
-impl<'a> Sample<'a> {
-    fn report<'b>(&self, counts: &'b Counts, troubles: &'b Troubles) -> NightReport<'b>
-    where
-        'a: 'b,
-    {
-        NightReport {
-            folder: "night/7",
-            request: Request {
-                seed: 7,
-                clients: 4,
-                calls: 1000,
-                depth: 2,
-                mix: "shared",
-                uid: 0,
-                gid: 65534,
-                rounds: 2,
-                profile: "plain",
-            },
-            numbers: Numbers {
-                start_objects: 3,
-                eras: 3,
-                calls: 7,
-                replies: 5,
-                judged_and_answered: 5,
-                troubles: u64::from(self.troubles),
-            },
-            counts,
-            causes: None,
-            troubles,
-            status: self.status,
-            line: self.line,
-            reasons: self.reasons,
-            health: self.health,
-            order: self.order,
-            enough: Finding::Yes,
-        }
+    number: u64,
+    counts: &'a Counts,
+    troubles: &'a Troubles,
+) -> NightReport<'a> {
+    let (line, status, health, order) = if reasons.is_empty() {
+        ("yes", 0, Finding::Yes, Finding::Yes)
+    } else {
+        (
+            "no: the server wasn't in health",
+            1,
+            Finding::No("2 < 3 & \"so\"\r\n"),
+            Finding::Unknown("\0"),
+        )
+    };
+    NightReport {
+        folder: "night/7",
+        request: Request {
+            seed: 7,
+            clients: 4,
+            calls: 1000,
+            depth: 2,
+            mix: "shared",
+            uid: 0,
+            gid: 65534,
+            rounds: 2,
+            profile: "plain",
+        },
+        numbers: Numbers {
+            start_objects: 3,
+            eras: 3,
+            calls: 7,
+            replies: 5,
+            judged_and_answered: 5,
+            troubles: number,
+        },
+        counts,
+        causes: None,
+        troubles,
+        status,
+        line,
+        reasons,
+        health,
+        order,
+        enough: Finding::Yes,
     }
 }
 
-/// Whether the text of a night is as wanted.
+/// Whether the text of a night is as wanted. A green one has no reason; a red one has two, of odd bytes, and so many troubles.
 fn is_told(
     alloc: Global,
-    sample: Sample<'_>,
+    reasons: &[String],
+    troubles: u32,
     text: Text,
     wanted: &str,
 ) -> Result<bool, AllocError> {
     let counts = sample_counts(alloc)?;
-    let troubles = sample_troubles(alloc, sample.troubles)?;
-    let night = sample.report(&counts, &troubles);
+    let kept = sample_troubles(alloc, troubles)?;
+    let night = sample_of(reasons, u64::from(troubles), &counts, &kept);
     let told = match text {
         Text::Json => report_json(alloc, &night),
         Text::Junit => junit_xml(alloc, &night),
@@ -130,33 +131,12 @@ fn is_told(
     Ok(told.as_str() == wanted)
 }
 
-/// Whether the text of a green night is as wanted.
-fn is_green_told(alloc: Global, text: Text, wanted: &str) -> Result<bool, AllocError> {
-    let green = Sample {
-        line: "yes",
-        reasons: &[],
-        status: 0,
-        troubles: 0,
-        health: Finding::Yes,
-        order: Finding::Yes,
-    };
-    is_told(alloc, green, text, wanted)
-}
-
-/// Whether the text of a red night with two reasons of odd bytes is as wanted.
+/// The same of a red night with two reasons of odd bytes.
 fn is_red_told(alloc: Global, troubles: u32, text: Text, wanted: &str) -> Result<bool, AllocError> {
     let mut reasons = Vec::new(alloc);
     reasons.push(String::from_str(alloc, "a \"<&>\" b")?)?;
     reasons.push(String::from_str(alloc, "\u{1b}[0m\t\u{7f}\u{fffe}é\n")?)?;
-    let red = Sample {
-        line: "no: the server wasn't in health",
-        reasons: reasons.as_slice(),
-        status: 1,
-        troubles,
-        health: Finding::No("2 < 3 & \"so\"\r\n"),
-        order: Finding::Unknown("\0"),
-    };
-    is_told(alloc, red, text, wanted)
+    is_told(alloc, reasons.as_slice(), troubles, text, wanted)
 }
 
 #[test]
@@ -170,7 +150,7 @@ fn a_green_night_in_junit(rt: HostRuntime) -> Result<(), Fail> {
   </testsuite>
 </testsuites>
 ";
-    assert!(rt; is_green_told(rt.alloc(), Text::Junit, wanted)?);
+    assert!(rt; is_told(rt.alloc(), &[], 0, Text::Junit, wanted)?);
     Ok(())
 }
 
@@ -225,9 +205,12 @@ What to do next:
     Ok(())
 }
 
-#[test]
-fn a_red_night_in_json(rt: HostRuntime) -> Result<(), Fail> {
-    let wanted = "{
+/// The procedures of which no call was made, but for COMMIT.
+const IDLE: &str =
+    "LOOKUP READLINK READ WRITE CREATE MKDIR SYMLINK REMOVE RMDIR RENAME READDIR READDIRPLUS";
+
+/// A red night in JSON, up to the procedures that are missing.
+const JSON_FRONT: &str = "{
   \"verdict\": {
     \"status\": 1,
     \"line\": \"no: the server wasn't in health\",
@@ -259,19 +242,10 @@ fn a_red_night_in_json(rt: HostRuntime) -> Result<(), Fail> {
     \"procedures\": 2,
     \"of\": 15,
     \"missing\": [
-      \"LOOKUP\",
-      \"READLINK\",
-      \"READ\",
-      \"WRITE\",
-      \"CREATE\",
-      \"MKDIR\",
-      \"SYMLINK\",
-      \"REMOVE\",
-      \"RMDIR\",
-      \"RENAME\",
-      \"READDIR\",
-      \"READDIRPLUS\",
-      \"COMMIT\"
+";
+
+/// What comes after these but for COMMIT, up to the procedures of which no call was made.
+const JSON_MIDDLE: &str = "      \"COMMIT\"
     ],
     \"statuses\": [
       \"NFS3_OK\",
@@ -300,67 +274,10 @@ fn a_red_night_in_json(rt: HostRuntime) -> Result<(), Fail> {
         \"NFS3_OK\": 2
       }
     },
-    \"LOOKUP\": {
-      \"calls\": 0,
-      \"replies\": 0,
-      \"statuses\": {}
-    },
-    \"READLINK\": {
-      \"calls\": 0,
-      \"replies\": 0,
-      \"statuses\": {}
-    },
-    \"READ\": {
-      \"calls\": 0,
-      \"replies\": 0,
-      \"statuses\": {}
-    },
-    \"WRITE\": {
-      \"calls\": 0,
-      \"replies\": 0,
-      \"statuses\": {}
-    },
-    \"CREATE\": {
-      \"calls\": 0,
-      \"replies\": 0,
-      \"statuses\": {}
-    },
-    \"MKDIR\": {
-      \"calls\": 0,
-      \"replies\": 0,
-      \"statuses\": {}
-    },
-    \"SYMLINK\": {
-      \"calls\": 0,
-      \"replies\": 0,
-      \"statuses\": {}
-    },
-    \"REMOVE\": {
-      \"calls\": 0,
-      \"replies\": 0,
-      \"statuses\": {}
-    },
-    \"RMDIR\": {
-      \"calls\": 0,
-      \"replies\": 0,
-      \"statuses\": {}
-    },
-    \"RENAME\": {
-      \"calls\": 0,
-      \"replies\": 0,
-      \"statuses\": {}
-    },
-    \"READDIR\": {
-      \"calls\": 0,
-      \"replies\": 0,
-      \"statuses\": {}
-    },
-    \"READDIRPLUS\": {
-      \"calls\": 0,
-      \"replies\": 0,
-      \"statuses\": {}
-    },
-    \"COMMIT\": {
+";
+
+/// What comes after these.
+const JSON_BACK: &str = "    \"COMMIT\": {
       \"calls\": 1,
       \"replies\": 0,
       \"statuses\": {}
@@ -378,7 +295,36 @@ fn a_red_night_in_json(rt: HostRuntime) -> Result<(), Fail> {
   \"more_troubles\": 0
 }
 ";
-    assert!(rt; is_red_told(rt.alloc(), 1, Text::Json, wanted)?);
+
+/// What a procedure of which no call was made has after its name.
+const NO_CALLS: &str =
+    "\": {\n      \"calls\": 0,\n      \"replies\": 0,\n      \"statuses\": {}\n    },\n";
+
+fn put_all(text: &mut String, parts: &[&str]) -> Result<(), AllocError> {
+    for part in parts {
+        text.push_str(part)?;
+    }
+    Ok(())
+}
+
+/// The whole of it.
+fn put_json(text: &mut String) -> Result<(), AllocError> {
+    text.push_str(JSON_FRONT)?;
+    for name in IDLE.split(' ') {
+        put_all(text, &["      \"", name, "\",\n"])?;
+    }
+    text.push_str(JSON_MIDDLE)?;
+    for name in IDLE.split(' ') {
+        put_all(text, &["    \"", name, NO_CALLS])?;
+    }
+    text.push_str(JSON_BACK)
+}
+
+#[test]
+fn a_red_night_in_json(rt: HostRuntime) -> Result<(), Fail> {
+    let mut wanted = String::new(rt.alloc());
+    put_json(&mut wanted)?;
+    assert!(rt; is_red_told(rt.alloc(), 1, Text::Json, wanted.as_str())?);
     Ok(())
 }
 
