@@ -12,7 +12,7 @@ import sys
 
 sys.dont_write_bytecode = True
 
-from cases import bundles, changes, cuts, failures, faults, lines, looks, messages, orders, recorded, searches, starts, strict
+from cases import bundles, changes, cuts, failures, faults, fronts, lines, looks, messages, orders, recorded, searches, starts, strict
 from cases.history import Cases
 
 
@@ -42,7 +42,7 @@ def add_built(cases):
 
 def main():
     folder = sys.argv[1]
-    cases = collected(looks, changes, failures, faults, orders, cuts, bundles, recorded, messages, lines, searches, starts, strict)
+    cases = collected(looks, changes, failures, faults, orders, cuts, bundles, recorded, messages, lines, searches, starts, strict, fronts)
     add_built(cases)
     cases.write(folder)
 

@@ -104,6 +104,7 @@ class Cases:
         """Writes the cases in place of those in the two files of a folder. The command lines after them stay."""
         for file, first, lines in (("stdin", "nfsbench", self.asked), ("stdout", "$ nfsbench", self.answered)):
             path = pathlib.Path(folder, file)
-            old = path.read_text() if path.exists() else ""
+            old = path.read_bytes().decode() if path.exists() else ""
             at = ("\n" + old).find("\n" + first)
-            path.write_text("".join(lines) + (old[at:] if at >= 0 else ""))
+            # By bytes: a line of stdin ends with a carriage return, which a text's reader takes away.
+            path.write_bytes(("".join(lines) + (old[at:] if at >= 0 else "")).encode())

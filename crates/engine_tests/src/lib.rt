@@ -1,25 +1,12 @@
-//! Tests of `nfsbench_engine` and of the verdict: files that are cut off or changed at each byte, streams that fail or come
-//! in pieces, words of the command line, and recordings over sockets, where threads are the program, the server behind it and the
-//! clients in front of it.
+//! Tests of `nfsbench_engine`, of the verdict, and of what is said of a history: files that are cut off or changed at each byte, streams
+//! that fail or come in pieces, recordings and servers over sockets, pictures and numbers.
 #![tactic(auto)]
 
 #[cfg(test)]
-mod changed;
+mod files;
 #[cfg(test)]
-mod cut;
+mod histories;
 #[cfg(test)]
-mod frames;
+mod sockets;
 #[cfg(test)]
-mod nights;
-#[cfg(test)]
-mod peers;
-#[cfg(test)]
-mod pieces;
-#[cfg(test)]
-mod recordings;
-#[cfg(test)]
-mod samples;
-#[cfg(test)]
-mod served;
-#[cfg(test)]
-mod started;
+mod told;

@@ -1,8 +1,8 @@
 //! What becomes of a history to which events are appended one by one. Each fault is a case of `command_cases`.
 
 use crate::histories::{Happened, answered, built};
-use crate::reading::{CREATE, EXAMPLE, WRITE};
-use nfs_history::{Event, History, HistoryFault, Meaning, RecordedCall, read_history};
+use crate::reading::{CREATE, WRITE, example};
+use nfs_history::{Event, History, HistoryFault, Meaning, RecordedCall};
 use std::alloc::{AllocError, Global};
 use std::test::Fail;
 
@@ -54,7 +54,7 @@ fn is_as_appended(
 
 #[test]
 fn events_one_by_one_give_what_is_read(rt: HostRuntime) -> Result<(), Fail> {
-    let history = read_history(rt.alloc(), EXAMPLE)?;
+    let history = example(rt.alloc())?;
     assert!(rt; is_as_appended(rt.alloc(), &history, (6, 3, 1))?);
     Ok(())
 }
@@ -73,7 +73,7 @@ fn refusal(history: &mut History, event: Event) -> Option<HistoryFault> {
 
 /// Whether a crash is appended to the example's events, after a reply to no call was refused.
 fn goes_on(alloc: Global) -> Result<bool, HistoryFault> {
-    let read = read_history(alloc, EXAMPLE)?;
+    let read = example(alloc)?;
     let mut history = appended(alloc, &read)?;
     let unasked = answered(alloc, 1, 9, CREATE)?;
     let refused = refusal(&mut history, unasked) == Some(HistoryFault::NoSuchCall(7));

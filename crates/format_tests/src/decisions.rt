@@ -18,12 +18,19 @@ enum Want {
     Undecided,
 }
 
-/// CREATE of `a`, a WRITE to it, and a READ that gives no bytes.
+/// CREATE of `a`, WRITEs to it, a READ that gives no bytes, and a LOOKUP.
 const MADE: Request = Guarded(b'a', 0xaa);
 
 const X: Request = Write(0xaa, UNSTABLE, b"x");
 
-const NONE_READ: Request = Read(0xaa, b"");
+const SYNCED_X: Happened = Done(1, 2, Write(0xaa, SYNCED, b"x"));
+
+const NONE_LEFT: Happened = Done(2, 3, Read(0xaa, b""));
+
+const FOUND: Happened = Done(2, 3, Lookup(0, b'a', 0xaa));
+
+/// More states than a small history needs.
+const MANY: usize = 1000;
 
 /// Five MKDIRs at once, which give no handle.
 const FIVE_MAKERS: &[Happened] = &[
@@ -39,10 +46,10 @@ const FIVE_MAKERS: &[Happened] = &[
     Answered(5, 1, MakeDirectory(0, b'e', None)),
 ];
 
-/// Histories, how many states there may be at once (1000 are more than a small one needs), and what each is decided as.
-const CASES: &[(&str, &[Happened], usize, Want)] = &[
+/// Histories, how many states there may be at once, and what each is decided as.
+const CASES: &[(&[Happened], usize, Want)] = &[
+    // Two WRITEs at once, and a READ that gives the first one.
     (
-        "two WRITEs at once, and a READ that gives the first one",
         &[
             Done(1, 1, MADE),
             Asked(1, 2, X),
@@ -50,88 +57,60 @@ const CASES: &[(&str, &[Happened], usize, Want)] = &[
             Answered(1, 2, X),
             Done(1, 4, Read(0xaa, b"x")),
         ],
-        1000,
+        MANY,
         Want::Yes,
     ),
+    // A READ after a WRITE's reply that gives what was there before.
     (
-        "a READ after a WRITE's reply that gives what was there before",
-        &[Done(1, 1, MADE), Done(1, 2, X), Done(2, 3, NONE_READ)],
-        1000,
+        &[Done(1, 1, MADE), Done(1, 2, X), NONE_LEFT],
+        MANY,
         Want::No(6, 3),
     ),
+    // A LOOKUP that finds what a REMOVE took before it.
     (
-        "a LOOKUP that finds what a REMOVE took before it",
-        &[
-            Done(1, 1, MADE),
-            Done(1, 2, Remove(b'a')),
-            Done(2, 3, Lookup(0, b'a', 0xaa)),
-        ],
-        1000,
+        &[Done(1, 1, MADE), Done(1, 2, Remove(b'a')), FOUND],
+        MANY,
         Want::No(6, 3),
     ),
+    // Two GUARDED CREATEs of one name, both of which succeed.
     (
-        "two GUARDED CREATEs of one name, both of which succeed",
         &[
             Asked(1, 1, MADE),
             Asked(2, 2, Guarded(b'a', 0xbb)),
             Answered(1, 1, MADE),
             Answered(2, 2, Guarded(b'a', 0xbb)),
         ],
-        1000,
+        MANY,
         Want::No(4, 2),
     ),
+    // What a crash lost: a synced WRITE, and an UNSTABLE one.
     (
-        "a synced WRITE that a crash lost",
-        &[
-            Done(1, 1, MADE),
-            Done(1, 2, Write(0xaa, SYNCED, b"x")),
-            Crashed,
-            Done(2, 3, NONE_READ),
-        ],
-        1000,
+        &[Done(1, 1, MADE), SYNCED_X, Crashed, NONE_LEFT],
+        MANY,
         Want::No(7, 3),
     ),
     (
-        "an UNSTABLE WRITE that a crash lost",
-        &[
-            Done(1, 1, MADE),
-            Done(1, 2, X),
-            Crashed,
-            Done(2, 3, NONE_READ),
-        ],
-        1000,
+        &[Done(1, 1, MADE), Done(1, 2, X), Crashed, NONE_LEFT],
+        MANY,
         Want::Yes,
     ),
+    // A WRITE without a reply, a part of which is there after a crash.
     (
-        "a WRITE without a reply, a part of which is there after a crash",
         &[
             Done(1, 1, MADE),
             Asked(1, 2, Write(0xaa, SYNCED, b"xyz")),
             Crashed,
             Done(2, 3, Read(0xaa, b"xy")),
         ],
-        1000,
+        MANY,
         Want::Yes,
     ),
-    (
-        "a WRITE to a handle that no reply gave",
-        &[Done(1, 1, X)],
-        1000,
-        Want::Undecided,
-    ),
-    // When the first is answered, any of the other four may have been placed before it: 16 sets of calls, whatever their order.
-    (
-        "states that are the same count once",
-        FIVE_MAKERS,
-        16,
-        Want::Yes,
-    ),
-    (
-        "one state less is too few",
-        FIVE_MAKERS,
-        15,
-        Want::Undecided,
-    ),
+    // A WRITE to a handle that no reply gave.
+    (&[Done(1, 1, X)], MANY, Want::Undecided),
+    // States that are the same count once. When the first is answered, any of the other four may have been placed before it: 16 sets of
+    // calls, whatever their order. One state less is too few.
+    (FIVE_MAKERS, 16, Want::Yes),
+    (FIVE_MAKERS, 15, Want::Undecided),
 ];
 
 /// Whether a history is decided so.
@@ -163,8 +142,8 @@ fn is_decided(
 
 #[test]
 fn small_histories_are_decided(rt: HostRuntime) -> Result<(), Fail> {
-    for (name, list, states, want) in CASES {
-        assert!(rt; is_decided(rt.alloc(), list, *states, *want)?, "{name}");
+    for (list, states, want) in CASES {
+        assert!(rt; is_decided(rt.alloc(), list, *states, *want)?);
     }
     Ok(())
 }

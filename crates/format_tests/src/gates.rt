@@ -38,29 +38,19 @@ const READ_AFTER_WRITE: &[Happened] = &[
     Answered(4, 4, READ),
 ];
 
-/// How a search ends.
-#[derive(Clone, Copy, PartialEq)]
-enum End {
-    Found,
-    NotFound,
-    OutOfTurns,
-    NoMemory,
-}
-
-/// How a search with two workers ends.
-fn end_by<R: SearchRuntime, G: SearchGate + Sync>(
+/// Whether a search with two workers finds a certificate, or else is out of turns.
+fn ends<R: SearchRuntime, G: SearchGate + Sync>(
     rt: &R,
     list: &[Happened],
-    turns: u64,
     gate: &G,
-) -> Result<End, Fail> {
+    is_found: bool,
+) -> Result<bool, Fail> {
     let bytes = file(rt.alloc(), list)?;
     let known = read_calls(rt.alloc(), bytes.as_slice())?;
-    Ok(match search_calls(rt, &known, 2, turns, gate) {
-        SearchEnd::Found(_) => End::Found,
-        SearchEnd::NotFound => End::NotFound,
-        SearchEnd::OutOfTurns => End::OutOfTurns,
-        SearchEnd::NoMemory => End::NoMemory,
+    Ok(match search_calls(rt, &known, 2, 10_000, gate) {
+        SearchEnd::Found(_) => is_found,
+        SearchEnd::OutOfTurns => !is_found,
+        SearchEnd::NotFound | SearchEnd::NoMemory => false,
     })
 }
 
@@ -115,8 +105,8 @@ impl<'r, R: Clock> SearchGate for HoldFirst<'r, R> {
 /// Whether a certificate is found while the first worker is held, and another one took a branch meanwhile.
 fn is_found_by_two<R: SearchRuntime>(rt: &R) -> Result<bool, Fail> {
     let gate = HoldFirst::new(rt);
-    let end = end_by(rt, READ_BESIDE_WRITE, 10_000, &gate)?;
-    Ok(end == End::Found && gate.gave_up.load(Ordering::SeqCst) == 0)
+    let is_found = ends(rt, READ_BESIDE_WRITE, &gate, true)?;
+    Ok(is_found && gate.gave_up.load(Ordering::SeqCst) == 0)
 }
 
 #[test]
@@ -138,12 +128,7 @@ impl SearchGate for OverAtOnce {
 
 #[test]
 fn a_search_that_is_over_is_out_of_turns(rt: HostRuntime) -> Result<(), Fail> {
-    assert!(rt; end_by(&rt, READ_AFTER_WRITE, 10_000_000, &OverAtOnce)? == End::OutOfTurns);
-    Ok(())
-}
-
-#[test]
-fn the_same_search_finds_a_certificate_while_it_is_open(rt: HostRuntime) -> Result<(), Fail> {
-    assert!(rt; end_by(&rt, READ_AFTER_WRITE, 10_000_000, &OpenSearch)? == End::Found);
+    assert!(rt; ends(&rt, READ_AFTER_WRITE, &OverAtOnce, false)?);
+    assert!(rt; ends(&rt, READ_AFTER_WRITE, &OpenSearch, true)?);
     Ok(())
 }

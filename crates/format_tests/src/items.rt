@@ -1,5 +1,7 @@
-//! A put that is refused memory. What items are in bytes is a case of `command_cases`.
+//! A put that is refused memory, and calls and outcomes that are copied if there is some. What items are in bytes is a case of `command_cases`.
 
+use crate::requests::{Request, call, outcome};
+use nfs3_types::Procedure;
 use std::alloc::{AllocError, Global};
 use std::test::Fail;
 use xdr_records::{put_fixed, put_flag, put_opaque, put_u32, put_u64};
@@ -58,5 +60,25 @@ fn a_refused_put_leaves_what_is_there(rt: HostRuntime) -> Result<(), Fail> {
     for (item, want) in ITEMS {
         assert!(rt; is_put(rt.alloc(), item, want)?, "{want:?}");
     }
+    Ok(())
+}
+
+/// Whether a REMOVE is copied as one.
+fn is_copied(alloc: Global) -> Result<bool, AllocError> {
+    let call = call(alloc, Request::Remove(b'a'))?;
+    let copy = call.copy()?;
+    Ok(copy.procedure() == Procedure::Remove)
+}
+
+/// Copies the outcome of a READDIRPLUS.
+fn copy_a_list(alloc: Global) -> Result<(), AllocError> {
+    let outcome = outcome(alloc, Request::List(0xaa, 0xbb))?;
+    drop(outcome.copy()?);
+    Ok(())
+}
+
+#[test]
+fn a_call_and_an_outcome_are_copied(rt: HostRuntime) -> Result<(), Fail> {
+    assert!(rt; is_copied(rt.alloc())? && copy_a_list(rt.alloc()).is_ok());
     Ok(())
 }

@@ -3,11 +3,7 @@
 #![tactic(auto)]
 
 #[cfg(test)]
-mod allowing;
-#[cfg(test)]
 mod appending;
-#[cfg(test)]
-mod claims;
 #[cfg(test)]
 mod decisions;
 #[cfg(test)]
@@ -20,8 +16,6 @@ mod holes;
 mod items;
 #[cfg(test)]
 mod log;
-#[cfg(test)]
-mod messages;
 #[cfg(test)]
 mod placing;
 #[cfg(test)]
@@ -48,5 +42,3 @@ mod starting;
 mod streams;
 #[cfg(test)]
 mod threads;
-#[cfg(test)]
-mod values;

@@ -1,6 +1,6 @@
 //! What the log takes.
 
-use crate::messages::{CALL, REPLY};
+use crate::streams::{CALL, REPLY};
 use nfs_history::Event;
 use nfs_tap::{NoteFault, TapLog};
 use nfs3_types::FileHandle;
@@ -51,16 +51,6 @@ const REPLY_AND_CLOSE: &[(Told, Result<(), NoteFault>)] = &[
     (Told::Close(1), Err(NoteFault::LaneClosed)),
 ];
 
-/// Whether each of these ends so, one after the other.
-fn all_end(log: &mut TapLog, steps: &[(Told, Result<(), NoteFault>)]) -> bool {
-    for (told, want) in steps {
-        if note(log, *told) != *want {
-            return false;
-        }
-    }
-    true
-}
-
 /// Whether a log has so many events, of which the first is the call on lane 1, and the root handle 0.
 fn has(log: &TapLog, count: usize) -> bool {
     let is_call = match log.events().first() {
@@ -70,14 +60,19 @@ fn has(log: &TapLog, count: usize) -> bool {
     is_call && log.events().len() == count && log.root().as_slice() == [0].as_slice()
 }
 
-/// Whether a log that is told these ends so, and has so many events then.
+/// Whether each of these, told to a log one after the other, ends so, and it has so many events then.
 fn notes(
     alloc: Global,
     steps: &[(Told, Result<(), NoteFault>)],
     count: usize,
 ) -> Result<bool, AllocError> {
     let mut log = new_log(alloc)?;
-    Ok(all_end(&mut log, steps) && has(&log, count))
+    for (told, want) in steps {
+        if note(&mut log, *told) != *want {
+            return Ok(false);
+        }
+    }
+    Ok(has(&log, count))
 }
 
 #[test]

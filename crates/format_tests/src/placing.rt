@@ -3,6 +3,7 @@
 ghost use Rattle.std.specs.Prelude.{IfOk};
 ghost use Rattle.decision_steps.specs.Placing.{StepsFrom};
 
+use crate::placing::Row::{Guessed, NotGiven, NotLegal, Placed};
 use crate::requests::Request::{
     Absent, Create, List, Lookup, MakeDirectory, Read, Remove, Rename, Stale, Taken, Write,
 };
@@ -13,63 +14,73 @@ use nfs3_types::FileHandle;
 use std::alloc::{AllocError, Global};
 use std::test::Fail;
 
-/// A request, and why it isn't placed.
-type Row = (Request, Option<PlaceFault>);
-
-const PLACED: Option<PlaceFault> = None;
-
-const NOT_LEGAL: Option<PlaceFault> = Some(PlaceFault::NotLegal);
-
-const NOT_GIVEN: Option<PlaceFault> = Some(PlaceFault::HandleNotGiven);
+/// What is done in a state, and what comes of it.
+#[derive(Clone, Copy)]
+enum Row {
+    Placed(Request),
+    NotLegal(Request),
+    /// It isn't placed, since no reply gave its handle.
+    NotGiven(Request),
+    /// A handle that isn't bound is taken for one of this object.
+    Guessed(u8, u64),
+}
 
 /// The life of a file.
 const LIFE: &[Row] = &[
-    (Create(0, b'a', Some(0xaa)), PLACED),
-    (Lookup(0, b'a', 0xaa), PLACED),
-    (Write(0xaa, SYNCED, b"x"), PLACED),
-    (Read(0xaa, b"x"), PLACED),
-    (Read(0xaa, b"y"), NOT_LEGAL),
-    (MakeDirectory(0, b'd', Some(0xdd)), PLACED),
-    (Rename(b'a', 0xdd, b'b'), PLACED),
-    (Absent(0, b'a'), PLACED),
-    (Absent(0xdd, b'b'), NOT_LEGAL),
-    (Stale(0xaa), NOT_LEGAL),
-    (Remove(b'a'), NOT_LEGAL),
-    (Taken(b'c'), PLACED),
-    (Remove(b'c'), PLACED),
+    Placed(Create(0, b'a', Some(0xaa))),
+    Placed(Lookup(0, b'a', 0xaa)),
+    Placed(Write(0xaa, SYNCED, b"x")),
+    Placed(Read(0xaa, b"x")),
+    NotLegal(Read(0xaa, b"y")),
+    Placed(MakeDirectory(0, b'd', Some(0xdd))),
+    Placed(Rename(b'a', 0xdd, b'b')),
+    Placed(Absent(0, b'a')),
+    NotLegal(Absent(0xdd, b'b')),
+    NotLegal(Stale(0xaa)),
+    NotLegal(Remove(b'a')),
+    Placed(Taken(b'c')),
+    Placed(Remove(b'c')),
 ];
 
 /// What handles are bound to.
 const HANDLES: &[Row] = &[
-    (Create(0, b'a', None), PLACED),
+    Placed(Create(0, b'a', None)),
     // Nothing is known of the handle, which may be any object's, or none's.
-    (Write(0xaa, SYNCED, b"x"), NOT_GIVEN),
-    (Absent(0xaa, b'b'), NOT_GIVEN),
-    (Stale(0xbb), PLACED),
-    (Lookup(0, b'a', 0xaa), PLACED),
-    (Write(0xaa, SYNCED, b"x"), PLACED),
+    NotGiven(Write(0xaa, SYNCED, b"x")),
+    NotGiven(Absent(0xaa, b'b')),
+    Placed(Stale(0xbb)),
+    Placed(Lookup(0, b'a', 0xaa)),
+    Placed(Write(0xaa, SYNCED, b"x")),
     // An object may have two handles, and a handle one object alone.
-    (Lookup(0, b'a', 0xac), PLACED),
-    (Read(0xac, b"x"), PLACED),
-    (Create(0, b'b', Some(0xaa)), NOT_LEGAL),
-    (Create(0, b'b', Some(0xbb)), PLACED),
-    (Create(0, b'b', Some(0xbb)), PLACED),
-    (Lookup(0, b'a', 0xbb), NOT_LEGAL),
-    (Lookup(0, b'.', 0), PLACED),
+    Placed(Lookup(0, b'a', 0xac)),
+    Placed(Read(0xac, b"x")),
+    NotLegal(Create(0, b'b', Some(0xaa))),
+    Placed(Create(0, b'b', Some(0xbb))),
+    Placed(Create(0, b'b', Some(0xbb))),
+    NotLegal(Lookup(0, b'a', 0xbb)),
+    Placed(Lookup(0, b'.', 0)),
 ];
 
 /// What the handles of a list are bound to.
 const LISTS: &[Row] = &[
-    (Create(0, b'a', None), PLACED),
-    (Create(0, b'b', None), PLACED),
+    Placed(Create(0, b'a', None)),
+    Placed(Create(0, b'b', None)),
     // One handle can't be that of two entries, and the first one stays unbound then.
-    (List(0xaa, 0xaa), NOT_LEGAL),
-    (Stale(0xaa), PLACED),
-    (List(0xab, 0xba), PLACED),
-    (Lookup(0, b'b', 0xba), PLACED),
-    (Lookup(0, b'a', 0xba), NOT_LEGAL),
+    NotLegal(List(0xaa, 0xaa)),
+    Placed(Stale(0xaa)),
+    Placed(List(0xab, 0xba)),
+    Placed(Lookup(0, b'b', 0xba)),
+    NotLegal(Lookup(0, b'a', 0xba)),
     // The handle beside `..` isn't bound.
-    (Lookup(0, b'a', 1), PLACED),
+    Placed(Lookup(0, b'a', 1)),
+];
+
+/// A handle that no reply gave.
+const GUESS: &[Row] = &[
+    Placed(Taken(b'a')),
+    Guessed(0xaa, 1),
+    Placed(Write(0xaa, SYNCED, b"x")),
+    Placed(Lookup(0, b'a', 0xaa)),
 ];
 
 /// The state before any call of a server that held nothing.
@@ -92,14 +103,24 @@ fn place(
     state.place(alloc, profile, number, &call, &outcome)
 }
 
-/// Whether placing it is answered so.
-fn is_answered(
-    alloc: Global,
-    profile: Profile,
-    state: &mut State,
-    number: u64,
-    (request, want): Row,
-) -> bool {
+/// Takes a handle for one of this object, and says whether it wasn't bound.
+fn guess(alloc: Global, state: &mut State, byte: u8, object: u64) -> Result<bool, AllocError> {
+    let handle = FileHandle::from_slice(alloc, &[byte])?;
+    if state.binds.object(handle.as_slice()).is_some() {
+        return Ok(false);
+    }
+    drop(state.guess(alloc, &handle, object)?);
+    Ok(true)
+}
+
+/// Whether a row is answered so.
+fn is_answered(alloc: Global, profile: Profile, state: &mut State, number: u64, row: Row) -> bool {
+    let (request, want) = match row {
+        Placed(request) => (request, None),
+        NotLegal(request) => (request, Some(PlaceFault::NotLegal)),
+        NotGiven(request) => (request, Some(PlaceFault::HandleNotGiven)),
+        Guessed(byte, object) => return guess(alloc, state, byte, object) == Ok(true),
+    };
     match place(alloc, profile, state, number, request) {
         Ok(_) => want.is_none(),
         Err(fault) => want == Some(fault),
@@ -119,18 +140,12 @@ fn are_answered(alloc: Global, profile: Profile, rows: &[Row]) -> Result<bool, A
     Ok(true)
 }
 
-/// Runs, each of which is answered alike under both profiles.
-const RUNS: [(&str, &[Row]); 3] = [
-    ("a file is made, read, moved and removed", LIFE),
-    ("a handle is bound to one object", HANDLES),
-    ("handles of a list are bound together", LISTS),
-];
-
+/// Each run is answered alike under both profiles.
 #[test]
 fn calls_are_placed(rt: HostRuntime) -> Result<(), Fail> {
-    for (name, rows) in RUNS {
+    for rows in [LIFE, HANDLES, LISTS, GUESS] {
         for profile in [Profile::Plain, Profile::Strict] {
-            assert!(rt; are_answered(rt.alloc(), profile, rows)?, "{name}");
+            assert!(rt; are_answered(rt.alloc(), profile, rows)?);
         }
     }
     Ok(())
@@ -152,35 +167,5 @@ fn is_taken_back(alloc: Global) -> Result<bool, PlaceFault> {
 #[test]
 fn a_step_is_taken_back_with_its_handles(rt: HostRuntime) -> Result<(), Fail> {
     assert!(rt; is_taken_back(rt.alloc())?);
-    Ok(())
-}
-
-/// Takes a handle for one of this object, and says whether it wasn't bound.
-fn guess(alloc: Global, state: &mut State, byte: u8, object: u64) -> Result<bool, AllocError> {
-    let handle = FileHandle::from_slice(alloc, &[byte])?;
-    if state.binds.object(handle.as_slice()).is_some() {
-        return Ok(false);
-    }
-    drop(state.guess(alloc, &handle, object)?);
-    Ok(true)
-}
-
-/// Whether a WRITE to a file whose handle no reply gave is placed once that is guessed, and a LOOKUP that gives it then.
-fn is_guessed(alloc: Global) -> Result<bool, AllocError> {
-    let mut state = opening(alloc)?;
-    let made = is_answered(alloc, Profile::Plain, &mut state, 1, (Taken(b'a'), PLACED));
-    let guessed = guess(alloc, &mut state, 0xaa, 1)?;
-    let written = (Write(0xaa, SYNCED, b"x"), PLACED);
-    let found = (Lookup(0, b'a', 0xaa), PLACED);
-    Ok(
-        made && guessed
-            && is_answered(alloc, Profile::Plain, &mut state, 2, written)
-            && is_answered(alloc, Profile::Plain, &mut state, 3, found),
-    )
-}
-
-#[test]
-fn a_handle_is_guessed(rt: HostRuntime) -> Result<(), Fail> {
-    assert!(rt; is_guessed(rt.alloc())?);
     Ok(())
 }

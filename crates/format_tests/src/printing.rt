@@ -88,17 +88,14 @@ fn print_both(
     Ok(nodes)
 }
 
-/// Requests ahead of a step, the step, how many bytes are printed before it, what is printed after it, and how many nodes stand aside.
-const TAKEN_BACK: [(&str, Done, (u64, Request), usize, &[u8], u64); 2] = [
-    ("a WRITE", &[(1, CREATE_A)], (2, WRITE_A), 52, &ONE_FILE, 0),
-    (
-        "a RENAME over a file",
-        &[(1, CREATE_A), (2, WRITE_A), (3, CREATE_B)],
-        (4, RENAME_A),
-        88,
-        &AT_B,
-        1,
-    ),
+/// `a` is made and written, and then `b` is made.
+const TWO_MADE: Done = &[(1, CREATE_A), (2, WRITE_A), (3, CREATE_B)];
+
+/// Requests before a step, the step, how many bytes are printed before it, what is printed after it, and how many nodes stand aside.
+const TAKEN_BACK: [(Done, (u64, Request), usize, &[u8], u64); 2] = [
+    (&[(1, CREATE_A)], (2, WRITE_A), 52, &ONE_FILE, 0),
+    // A RENAME over a file.
+    (TWO_MADE, (4, RENAME_A), 88, &AT_B, 1),
 ];
 
 /// Whether what is printed is so, and is the same before the step and once it is taken back.
@@ -123,30 +120,21 @@ fn is_taken_back(
 
 #[test]
 fn a_step_is_printed_and_taken_back(rt: HostRuntime) -> Result<(), Fail> {
-    for (name, done, last, length, want, aside) in TAKEN_BACK {
-        assert!(rt;
-            is_taken_back(rt.alloc(), done, last, length, want, aside)?,
-            "{name}"
-        );
+    for (done, last, length, want, aside) in TAKEN_BACK {
+        assert!(rt; is_taken_back(rt.alloc(), done, last, length, want, aside)?);
     }
     Ok(())
 }
 
-/// The tree of a directory at `a` with a hundred empty files.
-fn full_directory(alloc: Global, binds: &Binds) -> Result<FileTree, StepFault> {
-    let made = Request::MakeDirectory(0, b'a', Some(0xaa));
-    let mut tree = tree_after(alloc, binds, &[(1, made)])?;
-    for name in 100..200u8 {
-        let request = Request::Create(0xaa, name, None);
-        drop(step(alloc, &mut tree, binds, u64::from(name), request)?);
-    }
-    Ok(tree)
-}
-
-/// How many nodes stand aside while such a directory is renamed.
+/// How many nodes stand aside while a directory at `a` with a hundred empty files is renamed.
 fn nodes_of_a_rename(alloc: Global) -> Result<u64, StepFault> {
     let binds = binds(alloc, &[(0xaa, 1)])?;
-    let mut tree = full_directory(alloc, &binds)?;
+    let made = Request::MakeDirectory(0, b'a', Some(0xaa));
+    let mut tree = tree_after(alloc, &binds, &[(1, made)])?;
+    for name in 100..200u8 {
+        let request = Request::Create(0xaa, name, None);
+        drop(step(alloc, &mut tree, &binds, u64::from(name), request)?);
+    }
     let undo = step(alloc, &mut tree, &binds, 200, RENAME_A)?;
     Ok(FileTree::undo_nodes(&undo))
 }

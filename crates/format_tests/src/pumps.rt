@@ -1,8 +1,8 @@
 //! How pumps end, and what they have noted and written by then.
 
 use crate::log::new_log;
-use crate::messages::{CALL, CALL_FRAME, LONG_FRAME, PART_FRAME, REPLY_FRAME};
-use crate::streams::{Broken, Stream, Then};
+use crate::streams::Then::{End, Fault, Zeros};
+use crate::streams::{Broken, CALL, CALL_FRAME, LONG_FRAME, PART_FRAME, REPLY_FRAME, Stream, Then};
 use nfs_history::Event;
 use nfs_tap::{NoteFault, PumpEnd, TapLog, pump_calls, pump_replies};
 use std::alloc::{AllocError, Global};
@@ -31,60 +31,25 @@ fn ends(
 
 const BAD_RPC: PumpEnd = PumpEnd::LogFault(NoteFault::BadRpc);
 
-/// What a client sends, how a pump of it ends with how many events, and what is written by then.
-const PUMPED: &[(&str, Stream<'static>, (PumpEnd, usize), &[u8])] = &[
-    (
-        "a record at once",
-        Stream(CALL_FRAME, 4096, Then::End),
-        (PumpEnd::End, 1),
-        CALL_FRAME,
-    ),
-    (
-        "a byte at a time",
-        Stream(CALL_FRAME, 1, Then::End),
-        (PumpEnd::End, 1),
-        CALL_FRAME,
-    ),
-    (
-        "no call",
-        Stream(REPLY_FRAME, 4096, Then::End),
-        (BAD_RPC, 0),
-        b"",
-    ),
-    (
-        "a part of a record",
-        Stream(PART_FRAME, 4096, Then::End),
-        (PumpEnd::End, 0),
-        b"",
-    ),
-    (
-        "no end",
-        Stream(b"", 4096, Then::Zeros),
-        (PumpEnd::Bound, 0),
-        b"",
-    ),
-    (
-        "a failed read after a record",
-        Stream(CALL_FRAME, 4096, Then::Fault),
-        (PumpEnd::ReadFault, 1),
-        CALL_FRAME,
-    ),
-    (
-        "a record that is too long after one that isn't",
-        Stream(LONG_FRAME, 4096, Then::End),
-        (PumpEnd::RecordTooLong, 1),
-        CALL_FRAME,
-    ),
+/// What a client sends, at most so many bytes at a time, and then does; how a pump of it ends with how many events, and what is written by then.
+const PUMPED: &[(&[u8], usize, Then, PumpEnd, usize, &[u8])] = &[
+    (CALL_FRAME, 4096, End, PumpEnd::End, 1, CALL_FRAME),
+    (CALL_FRAME, 1, End, PumpEnd::End, 1, CALL_FRAME),
+    // No call, and a part of a record.
+    (REPLY_FRAME, 4096, End, BAD_RPC, 0, b""),
+    (PART_FRAME, 4096, End, PumpEnd::End, 0, b""),
+    (b"", 4096, Zeros, PumpEnd::Bound, 0, b""),
+    (CALL_FRAME, 4096, Fault, PumpEnd::ReadFault, 1, CALL_FRAME),
+    // A record that is too long after one that isn't.
+    (LONG_FRAME, 4096, End, PumpEnd::RecordTooLong, 1, CALL_FRAME),
 ];
 
 #[test]
 fn what_is_noted_is_forwarded(rt: HostRuntime) -> Result<(), Fail> {
-    for (name, stream, want, written) in PUMPED {
+    for (bytes, most, then, end, events, written) in PUMPED {
         let log = new_log(rt.alloc())?;
-        assert!(rt;
-            ends(&rt, rt.alloc(), log, *stream, *want, written),
-            "{name}"
-        );
+        let stream = Stream(bytes, *most, *then);
+        assert!(rt; ends(&rt, rt.alloc(), log, stream, (*end, *events), written));
     }
     Ok(())
 }
@@ -107,19 +72,15 @@ fn is_pumped(
     at_once: usize,
 ) -> Result<bool, AllocError> {
     let frame = long_frame(alloc, length)?;
-    let stream = Stream(frame.as_slice(), at_once, Then::End);
+    let stream = Stream(frame.as_slice(), at_once, End);
     let log = new_log(alloc)?;
     Ok(ends(rt, alloc, log, stream, (PumpEnd::End, 1), frame.as_slice()))
 }
 
+/// A record of nearly two megabytes, and one in forty thousand pieces.
 #[test]
-fn a_record_of_nearly_two_megabytes_is_forwarded(rt: HostRuntime) -> Result<(), Fail> {
+fn long_records_are_forwarded(rt: HostRuntime) -> Result<(), Fail> {
     assert!(rt; is_pumped(&rt, rt.alloc(), 2_097_148, 65_536)?);
-    Ok(())
-}
-
-#[test]
-fn a_record_in_forty_thousand_pieces_is_forwarded(rt: HostRuntime) -> Result<(), Fail> {
     assert!(rt; is_pumped(&rt, rt.alloc(), 40_000, 1)?);
     Ok(())
 }
@@ -170,16 +131,8 @@ fn full_log(alloc: Global) -> Result<TapLog, NoteFault> {
 #[test]
 fn a_full_log_ends_a_pump(rt: HostRuntime) -> Result<(), Fail> {
     let log = full_log(rt.alloc())?;
-    let stream = Stream(CALL_FRAME, 4096, Then::End);
-    assert!(rt;
-        ends(
-            &rt,
-            rt.alloc(),
-            log,
-            stream,
-            (PumpEnd::LogFull, 995_904),
-            b""
-        )
-    );
+    let stream = Stream(CALL_FRAME, 4096, End);
+    let want = (PumpEnd::LogFull, 995_904);
+    assert!(rt; ends(&rt, rt.alloc(), log, stream, want, b""));
     Ok(())
 }

@@ -2,34 +2,29 @@
 
 use crate::histories::{Happened, built, file};
 use crate::requests::{Request, SYNCED};
+use crate::streams::{CALL, REPLY, WRITE_CALL};
 use nfs_history::{Event, History, HistoryFault, read_history};
 use std::alloc::Global;
 use std::test::Fail;
 
-/// CREATE of "a" and WRITE of "abc" on lane 1, then READ on lane 2, each with its reply (docs/FORMATS.md).
-pub(crate) const EXAMPLE: &[u8] = b"\
-    NFSHIST1\0\0\0\x01\0\0\0\0\0\0\0\x06\
-    \0\0\0\0\0\0\0\x01\0\0\0T\
-    \0\0\0\x01\0\0\0\0\0\0\0\x02\0\x01\x86\xa3\0\0\0\x03\0\0\0\x08\0\0\0\0\0\0\0\0\0\0\0\0\0\0\0\0\0\0\0\x01\0\0\0\0\
-    \0\0\0\x01a\0\0\0\0\0\0\0\0\0\0\0\0\0\0\0\0\0\0\0\0\0\0\0\0\0\0\0\0\0\0\0\
-    \0\0\0\x01\0\0\0\x01\0\0\0\x34\
-    \0\0\0\x01\0\0\0\x01\0\0\0\0\0\0\0\0\0\0\0\0\0\0\0\0\0\0\0\0\0\0\0\x01\0\0\0\x01\xaa\0\0\0\0\0\0\0\0\0\0\0\0\0\0\0\
-    \0\0\0\0\0\0\0\x01\0\0\0H\
-    \0\0\0\x02\0\0\0\0\0\0\0\x02\0\x01\x86\xa3\0\0\0\x03\0\0\0\x07\0\0\0\0\0\0\0\0\0\0\0\0\0\0\0\0\0\0\0\x01\xaa\0\0\0\
-    \0\0\0\0\0\0\0\0\0\0\0\x03\0\0\0\x02\0\0\0\x03abc\0\
-    \0\0\0\x01\0\0\0\x01\0\0\0\x34\
-    \0\0\0\x02\0\0\0\x01\0\0\0\0\0\0\0\0\0\0\0\0\0\0\0\0\0\0\0\0\0\0\0\0\0\0\0\0\0\0\0\x03\0\0\0\x02\0\0\0\0\0\0\0\x01\
-    \0\0\0\0\0\0\0\x02\0\0\0\x3c\
-    \0\0\0\x03\0\0\0\0\0\0\0\x02\0\x01\x86\xa3\0\0\0\x03\0\0\0\x06\0\0\0\0\0\0\0\0\0\0\0\0\0\0\0\0\0\0\0\x01\xaa\0\0\0\
-    \0\0\0\0\0\0\0\0\0\0\0\x0a\
-    \0\0\0\x01\0\0\0\x02\0\0\0\x30\
-    \0\0\0\x03\0\0\0\x01\0\0\0\0\0\0\0\0\0\0\0\0\0\0\0\0\0\0\0\0\0\0\0\0\0\0\0\x03\0\0\0\x01\0\0\0\x03abc\0\
-";
-
-/// The same CREATE and WRITE.
 pub(crate) const CREATE: Request = Request::Create(0, b'a', Some(0xaa));
 
 pub(crate) const WRITE: Request = Request::Write(0xaa, SYNCED, b"abc");
+
+/// A file is made and written on lane 1, and read on lane 2.
+const EXAMPLE: &[Happened] = &[
+    Happened::Done(1, 1, CREATE),
+    Happened::Done(1, 2, WRITE),
+    WAS_READ,
+];
+
+/// The example's history, which is read of its file. What can't be written fails as if memory ran out.
+pub(crate) fn example(alloc: Global) -> Result<History, HistoryFault> {
+    match file(alloc, EXAMPLE) {
+        Ok(bytes) => read_history(alloc, bytes.as_slice()),
+        Err(_) => Err(HistoryFault::NoMemory),
+    }
+}
 
 fn message_of(event: &Event) -> &[u8] {
     match event {
@@ -43,9 +38,7 @@ fn are_shown(events: &[Event]) -> bool {
     let [first, second, third, _, _, _] = events else {
         return false;
     };
-    message_of(first) == &EXAMPLE[32..116]
-        && message_of(second) == &EXAMPLE[128..180]
-        && message_of(third) == &EXAMPLE[192..264]
+    message_of(first) == CALL && message_of(second) == REPLY && message_of(third) == WRITE_CALL
 }
 
 /// Whether a history has the example's three calls.
@@ -59,7 +52,7 @@ fn has_calls(history: &History) -> bool {
 
 /// Whether the example is read, with its events and calls.
 fn is_read(alloc: Global) -> Result<bool, HistoryFault> {
-    let history = read_history(alloc, EXAMPLE)?;
+    let history = example(alloc)?;
     Ok(are_shown(history.events()) && has_calls(&history))
 }
 

@@ -8,46 +8,28 @@ use xdr_records::{FeedFault, RecordFeed, frame};
 type Parts = &'static [&'static [u8]];
 
 /// Pieces that are taken, pieces after them whose record is too long, and the whole records that there are then.
-const STREAMS: &[(&str, Parts, Parts, Parts)] = &[
+const STREAMS: &[(Parts, Parts, Parts)] = &[
+    // A header may come in pieces.
     (
-        "a header may come in pieces",
         &[b"\x80\0", b"\0\x05a", b"bcde\x80\0\0\0"],
         &[],
         &[b"abcde", b""],
     ),
+    // A fragment that isn't the last gives no record. Fragments are joined.
+    (&[b"\0\0\0\x02ab\x80\0\0\x01"], &[], &[]),
+    (&[b"\0\0\0\x02ab\x80\0\0\x01", b"c"], &[], &[b"abc"]),
+    // The limit is allowed, for one fragment and for two, and counts all of them.
+    (&[b"\x80\x20\0\0"], &[], &[]),
+    (&[b"\0\0\0\x01a\x80\x1f\xff\xff"], &[], &[]),
+    (&[], &[b"\0\0\0\x01a\x80\x20\0\0"], &[]),
+    // Past the limit no byte is taken.
     (
-        "a fragment that isn't the last gives no record",
-        &[b"\0\0\0\x02ab\x80\0\0\x01"],
-        &[],
-        &[],
-    ),
-    (
-        "fragments are joined",
-        &[b"\0\0\0\x02ab\x80\0\0\x01", b"c"],
-        &[],
-        &[b"abc"],
-    ),
-    ("the limit is allowed", &[b"\x80\x20\0\0"], &[], &[]),
-    (
-        "the limit is allowed for two fragments",
-        &[b"\0\0\0\x01a\x80\x1f\xff\xff"],
-        &[],
-        &[],
-    ),
-    (
-        "past the limit no byte is taken",
         &[b"\x80\0"],
         &[b"\0\x01a\x80\x20\0\x01", b"\x80\0\0\0"],
         &[b"a"],
     ),
+    // A refused growth changes nothing.
     (
-        "the limit counts all fragments",
-        &[],
-        &[b"\0\0\0\x01a\x80\x20\0\0"],
-        &[],
-    ),
-    (
-        "a refused growth changes nothing",
         &[
             b"\0\0\0\x02a",
             b"b\x80\0\0\x01c\x80\0\0\x01d\x80\0\0\x02e",
@@ -98,8 +80,8 @@ fn is_fed(alloc: Global, fine: Parts, too_long: Parts, records: Parts) -> bool {
 // It passes as well where any one allocation is refused, as by `rt try --test --fail-alloc N`.
 #[test]
 fn records_come_in_pieces(rt: HostRuntime) {
-    for (name, fine, too_long, records) in STREAMS {
-        assert!(rt; is_fed(rt.alloc(), fine, too_long, records), "{name}");
+    for (fine, too_long, records) in STREAMS {
+        assert!(rt; is_fed(rt.alloc(), fine, too_long, records));
     }
 }
 

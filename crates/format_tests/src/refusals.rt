@@ -28,40 +28,31 @@ fn eras(alloc: Global, cuts: &[Option<u64>]) -> Result<Vec<EraPlan>, AllocError>
     Ok(eras)
 }
 
+/// Why there is no certificate, at a bind or at an era; none where there is one.
+type Why = Option<CertificateFault>;
+
+const BAD_BIND_1: Why = Some(CertificateFault::BadBind(1));
+
+const BAD_BIND_2: Why = Some(CertificateFault::BadBind(2));
+
+const BAD_BIND_3: Why = Some(CertificateFault::BadBind(3));
+
+const NO_ERA: Why = Some(CertificateFault::BadEra(1));
+
+const LATE_CUT: Why = Some(CertificateFault::BadEra(2));
+
+const NO_CUT: Why = Some(CertificateFault::BadEra(2));
+
 /// Handles of binds, cuts of eras, and why there is no certificate of these.
-const PLANS: &[(&str, &[&[u8]], &[Option<u64>], Option<CertificateFault>)] = &[
-    (
-        "a handle without bytes",
-        &[b""],
-        &[None],
-        Some(CertificateFault::BadBind(1)),
-    ),
-    (
-        "a handle that is bound again later",
-        &[b"a", b"b", b"a"],
-        &[None],
-        Some(CertificateFault::BadBind(3)),
-    ),
-    (
-        "a handle that is bound twice",
-        &[b"a", b"a"],
-        &[None],
-        Some(CertificateFault::BadBind(2)),
-    ),
-    ("no era", &[], &[], Some(CertificateFault::BadEra(1))),
-    (
-        "a cut of the last era",
-        &[],
-        &[Some(0), Some(0)],
-        Some(CertificateFault::BadEra(2)),
-    ),
-    (
-        "an era before the last without a cut",
-        &[],
-        &[Some(0), None, None],
-        Some(CertificateFault::BadEra(2)),
-    ),
-    ("a certificate", &[b"a"], &[Some(0), None], None),
+const PLANS: &[(&[&[u8]], &[Option<u64>], Why)] = &[
+    // A handle without bytes, one that is bound again later, and one that is bound twice.
+    (&[b""], &[None], BAD_BIND_1),
+    (&[b"a", b"b", b"a"], &[None], BAD_BIND_3),
+    (&[b"a", b"a"], &[None], BAD_BIND_2),
+    (&[], &[], NO_ERA),
+    (&[], &[Some(0), Some(0)], LATE_CUT),
+    (&[], &[Some(0), None, None], NO_CUT),
+    (&[b"a"], &[Some(0), None], None),
 ];
 
 /// Whether a plan is refused so.
@@ -69,7 +60,7 @@ fn is_refused(
     alloc: Global,
     handles: &[&[u8]],
     cuts: &[Option<u64>],
-    want: Option<CertificateFault>,
+    want: Why,
 ) -> Result<bool, AllocError> {
     let binds = binds(alloc, handles)?;
     match Certificate::new(binds, eras(alloc, cuts)?) {
@@ -80,8 +71,8 @@ fn is_refused(
 
 #[test]
 fn what_is_no_certificate_is_named(rt: HostRuntime) -> Result<(), Fail> {
-    for (name, handles, cuts, want) in PLANS {
-        assert!(rt; is_refused(rt.alloc(), handles, cuts, *want)?, "{name}");
+    for (handles, cuts, want) in PLANS {
+        assert!(rt; is_refused(rt.alloc(), handles, cuts, *want)?);
     }
     Ok(())
 }

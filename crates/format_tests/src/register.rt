@@ -19,6 +19,15 @@ const WRITE_4: Taken = (2, Call::Write(4), Outcome::Done);
 
 const READ_3: Taken = (2, Call::Read, Outcome::Value(3));
 
+/// Eras that end at a crash: of two writes none is kept, one or both; of a write and a read none.
+const NONE_KEPT: EraSteps = (&[WRITE_3, WRITE_4], 0);
+
+const ONE_KEPT: EraSteps = (&[WRITE_3, WRITE_4], 1);
+
+const BOTH_KEPT: EraSteps = (&[WRITE_3, WRITE_4], 2);
+
+const WRITE_LOST: EraSteps = (&[WRITE_3, READ_3], 0);
+
 /// Step 3, an era of its own, reads one of these.
 const THEN_0: EraSteps = (&[(3, Call::Read, Outcome::Value(0))], 0);
 
@@ -32,26 +41,17 @@ const ILLEGAL: &[Taken] = &[
     (8, Call::Read, Outcome::Done),
 ];
 
-/// Runs, and how they end: in one era; and over a crash, where of two writes so many are kept, and of a write and a read none.
+/// Runs, and how they end: in one era, and over a crash.
 const RUNS: &[(&[EraSteps], Result<(), RunFault>)] = &[
-    (&[(&[WRITE_3, READ_3], 0)], Ok(())),
+    (&[WRITE_LOST], Ok(())),
     (&[(ILLEGAL, 0)], Err(RunFault::Illegal(7))),
-    (&[(&[WRITE_3, WRITE_4], 0), THEN_0], Ok(())),
-    (
-        &[(&[WRITE_3, WRITE_4], 0), THEN_3],
-        Err(RunFault::Illegal(3)),
-    ),
-    (&[(&[WRITE_3, WRITE_4], 1), THEN_3], Ok(())),
-    (
-        &[(&[WRITE_3, WRITE_4], 1), THEN_4],
-        Err(RunFault::Illegal(3)),
-    ),
-    (&[(&[WRITE_3, WRITE_4], 2), THEN_4], Ok(())),
-    (&[(&[WRITE_3, READ_3], 0), THEN_0], Ok(())),
-    (
-        &[(&[WRITE_3, READ_3], 0), THEN_3],
-        Err(RunFault::Illegal(3)),
-    ),
+    (&[NONE_KEPT, THEN_0], Ok(())),
+    (&[NONE_KEPT, THEN_3], Err(RunFault::Illegal(3))),
+    (&[ONE_KEPT, THEN_3], Ok(())),
+    (&[ONE_KEPT, THEN_4], Err(RunFault::Illegal(3))),
+    (&[BOTH_KEPT, THEN_4], Ok(())),
+    (&[WRITE_LOST, THEN_0], Ok(())),
+    (&[WRITE_LOST, THEN_3], Err(RunFault::Illegal(3))),
 ];
 
 /// The run of an era.
@@ -95,12 +95,6 @@ fn is_taken_back(alloc: Global) -> Result<bool, StepFault> {
     Ok(printed && register.undo(undo)?.value == 0)
 }
 
-#[test]
-fn a_step_is_taken_back(rt: HostRuntime) -> Result<(), Fail> {
-    assert!(rt; is_taken_back(rt.alloc())?);
-    Ok(())
-}
-
 /// Whether a number that the register doesn't hold isn't read.
 fn is_not_read(alloc: Global) -> Result<bool, AllocError> {
     let mut register = Register::opening(alloc, &())?;
@@ -109,7 +103,7 @@ fn is_not_read(alloc: Global) -> Result<bool, AllocError> {
 }
 
 #[test]
-fn another_number_is_not_read(rt: HostRuntime) -> Result<(), Fail> {
-    assert!(rt; is_not_read(rt.alloc())?);
+fn a_step_is_taken_back_and_another_number_not_read(rt: HostRuntime) -> Result<(), Fail> {
+    assert!(rt; is_taken_back(rt.alloc())? && is_not_read(rt.alloc())?);
     Ok(())
 }

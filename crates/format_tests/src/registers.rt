@@ -36,29 +36,21 @@ fn comes_to(alloc: Global, events: &[Event], states: usize, steps: u64, want: Wa
 /// A read beside a write that is open, of what it writes: the read is tried twice, and the write once, with one state at a time.
 const EARLY: &[Event] = &[Called(1), Called(101), Answered(101), Answered(1)];
 
+/// A read of what was before a write that was answered, a read of what it wrote, and one of what nothing wrote.
+const STALE: &[Event] = &[Called(1), Answered(1), Called(100), Answered(100)];
+
+const READ: &[Event] = &[Called(1), Answered(1), Passed, AtOnce(101)];
+
+const UNWRITTEN: &[Event] = &[Called(1), Called(102), Answered(102), Answered(1)];
+
 /// Events, the limits of states and of steps, and what a walk comes to.
 const WALKS: &[(&[Event], usize, u64, Want)] = &[
-    (
-        &[Called(1), Answered(1), Called(100), Answered(100)],
-        9,
-        99,
-        Want::No(3),
-    ),
-    (
-        &[Called(1), Answered(1), Passed, AtOnce(101)],
-        9,
-        99,
-        Want::Left,
-    ),
+    (STALE, 9, 99, Want::No(3)),
+    (READ, 9, 99, Want::Left),
+    (UNWRITTEN, 9, 99, Want::No(2)),
     (EARLY, 9, 99, Want::Left),
     (EARLY, 0, 99, Want::TooManyStates),
     (EARLY, 9, 1, Want::TooManySteps),
-    (
-        &[Called(1), Called(102), Answered(102), Answered(1)],
-        9,
-        99,
-        Want::No(2),
-    ),
     (EARLY, 1, 3, Want::Left),
     (EARLY, 1, 2, Want::TooManySteps),
     (EARLY, 0, 3, Want::TooManyStates),

@@ -1,7 +1,7 @@
-//! A tree of what was there at first.
+//! A tree of what was there at first, and which calls can succeed in a small tree.
 
-use crate::printing::{ONE_FILE, WRITE_A, binds};
-use crate::requests::{call, outcome};
+use crate::printing::{Done, ONE_FILE, WRITE_A, binds, tree_after};
+use crate::requests::{Request, call, outcome};
 use file_tree::{FileTree, Profile, Start, StartFault, StartNode, StartObject, TreeSetting};
 use nfs3_types::{Data, Name};
 use replay_law::{Replayable, StepFault};
@@ -82,5 +82,53 @@ fn is_written_over(alloc: Global, setting: &TreeSetting) -> Result<bool, StepFau
 fn a_starting_file_is_printed_and_written_over(rt: HostRuntime) -> Result<(), Fail> {
     let setting = strict_setting(rt.alloc())?;
     assert!(rt; is_written_over(rt.alloc(), &setting)?);
+    Ok(())
+}
+
+const MAKE: Request = Request::MakeDirectory(0, b'd', None);
+
+const MAKE_NOWHERE: Request = Request::MakeDirectory(7, b'd', None);
+
+/// Call 5 made `d`.
+const MADE: Done = &[(5, MAKE)];
+
+/// LOOKUP of `d`, of a name that isn't there, and of the root itself, each of which gives handle 9.
+const LOOK_D: Request = Request::Lookup(0, b'd', 9);
+
+const LOOK_E: Request = Request::Lookup(0, b'e', 9);
+
+const LOOK_ROOT: Request = Request::Lookup(0, b'.', 9);
+
+/// Handles with their objects, what is done, a call with its number, and whether it can succeed then.
+const ASKED: &[(&[(u8, u64)], Done, (u64, Request), bool)] = &[
+    // MKDIR in the root, in a directory that isn't there, and by the number of the root.
+    (&[], &[], (5, MAKE), true),
+    (&[], &[], (5, MAKE_NOWHERE), false),
+    (&[], &[], (0, MAKE), false),
+    // The object of the name has the handle, or doesn't.
+    (&[(9, 5)], MADE, (6, LOOK_D), true),
+    (&[(9, 4)], MADE, (6, LOOK_D), false),
+    (&[(9, 5)], MADE, (6, LOOK_E), false),
+    (&[(9, 4)], MADE, (6, LOOK_ROOT), true),
+];
+
+/// Whether a call can succeed after what is done.
+fn may_succeed(
+    alloc: Global,
+    handles: &[(u8, u64)],
+    done: Done,
+    (number, request): (u64, Request),
+) -> Result<bool, StepFault> {
+    let binds = binds(alloc, handles)?;
+    let tree = tree_after(alloc, &binds, done)?;
+    let call = call(alloc, request)?;
+    Ok(tree.allows(&binds, number, &call)?)
+}
+
+#[test]
+fn a_call_can_succeed_or_not(rt: HostRuntime) -> Result<(), Fail> {
+    for (handles, done, asked, want) in ASKED {
+        assert!(rt; may_succeed(rt.alloc(), handles, done, *asked)? == *want);
+    }
     Ok(())
 }

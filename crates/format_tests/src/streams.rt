@@ -1,6 +1,34 @@
-//! A reader that gives pieces, fails or doesn't end, and a writer that fails.
+//! Messages of two calls and records of the first, a reader that gives pieces, fails or doesn't end, and a writer that fails.
 
 use std::io::{self, ErrorKind, Read, Write};
+
+/// The call with transaction number 1: CREATE of "a" in the root, UNCHECKED and without attributes.
+pub(crate) const CALL: &[u8] =
+    b"\0\0\0\x01\0\0\0\0\0\0\0\x02\0\x01\x86\xa3\0\0\0\x03\0\0\0\x08\0\0\0\0\0\0\0\0\0\0\0\0\0\0\0\0\0\0\0\x01\0\0\0\0\0\0\0\x01a\0\0\0\0\0\0\0\0\0\0\0\0\0\0\0\0\0\0\0\0\0\0\0\0\0\0\0\0\0\0\0";
+
+/// The call with transaction number 2: WRITE of "abc" to the file of handle aa, FILE_SYNC.
+pub(crate) const WRITE_CALL: &[u8] =
+    b"\0\0\0\x02\0\0\0\0\0\0\0\x02\0\x01\x86\xa3\0\0\0\x03\0\0\0\x07\0\0\0\0\0\0\0\0\0\0\0\0\0\0\0\0\0\0\0\x01\xaa\0\0\0\0\0\0\0\0\0\0\0\0\0\0\x03\0\0\0\x02\0\0\0\x03abc\0";
+
+/// The reply to the first: OK, with a handle.
+pub(crate) const REPLY: &[u8] =
+    b"\0\0\0\x01\0\0\0\x01\0\0\0\0\0\0\0\0\0\0\0\0\0\0\0\0\0\0\0\0\0\0\0\x01\0\0\0\x01\xaa\0\0\0\0\0\0\0\0\0\0\0\0\0\0\0";
+
+/// The record of the first call in a stream.
+pub(crate) const CALL_FRAME: &[u8] =
+    b"\x80\0\0\x54\0\0\0\x01\0\0\0\0\0\0\0\x02\0\x01\x86\xa3\0\0\0\x03\0\0\0\x08\0\0\0\0\0\0\0\0\0\0\0\0\0\0\0\0\0\0\0\x01\0\0\0\0\0\0\0\x01a\0\0\0\0\0\0\0\0\0\0\0\0\0\0\0\0\0\0\0\0\0\0\0\0\0\0\0\0\0\0\0";
+
+/// The first 50 bytes of it.
+pub(crate) const PART_FRAME: &[u8] =
+    b"\x80\0\0\x54\0\0\0\x01\0\0\0\0\0\0\0\x02\0\x01\x86\xa3\0\0\0\x03\0\0\0\x08\0\0\0\0\0\0\0\0\0\0\0\0\0\0\0\0\0\0\0\x01\0\0";
+
+/// The record of the call, and the header of one that is too long.
+pub(crate) const LONG_FRAME: &[u8] =
+    b"\x80\0\0\x54\0\0\0\x01\0\0\0\0\0\0\0\x02\0\x01\x86\xa3\0\0\0\x03\0\0\0\x08\0\0\0\0\0\0\0\0\0\0\0\0\0\0\0\0\0\0\0\x01\0\0\0\0\0\0\0\x01a\0\0\0\0\0\0\0\0\0\0\0\0\0\0\0\0\0\0\0\0\0\0\0\0\0\0\0\0\0\0\0\xff\xff\xff\xff";
+
+/// The record of the reply in a stream.
+pub(crate) const REPLY_FRAME: &[u8] =
+    b"\x80\0\0\x34\0\0\0\x01\0\0\0\x01\0\0\0\0\0\0\0\0\0\0\0\0\0\0\0\0\0\0\0\0\0\0\0\x01\0\0\0\x01\xaa\0\0\0\0\0\0\0\0\0\0\0\0\0\0\0";
 
 /// What a stream gives after its bytes.
 #[derive(Clone, Copy)]

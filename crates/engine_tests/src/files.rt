@@ -1,16 +1,45 @@
-//! Files of which one byte is changed.
+//! Files of which one byte is changed. The sample is a history with its certificate, in which a file is made and written on one connection
+//! and read on another.
 
-use crate::samples::{CERTIFICATE, HISTORY};
+mod pieces;
+
 use std::alloc::Global;
 use std::mem;
 use std::test::Fail;
 use witness_check::{FileVerdict, check_files};
 
-/// Whether the files are accepted; nothing where there was no answer.
-fn judged(alloc: Global, history: &[u8], certificate: &[u8]) -> Option<bool> {
+/// The history in hex. Its items, each on lines of its own: the head (magic, root handle, number of events), then CREATE
+/// of `a` in the root, its reply with the handle aa, WRITE of `abc`, its reply, READ of ten bytes, its reply with `abc`.
+const HISTORY: &str = "4e46534849535431000000010000000000000006\
+    000000000000000100000054000000010000000000000002000186a30000000300000008000000000000000000000000\
+    000000000000000100000000000000016100000000000000000000000000000000000000000000000000000000000000\
+    000000010000000100000034000000010000000100000000000000000000000000000000000000000000000100000001\
+    aa000000000000000000000000000000\
+    000000000000000100000048000000020000000000000002000186a30000000300000007000000000000000000000000\
+    0000000000000001aa000000000000000000000000000003000000020000000361626300\
+    000000010000000100000034000000020000000100000000000000000000000000000000000000000000000000000000\
+    00000003000000020000000000000001\
+    00000000000000020000003c000000030000000000000002000186a30000000300000006000000000000000000000000\
+    0000000000000001aa00000000000000000000000000000a\
+    000000010000000200000030000000030000000100000000000000000000000000000000000000000000000000000003\
+    000000010000000361626300";
+
+/// The certificate: the three calls in the order in which they were sent.
+const CERTIFICATE: &str = "witness 1\nbind aa 1\nplace 1\nplace 2\nplace 3\nend\n";
+
+/// Whether the files are accepted just if they should be.
+fn are_judged_well(alloc: Global, history: &[u8], certificate: &[u8], want: bool) -> bool {
     match check_files(alloc, history, certificate) {
-        Ok(verdict) => Some(verdict == FileVerdict::Yes),
-        Err(_) => None,
+        Ok(verdict) => (verdict == FileVerdict::Yes) == want,
+        Err(_) => false,
+    }
+}
+
+/// Puts a byte in the place of another, which is given.
+fn change(bytes: &mut [u8], at: usize, byte: u8) -> Option<u8> {
+    match bytes.get_mut(at) {
+        Some(place) => Some(mem::replace(place, byte)),
+        None => None,
     }
 }
 
@@ -48,20 +77,19 @@ fn is_left_free(at: usize, byte: u8) -> bool {
 
 /// Whether the history, with this byte there, is judged as it should be. The history is left as it was.
 fn is_judged_well(alloc: Global, history: &mut [u8], at: usize, byte: u8) -> bool {
-    let Some(place) = history.get_mut(at) else {
+    let Some(kept) = change(history, at, byte) else {
         return false;
     };
-    let kept = mem::replace(place, byte);
     let want = byte == kept || is_left_free(at, byte);
-    let given = judged(alloc, history, CERTIFICATE.as_bytes());
-    if let Some(place) = history.get_mut(at) {
-        *place = kept;
-    }
-    given == Some(want)
+    let well = are_judged_well(alloc, history, CERTIFICATE.as_bytes(), want);
+    well && change(history, at, kept).is_some()
 }
 
-/// The bytes that are tried in the place of each: those at the bounds of what is free, and some far from them.
-const TRIED: [u8; 12] = [0, 1, 2, 3, 4, 5, 6, 8, 46, 127, 128, 255];
+/// Whether this byte is tried there: those at the bounds of what is free, some far from them, and all where some are free and others not.
+fn is_tried(at: usize, byte: u8) -> bool {
+    matches!(byte, 0..=6 | 8 | 46 | 127 | 128 | 255)
+        || matches!(at, 59 | 83 | 84 | 91 | 111 | 115 | 219 | 255 | 367 | 399)
+}
 
 #[test]
 fn a_changed_byte_of_a_history_is_accepted_only_where_it_is_free(
@@ -69,23 +97,8 @@ fn a_changed_byte_of_a_history_is_accepted_only_where_it_is_free(
 ) -> Result<(), Fail> {
     let mut history = hex::decode(rt.alloc(), HISTORY)?;
     for at in 0..history.len() {
-        for byte in TRIED {
-            let well = is_judged_well(rt.alloc(), &mut history, at, byte);
-            assert!(rt; well, "byte {byte} at {at}");
-        }
-    }
-    Ok(())
-}
-
-/// The places where some changed bytes are free, and others not.
-const HALF_FREE: [usize; 10] = [59, 83, 84, 91, 111, 115, 219, 255, 367, 399];
-
-#[test]
-fn a_byte_that_is_free_in_part_is_accepted_up_to_its_bounds(rt: HostRuntime) -> Result<(), Fail> {
-    let mut history = hex::decode(rt.alloc(), HISTORY)?;
-    for at in HALF_FREE {
         for byte in 0..=255u8 {
-            let well = is_judged_well(rt.alloc(), &mut history, at, byte);
+            let well = !is_tried(at, byte) || is_judged_well(rt.alloc(), &mut history, at, byte);
             assert!(rt; well, "byte {byte} at {at}");
         }
     }
@@ -100,15 +113,11 @@ fn is_text_judged_well(
     at: usize,
     byte: u8,
 ) -> bool {
-    let Some(place) = text.get_mut(at) else {
+    let Some(kept) = change(text, at, byte) else {
         return false;
     };
-    let kept = mem::replace(place, byte);
-    let given = judged(alloc, history, text);
-    if let Some(place) = text.get_mut(at) {
-        *place = kept;
-    }
-    given == Some(byte == kept)
+    let well = are_judged_well(alloc, history, text, byte == kept);
+    well && change(text, at, kept).is_some()
 }
 
 #[test]

@@ -1,0 +1,111 @@
+//! Connections of 127.0.0.1, what comes over them, and what the program says and writes meanwhile.
+
+mod nights;
+mod recordings;
+mod served;
+
+use nfs_relay::RelayRuntime;
+use nfsbench_engine::run_words;
+use program_streams::Input;
+use recording_command::RecordingRuntime;
+use std::alloc::AllocError;
+use std::io::{self, ErrorKind, Read, Write};
+use std::net::{IpAddr, Ipv4Addr, Net, SocketAddr, TcpListener, TcpStream};
+use std::time::Duration;
+use std::{fs, thread};
+
+/// A port of 127.0.0.1; 0 is any that is free.
+fn local(port: u16) -> SocketAddr {
+    SocketAddr::new(IpAddr::V4(Ipv4Addr::new(127, 0, 0, 1)), port)
+}
+
+/// A listener on a port that was free.
+fn listen<R: RelayRuntime>(rt: &R) -> io::Result<TcpListener> {
+    TcpListener::bind(rt, local(0))
+}
+
+/// The port of a listener.
+fn port_of(listener: &TcpListener) -> io::Result<u16> {
+    Ok(listener.local_addr()?.port())
+}
+
+/// A port that is free.
+fn free_port<R: RelayRuntime>(rt: &R) -> io::Result<u16> {
+    port_of(&listen(rt)?)
+}
+
+/// A connection to a port, to which someone may listen soon.
+fn connect<R: RelayRuntime>(rt: &R, port: u16) -> io::Result<TcpStream> {
+    for _try in 0..10_000 {
+        if let Ok(stream) = TcpStream::connect(rt, local(port)) {
+            return Ok(stream);
+        }
+        thread::sleep(rt, Duration::from_millis(1));
+    }
+    Err(io::Error::from(ErrorKind::TimedOut))
+}
+
+/// Whether the record goes out.
+fn sends(stream: &mut TcpStream, record: &[u8]) -> bool {
+    stream.write_all(record).is_ok()
+}
+
+/// Whether just this record comes next.
+fn comes(stream: &mut TcpStream, record: &[u8]) -> bool {
+    let mut buffer = [0; 192];
+    if record.len() > buffer.len() {
+        return false;
+    }
+    let bytes = &mut buffer[..record.len()];
+    stream.read_exact(bytes).is_ok() && *bytes == *record
+}
+
+/// Whether the stream ends.
+fn ends(stream: &mut TcpStream) -> bool {
+    matches!(stream.read(&mut [0; 64]), Ok(0))
+}
+
+/// Whether a call gets its reply, each a record.
+fn is_answered(stream: &mut TcpStream, call: &[u8], reply: &[u8]) -> bool {
+    sends(stream, call) && comes(stream, reply)
+}
+
+/// Whether the words of a line that was made are told this, with this status.
+fn says<R: RecordingRuntime, I: Input>(
+    rt: &R,
+    line: Result<String, AllocError>,
+    input: &mut I,
+    text: &[u8],
+    status: u8,
+) -> bool {
+    let Ok(line) = line else {
+        return false;
+    };
+    let Ok(words) = line.split(' ').collect::<Vec<&str>>(rt.alloc()) else {
+        return false;
+    };
+    let mut told = Vec::new(rt.alloc());
+    run_words(rt, words.as_slice(), input, &mut told) == status && told.as_slice() == text
+}
+
+/// Whether the recorder at a port, with these options and another port for the server, says this at its end.
+fn taps<R: RecordingRuntime, I: Input>(
+    rt: &R,
+    (port, server): (u16, u16),
+    options: &str,
+    input: &mut I,
+    text: &[u8],
+) -> bool {
+    let line = format!(in rt.alloc();
+        "nfsbench tap --port {port} --server {server} {options} --quiet /tmp/nfsbench_{port}.tapped"
+    );
+    says(rt, line, input, text, 0)
+}
+
+/// What a file of this kind at a port has. It is taken away.
+fn take_file<R: RecordingRuntime>(rt: &R, port: u16, kind: &str) -> io::Result<Vec<u8>> {
+    let path = format!(in rt.alloc(); "/tmp/nfsbench_{port}.{kind}")?;
+    let bytes = fs::read(rt, path.as_str())?;
+    fs::remove_file(rt, path.as_str())?;
+    Ok(bytes)
+}
