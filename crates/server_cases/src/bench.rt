@@ -6,7 +6,7 @@ use crate::books::print_verdict;
 use crate::command::Command;
 use crate::messages::{bytes_of, made_object, number_at, procedure_of};
 use crate::random::Random;
-use crate::servers::SimServer;
+use crate::servers::{SimServer, close_after};
 use anyhow::{Context, Result, bail, ensure};
 use client_calls::{Creation, create, read, remove, rename, write};
 use journal_server::{Desk, OpenGate, Pass, Profile, Server, SimDevice, SpelledReply, Start};
@@ -26,6 +26,8 @@ const FILES: u64 = 64;
 /// What threads ask for.
 #[derive(Clone, Copy)]
 enum Kind {
+    /// CREATE, each of a file, before the calls of another kind. The file is the object of its number.
+    Files,
     /// WRITE, each to a file of its own.
     Private,
     /// CREATE, WRITE, RENAME and REMOVE in one directory.
@@ -73,38 +75,31 @@ fn run_thread<R: Wait>(
     let mut last = 0;
     for turn in 0..calls {
         let message = match kind {
-            Kind::Private => use_file(alloc, (lane % 64).max(1), turn, false)?,
-            Kind::Shared => change(alloc, lane, last, turn)?,
-            Kind::Reads => use_file(alloc, 1 + random.below(8), turn, random.below(5) > 0)?,
-        };
+            Kind::Files => {
+                let name = name_of(b'f', turn);
+                create(alloc, 1, 0, name.as_slice(), Creation::Unchecked(None))
+            }
+            Kind::Private => use_file(alloc, (lane % 64).max(1), turn, false),
+            Kind::Shared => change(alloc, lane, last, turn),
+            Kind::Reads => use_file(alloc, 1 + random.below(8), turn, random.below(5) > 0),
+        }?;
         let reply = server.call(rt, &mut pass, message.as_slice())?;
         last = made_object(reply.as_slice()).unwrap_or(last);
     }
     Ok(pass)
 }
 
-// Makes the files, each as the object of its number.
-fn make_files<R: Wait>(rt: &R, alloc: Global, server: &SimServer) -> Result<Pass> {
-    let mut pass = server.join_lane(rt)?;
-    for number in 1..=FILES {
-        let name = name_of(b'f', number);
-        let message = create(alloc, 1, 0, name.as_slice(), Creation::Unchecked(None))?;
-        drop(server.call(rt, &mut pass, message.as_slice())?);
-    }
-    Ok(pass)
-}
-
-// What all threads know, and how many microseconds they took.
+// What all threads know, after the files were made. Notes how many microseconds they took.
 fn run_threads<R: Wait + Threads + Clock + Sync>(
     rt: &R,
     alloc: Global,
     server: &SimServer,
     kind: Kind,
-    threads: u64,
-    calls: u64,
-) -> Result<(Vec<Pass>, u64)> {
+    (threads, calls): (u64, u64),
+    taken: &mut u64,
+) -> Result<Vec<Pass>> {
     let mut passes = Vec::new(alloc);
-    passes.push(make_files(rt, alloc, server)?)?;
+    passes.push(run_thread(rt, alloc, server, Kind::Files, FILES)?)?;
     let calls = calls / threads.max(1);
     let start = Instant::now(rt)?;
     let ran = thread::map_indices(
@@ -113,11 +108,11 @@ fn run_threads<R: Wait + Threads + Clock + Sync>(
         threads as usize,
         &|_| { run_thread(rt, alloc, server, kind, calls).ok() },
     )?;
-    let taken = u64::try_from(start.elapsed(rt)?.as_micros())?;
+    *taken = u64::try_from(start.elapsed(rt)?.as_micros())?;
     for pass in ran {
         passes.push(pass.context("a call failed")?)?;
     }
-    Ok((passes, taken))
+    Ok(passes)
 }
 
 // A reply, its message as a server makes it before it takes its book's lock, and whether it is answered once its record is safe.
@@ -202,14 +197,9 @@ pub fn measure<R: Wait + Threads + Clock + Sync, W: Write>(
         _ => bail!("no kind of calls"),
     };
     let server = Server::new(alloc, OpenGate, SimDevice::new(alloc, None, None, None))?;
-    let (passes, taken) = match run_threads(rt, alloc, &server, kind, threads, calls) {
-        Ok(ran) => ran,
-        Err(fault) => {
-            drop(server.close(Vec::new(alloc)));
-            return Err(fault);
-        }
-    };
-    let closed = server.close(passes)?;
+    let mut taken = 0;
+    let passes = run_threads(rt, alloc, &server, kind, (threads, calls), &mut taken);
+    let closed = close_after(alloc, server, passes)?;
     let speed = calls.saturating_mul(1_000_000) / taken.max(1);
     writeln!(output, "microseconds {taken}, calls a second {speed}")?;
     if threads == 1 {

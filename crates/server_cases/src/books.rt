@@ -1,16 +1,15 @@
 //! A book that obeys commands.
 
-use crate::command::{Command, Word};
+use crate::command::Command;
 use crate::letters::{print_letters, read_letters};
 use crate::opening::{device_of, start_of};
 use anyhow::{Context, Result, bail};
 use certificate::{Certificate, write_certificate};
+use client_calls::plain_call;
 use nfs_history::History;
 use nfs3_msgs::read_result;
-use nfs3_types::{NFS_PROGRAM, NFS_VERSION};
 use recorder::{Book, JournalDevice, SimDevice, Token, rebuild_from};
 use replay_law::Replayable;
-use rpc_reader::put_call;
 use std::alloc::Global;
 use std::io::Write;
 use witness_check::{Verdict, check};
@@ -32,16 +31,8 @@ fn new_book(alloc: Global, command: Command<'_>) -> Result<Book<SimDevice>> {
 // The message of a call.
 fn message_of(alloc: Global, xid: u64, procedure: u64, text: &str) -> Result<Vec<u8>> {
     let arguments = read_letters(alloc, text)?;
-    let (xid, procedure) = (u32::try_from(xid)?, u32::try_from(procedure)?);
-    let mut message = Vec::new(alloc);
-    put_call(
-        &mut message,
-        xid,
-        NFS_PROGRAM,
-        NFS_VERSION,
-        procedure,
-        arguments.as_slice(),
-    )?;
+    let mut message = plain_call(alloc, u32::try_from(xid)?, u32::try_from(procedure)?)?;
+    message.extend_from_slice(arguments.as_slice())?;
     Ok(message)
 }
 
@@ -57,8 +48,7 @@ pub fn print_certificate<W: Write>(
             *byte = b';';
         }
     }
-    output.write_all(text.as_slice())?;
-    Ok(())
+    Ok(output.write_all(text.as_slice())?)
 }
 
 /// Prints whether a certificate is a witness of a history.
@@ -98,8 +88,7 @@ impl Driver {
         if number > self.tokens.len() as u64 {
             self.tokens.push(token)?;
         }
-        writeln!(output, "ok {number}")?;
-        Ok(())
+        Ok(writeln!(output, "ok {number}")?)
     }
 
     // Places a call, with this result of a procedure.
@@ -115,9 +104,7 @@ impl Driver {
         let token = self.token(number)?;
         let message = self.book.answer(token)?;
         write!(output, "ok ")?;
-        print_letters(output, message.as_slice())?;
-        writeln!(output)?;
-        Ok(())
+        print_letters(output, message.as_slice())
     }
 
     // The bytes of the tree.
@@ -127,50 +114,38 @@ impl Driver {
         Ok(text)
     }
 
-    // The bytes of the tree that the journal gives after what was there at first.
-    fn rebuilt(&self) -> Result<Vec<u8>> {
+    // Whether the journal gives the tree after what was there at first.
+    fn is_rebuilt(&self) -> Result<bool> {
+        let wanted = self.tree()?;
         let history = self.book.history();
         let records = self.book.device().records();
         let tree = rebuild_from(self.alloc, history.profile(), history.start(), records)?;
         let mut text = Vec::new(self.alloc);
         tree.print_state(&mut text)?;
-        Ok(text)
-    }
-
-    // Prints whether the journal gives the tree.
-    fn print_rebuilt<W: Write>(&self, output: &mut W) -> Result<()> {
-        let text = self.tree()?;
-        match self.rebuilt() {
-            Ok(rebuilt) if rebuilt.as_slice() == text.as_slice() => writeln!(
-                output,
-                "rebuild yes"
-            )?,
-            Ok(_) => writeln!(output, "rebuild no")?,
-            Err(fault) => writeln!(output, "rebuild no: {fault}")?,
-        }
-        Ok(())
+        Ok(text.as_slice() == wanted.as_slice())
     }
 
     // Prints something of the book as it is.
-    fn show<W: Write>(&self, output: &mut W, word: Word) -> Result<()> {
+    fn show<W: Write>(&self, output: &mut W, word: &str) -> Result<()> {
         match word {
-            Word::Check => {
+            "check" => {
                 write!(output, "check")?;
                 let certificate = self.book.certificate()?;
                 print_verdict(output, self.alloc, self.book.history(), &certificate)?;
             }
-            Word::Rebuild => self.print_rebuilt(output)?,
-            Word::Journal => {
+            "rebuild" => match self.is_rebuilt() {
+                Ok(true) => writeln!(output, "rebuild yes")?,
+                Ok(false) => writeln!(output, "rebuild no")?,
+                Err(fault) => writeln!(output, "rebuild no: {fault}")?,
+            },
+            "journal" => {
                 let device = self.book.device();
                 let (records, safe, faults) = (device.len(), device.mark(), device.faults());
                 let events = self.book.history().events().len();
                 writeln!(output, "{records} {safe} {faults} {events}")?;
             }
-            Word::Tree => {
-                print_letters(output, self.tree()?.as_slice())?;
-                writeln!(output)?;
-            }
-            Word::Certificate => {
+            "tree" => print_letters(output, self.tree()?.as_slice())?,
+            "certificate" => {
                 print_certificate(output, self.alloc, &self.book.certificate()?)?;
                 writeln!(output)?;
             }
@@ -181,31 +156,26 @@ impl Driver {
 
     // Does what a command asks for, and prints the answer.
     fn obey<W: Write>(&mut self, output: &mut W, command: Command<'_>) -> Result<()> {
-        let Command {
-            word,
-            numbers,
-            text,
-        } = command;
-        let [first, second, third, _] = numbers;
-        match word {
-            Word::New => self.book = new_book(self.alloc, command)?,
-            Word::Begin => {
+        let [first, second, third, _] = command.numbers;
+        let text = command.text;
+        match command.word {
+            "new" => self.book = new_book(self.alloc, command)?,
+            "begin" => {
                 let message = message_of(self.alloc, second, third, text)?;
                 return self.begin(output, first, message.as_slice());
             }
-            Word::Raw => {
+            "raw" => {
                 let message = read_letters(self.alloc, text)?;
                 return self.begin(output, first, message.as_slice());
             }
-            Word::Place => self.place(first, second, text)?,
-            Word::Flush => self.book.flush()?,
-            Word::Answer => return self.answer(output, first),
-            Word::Close => self.book.close_lane(text.parse()?)?,
-            Word::Crash => self.book.crash(first)?,
-            _ => return self.show(output, word),
+            "place" => self.place(first, second, text)?,
+            "flush" => self.book.flush()?,
+            "answer" => return self.answer(output, first),
+            "close" => self.book.close_lane(text.parse()?)?,
+            "crash" => self.book.crash(first)?,
+            word => return self.show(output, word),
         }
-        writeln!(output, "ok")?;
-        Ok(())
+        Ok(writeln!(output, "ok")?)
     }
 
     /// Does what each line asks for, and prints the answer, or why there is none.

@@ -44,8 +44,7 @@ pub fn read_letters(alloc: Global, text: &str) -> Result<Vec<u8>> {
 fn print_word<W: Write>(output: &mut W, bytes: &[u8]) -> Result<()> {
     if let [a, b, c, d] = bytes {
         let word = u32::from_be_bytes([*a, *b, *c, *d]);
-        write!(output, "{word}")?;
-        return Ok(());
+        return Ok(write!(output, "{word}")?);
     }
     for byte in bytes {
         let byte = *byte;
@@ -54,7 +53,7 @@ fn print_word<W: Write>(output: &mut W, bytes: &[u8]) -> Result<()> {
     Ok(())
 }
 
-/// Prints bytes as numbers joined by points.
+/// Prints bytes as numbers joined by points, and ends the line.
 pub fn print_letters<W: Write>(output: &mut W, bytes: &[u8]) -> Result<()> {
     for (index, word) in bytes.chunks(4).enumerate() {
         if index > 0 {
@@ -62,5 +61,5 @@ pub fn print_letters<W: Write>(output: &mut W, bytes: &[u8]) -> Result<()> {
         }
         print_word(output, word)?;
     }
-    Ok(())
+    Ok(writeln!(output)?)
 }

@@ -18,8 +18,8 @@ mod soak;
 use anyhow::Result;
 use bench::measure;
 use books::Driver;
-use command::{Command, Word};
-use servers::{Passes, run_server};
+use command::{Command, split_off};
+use servers::run_server;
 use soak::{print_figures, run_soak};
 use std::io::{self, BufWriter, Write};
 
@@ -28,16 +28,16 @@ fn main(rt: HostRuntime) -> Result<()> {
     let commands = io::read_to_string(alloc, rt.reader())?;
     let mut output = BufWriter::new(alloc, io::writer(&rt))?;
     let mut driver = Driver::new(alloc)?;
-    let mut passes = Passes::new(alloc);
+    let mut passes = Vec::new(alloc);
     let mut figures = [0; 8];
     for block in commands.split("\n\n") {
-        let (line, lines) = block.split_once('\n').unwrap_or((block, ""));
+        let (line, lines) = split_off(block, '\n');
         let first = Command::parse(line)?;
         let done = match first.word {
-            Word::Server => run_server(&rt, alloc, &mut output, &mut passes, first, lines),
-            Word::Soak => run_soak(&rt, alloc, &mut output, &mut figures, first),
-            Word::Figures => print_figures(&mut output, figures),
-            Word::Bench => measure(&rt, alloc, &mut output, first),
+            "server" => run_server(&rt, alloc, &mut output, &mut passes, first, lines),
+            "soak" => run_soak(&rt, alloc, &mut output, &mut figures, first),
+            "figures" => print_figures(&mut output, figures),
+            "bench" => measure(&rt, alloc, &mut output, first),
             _ => driver.obey_all(&mut output, block),
         };
         if let Err(fault) = done {

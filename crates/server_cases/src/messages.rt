@@ -3,6 +3,7 @@
 ghost use Rattle.std.specs.Prelude.{◌≤◌, length};
 
 use nfs3_types::Procedure;
+use rpc_reader::read_call;
 
 /// What is written.
 const BYTES: &[u8; 64] = b"0123456789abcdef0123456789abcdef0123456789abcdef0123456789abcdef";
@@ -29,10 +30,7 @@ pub fn number_at(message: &[u8], place: usize, length: usize) -> u64 {
 
 /// The procedure of a call.
 pub fn procedure_of(message: &[u8]) -> Option<Procedure> {
-    match u32::try_from(number_at(message, 20, 4)) {
-        Ok(number) => Procedure::from_number(number),
-        Err(_) => None,
-    }
+    Procedure::from_number(read_call(message).ok()?.procedure)
 }
 
 /// The object that the reply to a CREATE, a MKDIR or a SYMLINK names, if it succeeded.

@@ -4,7 +4,7 @@
 
 ghost use Rattle.std.specs.Prelude.{◌≡◌, ◌<◌, ◌^◌, [], IfOk, length};
 
-use crate::command::{Command, split_word};
+use crate::command::{Command, split_off};
 use crate::letters::read_letters;
 use anyhow::{Context, Result, bail};
 use journal_server::SimDevice;
@@ -21,10 +21,6 @@ pub fn device_of(alloc: Global, command: Command<'_>) -> SimDevice
 {
     let [append, barrier, recover, _] = command.numbers;
     SimDevice::new(alloc, Some(append), Some(barrier), Some(recover))
-}
-
-fn split_part(text: &str) -> (&str, &str) {
-    text.split_once('/').unwrap_or((text, ""))
 }
 
 // The bytes that a part of a word spells.
@@ -52,9 +48,9 @@ fn node_of(alloc: Global, kind: &str, bytes: &[u8]) -> Result<StartNode>
 
 // The object that a word spells.
 fn read_object(alloc: Global, word: &str) -> Result<StartObject> {
-    let (parent, word) = split_part(word);
-    let (kind, word) = split_part(word);
-    let (name, content) = split_part(word);
+    let (parent, word) = split_off(word, '/');
+    let (kind, word) = split_off(word, '/');
+    let (name, content) = split_off(word, '/');
     let name = read_part(alloc, name)?;
     let content = read_part(alloc, content)?;
     Ok(StartObject {
@@ -77,7 +73,7 @@ fn read_objects(alloc: Global, words: &str) -> Result<Vec<StartObject>> {
 
 /// How strictly replies are judged, and what is there at first.
 pub fn start_of(alloc: Global, command: Command<'_>) -> Result<(Profile, Start)> {
-    let (word, objects) = split_word(command.text);
+    let (word, objects) = split_off(command.text, ' ');
     let profile = match word {
         "" | "plain" => Profile::Plain,
         "strict" => Profile::Strict,

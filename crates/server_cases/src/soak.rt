@@ -8,14 +8,15 @@ mod known;
 use crate::command::Command;
 use crate::opening::{device_of, start_of};
 use crate::random::Random;
-use anyhow::{Result, bail, ensure};
+use crate::servers::close_after;
+use anyhow::{Context, Result, bail, ensure};
 use asking::Asker;
-use client::Findings;
+use client::{Ran, run_client};
 use gate::{Jitter, SoakServer};
-use journal_server::{Closed, CrashFault, Profile, Server};
+use journal_server::{Closed, CrashFault, Pass, Profile, Server};
 use known::Known;
 use nfs_history::RecordedCall;
-use std::alloc::{AllocError, Global};
+use std::alloc::Global;
 use std::io::Write;
 use std::sync::Wait;
 use std::sync::atomic::{AtomicU64, Ordering};
@@ -25,9 +26,6 @@ use witness_check::{Verdict, check};
 
 /// How many clients call.
 const CLIENTS: usize = 8;
-
-/// How often each of them calls.
-const CALLS: u64 = 200;
 
 /// How often there is a crash at most.
 const CRASHES: u32 = 2000;
@@ -42,14 +40,27 @@ pub type Figures = [u64; 8];
 /// What all threads of a server share.
 #[derive(Drop)]
 struct Shared<'k> {
-    alloc: Global,
-    known: &'k Known,
-    /// How many clients are done.
-    done: AtomicU64,
+    /// What each client begins with, but for its chance.
+    asker: Asker<'k>,
     /// What chance begins with.
     seed: u64,
-    /// The device may fail.
-    device_fails: bool,
+    /// How many clients are done.
+    done: AtomicU64,
+    /// How many calls they made.
+    made: AtomicU64,
+}
+
+// Adds the passes of a thread, if nothing was wrong.
+fn add_passes(all: &mut Vec<Pass>, ran: Ran) -> Result<()> {
+    match ran {
+        Ok(passes) => {
+            for pass in passes {
+                all.push(pass).context("memory ran out")?;
+            }
+        }
+        Err(wrong) => bail!("{wrong}"),
+    }
+    Ok(())
 }
 
 impl<'k> Shared<'k> {
@@ -59,24 +70,18 @@ impl<'k> Shared<'k> {
         rt: &R,
         server: &SoakServer<'_, R>,
         number: usize,
-    ) -> Findings {
-        let mut asker = Asker {
-            alloc: self.alloc,
-            known: self.known,
-            random: Random::new(self.seed.wrapping_mul(16).wrapping_add(number as u64)),
-            xid: 0,
-            device_fails: self.device_fails,
-        };
-        let mut found = Findings::new(self.alloc);
-        found.run(rt, server, &mut asker, CALLS);
+    ) -> Ran {
+        let mut asker = self.asker;
+        asker.random = Random::new(self.seed.wrapping_mul(16).wrapping_add(number as u64));
+        let ran = run_client(rt, server, &mut asker);
+        self.made.fetch_add(u64::from(asker.xid), Ordering::SeqCst);
         self.done.fetch_add(1, Ordering::SeqCst);
-        found
+        ran
     }
 
     // Crashes until all clients are done.
-    fn run_crashes<R: Wait + Clock>(&self, rt: &R, server: &SoakServer<'_, R>) -> Findings {
+    fn run_crashes<R: Wait + Clock>(&self, rt: &R, server: &SoakServer<'_, R>) -> Ran {
         let mut random = Random::new(self.seed);
-        let mut found = Findings::new(self.alloc);
         for _ in 0..CRASHES {
             if self.done.load(Ordering::SeqCst) >= CLIENTS as u64 {
                 break;
@@ -84,23 +89,23 @@ impl<'k> Shared<'k> {
             thread::sleep(rt, Duration::from_millis(2 + random.below(6)));
             match server.crash(rt, random.below(4)) {
                 Ok(()) => {}
-                Err(CrashFault::NoMemory) => found.wrong = Some("memory ran out at a crash"),
-                Err(_) if self.device_fails => {}
-                Err(_) => found.wrong = Some("a crash failed over a device that never fails"),
+                Err(CrashFault::NoMemory) => return Err("memory ran out at a crash"),
+                Err(_) if self.asker.device_fails => {}
+                Err(_) => return Err("a crash failed over a device that never fails"),
             }
         }
-        found
+        Ok(Vec::new(self.asker.alloc))
     }
 
-    // What all threads know at their end.
+    // The passes of all threads.
     fn run<R: Wait + Clock + Threads + Sync>(
         &self,
         rt: &R,
         server: &SoakServer<'_, R>,
-    ) -> Result<Vec<Findings>, AllocError> {
-        thread::map_indices(
+    ) -> Result<Vec<Pass>> {
+        let threads = thread::map_indices(
             rt,
-            self.alloc,
+            self.asker.alloc,
             CLIENTS + 1,
             &|number| {
                 if number < CLIENTS {
@@ -109,22 +114,13 @@ impl<'k> Shared<'k> {
                     self.run_crashes(rt, server)
                 }
             },
-        )
-    }
-}
-
-// What all threads know together.
-fn gather(alloc: Global, threads: Vec<Findings>) -> Result<Findings, AllocError> {
-    let mut all = Findings::new(alloc);
-    for found in threads {
-        let (passes, calls, wrong) = found.into_parts();
-        for pass in passes {
-            all.passes.push(pass)?;
+        );
+        let mut all = Vec::new(self.asker.alloc);
+        for ran in threads.context("memory ran out")? {
+            add_passes(&mut all, ran)?;
         }
-        all.calls = all.calls.saturating_add(calls);
-        all.wrong = all.wrong.or(wrong);
+        Ok(all)
     }
-    Ok(all)
 }
 
 // How many calls were answered, and how many of them were still waiting for that when the next one began.
@@ -175,29 +171,23 @@ fn live<R: Wait + Clock + Threads + Sync>(
     let (profile, start) = start_of(alloc, command)?;
     let known = Known::new(alloc, start.objects())?;
     let shared = Shared {
-        alloc,
-        known: &known,
-        done: AtomicU64::new(0),
+        asker: Asker {
+            alloc,
+            known: &known,
+            random: Random::new(seed),
+            xid: 0,
+            device_fails: append > 0 || barrier > 0 || recover > 0,
+        },
         seed,
-        device_fails: append > 0 || barrier > 0 || recover > 0,
+        done: AtomicU64::new(0),
+        made: AtomicU64::new(0),
     };
     // Two in five don't listen.
     let gate = Jitter::new(rt, seed % 5 < 3);
     let server = Server::new_from(alloc, gate, device_of(alloc, command), profile, start)?;
-    let found = match shared.run(rt, &server) {
-        Ok(threads) => gather(alloc, threads),
-        Err(error) => Err(error),
-    };
-    let Ok(found) = found else {
-        drop(server.close(Vec::new(alloc)));
-        bail!("memory ran out");
-    };
-    let (passes, calls, wrong) = found.into_parts();
-    let closed = server.close(passes);
-    if let Some(what) = wrong {
-        bail!("{what}");
-    }
-    judge(alloc, &closed?, calls)
+    let passes = shared.run(rt, &server);
+    let closed = close_after(alloc, server, passes)?;
+    judge(alloc, &closed, shared.made.load(Ordering::SeqCst))
 }
 
 /// Lets clients call the server that a command makes, counts what it did, and prints `ok`, if it explained that.
@@ -212,8 +202,7 @@ pub fn run_soak<R: Wait + Clock + Threads + Sync, W: Write>(
     for (figure, one) in figures.iter_mut().zip(more) {
         *figure = figure.saturating_add(one);
     }
-    writeln!(output, "ok")?;
-    Ok(())
+    Ok(writeln!(output, "ok")?)
 }
 
 /// Prints what all servers did.
@@ -221,6 +210,5 @@ pub fn print_figures<W: Write>(output: &mut W, figures: Figures) -> Result<()> {
     for figure in figures {
         write!(output, "{figure} ")?;
     }
-    writeln!(output)?;
-    Ok(())
+    Ok(writeln!(output)?)
 }

@@ -4,13 +4,13 @@ ghost use Rattle.std.specs.Prelude.{◌≤◌, length};
 
 use crate::messages::bytes_of;
 use crate::random::Random;
-use crate::soak::known::{Known, ObjectKind};
+use crate::soak::known::Known;
 use client_calls::{
     Creation, commit, create, get_attributes, look_up, make_directory, make_link, plain_call, read,
     read_directory, read_directory_plus, read_link, remove, remove_directory, rename, set_size,
     write,
 };
-use nfs3_types::StableHow;
+use nfs3_types::{FileType, StableHow};
 use std::alloc::{AllocError, Global};
 
 /// The numbers of NULL, ACCESS, MKNOD, LINK, FSSTAT, FSINFO and PATHCONF, one that is no procedure's, and that of GETATTR, which is called
@@ -72,11 +72,11 @@ pub struct Asker<'k> {
 
 impl<'k> Asker<'k> {
     // An object of a kind, now and then one of another, or one that never was.
-    fn object(&mut self, kind: ObjectKind) -> u64 {
+    fn object(&mut self, kind: FileType) -> u64 {
         let kind = match self.random.below(16) {
-            0 => ObjectKind::Directory,
-            1 => ObjectKind::File,
-            2 => ObjectKind::Link,
+            0 => FileType::Directory,
+            1 => FileType::Regular,
+            2 => FileType::SymbolicLink,
             _ => kind,
         };
         match self.random.below(40) {
@@ -88,7 +88,7 @@ impl<'k> Asker<'k> {
     // A directory, mostly the root.
     fn directory(&mut self) -> u64 {
         match self.random.below(3) {
-            0 => self.object(ObjectKind::Directory),
+            0 => self.object(FileType::Directory),
             _ => 0,
         }
     }
@@ -116,7 +116,8 @@ impl<'k> Asker<'k> {
     // A call on a file or a link.
     fn ask_by_handle(&mut self) -> Result<Vec<u8>, AllocError> {
         let (alloc, xid) = (self.alloc, self.xid);
-        let (file, link) = (self.object(ObjectKind::File), self.object(ObjectKind::Link));
+        let file = self.object(FileType::Regular);
+        let link = self.object(FileType::SymbolicLink);
         let random = &mut self.random;
         let (place, count) = (random.below(120), random.below(100));
         match random.below(48) {
