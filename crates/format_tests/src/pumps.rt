@@ -2,7 +2,9 @@
 
 use crate::log::new_log;
 use crate::streams::Then::{End, Fault, Zeros};
-use crate::streams::{Broken, CALL, CALL_FRAME, LONG_FRAME, PART_FRAME, REPLY_FRAME, Stream, Then};
+use crate::streams::{
+    Broken, CALL, CALL_FRAME, Fragments, LONG_FRAME, PART_FRAME, REPLY_FRAME, Stream, Then,
+};
 use nfs_history::Event;
 use nfs_tap::{NoteFault, PumpEnd, TapLog, pump_calls, pump_replies};
 use std::alloc::{AllocError, Global};
@@ -27,6 +29,22 @@ fn ends(
     let mut out = Vec::new(alloc);
     let end = pump_calls(rt, alloc, &mut stream, &mut out, 2_000_000, &log);
     end == want && out.as_slice() == written && noted(rt, &log) == events
+}
+
+/// After so many interrupted reads, fragments come that end no record: the reads of both kinds are 1,000,000 together.
+#[test]
+fn a_pump_reads_a_million_times(rt: HostRuntime) -> Result<(), Fail> {
+    for interrupted in [0, 400_000, 1_000_000] {
+        let log = Mutex::new(new_log(rt.alloc())?);
+        let mut stream = Fragments {
+            interrupted,
+            reads: 0,
+        };
+        let mut out = Vec::new(rt.alloc());
+        let end = pump_calls(&rt, rt.alloc(), &mut stream, &mut out, 1, &log);
+        assert!(rt; end == PumpEnd::Bound && stream.reads == 1_000_000);
+    }
+    Ok(())
 }
 
 const BAD_RPC: PumpEnd = PumpEnd::LogFault(NoteFault::BadRpc);

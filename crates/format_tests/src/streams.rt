@@ -1,4 +1,4 @@
-//! Messages of two calls and records of the first, a reader that gives pieces, fails or doesn't end, and a writer that fails.
+//! Messages of two calls and records of the first, readers that give pieces, fail, don't end or count, and a writer that fails.
 
 use std::io::{self, ErrorKind, Read, Write};
 
@@ -58,6 +58,23 @@ impl Read for Stream<'_> {
             }
             _ => Ok(0),
         }
+    }
+}
+
+/// Counts its reads: so many are interrupted, and each later one gives a byte of zero. Four of those are a fragment that ends no record.
+#[derive(Drop)]
+pub(crate) struct Fragments {
+    pub(crate) interrupted: u32,
+    pub(crate) reads: u32,
+}
+
+impl Read for Fragments {
+    fn read(&mut self, buf: &mut [u8]) -> io::Result<usize> {
+        self.reads = self.reads.saturating_add(1);
+        if self.reads <= self.interrupted {
+            return Err(io::Error::from(ErrorKind::Interrupted));
+        }
+        Stream(b"", 1, Then::Zeros).read(buf)
     }
 }
 

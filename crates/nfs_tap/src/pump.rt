@@ -21,7 +21,7 @@ use std::sync::{Mutex, Wait};
 use xdr_records::{FeedFault, RecordFeed, frame};
 
 /// How a pump ended.
-#[derive(Clone, Copy, Debug, PartialEq, Eq)]
+#[derive(Clone, Copy, PartialEq, Eq)]
 pub enum PumpEnd {
     /// The stream ended. A record of which only a part came is dropped.
     End,
@@ -35,7 +35,7 @@ pub enum PumpEnd {
     LogFault(NoteFault),
     /// The log has no room for a record within the limits of a history's file, and the record isn't forwarded.
     LogFull,
-    /// The stream didn't end within 1,000,000 reads, or as many more behind a record that came in more than one fragment.
+    /// The stream didn't end within 1,000,000 reads.
     Bound,
     /// Memory ran out.
     NoMemory,
@@ -87,7 +87,7 @@ impl From<AllocError> for PumpEnd {
 }
 
 /// Which way records go.
-#[derive(Clone, Copy, Debug, PartialEq, Eq)]
+#[derive(Clone, Copy)]
 pub enum Way {
     /// From a client.
     Calls,
@@ -357,7 +357,7 @@ fn make_turn<R: Wait, I: Read, W: Write>(
     }
 }
 
-/// Pumps the records of a stream to its end, of which some bytes were read already, in whatever fragments they come.
+/// Pumps the records of a stream to its end by so many reads at most, in whatever fragments they come. Some bytes were read already.
 fn pump_pieces<R: Wait, I: Read, W: Write>(
     rt: &R,
     alloc: Global,
@@ -365,6 +365,7 @@ fn pump_pieces<R: Wait, I: Read, W: Write>(
     reader: &mut I,
     writer: &mut W,
     begun: &[u8],
+    reads: u32,
 ) -> PumpEnd
     ensures ended { result ≡ PumpEnd.End → IsAtEnd (I.remaining reader.new) }
     ensures named { IsNamed result }
@@ -380,7 +381,7 @@ fn pump_pieces<R: Wait, I: Read, W: Write>(
         Ok(buffer) => buffer,
         Err(AllocError) => return PumpEnd::NoMemory,
     };
-    for _read in 0..READ_LIMIT {
+    for _read in 0..reads {
         match reader.read(buffer.as_mut_slice()) {
             Ok(0) => return PumpEnd::End,
             Ok(count) => match pass_on(rt, alloc, tap, writer, &mut feed, &buffer[..count]) {
@@ -407,10 +408,20 @@ fn pump<R: Wait, I: Read, W: Write>(
     ensures forwarded { Pumps result (I.remaining reader.old) (I.remaining reader.new) (W.contents writer.old) (W.contents writer.new) }
 {
     let mut window = Window::new(alloc);
-    for _turn in 0..READ_LIMIT {
+    for turn in 0..READ_LIMIT {
         match make_turn(rt, alloc, tap, reader, writer, &mut window) {
             Turn::On => {}
-            Turn::Odd => return pump_pieces(rt, alloc, tap, reader, writer, window.as_slice()),
+            Turn::Odd => {
+                return pump_pieces(
+                    rt,
+                    alloc,
+                    tap,
+                    reader,
+                    writer,
+                    window.as_slice(),
+                    READ_LIMIT - turn - 1,
+                );
+            }
             Turn::Over(end) => return end,
         }
     }
