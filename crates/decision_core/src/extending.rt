@@ -1,8 +1,8 @@
 //! One step of the walk: at the answer of a call its states become all that come of a list of open calls that ends in it.
 
-ghost use Rattle.std.specs.Prelude.{◌≡◌, ◌∷◌, [], List, Contains, IfOk};
+ghost use Rattle.std.specs.Prelude.{◌≡◌, ◌∷◌, [], Contains, IfOk};
 ghost use Rattle.decision_core.specs.States.{HasSteps};
-ghost use Rattle.decision_core.specs.Layers.{Grows, IsPutInto, HasPlacings, HasAllPlacings, IsSortedInto, IsSortedOut, CompletesOrAwaits, ExtendsAll, ForgetsAll, SettlesAll};
+ghost use Rattle.decision_core.specs.Layers.{Grows, IsPutInto, HasPlacings, HasAllPlacings, IsSortedInto, IsSortedOut, ExtendsAll, ForgetsAll, SettlesAll};
 
 use crate::machine::{Limits, Machine, Stop};
 use crate::states::{States, no_states, put};
@@ -169,88 +169,6 @@ fn place_in_all<M: Machine>(
     Ok(())
 }
 
-/// Puts all that come of placing one of these calls in a state of the layer there. What isn't found is the next layer.
-fn place_round<M: Machine>(
-    alloc: Global,
-    machine: &M,
-    work: &mut M::Work,
-    calls: &[u64],
-    n: u64,
-    found: &mut States<M::State>,
-    layer: &mut States<M::State>,
-    limits: &mut Limits,
-) -> Result<(), Stop<M::Reason>>
-    requires { M.Fits machine.now work.old }
-    ensures fits { M.Fits machine.now work.new }
-    ensures placings { IfOk result (λ _. Grows found.old.items.items found.new.items.items
-        × HasAllPlacings (M.StandsFor machine.now) (M.placed machine.now) (M.Next machine.now) calls.now n found.new.items.items layer.new.items.items layer.old.items.items) }
-{
-    let mut next = no_states(alloc);
-    place_in_all(
-        machine,
-        work,
-        layer.items.as_slice(),
-        calls,
-        n,
-        found,
-        &mut next,
-        limits,
-    )?;
-    *layer = next;
-    Ok(())
-}
-
-/// The same of each layer, until one is empty.
-fn place_rounds<M: Machine>(
-    alloc: Global,
-    machine: &M,
-    work: &mut M::Work,
-    calls: &[u64],
-    n: u64,
-    found: &mut States<M::State>,
-    layer: &mut States<M::State>,
-    limits: &mut Limits,
-) -> Result<(), Stop<M::Reason>>
-    requires { M.Fits machine.now work.old }
-    ensures fits { M.Fits machine.now work.new }
-    ensures extended { IfOk result (λ _. (before : List M.State)
-        → CompletesOrAwaits (M.StandsFor machine.now) (M.placed machine.now) (M.Next machine.now) calls.now n before layer.old.items.items found.old.items.items
-        → ExtendsAll (M.StandsFor machine.now) (M.placed machine.now) (M.Next machine.now) calls.now n before found.new.items.items) }
-{
-    for _round in 0..calls.len() {
-        if layer.items.is_empty() {
-            return Ok(());
-        }
-        place_round(alloc, machine, work, calls, n, found, layer, limits)?;
-    }
-    if layer.items.is_empty() {
-        Ok(())
-    } else {
-        Err(Stop::TooManySteps)
-    }
-}
-
-/// Puts what the states become at the answer of call n there, where nothing is yet.
-fn extend_into<M: Machine>(
-    alloc: Global,
-    machine: &M,
-    work: &mut M::Work,
-    states: Vec<M::State>,
-    calls: &[u64],
-    n: u64,
-    found: &mut States<M::State>,
-    limits: &mut Limits,
-) -> Result<(), Stop<M::Reason>>
-    requires { M.Fits machine.now work.old }
-    ensures fits { M.Fits machine.now work.new }
-    ensures extended { IfOk result (λ _. ExtendsAll (M.StandsFor machine.now) (M.placed machine.now) (M.Next machine.now) calls.now n states.items found.new.items.items) }
-{
-    let mut layer = no_states(alloc);
-    sort_out(machine, work, states, n, found, &mut layer, limits)?;
-    place_rounds(alloc, machine, work, calls, n, found, &mut layer, limits)?;
-    Ok(())
-}
-
 /// What the states become at the answer of call n: each in which it is placed, and all that come of a list of open calls that ends
 /// in it. Open calls are passed, and n.
 pub(crate) fn extend<M: Machine>(
@@ -267,8 +185,30 @@ pub(crate) fn extend<M: Machine>(
     ensures extended { IfOk result (λ after. ExtendsAll (M.StandsFor machine.now) (M.placed machine.now) (M.Next machine.now) calls.now n states.items after.items) }
 {
     let mut found = no_states(alloc);
-    extend_into(alloc, machine, work, states, calls, n, &mut found, limits)?;
-    Ok(found.items)
+    let mut layer = no_states(alloc);
+    sort_out(machine, work, states, n, &mut found, &mut layer, limits)?;
+    for _round in 0..calls.len() {
+        if layer.items.is_empty() {
+            return Ok(found.items);
+        }
+        let mut next = no_states(alloc);
+        place_in_all(
+            machine,
+            work,
+            layer.items.as_slice(),
+            calls,
+            n,
+            &mut found,
+            &mut next,
+            limits,
+        )?;
+        layer = next;
+    }
+    if layer.items.is_empty() {
+        Ok(found.items)
+    } else {
+        Err(Stop::TooManySteps)
+    }
 }
 
 /// The states, which need not know of the call any more.
