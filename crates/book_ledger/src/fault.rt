@@ -191,7 +191,7 @@ impl fmt::Display for FlushFault {
 }
 
 /// Why a reply may not go out. Nothing has changed.
-#[derive(Clone, Copy, Debug, PartialEq, Eq, Drop, Error)]
+#[derive(Clone, Copy, Debug, Drop, Error)]
 pub enum AnswerFault {
     /// It is down, after a fault, until a crash.
     Down,

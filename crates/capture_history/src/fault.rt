@@ -6,7 +6,7 @@ use std::fmt;
 use thiserror::Error;
 
 /// Why a capture gives no log.
-#[derive(Clone, Copy, Debug, PartialEq, Eq, Error)]
+#[derive(Clone, Copy, Debug, Error)]
 pub enum ImportFault {
     /// The bytes are no capture file.
     BadCapture(CaptureFault),

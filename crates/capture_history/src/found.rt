@@ -1,7 +1,7 @@
 //! Events that were found in a capture.
 
 /// What an event is.
-#[derive(Clone, Copy, Debug, PartialEq, Eq)]
+#[derive(Clone, Copy, PartialEq, Eq)]
 pub enum FoundKind {
     /// A call: it stands where its last byte was known.
     Call,

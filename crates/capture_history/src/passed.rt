@@ -4,7 +4,7 @@ use crate::connection::Connection;
 use packet_layers::PassedOver;
 
 /// How many packets were passed over, for each reason, and how many lack bytes.
-#[derive(Clone, Copy, Debug, PartialEq, Eq)]
+#[derive(Clone, Copy)]
 pub struct PassedCounts {
     pub not_ip: u64,
     pub fragments: u64,

@@ -61,7 +61,7 @@ struct Draft {
 }
 
 /// What becomes of a draft with the next line.
-#[derive(Clone, Copy, PartialEq, Eq)]
+#[derive(Clone, Copy)]
 enum Step {
     GoesOn,
     Ends,

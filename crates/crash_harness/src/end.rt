@@ -6,7 +6,7 @@ use std::fmt;
 use thiserror::Error;
 
 /// Why a run gave no history.
-#[derive(Clone, Copy, Debug, PartialEq, Eq, Drop, Error)]
+#[derive(Clone, Copy, Debug, Drop, Error)]
 pub enum RunEnd {
     /// A crash failed.
     Crash(CrashFault),

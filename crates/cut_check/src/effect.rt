@@ -7,7 +7,7 @@ use nfs_history::{commit_success, succeeded, write_success};
 use nfs3_types::{NfsCall, Outcome, Procedure, StableHow, WriteSuccess};
 
 /// What a place of an era means for stable storage. Objects are named by their numbers.
-#[derive(Clone, Copy, PartialEq, Eq)]
+#[derive(Clone, Copy)]
 pub enum Effect {
     /// It need not be there, and puts nothing there.
     Nothing,

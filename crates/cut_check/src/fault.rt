@@ -5,7 +5,7 @@ use std::fmt;
 use thiserror::Error;
 
 /// Why it isn't known that the cuts keep what is stable. Eras and places are numbered from 1.
-#[derive(Clone, Copy, Debug, PartialEq, Eq, Error)]
+#[derive(Clone, Copy, Debug, Error)]
 pub enum CutFault {
     /// The cut of the era is less than the position of its last stable place: the first such era.
     ShortCut {
@@ -44,7 +44,7 @@ impl From<AllocError> for CutFault {
 }
 
 /// Why it isn't known that the write verifiers agree. Eras are numbered from 1.
-#[derive(Clone, Copy, Debug, PartialEq, Eq, Error)]
+#[derive(Clone, Copy, Debug, Error)]
 pub enum VerifierFault {
     /// The era shows two write verifiers, or it lost a WRITE and a later era shows its verifier: the first such era.
     Verifier(u64),

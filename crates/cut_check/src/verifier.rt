@@ -20,7 +20,7 @@ use std::alloc::{AllocError, Global};
 use std::collections::BTreeSet;
 
 /// The write verifiers that places show.
-#[derive(Clone, Copy, PartialEq, Eq)]
+#[derive(Clone, Copy)]
 enum Shown {
     Nothing,
     One(u64),

@@ -16,7 +16,7 @@ pub struct Refusal {
 }
 
 /// Why nothing is decided.
-#[derive(Clone, Copy, Debug, PartialEq, Eq, Drop)]
+#[derive(Clone, Copy, Drop)]
 pub enum Undecided {
     /// More states would stand at once than may.
     TooManyStates,

@@ -1,7 +1,7 @@
 //! Why a step isn't decided.
 
 /// Why a walk doesn't decide a step. It claims nothing of the history.
-#[derive(Clone, Copy, Debug, PartialEq, Eq, Drop)]
+#[derive(Clone, Copy, Drop)]
 pub enum Why {
     /// This call names a handle that no reply gave before it.
     HandleNotGiven(u64),

@@ -5,7 +5,7 @@ use tree_answers::{Cause, causes, is_caused_by};
 use tree_handles::View;
 
 /// How often each cause held at a call that failed with a status which stands beside it (`docs/PROFILE.md`).
-#[derive(Clone, Copy, Debug, PartialEq, Eq)]
+#[derive(Clone, Copy)]
 pub struct CauseCounts {
     /// In the order of `causes`.
     counts: [u64; 20],

@@ -11,7 +11,7 @@ use tree_starts::StartFault;
 const PATH_TOO_LONG: i32 = 36;
 
 /// What is no file, directory or link.
-#[derive(Clone, Copy, Debug, PartialEq, Eq)]
+#[derive(Clone, Copy)]
 pub enum Special {
     /// A socket.
     Socket,

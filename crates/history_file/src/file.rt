@@ -27,7 +27,7 @@ use xdr_records::{RECORD_LIMIT, Reader};
 const EVENT_SIZE: usize = 32;
 
 /// The kind word of an event.
-#[derive(Clone, Copy, PartialEq, Eq)]
+#[derive(Clone, Copy)]
 pub enum EventKind {
     /// 0: a call was sent.
     Call,

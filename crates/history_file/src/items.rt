@@ -11,7 +11,7 @@ use std::alloc::{AllocError, AllocFailed};
 use xdr_records::{Reader, XdrFault};
 
 /// Why an item can't be read, and where it stands.
-#[derive(Clone, Copy, PartialEq, Eq)]
+#[derive(Clone, Copy)]
 pub enum ItemFault {
     /// The fault, and how many bytes stand between the magic and its item.
     Fault { at: usize, fault: FileFault },

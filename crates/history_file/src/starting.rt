@@ -16,7 +16,7 @@ use tree_starts::{Profile, START_LIMIT, SeenNode, SeenObject, SeenStart, StartTa
 use xdr_records::Reader;
 
 /// The kind word of a starting object.
-#[derive(Clone, Copy, PartialEq, Eq)]
+#[derive(Clone, Copy)]
 pub enum StartKind {
     /// 1: a regular file.
     File,

@@ -4,7 +4,7 @@ ghost use Rattle.std.specs.Prelude.{◌≡◌};
 ghost use Rattle.history_file.specs.FileReading.{version_of};
 
 /// The version of a history file.
-#[derive(Clone, Copy, PartialEq, Eq)]
+#[derive(Clone, Copy)]
 pub enum Version {
     /// 1: of a server that held nothing, whose attributes aren't judged.
     First,

@@ -6,7 +6,7 @@ use std::fmt;
 use thiserror::Error;
 
 /// Why a file gives no prefix.
-#[derive(Clone, Copy, Debug, PartialEq, Eq, Error)]
+#[derive(Clone, Copy, Debug, Error)]
 pub enum PrefixFault {
     /// The bytes are no history file: its first fault.
     BadHistory(HistoryFault),

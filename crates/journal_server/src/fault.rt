@@ -144,7 +144,7 @@ impl From<recorder::CloseFault> for CallFault {
 }
 
 /// Why no pass was given out.
-#[derive(Clone, Copy, Debug, PartialEq, Eq, Drop, Error)]
+#[derive(Clone, Copy, Debug, Drop, Error)]
 pub enum JoinFault {
     /// 65,535 passes were given out.
     TooManyLanes,

@@ -1,7 +1,7 @@
 //! Where a call may be held.
 
 /// How far a call is.
-#[derive(Clone, Copy, PartialEq, Eq)]
+#[derive(Clone, Copy)]
 pub enum Point {
     /// It has begun: it stands in the history.
     Begun,

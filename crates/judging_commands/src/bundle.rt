@@ -8,7 +8,7 @@ use program_streams::{DigitsFault, decode_digits};
 use std::alloc::Global;
 
 /// Why there is no bundle.
-#[derive(Clone, Copy, PartialEq, Eq)]
+#[derive(Clone, Copy)]
 pub(crate) enum BundleFault {
     /// The bytes are no bundle.
     Malformed,

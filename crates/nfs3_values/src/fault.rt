@@ -43,7 +43,7 @@ impl fmt::Display for Kind {
 }
 
 /// Why a message gave no value.
-#[derive(Clone, Copy, Debug, PartialEq, Eq, Error)]
+#[derive(Clone, Copy, Debug, Error)]
 pub enum MessageFault {
     /// The first item at fault, and the offset at which it stands.
     BadMessage {

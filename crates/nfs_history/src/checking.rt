@@ -19,7 +19,7 @@ use rpc_reader::{read_call, read_reply};
 use std::alloc::{AllocError, Global};
 
 /// How a lane was last used.
-#[derive(Clone, Copy, PartialEq, Eq)]
+#[derive(Clone, Copy)]
 pub enum LaneUse {
     /// By a call or a reply, in this era.
     InEra(u64),
@@ -28,7 +28,7 @@ pub enum LaneUse {
 }
 
 /// Whether events may still come on a lane.
-#[derive(Clone, Copy, Debug, PartialEq, Eq)]
+#[derive(Clone, Copy)]
 pub enum LaneState {
     /// They may.
     Open,

@@ -23,7 +23,7 @@ use rpc_reader::{CallHead, ReplyBody, read_call, read_reply};
 use std::alloc::{AllocError, AllocFailed, Global};
 
 /// Why it isn't found what a call was.
-#[derive(Clone, Copy, PartialEq, Eq)]
+#[derive(Clone, Copy)]
 pub enum Stop {
     /// The call is at fault.
     Fault(CallFault),

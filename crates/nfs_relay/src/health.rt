@@ -4,7 +4,7 @@ use nfs_tap::PumpEnd;
 use std::alloc::Global;
 
 /// A lane that the server ended before its client did, and before the recording did.
-#[derive(Clone, Copy, Debug, PartialEq, Eq)]
+#[derive(Clone, Copy)]
 pub struct ServerEnd {
     pub lane: u32,
     /// How many events were noted by then.
@@ -12,7 +12,7 @@ pub struct ServerEnd {
 }
 
 /// A lane that ended since a record on it wasn't noted.
-#[derive(Clone, Copy, Debug, PartialEq, Eq)]
+#[derive(Clone, Copy, PartialEq, Eq)]
 pub struct Refused {
     pub lane: u32,
     /// Whether the server sent the record.

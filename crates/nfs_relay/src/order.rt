@@ -15,7 +15,7 @@ const UP: &[u8] = b"up";
 const END: &[u8] = b"end";
 
 /// What a line says.
-#[derive(Clone, Copy, PartialEq, Eq)]
+#[derive(Clone, Copy)]
 pub enum Order {
     /// The server went down.
     Crash,

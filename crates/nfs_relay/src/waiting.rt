@@ -16,7 +16,7 @@ pub fn transaction(message: &[u8]) -> u32 {
 }
 
 /// A lane that ended while calls on it waited for a reply.
-#[derive(Clone, Copy, Debug, PartialEq, Eq)]
+#[derive(Clone, Copy)]
 pub(crate) struct LeftLane {
     lane: u32,
     /// How many calls waited.

@@ -11,7 +11,7 @@ use nfs3_types::{Failure, NfsCall, Outcome, Procedure};
 use std::alloc::{AllocError, Global};
 
 /// How many calls of a procedure were answered, and how many of the answers did nothing.
-#[derive(Clone, Copy, PartialEq, Eq)]
+#[derive(Clone, Copy)]
 pub struct ProcedureAnswers {
     /// Its number (RFC 1813, section 3.3).
     pub procedure: u32,
@@ -24,7 +24,7 @@ pub struct ProcedureAnswers {
 }
 
 /// How much a server did nothing.
-#[derive(Clone, Copy, PartialEq, Eq)]
+#[derive(Clone, Copy)]
 pub struct Idleness {
     /// How many answers did nothing.
     pub idle: u64,

@@ -4,7 +4,7 @@ use call_making::Realm;
 use client_memory::Random;
 
 /// How the clients of a night share what they work on.
-#[derive(Clone, Copy, PartialEq, Eq)]
+#[derive(Clone, Copy)]
 pub enum Mix {
     /// Each client works below a directory of its own.
     Private,

@@ -49,7 +49,7 @@ impl ErasPlan {
 }
 
 /// How the eras of a night ended.
-#[derive(Clone, Copy, PartialEq, Eq)]
+#[derive(Clone, Copy)]
 pub struct ErasEnd {
     /// Whether each of them came about.
     pub end: NightEnd,

@@ -6,7 +6,7 @@ use thiserror::Error;
 use tree_starts::StartFault;
 
 /// What of an object was told otherwise than before.
-#[derive(Clone, Copy, Debug, PartialEq, Eq)]
+#[derive(Clone, Copy, PartialEq, Eq)]
 pub enum Change {
     /// Its handle.
     Handle,

@@ -3,7 +3,7 @@
 use tree_starts::START_LIMIT;
 
 /// How a walk asks, and whether the export has to be empty.
-#[derive(Clone, Copy, Debug, PartialEq, Eq)]
+#[derive(Clone, Copy)]
 pub struct Settings {
     /// The most bytes that a READ asks for.
     pub piece: u32,

@@ -31,7 +31,7 @@ pub enum NightEnd {
 }
 
 /// Calls that a server never answered, though it went on behind them.
-#[derive(Clone, Copy, PartialEq, Eq)]
+#[derive(Clone, Copy)]
 pub struct LeftAside {
     /// How many there are.
     pub count: u64,

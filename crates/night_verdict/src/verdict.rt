@@ -22,7 +22,7 @@ pub enum Cause {
 }
 
 /// Why nothing is said of the server.
-#[derive(Clone, Copy, PartialEq, Eq)]
+#[derive(Clone, Copy)]
 pub enum Doubt {
     /// What was recorded is no history.
     BadHistory,
@@ -45,7 +45,7 @@ pub enum Doubt {
 }
 
 /// What is said of a night.
-#[derive(Clone, Copy, PartialEq, Eq)]
+#[derive(Clone, Copy)]
 pub enum NightVerdict {
     /// Some order explains the history, and the server was in health.
     Yes,

@@ -5,7 +5,7 @@ use std::fmt;
 use thiserror::Error;
 
 /// The first fault of a plan's shape, in the order of the variants. Calls, eras and places are numbered from 1.
-#[derive(Clone, Copy, Debug, PartialEq, Eq, Error)]
+#[derive(Clone, Copy, Debug, Error)]
 pub enum ShapeFault {
     /// The certificate has another number of eras than the history.
     WrongEras,
@@ -57,7 +57,7 @@ impl From<AllocError> for ShapeFault {
 }
 
 /// The fault of a plan's order.
-#[derive(Clone, Copy, Debug, PartialEq, Eq, Error)]
+#[derive(Clone, Copy, Debug, Error)]
 pub enum OrderFault {
     /// A call stands before another one, which had ended when it began: the first such other one, and before it the call that began
     /// last.

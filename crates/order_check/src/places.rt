@@ -12,7 +12,7 @@ use nfs3_types::Procedure;
 use std::alloc::{AllocError, Global};
 
 /// A place, and the era in which it stands.
-#[derive(Clone, Copy, PartialEq, Eq)]
+#[derive(Clone, Copy)]
 pub struct OrderedPlace {
     /// The era, counted from 1.
     pub era: u64,

@@ -5,7 +5,7 @@ use std::fmt;
 use thiserror::Error;
 
 /// Why bytes are no capture file that is read here: the first fault, with the place in the file where the item at fault begins.
-#[derive(Clone, Copy, Debug, PartialEq, Eq, Error)]
+#[derive(Clone, Copy, Debug, Error)]
 pub enum CaptureFault {
     /// The file begins neither as a pcap nor as a pcapng file.
     BadMagic,

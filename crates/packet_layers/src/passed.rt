@@ -3,7 +3,7 @@
 use std::fmt;
 
 /// Why a packet is passed over.
-#[derive(Clone, Copy, PartialEq, Eq)]
+#[derive(Clone, Copy)]
 pub enum PassedOver {
     /// It is neither IPv4 nor IPv6.
     NotIp,

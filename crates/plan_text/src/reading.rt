@@ -22,7 +22,7 @@ use thiserror::Error;
 const LINE_LIMIT: u64 = 10_000;
 
 /// Why a text is no plan.
-#[derive(Clone, Copy, Debug, PartialEq, Eq, Error)]
+#[derive(Clone, Copy, Debug, Error)]
 pub enum PlanFault {
     /// The first line, from 1, with which the text so far begins no plan: or it is missing, or has no line feed.
     BadPlan(u64),
@@ -68,7 +68,7 @@ struct Draft {
 }
 
 /// What becomes of a draft with the next line.
-#[derive(Clone, Copy, PartialEq, Eq)]
+#[derive(Clone, Copy)]
 enum Progress {
     GoesOn,
     Ends,

@@ -11,7 +11,7 @@ use nfs3_types::StableHow;
 use std::alloc::{AllocError, Global};
 
 /// Why words aren't read.
-#[derive(Clone, Copy, PartialEq, Eq)]
+#[derive(Clone, Copy)]
 pub enum WordFault {
     /// They say nothing that may stand there.
     NotOne,

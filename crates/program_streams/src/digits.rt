@@ -8,7 +8,7 @@ ghost use Rattle.program_streams.specs.Digits.{is_lower_digit};
 use std::alloc::{AllocError, Global};
 
 /// Why digits spell no bytes.
-#[derive(Clone, Copy, PartialEq, Eq)]
+#[derive(Clone, Copy)]
 pub enum DigitsFault {
     /// A byte is no digit, or there is an odd number of them.
     Malformed,

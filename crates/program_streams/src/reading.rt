@@ -12,7 +12,7 @@ use std::io::ErrorKind;
 pub const READ_LIMIT: u32 = 1_000_000;
 
 /// Why an input wasn't read.
-#[derive(Clone, Copy, PartialEq, Eq)]
+#[derive(Clone, Copy)]
 pub enum InputFault {
     /// A read failed, or there were too many.
     Unreadable,
@@ -31,7 +31,7 @@ impl From<AllocError> for InputFault {
 }
 
 /// How far an input was read.
-#[derive(Clone, Copy, PartialEq, Eq)]
+#[derive(Clone, Copy)]
 enum Progress {
     /// There may be more.
     More,

@@ -20,7 +20,7 @@ const OVERTAKERS: u64 = 3;
 const WAITING_SECS: usize = 30;
 
 /// One kind of what was wrong.
-#[derive(Clone, Copy, Debug, PartialEq, Eq)]
+#[derive(Clone, Copy, PartialEq, Eq)]
 pub enum Finding {
     /// The server ended this many connections that no crash did, this lane the first of them.
     ServerEnded(u64, u32),

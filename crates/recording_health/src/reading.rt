@@ -5,7 +5,7 @@ use nfs_history::{CallKind, HistoryFault, KnownCalls, read_calls};
 use std::alloc::{AllocError, Global};
 
 /// What is read of the file of a recording.
-#[derive(Clone, Copy, Debug, PartialEq, Eq)]
+#[derive(Clone, Copy, PartialEq, Eq)]
 pub struct Reading {
     /// Why the history can't be judged, if it can't.
     pub fault: Option<HistoryFault>,

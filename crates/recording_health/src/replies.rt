@@ -9,7 +9,7 @@ use rpc_reader::{ReplyBody, read_call, read_reply};
 use std::alloc::{AllocError, Global};
 
 /// Calls of one kind.
-#[derive(Clone, Copy, Debug, PartialEq, Eq)]
+#[derive(Clone, Copy, PartialEq, Eq)]
 pub struct Met {
     /// How many there are.
     pub count: u64,

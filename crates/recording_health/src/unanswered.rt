@@ -8,7 +8,7 @@ use nfs3_types::Procedure;
 use std::alloc::{AllocError, Global};
 
 /// A call that got no reply.
-#[derive(Clone, Copy, Debug, PartialEq, Eq)]
+#[derive(Clone, Copy)]
 pub struct Unanswered {
     /// The lane of the call.
     pub lane: u32,

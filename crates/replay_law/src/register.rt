@@ -6,7 +6,7 @@ use crate::replay::{Replayable, StepFault};
 use std::alloc::{AllocError, Global};
 
 /// What is asked of the register.
-#[derive(Clone, Copy, PartialEq, Eq, Drop)]
+#[derive(Clone, Copy, Drop)]
 pub enum Call {
     /// Asks for the number.
     Read,
@@ -15,7 +15,7 @@ pub enum Call {
 }
 
 /// What it answered.
-#[derive(Clone, Copy, PartialEq, Eq, Drop)]
+#[derive(Clone, Copy, Drop)]
 pub enum Outcome {
     /// The number, in answer to a read.
     Value(u64),
@@ -24,7 +24,7 @@ pub enum Outcome {
 }
 
 /// One number, at first 0.
-#[derive(Clone, Copy, PartialEq, Eq)]
+#[derive(Clone, Copy)]
 pub struct Register {
     /// The number.
     pub value: u64,

@@ -17,7 +17,7 @@ use xdr_records::Reader;
 pub const SEALED_FLAVOR: u32 = 6;
 
 /// A call of a procedure. Its arguments are the bytes of the message behind the head.
-#[derive(Clone, Copy, PartialEq, Eq)]
+#[derive(Clone, Copy)]
 pub struct CallHead<'a> {
     /// `xid`: the transaction identifier, which the reply repeats.
     pub xid: u32,

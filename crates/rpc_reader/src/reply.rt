@@ -15,7 +15,7 @@ use crate::item::{auth, rpc_fault, word};
 use xdr_records::Reader;
 
 /// What a reply says of its call.
-#[derive(Clone, Copy, PartialEq, Eq)]
+#[derive(Clone, Copy)]
 pub enum ReplyBody<'a> {
     /// The results of the procedure: the bytes of the message behind the head.
     Success(&'a [u8]),
@@ -36,7 +36,7 @@ pub enum ReplyBody<'a> {
 }
 
 /// A reply to the call with this transaction identifier.
-#[derive(Clone, Copy, PartialEq, Eq)]
+#[derive(Clone, Copy)]
 pub struct ReplyHead<'a> {
     /// `xid`: the transaction identifier of the call.
     pub xid: u32,

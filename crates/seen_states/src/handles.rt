@@ -23,7 +23,7 @@ pub struct Claimer {
 }
 
 /// What a claim is told of its fingerprint.
-#[derive(Clone, Copy, Debug, PartialEq, Eq)]
+#[derive(Clone, Copy, PartialEq, Eq)]
 pub enum Claim {
     /// It wasn't in the table, and now stands there by this claim.
     New,

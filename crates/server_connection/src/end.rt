@@ -5,7 +5,7 @@ use std::alloc::AllocError;
 use std::fmt;
 
 /// How the serving of a stream ended.
-#[derive(Clone, Copy, Debug, PartialEq, Eq)]
+#[derive(Clone, Copy, PartialEq, Eq)]
 pub enum StreamEnd {
     /// The stream ended. A record of which only a part came is dropped.
     End,

@@ -1,7 +1,7 @@
 //! For which clients a server is.
 
 /// For which clients a server is.
-#[derive(Clone, Copy, Debug, PartialEq, Eq)]
+#[derive(Clone, Copy)]
 pub enum Export {
     /// Those that know the root's handle. What isn't judged is answered by NFS3ERR_NOTSUPP.
     Plain,

@@ -12,7 +12,7 @@ use program_streams::{Report, line_of};
 use std::alloc::{AllocError, AllocFailed, Global};
 
 /// Why a run gave no history.
-#[derive(Clone, Copy, Debug, PartialEq, Eq, Drop)]
+#[derive(Clone, Copy, PartialEq, Eq, Drop)]
 pub enum RunFault {
     /// The first line of a plan with which it is none.
     BadPlan(u64),

@@ -16,7 +16,7 @@ use nfs_history::{History, Profile, WriteFault, write_history, write_history_fro
 use std::alloc::Global;
 
 /// What a run comes to in numbers.
-#[derive(Clone, Copy, Debug, PartialEq, Eq)]
+#[derive(Clone, Copy)]
 pub struct Counts {
     /// One more than the server went down.
     pub eras: u64,

@@ -9,7 +9,7 @@ use nfs3_types::Procedure;
 use std::alloc::{AllocError, Global};
 
 /// Why it isn't known what is looked for.
-#[derive(Clone, Copy, Debug, PartialEq, Eq)]
+#[derive(Clone, Copy)]
 pub enum LookFault {
     /// The handle is neither hexadecimal nor a short form.
     BadHandle,

@@ -1,7 +1,7 @@
 //! Segments, and runs of bytes that stand in one segment.
 
 /// A segment that was seen: where its bytes stand in the stream, and which one it is.
-#[derive(Clone, Copy, Debug, PartialEq, Eq)]
+#[derive(Clone, Copy)]
 pub struct Segment {
     /// The sequence number of its first byte.
     pub sequence: u32,
@@ -12,7 +12,7 @@ pub struct Segment {
 }
 
 /// A run of bytes that stand in one segment, from one full number on up to another.
-#[derive(Clone, Copy, Debug, PartialEq, Eq)]
+#[derive(Clone, Copy)]
 pub struct Span {
     /// The full number of its first byte.
     pub at: u64,

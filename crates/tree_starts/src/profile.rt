@@ -1,7 +1,7 @@
 //! How strictly replies are judged.
 
 /// How strictly replies are judged.
-#[derive(Clone, Copy, Debug, PartialEq, Eq, Drop)]
+#[derive(Clone, Copy, PartialEq, Eq, Drop)]
 pub enum Profile {
     /// Attributes in replies aren't judged.
     Plain,

@@ -21,7 +21,7 @@ use order_check::{check_order_of_calls, check_shape_of_calls};
 use std::alloc::{AllocError, Global};
 
 /// What is found of a history and a certificate.
-#[derive(Clone, Copy, Debug, PartialEq, Eq)]
+#[derive(Clone, Copy)]
 pub enum Verdict {
     /// The certificate is a witness: its serial order is a legal one, and its cuts lose nothing that must stay.
     Yes,
@@ -41,7 +41,7 @@ pub enum Judgement {
 }
 
 /// What is found of a history file and a certificate text.
-#[derive(Clone, Copy, Debug, PartialEq, Eq)]
+#[derive(Clone, Copy, PartialEq, Eq)]
 pub enum FileVerdict {
     /// The certificate is a witness of the history.
     Yes,

@@ -8,7 +8,7 @@ use std::fmt;
 use thiserror::Error;
 
 /// What is wrong with an item of external data representation.
-#[derive(Clone, Copy, PartialEq, Eq, Debug, Error)]
+#[derive(Clone, Copy, Debug, Error)]
 pub enum XdrFault {
     /// Bytes of the item are missing.
     Short,
