@@ -39,6 +39,10 @@ abbrev pub IsSaidOfServed : Result RunTexts RunFault → ℕ → List ℕ → Ty
 IsSaidOfServed (Ok recorded) status line = IsYesBehind [] status line
 IsSaidOfServed (Err fault) status line = (status ≡ fault_status fault) × (line ≡ fault_line fault)
 
+-- the status that is given where that of the verdict is judged: the same, or 1 in place of 0
+abbrev pub IsStatusOfEnds : ℕ → ℕ → Type 0
+IsStatusOfEnds judged given = (given ≡ judged) ⊎ ((judged ≡ 0) × (given ≡ 1))
+
 -- what is said of an end was told, with its status; where texts came of it, they are those of a history and of a witness of it
 pub record IsToldOf (Says : Result RunTexts RunFault → ℕ → List ℕ → Type 0) (given : ℕ) (old new : Option (List ℕ)) : Type 0 where
   pub ran : Result RunTexts RunFault

@@ -1,10 +1,10 @@
 //! What is said of runs of the bundled server.
 
-ghost use Rattle.std.specs.Prelude.{◌≡◌, ◌⊎◌, ◌<◌, IfOk, OnErr, string_bytes};
+ghost use Rattle.std.specs.Prelude.{◌≡◌, ◌⊎◌, ◌<◌, ℕ, true, false, IfOk, OnErr, string_bytes};
 ghost use Rattle.std.specs.Io.KnownBytes.{Appends};
 ghost use Rattle.program_streams.specs.Told.{Tells, memory_line};
 ghost use Rattle.serving_commands.specs.Recording.{IsRecording};
-ghost use Rattle.nfsbench_engine.specs.Ran.{IsSaidOfRan, IsSaidOfRun, IsSaidOfServed, IsYesBehind, MayTellOf, run_lines};
+ghost use Rattle.nfsbench_engine.specs.Ran.{IsSaidOfRan, IsSaidOfRun, IsSaidOfServed, IsStatusOfEnds, IsYesBehind, MayTellOf, run_lines};
 
 use crate::files::{read_history_file, read_plan_file};
 use program_streams::{Output, Report, tell, tell_answer, tell_want_of_memory};
@@ -132,8 +132,8 @@ fn run_from_start<R: RecordingRuntime>(
 fn serve_from_start<R: RecordingRuntime>(
     rt: &R,
     request: &ServeRequest<'_>,
-) -> Result<RunTexts, RunFault>
-    ensures { IfOk result IsRecording }
+) -> Result<(RunTexts, u64), RunFault>
+    ensures { IfOk result (λ served. IsRecording served.0) }
 {
     let beginning = beginning_at(rt, request.start)?;
     serve(rt, request, beginning)
@@ -161,16 +161,40 @@ pub(crate) fn run_path<R: RecordingRuntime, O: Output>(
     }
 }
 
-/// Serves connections, writes their history and certificate, and says the verdict on both.
+/// The status where so many connections ended otherwise than by a close: with `--strict-connections` no yes.
+fn status_of_ends(request: &ServeRequest<'_>, ended_otherwise: u64, judged: u8) -> u8
+    ensures plain { request.now.needs_closes ≡ false → result ≡ judged }
+    ensures closed { ended_otherwise ≡ 0 → result ≡ judged }
+    ensures strict { IsStatusOfEnds judged result }
+    ensures no_yes { request.now.needs_closes ≡ true → 0 < ended_otherwise → 0 < result }
+{
+    if request.needs_closes && ended_otherwise > 0 && judged == 0 {
+        1
+    } else {
+        judged
+    }
+}
+
+/// Serves connections, writes their history and certificate, and says the verdict on both. The status is that of the verdict; with
+/// `--strict-connections` it is 1 after a yes where a connection ended otherwise than by a close.
 pub(crate) fn serve_words<R: RecordingRuntime, O: Output>(
     rt: &R,
     request: &ServeRequest<'_>,
     output: &mut O,
 ) -> u8
-    ensures told { MayTellOf IsSaidOfServed result (O.contents output.old) (O.contents output.new) }
+    ensures told { request.now.needs_closes ≡ false
+        → MayTellOf IsSaidOfServed result (O.contents output.old) (O.contents output.new) }
+    ensures strict { (judged : ℕ) × IsStatusOfEnds judged result
+        × MayTellOf IsSaidOfServed judged (O.contents output.old) (O.contents output.new) }
     ensures memory_line { result ≡ 3
         → Appends (O.contents output.old) (O.contents output.new) memory_line }
     ensures known { result < 4 }
 {
-    tell_served(rt.alloc(), output, serve_from_start(rt, request))
+    match serve_from_start(rt, request) {
+        Ok((recorded, ended_otherwise)) => {
+            let judged = tell_served(rt.alloc(), output, Ok(recorded));
+            status_of_ends(request, ended_otherwise, judged)
+        }
+        Err(fault) => tell_served(rt.alloc(), output, Err(fault)),
+    }
 }

@@ -1,6 +1,6 @@
 -- For the prover, and for callers.
 -- What is said of a run that gave no history: an exit status and a line (words of this project's own).
-use Rattle.std.specs.Prelude.{◌≡◌, ◌⊎◌, ℕ, List, [], ◌∷◌, ◌++◌, codes, decimal}
+use Rattle.std.specs.Prelude.{◌≡◌, ◌⊎◌, ℕ, List, [], ◌∷◌, ◌++◌, codes}
 use Rattle.plan_text.specs.declared.reading.PlanFault.{PlanFault}
 use Rattle.plan_text.specs.declared.reading.PlanFault.TheVariants as plans
 use Rattle.plan_text.specs.FaultText.{plan_fault_words}
@@ -23,7 +23,6 @@ use Rattle.serving_commands.specs.declared.fault.RunFault.TheVariants as faults
 abbrev pub fault_status : RunFault → ℕ
 fault_status (faults.Crash fault) = 1
 fault_status (faults.Close fault) = 1
-fault_status (faults.Unserved count) = 1
 fault_status faults.NoMemory = 3
 fault_status fault = 2
 
@@ -37,7 +36,6 @@ fault_line faults.PartStands = refused_line (codes "a .part of an earlier record
 fault_line faults.CannotWrite = refused_line (codes "cannot write")
 fault_line (faults.Crash fault) = codes "crash: " ++ crash_fault_words fault ++ 10 ∷ []
 fault_line (faults.Close fault) = codes "close: " ++ close_fault_words fault ++ 10 ∷ []
-fault_line (faults.Unserved count) = codes "unserved: " ++ (decimal count ++ 10 ∷ [])
 fault_line faults.NoMemory = memory_line
 
 -- why a plan isn't run

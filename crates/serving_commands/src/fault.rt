@@ -32,8 +32,6 @@ pub enum RunFault {
     Crash(CrashFault),
     /// The server didn't close.
     Close(CloseFault),
-    /// So many connections were ended since their clients sent what got no reply. Both files are written.
-    Unserved(u64),
     /// Memory ran out.
     NoMemory,
 }
@@ -165,7 +163,6 @@ pub fn fault_report(alloc: Global, fault: RunFault) -> Result<Report, AllocError
         RunFault::CannotWrite => Report::refused(alloc, "cannot write"),
         RunFault::Crash(fault) => Ok(Report::new(1, line_of(alloc, "crash: ", &fault)?)),
         RunFault::Close(fault) => Ok(Report::new(1, line_of(alloc, "close: ", &fault)?)),
-        RunFault::Unserved(count) => Ok(Report::new(1, line_of(alloc, "unserved: ", &count)?)),
         RunFault::NoMemory => Err(AllocError),
     }
 }

@@ -23,7 +23,7 @@ pub(crate) struct Served {
     pub(crate) outputs: Outputs,
     pub(crate) passes: Vec<Pass>,
     /// How many connections the server ended before their clients did.
-    pub(crate) unserved: u64,
+    pub(crate) ended_otherwise: u64,
 }
 
 /// What the threads of connections share.
@@ -36,7 +36,7 @@ pub(crate) struct Serving<'a> {
     /// Whether all connections have ended.
     pub(crate) has_ended: &'a AtomicBool,
     /// How many the server ended before their clients did.
-    pub(crate) unserved: &'a AtomicU64,
+    pub(crate) ended_otherwise: &'a AtomicU64,
     /// How many records of a connection are answered at most.
     pub(crate) records: u64,
     /// What the history has room for.
@@ -81,8 +81,8 @@ impl Serving<'_> {
         );
         let _ = stream.shutdown(Shutdown::Both);
         drop(self.server.leave(rt, &mut pass));
-        if is_unserved(end) {
-            self.unserved.fetch_add(1, Ordering::SeqCst);
+        if !is_close(end) {
+            self.ended_otherwise.fetch_add(1, Ordering::SeqCst);
         }
         tell_end(rt, pass.lane(), end);
         Ok(pass)
@@ -99,13 +99,9 @@ impl Serving<'_> {
     }
 }
 
-/// Whether a client sent what got no reply, and its connection was ended. A connection that was reset, as some clients leave, isn't such a
-/// one, nor is one that had as many replies as it may have.
-fn is_unserved(end: StreamEnd) -> bool {
-    matches!(
-        end,
-        StreamEnd::Full | StreamEnd::RecordTooLong | StreamEnd::Refused(_) | StreamEnd::NoMemory
-    )
+/// Whether a connection ended by a close: that of its client, or the server's own after as many records as the words allow.
+fn is_close(end: StreamEnd) -> bool {
+    matches!(end, StreamEnd::End | StreamEnd::Bound)
 }
 
 /// Says how a connection ended, unless all that came was read.
@@ -207,7 +203,7 @@ pub(crate) fn serve_lanes<R: RecordingRuntime>(
         Ok(Served {
             outputs,
             passes,
-            unserved: serving.unserved.load(Ordering::SeqCst),
+            ended_otherwise: serving.ended_otherwise.load(Ordering::SeqCst),
         })
     })
 }

@@ -40,7 +40,7 @@ fn save(alloc: Global, server: SimServer, served: Served) -> Result<RunTexts, Ru
     let Served {
         mut outputs,
         passes,
-        unserved: _,
+        ended_otherwise: _,
     } = served;
     let closed = server.close(passes)?;
     let recorded = record_closed(alloc, closed)?;
@@ -62,7 +62,7 @@ fn serve_beside<R: RecordingRuntime>(
         listener,
         is_open: &Mutex::new(false),
         has_ended: &AtomicBool::new(false),
-        unserved: &AtomicU64::new(0),
+        ended_otherwise: &AtomicU64::new(0),
         records: request.calls,
         room: &Room::of_history(head.len()),
         export: request.export,
@@ -70,17 +70,23 @@ fn serve_beside<R: RecordingRuntime>(
     serve_lanes(rt, serving, request, path, head.as_slice())
 }
 
+/// Says how many connections ended otherwise than by a close, where any did.
+fn tell_otherwise<R: RecordingRuntime>(rt: &R, count: u64) {
+    if count > 0 {
+        let _ = eprintln!(rt; "connections that ended otherwise than by a close: {count}");
+    }
+}
+
 /// Serves the connections that the words ask for by a server that begins so, and writes what it recorded: first each connection is taken on a
 /// thread of its own, and when all have ended the server closes. It waits as long as clients let it. What is recorded meanwhile is in a file
-/// beside the history, which goes once the history is written. Where a connection was ended since its client sent what got no reply, that is
-/// the fault, and both files are written.
+/// beside the history, which goes once the history is written. With what it recorded comes how many connections ended otherwise than by a close.
 pub fn serve<R: RecordingRuntime>(
     rt: &R,
     request: &ServeRequest<'_>,
     beginning: Beginning,
-) -> Result<RunTexts, RunFault>
+) -> Result<(RunTexts, u64), RunFault>
     // The certificate is a witness of the history.
-    ensures explained { IfOk result IsRecording }
+    ensures explained { IfOk result (λ served. IsRecording served.0) }
 {
     let localhost = IpAddr::V4(Ipv4Addr::new(127, 0, 0, 1));
     let address = SocketAddr::new(localhost, request.port);
@@ -102,11 +108,9 @@ pub fn serve<R: RecordingRuntime>(
             return Err(fault);
         }
     };
-    let unserved = served.unserved;
+    let ended_otherwise = served.ended_otherwise;
     let recorded = save(rt.alloc(), server, served)?;
     let _ = fs::remove_file(rt, path.as_str());
-    if unserved > 0 {
-        return Err(RunFault::Unserved(unserved));
-    }
-    Ok(recorded)
+    tell_otherwise(rt, ended_otherwise);
+    Ok((recorded, ended_otherwise))
 }

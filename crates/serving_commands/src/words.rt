@@ -31,6 +31,8 @@ pub struct ServeRequest<'a> {
     pub export: Export,
     /// Whether the profile is strict, also where that of the start isn't.
     pub is_strict: bool,
+    /// Whether the status is 1 where a connection ended otherwise than by a close.
+    pub needs_closes: bool,
     /// The path of the history with whose starting objects and profile the server begins, if not with nothing.
     pub start: Option<&'a str>,
     /// The path of the history that is written.
@@ -114,6 +116,13 @@ fn strict_option<'a>(alloc: Global) -> Arg<'a> {
         .help("Puts attributes into the replies, and has their types and sizes judged")
 }
 
+fn strict_connections_option<'a>(alloc: Global) -> Arg<'a> {
+    Arg::new(alloc, "strict-connections")
+        .long("strict-connections")
+        .action(ArgAction::SetTrue)
+        .help("Ends with status 1 after a yes if a connection ended otherwise than by a close")
+}
+
 fn start_option<'a>(alloc: Global) -> Arg<'a> {
     Arg::new(alloc, "start")
         .long("start")
@@ -154,6 +163,7 @@ pub fn serve_command<'a>(alloc: Global) -> Result<Command<'a>, AllocError> {
         .arg(calls_option(alloc))?
         .arg(mountable_option(alloc))?
         .arg(strict_option(alloc))?
+        .arg(strict_connections_option(alloc))?
         .arg(start_option(alloc))?;
     with_outputs(alloc, command)
 }
@@ -171,6 +181,7 @@ pub fn serve_request<'a>(serve: &ArgMatches<'a>) -> ServeRequest<'a> {
             Export::Plain
         },
         is_strict: serve.get_flag("strict"),
+        needs_closes: serve.get_flag("strict-connections"),
         start: serve.get_str("start"),
         history: serve.get_str("HISTORY").unwrap_or(""),
         certificate: serve.get_str("CERTIFICATE").unwrap_or(""),

@@ -38,7 +38,7 @@ const MOUNTING: (&[u8], &[u8]) = (
 );
 
 /// A plain history without a call, of a server that held a file `a` of three bytes at first (`docs/FORMATS.md`, version 2).
-const START: &[u8] = b"NFSHIST2\0\0\0\0\0\0\0\0\0\0\0\x01\
+pub(super) const START: &[u8] = b"NFSHIST2\0\0\0\0\0\0\0\0\0\0\0\x01\
       \0\0\0\0\0\0\0\0\0\0\0\x01a\0\0\0\0\0\0\x01\0\0\0\x03abc\0\0\0\0\0";
 
 /// A READ of the file, which gives its attributes too (RFC 1813, sections 3.3.6 and 2.6).
@@ -231,16 +231,23 @@ fn clients_are_served_side_by_side_and_recorded(rt: HostRuntime) -> Result<(), F
     Ok(())
 }
 
+/// Options of a server whose client sends no call, and the status: the verdict is a yes of both, and both write their files.
+const GARBLED: [(&str, u8); 2] = [
+    ("--lanes 1 --calls 3", 0),
+    ("--lanes 1 --calls 3 --strict-connections", 1),
+];
+
 #[test]
-fn a_client_that_sends_no_call_is_told(rt: HostRuntime) -> Result<(), Fail> {
+fn a_client_that_sends_no_call_says_nothing_of_the_history(rt: HostRuntime) -> Result<(), Fail> {
     // The prover knows the types that a function names.
     let _listener: Option<TcpListener> = None;
     let _stream: Option<TcpStream> = None;
-    let port = free_port(&rt)?;
-    let clients = Clients::Garbling(port);
-    let line = b"unserved: 1\n";
-    assert!(rt; serves_clients(&rt, port, clients, "--lanes 1 --calls 3", line, 1));
-    assert!(rt; are_written(&rt, port, (0, Profile::Plain, 0), b"witness 1\nend\n")?);
+    for (options, status) in GARBLED {
+        let port = free_port(&rt)?;
+        let clients = Clients::Garbling(port);
+        assert!(rt; serves_clients(&rt, port, clients, options, b"yes\n", status));
+        assert!(rt; are_written(&rt, port, (0, Profile::Plain, 0), b"witness 1\nend\n")?);
+    }
     Ok(())
 }
 
@@ -319,7 +326,6 @@ const FAULTS: [(RunFault, &str); 11] = [
         "close: MissingPass",
     ),
     (RunFault::Close(CloseFault::Torn(3)), "close: Torn 3"),
-    (RunFault::Unserved(2), "unserved: 2"),
 ];
 
 #[test]
