@@ -1,5 +1,8 @@
 //! A night is opened: the server answers, its export is mounted, and what it holds is known.
 
+ghost use Rattle.std.specs.Prelude.{◌≡◌, IfOk};
+ghost use Rattle.night_command.specs.Nights.{profile_asked};
+
 use crate::refusal::NightRefusal;
 use crate::words::TestRequest;
 use export_walk::{NotedExchange, WalkEnd, WalkedExport, walk_export};
@@ -30,7 +33,9 @@ pub(crate) struct Opened {
 }
 
 /// The profile that a request asks for.
-pub(crate) fn profile_of(request: &TestRequest<'_>) -> Profile {
+pub(crate) fn profile_of(request: &TestRequest<'_>) -> Profile
+    ensures { result ≡ profile_asked request.now.is_strict }
+{
     if request.is_strict {
         Profile::Strict
     } else {
@@ -70,7 +75,9 @@ fn open_walked(
     root: FileHandle,
     profile: Profile,
     walked: WalkedExport,
-) -> Result<Opened, NightRefusal> {
+) -> Result<Opened, NightRefusal>
+    ensures { IfOk result (λ opened. opened.start ≡ walked.start) }
+{
     let WalkedExport { start, noted, .. } = walked;
     let reserved = bytes_taken(alloc, &root, profile, &start)?;
     let mut log = TapLog::new(alloc, FileHandle::from_slice(alloc, root.as_slice())?);

@@ -1,5 +1,7 @@
 //! A night's clients call.
 
+ghost use Rattle.std.specs.Prelude.{◌≡◌, IfOk};
+
 use crate::growing::GrowingFile;
 use crate::opening::Opened;
 use crate::words::{TestRequest, mix_of};
@@ -103,7 +105,9 @@ pub(crate) fn run_night<R: RecordingRuntime, I: Input>(
     request: &TestRequest<'_>,
     opened: Opened,
     input: &mut I,
-) -> Result<Ran, AllocError> {
+) -> Result<Ran, AllocError>
+    ensures { IfOk result (λ ran. ran.start ≡ opened.start) }
+{
     let Opened {
         root,
         start,

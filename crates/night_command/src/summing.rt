@@ -1,8 +1,9 @@
 //! What a night comes to is judged, written and said.
 
-ghost use Rattle.std.specs.Prelude.{◌≡◌, ◌<◌, IfOk};
+ghost use Rattle.std.specs.Prelude.{◌≡◌, ◌<◌, ◌⊎◌, ℕ, Bool, List, IfOk};
 ghost use Rattle.night_eras.specs.night_verdict_specs.Words.{night_status};
 ghost use Rattle.night_command.specs.Status.{told_status};
+ghost use Rattle.night_command.specs.Nights.{profile_asked, IsJudged, IsStatusOf, IsNight};
 
 use crate::files::{Noted, findings_of, numbers_told, reason_lines, request_told, write_files};
 use crate::folder::Folder;
@@ -85,6 +86,7 @@ fn told_of(
 ) -> Result<Told, AllocError>
     ensures known { IfOk result (λ told. told.last.status < 3) }
     ensures status { IfOk result (λ told. told.last.status ≡ night_status told.judged.verdict) }
+    ensures same { IfOk result (λ told. told.judged ≡ judged) }
 {
     let reasons = reasons_of(alloc, facts, &judged)?;
     let lines = reason_lines(alloc, &reasons)?;
@@ -149,7 +151,8 @@ fn written_report<'n, R: RecordingRuntime>(
 ) -> Result<Report, AllocError>
     requires known { told.now.last.status < 3 }
     requires status { told.now.last.status ≡ night_status told.now.judged.verdict }
-    ensures { IfOk result (λ report. report.status < 3) }
+    ensures known { IfOk result (λ report. report.status < 3) }
+    ensures said { IfOk result (λ report. (is_written : Bool) × (report.status ≡ told_status is_written told.now.judged.verdict)) }
 {
     let (health, order, enough) = findings_of(&told.judged, &told.reasons);
     let report = NightReport {
@@ -182,7 +185,10 @@ fn facts_of<'t>(
     eras: ErasEnd,
     troubles: &'t Troubles,
     noted: Noted,
-) -> NightFacts<'t> {
+) -> NightFacts<'t>
+    ensures hindered { result.troubles.now ≡ troubles.now }
+    ensures ended { result.end ≡ eras.end }
+{
     let is_undisturbed = eras.end == NightEnd::Whole && troubles.kept().is_empty();
     let (wanted, left_aside, unread) = if is_undisturbed {
         let wanted = request.wanted().saturating_add(noted.walked);
@@ -212,6 +218,7 @@ fn judged<R: RecordingRuntime>(
 ) -> Result<Told, AllocError>
     ensures known { IfOk result (λ told. told.last.status < 3) }
     ensures status { IfOk result (λ told. told.last.status ≡ night_status told.judged.verdict) }
+    ensures judged { IfOk result (λ told. IsJudged eras.end troubles.now history.now told.judged.verdict) }
 {
     let facts = facts_of(request, eras, troubles, noted);
     let judged = judge_night(rt, &facts, history, effort_of(request))?;
@@ -227,7 +234,8 @@ fn judged_report<R: RecordingRuntime>(
     noted: Noted,
     history: &[u8],
 ) -> Result<Report, AllocError>
-    ensures { IfOk result (λ report. report.status < 3) }
+    ensures known { IfOk result (λ report. report.status < 3) }
+    ensures said { IfOk result (λ report. IsStatusOf ran.now.eras.end history.now report.status) }
 {
     // What was recorded is kept also where judging it runs out of memory.
     let folder = Folder {
@@ -254,7 +262,10 @@ pub(crate) fn end_report<R: RecordingRuntime>(
     request: &TestRequest<'_>,
     ran: &Ran,
 ) -> Result<Report, AllocError>
-    ensures { IfOk result (λ report. report.status < 3) }
+    ensures known { IfOk result (λ report. report.status < 3) }
+    // The status is that of the verdict on the bytes of a history that begins with what the walk found.
+    ensures said { IfOk result (λ report. (report.status ≡ 2) ⊎ ((root : List ℕ)
+        × IsNight ran.now.eras.end (record { root = root; start = ran.now.start; profile = profile_asked request.now.is_strict }) report.status)) }
 {
     let noted = noted_of(rt, ran)?;
     let log = ran.night.log().lock(rt);

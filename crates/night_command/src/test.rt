@@ -1,8 +1,9 @@
 //! The command `nfsbench test`.
 
-ghost use Rattle.std.specs.Prelude.{◌≡◌, ◌<◌, IfOk};
+ghost use Rattle.std.specs.Prelude.{◌≡◌, ◌<◌, ◌⊎◌, IfOk};
 ghost use Rattle.std.specs.Io.KnownBytes.{Appends};
 ghost use Rattle.program_streams.specs.Told.{memory_line};
+ghost use Rattle.night_command.specs.Nights.{profile_asked, IsNightOrRefused};
 
 use crate::folder::Folder;
 use crate::opening::{leave, open_night};
@@ -73,7 +74,8 @@ fn run_in<R: RecordingRuntime, I: Input>(
     folder: Folder<'_>,
     input: &mut I,
 ) -> Result<Report, AllocError>
-    ensures { IfOk result (λ report. report.status < 3) }
+    ensures known { IfOk result (λ report. report.status < 3) }
+    ensures said { IfOk result (λ report. IsNightOrRefused (profile_asked request.now.is_strict) report.status) }
 {
     match open_and_run(rt, request, input) {
         Ok(ran) => end_report(rt, request, &ran),
@@ -90,7 +92,8 @@ fn night_report<R: RecordingRuntime, I: Input>(
     request: &TestRequest<'_>,
     input: &mut I,
 ) -> Result<Report, AllocError>
-    ensures { IfOk result (λ report. report.status < 3) }
+    ensures known { IfOk result (λ report. report.status < 3) }
+    ensures said { IfOk result (λ report. IsNightOrRefused (profile_asked request.now.is_strict) report.status) }
 {
     if makes_too_many(request) {
         return refused_report(rt.alloc(), request, &NightRefusal::TooManyCalls);
@@ -111,14 +114,16 @@ fn night_report<R: RecordingRuntime, I: Input>(
 /// `history`, `certificate` after a yes, `report.json`, `junit.xml`, and `explanation` where the night isn't a yes. It gives the exit status:
 /// 0 after `yes`, 1 after `no: ..`, 2 after `undecided: ..` and `refused: ..`, 3 if memory ran out. The last line says which it is.
 ///
-/// No clause ties what is said to the server: sockets and threads have none. What is said of a night's history and troubles is
-/// `night_verdict::judge_night`'s.
+/// No clause ties what is said to the server: sockets and threads have none. The status is that of a verdict of `night_verdict::judge_night` on
+/// the bytes of a history that begins as the profile says, and on what the log of troubles has; no yes is said where a file can't be written.
 pub fn run_test<R: RecordingRuntime, I: Input, O: Output>(
     rt: &R,
     request: &TestRequest<'_>,
     input: &mut I,
     output: &mut O,
 ) -> u8
+    // Refused, out of memory, or the verdict's.
+    ensures judged { (result ≡ 3) ⊎ IsNightOrRefused (profile_asked request.now.is_strict) result }
     ensures memory_line { result ≡ 3
         → Appends (O.contents output.old) (O.contents output.new) memory_line }
     ensures known { result < 4 }
