@@ -1,7 +1,8 @@
 -- the call that is named was answered at the event that is named
-use Rattle.std.proofs.Common.{◌≡◌, ℕ, zero, suc, ◌+◌, ◌-◌, ◌<◌, ◌≤◌, leb, Bool, true, false, cond, List, [], ◌∷◌, length, get_or, Option, Some, None, refl, sym, ap, ◌∙◌, subst, arith}
+use Rattle.std.proofs.Common.{◌≡◌, ◌⊎◌, inl, inr, ℕ, zero, suc, ◌+◌, ◌-◌, ◌<◌, ◌≤◌, leb, Bool, true, false, cond, List, [], ◌∷◌, length, get_or, Option, Some, None, refl, sym, ap, ◌∙◌, subst, arith}
 use Rattle.std.specs.Prelude.{option_and_then}
-use Rattle.std.proofs.lemmas.Bool.{le-leb}
+use Rattle.std.proofs.lemmas.Bool.{le-leb, leb-true, leb-false}
+use Rattle.std.proofs.lemmas.Option.{none-some}
 use Rattle.nfs_history.specs.declared.recorded.RecordedCall.{RecordedCall}
 use Rattle.nfs_history.specs.declared.knowing.KnownCalls.{KnownCalls}
 use Rattle.nfs_history.specs.HistoryValue.{HistoryValue}
@@ -42,11 +43,30 @@ module _ (known : KnownCalls) (start : ℕ → ℕ) where
         at_call e = sym (ap (λ b. cond b (option_and_then answered_end (call_at known.calls n)) (cond (leb (n - length known.calls) known.eras) (Some (start (n - length known.calls + 1))) None))
             (le-leb n (length known.calls) inside)) ∙ e
 
+  -- what has an end is a call, or the end of an era is named by it
+  named : (n at : ℕ) → (times_of known start).end_of n ≡ Some at → IsAnsweredAt known n at
+  named n at is = by_call (leb n (length known.calls)) refl where
+    no_end : leb n (length known.calls) ≡ false → leb (n - length known.calls) known.eras ≡ false → None ≡ Some at
+    no_end past over =
+        sym (ap (λ b. cond b (option_and_then answered_end (call_at known.calls n)) (cond (leb (n - length known.calls) known.eras) (Some (start (n - length known.calls + 1))) None)) past
+        ∙ ap (λ b. cond b (Some (start (n - length known.calls + 1))) None) over) ∙ is
+
+    by_era : leb n (length known.calls) ≡ false → (b : Bool) → leb (n - length known.calls) known.eras ≡ b → IsAnsweredAt known n at
+    by_era past true inside =
+        let above = leb-false n (length known.calls) past in
+        let within = leb-true (n - length known.calls) known.eras inside in
+        inr (above, omega (arith, within, above))
+    by_era past false over = absurd (none-some at (no_end past over))
+
+    by_call : (b : Bool) → leb n (length known.calls) ≡ b → IsAnsweredAt known n at
+    by_call true within = inl (call_ends n at (leb-true n (length known.calls) within) is)
+    by_call false past = by_era past (leb (n - length known.calls) known.eras) refl
+
 pub named_at : (history : HistoryValue) (events : List Event) (i call : ℕ) → TellsOf history events → i < length events → IsAnswer (get_or events i Passed) call → IsAnsweredAt history.known call (i + 1)
-named_at history events i call tells inside answer within =
-    call_ends history.known (era_start (recording_of history).events) call (i + 1) within
+named_at history events i call tells inside answer =
+    named history.known (era_start (recording_of history).events) call (i + 1)
     (answer_ends (times_of history.known (era_start (recording_of history).events)) events i call tells.tells inside answer)
 
 -- so of a call whose reply shows a verifier
 pub shown_at_end : (known : KnownCalls) (shown : Shown) → IsShownIn known shown → IsAnsweredAt known shown.number shown.at
-shown_at_end known shown is within = ap (option_and_then (λ (r : RecordedCall). r.«end»)) is.1 ∙ is.2.ended
+shown_at_end known shown is = inl (ap (option_and_then (λ (r : RecordedCall). r.«end»)) is.1 ∙ is.2.ended)

@@ -1,7 +1,7 @@
 -- Believed.
 -- What a decision says of a history (buffered durable linearizability, Izraelevitz, Mendes and Scott 2016, section 4, by the definition of
 -- `witness_check`).
-use Rattle.std.specs.Prelude.{◌≡◌, ℕ, ◌+◌, ◌≤◌, List, length, Some}
+use Rattle.std.specs.Prelude.{◌≡◌, ◌⊎◌, ℕ, ◌+◌, ◌<◌, ◌≤◌, List, length, Some}
 use Rattle.nfs_history.specs.declared.knowing.KnownCalls.{KnownCalls}
 use Rattle.nfs_history.specs.Precedence.{end_of}
 use Rattle.certificate.specs.declared.plan.Certificate.{Certificate}
@@ -20,9 +20,10 @@ use Rattle.decide.specs.declared.decision.Decision.TheVariants.{Yes, No, Undecid
 abbrev pub HasNoWitness : KnownCalls → Type 0
 HasNoWitness known = (plan : Certificate) → ¬ IsWitness known plan
 
--- the call that is named, where it is one and no crash, was answered at the event that is named
+-- the call that is named was answered at the event that is named; or it is no call, but a number past the last one, by which an era's end is named
 abbrev pub IsAnsweredAt : KnownCalls → ℕ → ℕ → Type 0
-IsAnsweredAt known call event = call ≤ length known.calls → end_of known.calls call ≡ Some event
+IsAnsweredAt known call event =
+    (end_of known.calls call ≡ Some event) ⊎ ((length known.calls < call) × (call ≤ length known.calls + known.eras))
 
 -- a yes has a witness, and where the answer is no there is none; the other answers claim nothing
 abbrev pub Says : KnownCalls → Decision → Type 0

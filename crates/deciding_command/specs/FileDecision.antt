@@ -13,7 +13,7 @@ use Rattle.deciding_command.specs.declared.file_decision.FileDecision.TheVariant
 abbrev pub IsWithoutWitness : List ℕ → Type 0
 IsWithoutWitness bytes = (history : KnownCalls) × IsCallsFile bytes history × HasNoWitness history
 
--- they are so, and this call of that history, where it is one and no crash, was answered at this event
+-- they are so, and this call of that history was answered at this event; or it is no call, and an era's end is named by it
 abbrev pub IsWithoutWitnessAt : List ℕ → ℕ → ℕ → Type 0
 IsWithoutWitnessAt bytes event call = (history : KnownCalls) × IsCallsFile bytes history × HasNoWitness history × IsAnsweredAt history call event
 

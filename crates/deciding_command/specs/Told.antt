@@ -9,6 +9,10 @@ use Rattle.deciding_command.specs.declared.file_decision.FileDecision.TheVariant
 abbrev pub no_line : ℕ → ℕ → List ℕ
 no_line event call = codes "no witness: event " ++ (decimal event ++ (codes " call " ++ (decimal call ++ 10 ∷ [])))
 
+-- the line of a yes
+abbrev pub yes_line : List ℕ
+yes_line = codes "yes" ++ 10 ∷ []
+
 -- this line was written, and behind it hints; nothing, where none are asked for
 abbrev pub IsToldWithHints : Option (List ℕ) → Option (List ℕ) → List ℕ → ℕ → Type 0
 IsToldWithHints old new line hints = (rest : List ℕ) × Appends old new (line ++ rest) × (hints ≡ 0 → rest ≡ [])

@@ -7,7 +7,7 @@ ghost use Rattle.nfs_history.specs.declared.fault.HistoryFault.{HistoryFault};
 ghost use Rattle.nfs_history.specs.FirstFault.{FirstFault};
 ghost use Rattle.witness_check.specs.Witness.{AreAccepted};
 ghost use Rattle.deciding_command.specs.FileDecision.{IsWithoutWitness, IsWithoutWitnessAt, IsNeverAccepted, IsRefused, IsYes, IsNo};
-ghost use Rattle.deciding_command.specs.Told.{IsToldWithHints, line_of_no, no_line};
+ghost use Rattle.deciding_command.specs.Told.{IsToldWithHints, line_of_no, no_line, yes_line};
 
 use crate::file_decision::{FileDecision, decide_file};
 use crate::hints::{Named, tell_hints};
@@ -39,6 +39,7 @@ fn tell_decision<R: Files + AllocGlobal, O: Output>(
 ) -> u8
     ensures yes { result ≡ 0 → IsYes decision.now }
     ensures no { result ≡ 1 → IsNo decision.now }
+    ensures line { result ≡ 0 → Appends (O.contents output.old) (O.contents output.new) yes_line }
     ensures told { result ≡ 1 → Appends (O.contents output.old) (O.contents output.new) (line_of_no decision.now) }
     ensures refused { IsRefused decision.now → (result ≡ 2)
         ⊎ Tells result (O.contents output.old) (O.contents output.new) 3 memory_line }
@@ -78,6 +79,7 @@ fn tell_all<R: Files + Clock + AllocGlobal, O: Output>(
 ) -> u8
     ensures yes { result ≡ 0 → IsYes decision.now }
     ensures no { result ≡ 1 → IsNo decision.now }
+    ensures line { result ≡ 0 → Appends (O.contents output.old) (O.contents output.new) yes_line }
     ensures told { result ≡ 1
         → IsToldWithHints (O.contents output.old) (O.contents output.new) (line_of_no decision.now) request.now.go_on }
     ensures refused { IsRefused decision.now → (result ≡ 2)
@@ -104,12 +106,13 @@ pub fn decide_history<R: Files + Clock + AllocGlobal, O: Output>(
     history: &[u8],
     output: &mut O,
 ) -> u8
-    // With status 0 the bytes are accepted with some certificate.
+    // With status 0 the bytes are accepted with some certificate, and the line is `yes`.
     ensures yes { result ≡ 0 → (text : List ℕ) × AreAccepted history.now text }
+    ensures line { result ≡ 0 → Appends (O.contents output.old) (O.contents output.new) yes_line }
     // With status 1 they are the file of a history, no certificate is a witness of it, and so with no text they are accepted.
     ensures no { result ≡ 1 → IsWithoutWitness history.now × IsNeverAccepted history.now }
-    // The first line that is written then names an event and a call: such a history is without a witness, and that call of it, where it
-    // is one and no crash, was answered at that event. Only hints stand behind the line, and none where the request asks for none.
+    // The first line that is written then names an event and a call: such a history is without a witness, and that call of it was
+    // answered at that event, or it is no call, and an era's end is named by it. Only hints stand behind the line, and none where the request asks for none.
     ensures told { result ≡ 1 → (event : ℕ) × (call : ℕ) × IsWithoutWitnessAt history.now event call
         × IsToldWithHints (O.contents output.old) (O.contents output.new) (no_line event call) request.now.go_on }
     // Bytes that are no history file are refused, memory aside.

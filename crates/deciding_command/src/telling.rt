@@ -2,7 +2,7 @@
 
 ghost use Rattle.std.specs.Prelude.{◌≡◌, ◌<◌, IfOk};
 ghost use Rattle.deciding_command.specs.FileDecision.{IsYes, IsNo, IsRefused};
-ghost use Rattle.deciding_command.specs.Told.{line_of_no};
+ghost use Rattle.deciding_command.specs.Told.{line_of_no, yes_line};
 
 use crate::file_decision::FileDecision;
 use crate::hints::Hint;
@@ -37,6 +37,7 @@ pub fn reason_line(alloc: Global, reason: Undecided) -> Result<String, AllocErro
 pub fn report_of(alloc: Global, decision: &FileDecision) -> Result<Report, AllocError>
     ensures yes { IfOk result (λ report. report.status ≡ 0 → IsYes decision.now) }
     ensures no { IfOk result (λ report. report.status ≡ 1 → IsNo decision.now) }
+    ensures line { IfOk result (λ report. report.status ≡ 0 → report.line ≡ yes_line) }
     ensures told { IfOk result (λ report. report.status ≡ 1 → report.line ≡ line_of_no decision.now) }
     ensures refused { IsRefused decision.now → IfOk result (λ report. report.status ≡ 2) }
     ensures known { IfOk result (λ report. report.status < 3) }

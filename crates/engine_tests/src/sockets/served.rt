@@ -303,7 +303,7 @@ fn what_serve_cannot_have_is_refused(rt: HostRuntime) -> Result<(), Fail> {
 }
 
 /// What is said of each fault. What is refused has status 2, what ends otherwise 1.
-const FAULTS: [(RunFault, &str); 11] = [
+const FAULTS: [(RunFault, &str); 10] = [
     (RunFault::BadPlan(7), "refused: BadPlan 7"),
     (
         RunFault::Start(HistoryFault::BadStart(5)),
