@@ -11,15 +11,15 @@ use Rattle.capture_history.specs.Noting.{IsNoted, AreInOrder}
 use Rattle.capture_history.proofs.Rows.{take_one}
 
 pub noted_none : (log : Recording) (told : List LaneNote) → AreInOrder log told [] log told
-noted_none log told = ([], sym (append-nil told), refl, λ empty. subst (λ (events : List Event). AreNoted [] events []) (sym empty) none)
+noted_none log told = ([], sym (append-nil told), refl, λ empty. subst (λ (events : List Event). AreNoted log.head [] events []) (sym empty) none)
 
 noted_more : (old : Recording) (told : List LaneNote) (found : List Found) (f : Found) (log : Recording) (told' : List LaneNote) → AreInOrder old told found log told' → (log' : Recording) → MayFollow log.events (event_of f) → log' ≡ with_event log (event_of f) → AreInOrder old told (found ++ f ∷ []) log' told'
 noted_more old told found f log told' so_far log' may is =
     rw is (so_far.0, so_far.1, so_far.2, λ empty. noted f (so_far.3 empty) may)
 
-left_out_more : (old : Recording) (told : List LaneNote) (found : List Found) (f : Found) (log : Recording) (told' : List LaneNote) → AreInOrder old told found log told' → (note : LaneNote) → note.lane ≡ f.lane → IsWhy log.events (event_of f) note.kind → AreInOrder old told (found ++ f ∷ []) log (told' ++ note ∷ [])
+left_out_more : (old : Recording) (told : List LaneNote) (found : List Found) (f : Found) (log : Recording) (told' : List LaneNote) → AreInOrder old told found log told' → (note : LaneNote) → note.lane ≡ f.lane → IsWhy log f note.kind → AreInOrder old told (found ++ f ∷ []) log (told' ++ note ∷ [])
 left_out_more old told found f log told' so_far note lane why =
-    (so_far.0 ++ note ∷ [], ap (λ (ts : List LaneNote). ts ++ note ∷ []) so_far.1 ∙ append_assoc told so_far.0 (note ∷ []), so_far.2, λ empty. left_out f note (so_far.3 empty) lane why)
+    (so_far.0 ++ note ∷ [], ap (λ (ts : List LaneNote). ts ++ note ∷ []) so_far.1 ∙ append_assoc told so_far.0 (note ∷ []), so_far.2, λ empty. left_out log f note refl (so_far.3 empty) lane why)
 
 noted_one : (old : Recording) (told : List LaneNote) (found : List Found) (f : Found) (log : Recording) (told' : List LaneNote) (log' : Recording) (told'' : List LaneNote) → AreInOrder old told found log told' → IsNoted log told' f log' told'' → AreInOrder old told (found ++ f ∷ []) log' told''
 noted_one old told found f log told' log' told'' so_far (inl now) = rw now.1 (noted_more old told found f log told' so_far log' now.0.0 now.0.1)

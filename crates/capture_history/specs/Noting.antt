@@ -16,7 +16,7 @@ use Rattle.capture_history.specs.Imports.{event_of, IsWhy, AreNoted}
 -- an event is noted, or left out for a reason
 abbrev pub IsNext : Recording → Found → Option NoteKind → Recording → Type 0
 IsNext log f None log' = MayFollow log.events (event_of f) × (log' ≡ with_event log (event_of f))
-IsNext log f (Some why) log' = IsWhy log.events (event_of f) why × (log' ≡ log)
+IsNext log f (Some why) log' = IsWhy log f why × (log' ≡ log)
 
 -- an event is noted, or left out for a reason that is told
 abbrev pub IsNoted : Recording → List LaneNote → Found → Recording → List LaneNote → Type 0
@@ -24,7 +24,7 @@ IsNoted log told f log' told' = (IsNext log f None log' × (told' ≡ told)) ⊎
 
 -- events noted behind others, in a log that was empty
 abbrev pub AreInOrder : Recording → List LaneNote → List Found → Recording → List LaneNote → Type 0
-AreInOrder log told found log' told' = (left_out : List LaneNote) × (told' ≡ told ++ left_out) × (log'.head ≡ log.head) × (log.events ≡ [] → AreNoted found log'.events left_out)
+AreInOrder log told found log' told' = (left_out : List LaneNote) × (told' ≡ told ++ left_out) × (log'.head ≡ log.head) × (log.events ≡ [] → AreNoted log'.head found log'.events left_out)
 
 -- a lane's events behind others, and where it ends early
 abbrev pub IsPut : ℕ → Connection → List Found → List LaneNote → List Found → List LaneNote → Type 0
