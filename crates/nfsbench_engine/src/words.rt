@@ -143,8 +143,7 @@ fn program<'a>(alloc: Global) -> Result<Command<'a>, AllocError> {
         .version("0.1.0")
         .about(
             "Judges histories of NFS version 3 servers. Without a command, reads a bundle from standard input.",
-        )
-        .disable_help_subcommand(true);
+        );
     Ok(program)
 }
 
@@ -185,11 +184,14 @@ fn files_request<'a>(words: &ArgMatches<'a>) -> FilesRequest<'a> {
     }
 }
 
+/// What is wrong with the words after `tap` or `test` that the parser takes.
+const NO_HOST: &str = "the value of --host is neither an IP address nor localhost";
+
 /// What the words after `tap` ask for, or what is wrong with them.
 fn tap_words<'a>(words: &ArgMatches<'a>) -> Result<Request<'a>, &'static str> {
     match tap_request(words) {
         Some(request) => Ok(Request::Tap(request)),
-        None => Err("the value of --host is no IP address"),
+        None => Err(NO_HOST),
     }
 }
 
@@ -197,9 +199,7 @@ fn tap_words<'a>(words: &ArgMatches<'a>) -> Result<Request<'a>, &'static str> {
 fn test_words<'a>(words: &ArgMatches<'a>) -> Result<Request<'a>, &'static str> {
     match test_request(words) {
         Some(request) => Ok(Request::Test(request)),
-        None => Err(
-            "the value of --host is no IP address, or that of --mix isn't private, shared, race or turns",
-        ),
+        None => Err(NO_HOST),
     }
 }
 

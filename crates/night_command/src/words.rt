@@ -3,10 +3,10 @@
 use clap::builder::ValueParser;
 use clap::{Arg, ArgAction, ArgMatches, Command};
 use night_calls::Mix;
-use recording_command::number_option;
+use recording_command::{host_address, number_option};
 use rpc_client::Credential;
 use std::alloc::{AllocError, Global};
-use std::net::{IpAddr, Ipv4Addr, SocketAddr};
+use std::net::SocketAddr;
 
 /// What a night is to be.
 #[derive(Clone, Copy)]
@@ -144,13 +144,18 @@ fn host_option<'a>(alloc: Global) -> Arg<'a> {
     Arg::new(alloc, "host")
         .long("host")
         .value_name("ADDRESS")
-        .help("The server's IP address, 127.0.0.1 if not said")
+        .help("The server's IP address or localhost, 127.0.0.1 if not said")
 }
 
+/// The values of `--mix`.
+const MIXES: &[&str] = &["private", "shared", "race", "turns"];
+
 fn mix_option<'a>(alloc: Global) -> Arg<'a> {
-    Arg::new(alloc, "mix").long("mix").value_name("MIX").help(
-        "private, shared, race, or turns of these, which is the default",
-    )
+    Arg::new(alloc, "mix")
+        .long("mix")
+        .value_name("MIX")
+        .value_parser(MIXES)
+        .help("How the clients share names, turns of the other three if not said")
 }
 
 fn orders_option<'a>(alloc: Global) -> Arg<'a> {
@@ -301,14 +306,6 @@ pub fn test_command<'a>(alloc: Global) -> Result<Command<'a>, AllocError> {
     with_limits(alloc, command)
 }
 
-/// The server's address, where the words give one.
-fn server_host(test: &ArgMatches<'_>) -> Option<IpAddr> {
-    match test.get_str("host") {
-        Some(host) => host.parse().ok(),
-        None => Some(IpAddr::V4(Ipv4Addr::new(127, 0, 0, 1))),
-    }
-}
-
 /// The mix that a word names.
 pub(crate) fn mix_of(word: &str) -> Option<Mix> {
     match word {
@@ -320,22 +317,20 @@ pub(crate) fn mix_of(word: &str) -> Option<Mix> {
     }
 }
 
-fn clients_words<'a>(test: &ArgMatches<'a>) -> Option<ClientsWords<'a>> {
-    let mix = test.get_str("mix").unwrap_or("turns");
-    let _mix = mix_of(mix)?;
-    Some(ClientsWords {
+fn clients_words<'a>(test: &ArgMatches<'a>) -> ClientsWords<'a> {
+    ClientsWords {
         seed: test.get_one("seed").unwrap_or(0),
         clients: test.get_one("clients").unwrap_or(CLIENTS),
         calls: test.get_one("calls"),
         seconds: test.get_one("seconds"),
         depth: test.get_one("depth").unwrap_or(DEPTH),
-        mix,
+        mix: test.get_str("mix").unwrap_or("turns"),
         least_page: test.get_one("least-page").unwrap_or(0),
         credential: Credential {
             uid: test.get_one("uid").unwrap_or(0),
             gid: test.get_one("gid").unwrap_or(0),
         },
-    })
+    }
 }
 
 fn crash_words<'a>(test: &ArgMatches<'a>) -> CrashWords<'a> {
@@ -356,9 +351,9 @@ fn limit_words(test: &ArgMatches<'_>) -> LimitWords {
     }
 }
 
-/// What the words after `test` ask for, unless the server's address is none, or the mix.
+/// What the words after `test` ask for, unless the server's address is none.
 pub fn test_request<'a>(test: &ArgMatches<'a>) -> Option<TestRequest<'a>> {
-    let host = server_host(test)?;
+    let host = host_address(test)?;
     // The parser asks for the ports and the paths.
     Some(TestRequest {
         server: SocketAddr::new(host, test.get_one("port").unwrap_or(1)),
@@ -367,7 +362,7 @@ pub fn test_request<'a>(test: &ArgMatches<'a>) -> Option<TestRequest<'a>> {
         folder: test.get_str("out").unwrap_or(""),
         is_empty: test.get_flag("empty"),
         is_strict: test.get_flag("strict"),
-        clients: clients_words(test)?,
+        clients: clients_words(test),
         crashes: crash_words(test),
         limits: limit_words(test),
         is_json: test.get_flag("json"),

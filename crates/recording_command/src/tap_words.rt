@@ -69,7 +69,7 @@ fn root_option<'a>(alloc: Global) -> Result<Arg<'a>, AllocError> {
     Arg::new(alloc, "root")
         .long("root")
         .value_name("HEX")
-        .help("The handle of the export's root")
+        .help("The handle of the export's root; not needed with --mount and --export")
         .required_unless_present("mount")
 }
 
@@ -142,7 +142,7 @@ fn host_option<'a>(alloc: Global) -> Arg<'a> {
     Arg::new(alloc, "host")
         .long("host")
         .value_name("ADDRESS")
-        .help("The server's IP address, where it isn't 127.0.0.1")
+        .help("The server's IP address or localhost, where it isn't 127.0.0.1")
 }
 
 fn lanes_option<'a>(alloc: Global) -> Arg<'a> {
@@ -185,11 +185,11 @@ pub fn tap_command<'a>(alloc: Global) -> Result<Command<'a>, AllocError> {
         .arg(history_path(alloc))
 }
 
-/// The server's address, where the words give one.
-fn server_host(tap: &ArgMatches<'_>) -> Option<IpAddr> {
-    match tap.get_str("host") {
+/// The address that `--host` names: 127.0.0.1 for `localhost`, and where it isn't said; none where its value is no IP address.
+pub fn host_address(words: &ArgMatches<'_>) -> Option<IpAddr> {
+    match words.get_str("host") {
+        None | Some("localhost") => Some(IpAddr::V4(Ipv4Addr::new(127, 0, 0, 1))),
         Some(host) => host.parse().ok(),
-        None => Some(IpAddr::V4(Ipv4Addr::new(127, 0, 0, 1))),
     }
 }
 
@@ -219,7 +219,7 @@ fn profile_word(tap: &ArgMatches<'_>) -> Profile {
 
 /// What the words behind `tap` ask for, unless the server's address is none.
 pub fn tap_request<'a>(tap: &ArgMatches<'a>) -> Option<TapRequest<'a>> {
-    let host = server_host(tap)?;
+    let host = host_address(tap)?;
     Some(TapRequest {
         root: root_words(tap, host)?,
         port: tap.get_one("port")?,
