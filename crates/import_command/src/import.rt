@@ -13,7 +13,7 @@ use program_streams::{DigitsFault, Output, Report, decode_digits, line_of, tell_
 use recording_health::{Reading, Unanswered, reading_of, unanswered_in};
 use std::alloc::{AllocError, Global};
 use std::fs;
-use std::io::{Eprint, ErrorKind, Read};
+use std::io::{self, Eprint, ErrorKind, Read};
 use std::rt::Files;
 
 /// The bytes of a root's handle, if one is said; nothing inside where its words are no hex.
@@ -191,6 +191,32 @@ fn is_capture<R: Files>(rt: &R, path: &str, capture: &[u8]) -> bool {
     file.read_exact(&mut head).is_ok() && capture.starts_with(&head)
 }
 
+/// Says which file can't be used, and why.
+fn tell_unusable<R: Eprint>(rt: &R, path: &str, error: io::Error) {
+    let _ = eprintln!(rt; "nfsbench: {path}: {error}");
+}
+
+/// Writes the history of a capture, unless a capture is there. Whether it is there now; why not is said on standard error.
+fn is_saved<R: Files + Eprint>(
+    rt: &R,
+    request: &ImportRequest<'_>,
+    capture: &[u8],
+    file: &[u8],
+) -> bool {
+    let path = request.history;
+    if is_capture(rt, path, capture) {
+        let _ = eprintln!(rt; "nfsbench: {path}: a capture is there, which isn't written over");
+        return false;
+    }
+    match fs::write(rt, path, file) {
+        Ok(()) => true,
+        Err(error) => {
+            tell_unusable(rt, path, error);
+            false
+        }
+    }
+}
+
 /// The status: 1 where it is asked whether the capture lacks something, and it does.
 fn status_of(request: &ImportRequest<'_>, log: &CaptureLog, counts: Counts) -> u8
     ensures bound { result < 3 }
@@ -239,9 +265,7 @@ fn save<R: Files + AllocGlobal + Eprint>(
         Err(WriteFault::NoMemory) => return Err(AllocError),
         Err(WriteFault::TooLarge) => return Report::refused(alloc, "over the limits of a history"),
     };
-    if is_capture(rt, request.history, capture)
-        || fs::write(rt, request.history, file.as_slice()).is_err()
-    {
+    if !is_saved(rt, request, capture, file.as_slice()) {
         return Report::refused(alloc, "cannot write");
     }
     told(rt, request, log, file.as_slice())
@@ -268,7 +292,10 @@ fn import_bytes<R: Files + AllocGlobal + Eprint>(
     let capture = match fs::read(rt, request.capture) {
         Ok(capture) => capture,
         Err(error) if error.kind() == ErrorKind::OutOfMemory => return Err(AllocError),
-        Err(_) => return Report::refused(rt.alloc(), "unreadable capture"),
+        Err(error) => {
+            tell_unusable(rt, request.capture, error);
+            return Report::refused(rt.alloc(), "unreadable capture");
+        }
     };
     match import_capture(rt.alloc(), capture.as_slice(), request.port, root) {
         Ok(log) => save(rt, request, capture.as_slice(), &log),

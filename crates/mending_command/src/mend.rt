@@ -10,7 +10,7 @@ use history_mending::{End, Mended, mend, mended_file};
 use program_streams::{Output, Report, are_one_file, line_of, tell_answer};
 use std::alloc::{AllocError, Global};
 use std::fs;
-use std::io::{Eprint, ErrorKind};
+use std::io::{self, Eprint, ErrorKind};
 use std::rt::Files;
 
 /// What is said where the head can't be read.
@@ -20,6 +20,15 @@ fn refusal_of(alloc: Global, fault: FileFault) -> Result<Report, AllocError>
     match fault {
         FileFault::NoMemory => Err(AllocError),
         fault => Ok(Report::new(2, line_of(alloc, "refused: ", &fault)?)),
+    }
+}
+
+/// Says what a file isn't, where it doesn't begin as a history does.
+fn tell_front<R: Eprint>(rt: &R, path: &str, fault: FileFault) {
+    if matches!(fault, FileFault::BadMagic) {
+        let _ = eprintln!(rt;
+            "nfsbench: {path}: this isn't what nfsbench left: a history begins with NFSHIST1 or NFSHIST2"
+        );
     }
 }
 
@@ -39,6 +48,27 @@ fn status_of(end: End) -> u8
     }
 }
 
+/// Says which file can't be used, and why.
+fn tell_unusable<R: Eprint>(rt: &R, path: &str, error: io::Error) {
+    let _ = eprintln!(rt; "nfsbench: {path}: {error}");
+}
+
+/// Writes a history, which can't be the file that is mended. Whether it is there now; why not is said on standard error.
+fn is_saved<R: Files + Eprint>(rt: &R, request: &MendRequest<'_>, file: &[u8]) -> bool {
+    let path = request.history;
+    if are_one_file(rt, path, request.part) {
+        let _ = eprintln!(rt; "nfsbench: {path}: this file is the one to be mended");
+        return false;
+    }
+    match fs::write(rt, path, file) {
+        Ok(()) => true,
+        Err(error) => {
+            tell_unusable(rt, path, error);
+            false
+        }
+    }
+}
+
 /// Writes the history of what was mended, and says how many events it has.
 fn save<R: Files + AllocGlobal + Eprint>(
     rt: &R,
@@ -49,9 +79,7 @@ fn save<R: Files + AllocGlobal + Eprint>(
 ) -> Result<Report, AllocError>
     ensures { IfOk result (λ report. report.status < 3) }
 {
-    if are_one_file(rt, request.history, request.part)
-        || fs::write(rt, request.history, file).is_err()
-    {
+    if !is_saved(rt, request, file) {
         return Report::refused(rt.alloc(), "cannot write");
     }
     tell_end(rt, bytes, mended);
@@ -72,7 +100,10 @@ fn mend_bytes<R: Files + AllocGlobal + Eprint>(
             let file = mended_file(rt.alloc(), bytes, &mended)?;
             save(rt, request, bytes.len(), &mended, file.as_slice())
         }
-        Err(fault) => refusal_of(rt.alloc(), fault),
+        Err(fault) => {
+            tell_front(rt, request.part, fault);
+            refusal_of(rt.alloc(), fault)
+        }
     }
 }
 
@@ -85,7 +116,10 @@ fn mend_report<R: Files + AllocGlobal + Eprint>(
     match fs::read(rt, request.part) {
         Ok(bytes) => mend_bytes(rt, request, bytes.as_slice()),
         Err(error) if error.kind() == ErrorKind::OutOfMemory => Err(AllocError),
-        Err(_) => Report::refused(rt.alloc(), "unreadable part"),
+        Err(error) => {
+            tell_unusable(rt, request.part, error);
+            Report::refused(rt.alloc(), "unreadable part")
+        }
     }
 }
 

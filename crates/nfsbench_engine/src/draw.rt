@@ -11,7 +11,7 @@ use std::alloc::AllocError;
 use std::rt::Files;
 
 /// Draws a history, and the certificate at a path, as [`draw_history`].
-fn draw_with_certificate<R: Files + AllocGlobal, O: Output>(
+fn draw_with_certificate<R: Files + AllocGlobal + Eprint, O: Output>(
     rt: &R,
     request: &DrawRequest<'_>,
     history: &[u8],
@@ -30,7 +30,7 @@ fn draw_with_certificate<R: Files + AllocGlobal, O: Output>(
 }
 
 /// Draws a history, with the certificate if there is one, as [`draw_history`].
-fn draw_bytes<R: Files + AllocGlobal, O: Output>(
+fn draw_bytes<R: Files + AllocGlobal + Eprint, O: Output>(
     rt: &R,
     request: &DrawRequest<'_>,
     history: &[u8],
@@ -47,7 +47,7 @@ fn draw_bytes<R: Files + AllocGlobal, O: Output>(
 }
 
 /// Draws the history at a path. It is read first, and then the certificate, before anything is judged.
-pub(crate) fn draw_path<R: Files + AllocGlobal, O: Output>(
+pub(crate) fn draw_path<R: Files + AllocGlobal + Eprint, O: Output>(
     rt: &R,
     request: &DrawRequest<'_>,
     output: &mut O,

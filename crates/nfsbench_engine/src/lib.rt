@@ -6,6 +6,7 @@ mod explaining;
 mod files;
 mod process;
 mod runs;
+mod telling;
 mod words;
 
 pub use history_report::{lost_of, report_of};

@@ -106,7 +106,10 @@ fn tell_served<O: Output>(alloc: Global, output: &mut O, served: Result<RunTexts
 }
 
 /// What the history at a path begins with; without a path, nothing under the plain profile.
-fn beginning_at<R: Files + AllocGlobal>(rt: &R, path: Option<&str>) -> Result<Beginning, RunFault> {
+fn beginning_at<R: Files + AllocGlobal + Eprint>(
+    rt: &R,
+    path: Option<&str>,
+) -> Result<Beginning, RunFault> {
     let Some(path) = path else {
         return Ok(Beginning::empty(rt.alloc()));
     };

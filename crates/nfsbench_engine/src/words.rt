@@ -275,7 +275,7 @@ fn tell_parser<O: Output>(alloc: Global, output: &mut O, error: &clap::Error) ->
 
 /// What is said of two files, as a line or as a JSON object.
 #[tactic(auto, using(crate::proofs::Objects::known_object, crate::proofs::Objects::known_line))]
-fn check_files_at<R: Files + AllocGlobal>(
+fn check_files_at<R: Files + AllocGlobal + Eprint>(
     rt: &R,
     request: &FilesRequest<'_>,
 ) -> Result<Report, AllocError>
@@ -296,7 +296,7 @@ fn check_files_at<R: Files + AllocGlobal>(
 
 /// What is reported of two files, as lines or as a JSON object.
 #[tactic(auto, using(crate::proofs::Objects::known_object, crate::proofs::Objects::known_report))]
-fn report_files_at<R: Files + AllocGlobal>(
+fn report_files_at<R: Files + AllocGlobal + Eprint>(
     rt: &R,
     request: &FilesRequest<'_>,
 ) -> Result<Report, AllocError>
@@ -338,7 +338,7 @@ fn show_history<O: Output>(
 }
 
 /// Shows the events of the history at a path, as [`show_history`], by the certificate at another where one is said.
-fn show_path<R: Files + AllocGlobal, O: Output>(
+fn show_path<R: Files + AllocGlobal + Eprint, O: Output>(
     rt: &R,
     request: &ShowRequest<'_>,
     output: &mut O,
@@ -366,7 +366,7 @@ fn show_path<R: Files + AllocGlobal, O: Output>(
 }
 
 /// Writes the first events of the history at a path, as [`prefix_history`].
-fn prefix_path<R: Files + AllocGlobal, O: Output>(
+fn prefix_path<R: Files + AllocGlobal + Eprint, O: Output>(
     rt: &R,
     request: &PrefixRequest<'_>,
     output: &mut O,
@@ -430,7 +430,7 @@ fn decide_path<R: RecordingRuntime, O: Output>(
 }
 
 /// Does what was asked for; what may wait is handed back, and nothing is read or written for it.
-fn judge_request<'a, R: Files + AllocGlobal, I: Input, O: Output>(
+fn judge_request<'a, R: Files + AllocGlobal + Eprint, I: Input, O: Output>(
     rt: &R,
     request: Request<'a>,
     input: &mut I,
@@ -461,7 +461,7 @@ fn judge_request<'a, R: Files + AllocGlobal, I: Input, O: Output>(
 }
 
 /// The same of what words ask for that were said; a mistake in them is told.
-fn judge_said<'a, R: Files + AllocGlobal, S: AsStr, I: Input, O: Output>(
+fn judge_said<'a, R: Files + AllocGlobal + Eprint, S: AsStr, I: Input, O: Output>(
     rt: &R,
     words: &'a [S],
     input: &mut I,
@@ -480,7 +480,7 @@ fn judge_said<'a, R: Files + AllocGlobal, S: AsStr, I: Input, O: Output>(
 
 /// Judges what the words of a command line ask for, as [`run_words`]; where they ask for what may wait, that is handed back, and
 /// nothing is read or written.
-pub(crate) fn judge_words<'a, R: Files + AllocGlobal, S: AsStr, I: Input, O: Output>(
+pub(crate) fn judge_words<'a, R: Files + AllocGlobal + Eprint, S: AsStr, I: Input, O: Output>(
     rt: &R,
     words: &'a [S],
     input: &mut I,
@@ -519,7 +519,8 @@ pub(crate) fn judge_words<'a, R: Files + AllocGlobal, S: AsStr, I: Input, O: Out
 /// Does what the words of a command line ask for, of which the first is the program's name, and gives the exit status: 0 for a yes,
 /// for a text that was asked for, for a certificate that was found, and for a recording; 1 for a no, where no certificate was found,
 /// and where the bundled server failed; 2 for a refusal, a fault of the command line or a failed write; 3 for want of memory. What is
-/// said goes to the one output, but for what is told while a search, a recording or connections go on.
+/// said goes to the one output, but for what is told while a search, a recording or connections go on, and for what is wrong with a file:
+/// that is said on standard error.
 ///
 /// Without further words it is `run_bundle`. With `check` and two paths both files are read, in this order, before
 /// anything is judged, and what is said is what `judge_read` gives; with `report` and two paths it is what `report_read`

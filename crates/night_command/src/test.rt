@@ -15,7 +15,7 @@ use night_eras::night_verdict::NightEnd;
 use program_streams::{Input, Output, Report, tell_answer};
 use recording_command::RecordingRuntime;
 use std::alloc::AllocError;
-use std::fs;
+use std::{fs, io};
 
 /// How many events a history has at most.
 const EVENTS: u64 = 1_000_000;
@@ -35,11 +35,24 @@ fn makes_too_many(request: &TestRequest<'_>) -> bool {
     events > EVENTS
 }
 
-/// Whether the file of the orders is there, where one is named.
+/// Says why what is at a path can't be used.
+fn tell_unusable<R: Eprint>(rt: &R, request: &TestRequest<'_>, path: &str, error: io::Error) {
+    if !request.is_quiet {
+        let _ = eprintln!(rt; "nfsbench: {path}: {error}");
+    }
+}
+
+/// Whether the file of the orders is there, where one is named. Why it isn't is said on standard error.
 fn has_orders<R: RecordingRuntime>(rt: &R, request: &TestRequest<'_>) -> bool {
-    match request.crashes.orders {
-        Some(path) => fs::metadata(rt, path).is_ok(),
-        None => true,
+    let Some(path) = request.crashes.orders else {
+        return true;
+    };
+    match fs::metadata(rt, path) {
+        Ok(_) => true,
+        Err(error) => {
+            tell_unusable(rt, request, path, error);
+            false
+        }
     }
 }
 
@@ -106,7 +119,10 @@ fn night_report<R: RecordingRuntime, I: Input>(
     }
     match Folder::make(rt, request.folder) {
         Ok(folder) => run_in(rt, request, folder, input),
-        Err(error) => { refused_report(rt.alloc(), request, &NightRefusal::Folder(error.kind())) }
+        Err(error) => {
+            tell_unusable(rt, request, request.folder, error);
+            refused_report(rt.alloc(), request, &NightRefusal::Folder(error.kind()))
+        }
     }
 }
 

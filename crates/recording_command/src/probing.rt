@@ -8,7 +8,9 @@ use rpc_connection::Connection;
 use rpc_reader::{ReplyBody, read_reply};
 use std::alloc::{AllocError, Global};
 use std::fs::{self, OpenOptions};
+use std::io::{self, ErrorKind};
 use std::net::SocketAddr;
+use std::rt::Files;
 use std::time::Duration;
 use xdr_records::Reader;
 
@@ -21,22 +23,33 @@ const XID: u32 = 1;
 /// Who asks.
 const WHO: Credential = Credential { uid: 0, gid: 0 };
 
-/// Whether the history may be written at the end. A file that isn't there is made, and removed again.
-pub(crate) fn can_write<R: RecordingRuntime>(rt: &R, path: &str) -> bool {
-    let (is_new, may_write) = match fs::metadata(rt, path) {
-        Ok(known) if known.is_dir() => return false,
+/// Tries whether a file may be written. One that isn't there is made, and removed again.
+fn try_to_write<R: Files>(rt: &R, path: &str) -> io::Result<()> {
+    match fs::metadata(rt, path) {
+        Ok(known) if known.is_dir() => Err(io::Error::from(ErrorKind::IsADirectory)),
         // A pipe or a device isn't opened ahead of its time.
-        Ok(known) if !known.is_file() => return true,
-        Ok(_) => (
-            false,
-            OpenOptions::new().append(true).open(rt, path).is_ok(),
-        ),
-        Err(_) => (true, fs::create(rt, path).is_ok()),
-    };
-    if is_new && may_write {
-        let _ = fs::remove_file(rt, path);
+        Ok(known) if !known.is_file() => Ok(()),
+        Ok(_) => {
+            drop(OpenOptions::new().append(true).open(rt, path)?);
+            Ok(())
+        }
+        Err(_) => {
+            drop(fs::create(rt, path)?);
+            let _ = fs::remove_file(rt, path);
+            Ok(())
+        }
     }
-    may_write
+}
+
+/// Whether the history may be written at the end; why it may not is said on standard error. A file that isn't there is made, and removed again.
+pub(crate) fn can_write<R: Files + Eprint>(rt: &R, path: &str) -> bool {
+    match try_to_write(rt, path) {
+        Ok(()) => true,
+        Err(error) => {
+            let _ = eprintln!(rt; "nfsbench: {path}: {error}");
+            false
+        }
+    }
 }
 
 /// Says so where the recorder is to relay to itself.

@@ -28,8 +28,10 @@ const HEAD_SIZE: usize = 16;
 /// Why a recording isn't saved.
 #[derive(Clone, Copy)]
 pub(crate) enum SaveFault {
-    /// A write failed, or a limit of a history's file is passed.
+    /// A limit of a history's file is passed.
     CannotWrite,
+    /// A write failed.
+    Failed(io::Error),
     NoMemory,
 }
 
@@ -46,8 +48,8 @@ impl<T: Drop> From<AllocFailed<T>> for SaveFault {
 }
 
 impl From<io::Error> for SaveFault {
-    fn from(_error: io::Error) -> SaveFault {
-        SaveFault::CannotWrite
+    fn from(error: io::Error) -> SaveFault {
+        SaveFault::Failed(error)
     }
 }
 
@@ -205,7 +207,7 @@ fn file_behind(
             events: events.len(),
         }),
         Err(SaveFault::CannotWrite) => file_within(alloc, beginning, root, events),
-        Err(SaveFault::NoMemory) => Err(SaveFault::NoMemory),
+        Err(fault) => Err(fault),
     }
 }
 

@@ -89,6 +89,10 @@ fn save<R: RelayRuntime, W: Write>(rt: &R, recorder: &Recorder, file: &mut W) ->
             TapEnd::Written(calls)
         }
         Err(SaveFault::CannotWrite) => TapEnd::CannotWrite,
+        Err(SaveFault::Failed(error)) => {
+            let _ = eprintln!(rt; "nfsbench: the history isn't written: {error}");
+            TapEnd::CannotWrite
+        }
         Err(SaveFault::NoMemory) => TapEnd::NoMemory,
     }
 }
@@ -175,7 +179,10 @@ fn save_ended<R: RecordingRuntime>(rt: &R, recorder: &Recorder, path: &str) -> T
     }
     match fs::create(rt, path) {
         Ok(mut file) => save(rt, recorder, &mut file),
-        Err(_) => TapEnd::CannotWrite,
+        Err(error) => {
+            let _ = eprintln!(rt; "nfsbench: {path}: {error}");
+            TapEnd::CannotWrite
+        }
     }
 }
 
@@ -221,9 +228,13 @@ fn record_until_end<R: RecordingRuntime, I: Input>(
     input: &mut I,
 ) -> TapEnd {
     let relay = &recorder.relay;
-    let Ok(file) = fs::create(rt, path) else {
-        relay.finish(rt);
-        return TapEnd::CannotWrite;
+    let file = match fs::create(rt, path) {
+        Ok(file) => file,
+        Err(error) => {
+            let _ = eprintln!(rt; "nfsbench: {path}: {error}");
+            relay.finish(rt);
+            return TapEnd::CannotWrite;
+        }
     };
     let made = number_of(file.metadata());
     let end = thread::scope(thread::scope_env(), rt, |scope| {
@@ -509,6 +520,7 @@ fn orders_of<R: RecordingRuntime>(
     };
     // What is read isn't written over.
     if are_one_file(rt, path, request.history) {
+        let _ = eprintln!(rt; "nfsbench: {path}: the history and the orders are one file");
         return Err(TapEnd::CannotWrite);
     }
     match OrderFile::open(rt, path) {

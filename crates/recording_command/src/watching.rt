@@ -45,9 +45,15 @@ pub(crate) struct OrderFile {
 }
 
 impl OrderFile {
-    /// The file at a path. What it has by now isn't of this recording.
+    /// The file at a path; why it can't be opened is said on standard error. What it has by now isn't of this recording.
     pub(crate) fn open<R: RecordingRuntime>(rt: &R, path: &str) -> Option<OrderFile> {
-        let mut file = File::open(rt, path).ok()?;
+        let mut file = match File::open(rt, path) {
+            Ok(file) => file,
+            Err(error) => {
+                let _ = eprintln!(rt; "nfsbench: {path}: {error}");
+                return None;
+            }
+        };
         let read = file.seek(SeekFrom::End(0)).unwrap_or(0);
         if read > 0 {
             let _ = eprintln!(rt;

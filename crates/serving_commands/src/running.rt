@@ -59,7 +59,7 @@ pub fn run_text<R: Threads + Wait + Sync + AllocGlobal>(
 }
 
 /// Writes what was recorded into both files that are asked for.
-fn save<R: Files<File = File>>(
+fn save<R: Files<File = File> + Eprint>(
     rt: &R,
     request: &RunRequest<'_>,
     recorded: &RunTexts,
