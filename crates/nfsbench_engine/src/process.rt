@@ -4,7 +4,7 @@ use crate::words::run_words;
 use program_streams::{Sink, Stream, tell, tell_want_of_memory};
 use recording_command::RecordingRuntime;
 use std::env;
-use std::io::{self, ErrorKind};
+use std::io::{self, ErrorKind, IsTerminal};
 use std::process::ExitCode;
 use std::rt::Env;
 
@@ -12,12 +12,27 @@ fn words_of<R: Env + AllocGlobal>(rt: &R) -> io::Result<Vec<String>> {
     Ok(env::args(rt)?.collect(rt.alloc())?)
 }
 
+/// Says that standard input is read, where that is a terminal and no word says what to do.
+fn tell_of_terminal<R: Eprint, I: IsTerminal>(rt: &R, input: &I, words: &[String]) {
+    if words.len() < 2 && input.is_terminal() {
+        let _ = eprintln!(rt;
+            "nfsbench: reads a bundle from standard input: a history in hexadecimal, a line feed, a certificate; nfsbench --help lists the commands"
+        );
+    }
+}
+
 /// Does what the process's words ask for, on standard input and standard output, and gives its exit status.
-pub fn run_process<R: Env + Input + Print + RecordingRuntime>(rt: &R) -> ExitCode {
+pub fn run_process<R>(rt: &R) -> ExitCode
+where
+    R: Env + Input + Print + RecordingRuntime,
+    R::Reader: IsTerminal,
+{
     let mut output = Sink::new(io::writer(rt));
     let status = match words_of(rt) {
         Ok(words) => {
-            let mut input = Stream::new(rt.reader());
+            let reader = rt.reader();
+            tell_of_terminal(rt, &reader, words.as_slice());
+            let mut input = Stream::new(reader);
             run_words(rt, words.as_slice(), &mut input, &mut output)
         }
         Err(error) if error.kind() == ErrorKind::OutOfMemory => tell_want_of_memory(&mut output),
