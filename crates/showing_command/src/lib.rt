@@ -3,7 +3,11 @@
 
 mod looking;
 mod marks;
+mod names;
+mod seen_calls;
 mod showing;
+mod shown_lines;
+mod touched;
 mod words;
 
 pub use judging_commands;

@@ -14,8 +14,9 @@ ghost use Rattle.witness_check.specs.declared.verdict.FileVerdict.TheVariants.{Y
 ghost use Rattle.witness_check.specs.Verdict.{IsFileVerdict};
 
 use crate::marks::marks_of;
+use crate::shown_lines::ShownLines;
 use history_file::FileFault;
-use history_lines::{EventLines, Look};
+use history_lines::Look;
 use judging_commands::verdict_report;
 use nfs_history::{HistoryFault, read_calls};
 use program_streams::{Output, tell, tell_report, tell_want_of_memory};
@@ -30,7 +31,7 @@ enum ShowStop {
 }
 
 /// Writes the lines that are left.
-fn put_lines<O: Output>(lines: &mut EventLines<'_>, output: &mut O) -> Result<(), ShowStop>
+fn put_lines<O: Output>(lines: &mut ShownLines<'_>, output: &mut O) -> Result<(), ShowStop>
     ensures lines { (text : List ℕ) × AreLines text × AppendsFront (O.contents output.old) (O.contents output.new) text }
     ensures whole { OnOk result ((text : List ℕ) × AreLines text × Appends (O.contents output.old) (O.contents output.new) text) }
 {
@@ -57,7 +58,7 @@ fn put_selected<O: Output>(
     ensures lines { (text : List ℕ) × AreLines text × AppendsFront (O.contents output.old) (O.contents output.new) text }
     ensures whole { OnOk result ((text : List ℕ) × AreLines text × Appends (O.contents output.old) (O.contents output.new) text) }
 {
-    match EventLines::new(alloc, bytes, look) {
+    match ShownLines::new(alloc, bytes, look) {
         Ok(lines) => {
             let mut lines = lines;
             put_lines(&mut lines, output)

@@ -70,7 +70,7 @@ pub fn show_command<'a>(alloc: Global) -> Result<Command<'a>, AllocError> {
             alloc,
             "handle",
             "HEX",
-            "Only calls and replies that name this handle",
+            "Only calls that touch the object with this handle, by its names too, and their replies",
         ))?
         .arg(text_option(
             alloc,
