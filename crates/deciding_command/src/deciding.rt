@@ -11,27 +11,32 @@ ghost use Rattle.deciding_command.specs.Told.{IsToldWithHints, line_of_no, no_li
 
 use crate::file_decision::{FileDecision, decide_file};
 use crate::hints::{Named, tell_hints};
+use crate::prefixing::is_written;
 use crate::telling::report_of;
 use crate::words::DecideRequest;
-use program_streams::{Output, are_one_file, tell, tell_answer, tell_want_of_memory};
+use program_streams::{Output, tell, tell_answer, tell_want_of_memory};
 use std::alloc::AllocError;
-use std::fs;
+use std::io::Eprint;
 use std::rt::Files;
 use std::time::Clock;
 
 /// Writes the certificate of a yes to the path that is asked for, if one is. Whether it is there now, or wasn't wanted. The history
 /// can't be that file.
-fn is_saved<R: Files>(rt: &R, request: &DecideRequest<'_>, decision: &FileDecision) -> bool {
+fn is_saved<R: Files + Eprint>(
+    rt: &R,
+    request: &DecideRequest<'_>,
+    decision: &FileDecision,
+) -> bool {
     match (request.certificate, decision) {
         (Some(path), FileDecision::Yes(text)) => {
-            !are_one_file(rt, path, request.history) && fs::write(rt, path, text.as_slice()).is_ok()
+            is_written(rt, path, request.history, text.as_slice())
         }
         _ => true,
     }
 }
 
 /// Says what was decided.
-fn tell_decision<R: Files + AllocGlobal, O: Output>(
+fn tell_decision<R: Files + AllocGlobal + Eprint, O: Output>(
     rt: &R,
     request: &DecideRequest<'_>,
     decision: &FileDecision,
@@ -70,7 +75,7 @@ fn named_by(request: &DecideRequest<'_>, decision: &FileDecision, status: u8) ->
 }
 
 /// Says what was decided, and behind a no goes on as the request says.
-fn tell_all<R: Files + Clock + AllocGlobal, O: Output>(
+fn tell_all<R: Files + Clock + AllocGlobal + Eprint, O: Output>(
     rt: &R,
     request: &DecideRequest<'_>,
     bytes: &[u8],
@@ -100,7 +105,7 @@ fn tell_all<R: Files + Clock + AllocGlobal, O: Output>(
 /// The certificate of a yes is written to the file that the request names. It stops where more states would stand at once than the
 /// request allows, and about when its seconds are over. Behind a no it goes on as often as the request says, without the calls that
 /// were named, and tells what it decides then in further lines. These are hints: the status is that of the no.
-pub fn decide_history<R: Files + Clock + AllocGlobal, O: Output>(
+pub fn decide_history<R: Files + Clock + AllocGlobal + Eprint, O: Output>(
     rt: &R,
     request: &DecideRequest<'_>,
     history: &[u8],

@@ -1,11 +1,12 @@
 //! The command `prefix`.
 
-ghost use Rattle.std.specs.Prelude.{◌≡◌, ◌⊎◌, ◌<◌, IfOk};
+ghost use Rattle.std.specs.Prelude.{◌≡◌, ◌⊎◌, ◌<◌, false, IfOk};
 ghost use Rattle.std.specs.Io.KnownBytes.{Appends};
 ghost use Rattle.program_streams.specs.Told.{Tells, memory_line};
 ghost use Rattle.nfs_history.specs.declared.fault.HistoryFault.{HistoryFault};
 ghost use Rattle.nfs_history.specs.FirstFault.{FirstFault};
 ghost use Rattle.history_prefix.specs.declared.file.PrefixFile.{PrefixFile};
+ghost use Rattle.history_prefix.specs.Front.{is_of_events};
 ghost use Rattle.history_prefix.specs.Prefix.{IsPrefixOf};
 ghost use Rattle.deciding_command.specs.Written.{events_line};
 
@@ -16,14 +17,37 @@ use program_streams::{
 };
 use std::alloc::{AllocError, Global};
 use std::fs;
+use std::io::Eprint;
 use std::rt::Files;
 
-/// Writes a prefix to the path that is asked for. Whether it is there now. The history can't be that file.
-fn is_saved<R: Files>(rt: &R, request: &PrefixRequest<'_>, prefix: &PrefixFile) -> bool {
-    if are_one_file(rt, request.prefix, request.history) {
+/// Writes a file to a path, unless the history is that file. Whether it is there now; why not is said on standard error.
+pub(crate) fn is_written<R: Files + Eprint>(
+    rt: &R,
+    path: &str,
+    history: &str,
+    bytes: &[u8],
+) -> bool {
+    if are_one_file(rt, path, history) {
+        let _ = eprintln!(rt; "nfsbench: {path}: this file is read too");
         return false;
     }
-    fs::write(rt, request.prefix, prefix.bytes.as_slice()).is_ok()
+    match fs::write(rt, path, bytes) {
+        Ok(()) => true,
+        Err(error) => {
+            let _ = eprintln!(rt; "nfsbench: {path}: {error}");
+            false
+        }
+    }
+}
+
+/// Says why the events after a prefix are refused, if they are.
+fn tell_refusal<R: Eprint>(rt: &R, request: &PrefixRequest<'_>, prefix: &PrefixFile) {
+    let history = request.history;
+    if let Some(fault) = prefix.refusal {
+        let _ = eprintln!(rt;
+            "nfsbench: {history}: {fault}: nothing is kept from the event on that is refused, or that sent the call"
+        );
+    }
 }
 
 /// What is said of a prefix that was written.
@@ -41,7 +65,7 @@ fn refusal_of(alloc: Global, fault: PrefixFault) -> Result<Report, AllocError>
 }
 
 /// Writes a prefix, and says so.
-fn save<R: Files + AllocGlobal, O: Output>(
+fn save<R: Files + AllocGlobal + Eprint, O: Output>(
     rt: &R,
     request: &PrefixRequest<'_>,
     prefix: &PrefixFile,
@@ -51,7 +75,8 @@ fn save<R: Files + AllocGlobal, O: Output>(
     ensures memory_line { result ≡ 3 → Appends (O.contents output.old) (O.contents output.new) memory_line }
     ensures known { result < 4 }
 {
-    if is_saved(rt, request, prefix) {
+    tell_refusal(rt, request, prefix);
+    if is_written(rt, request.prefix, request.history, prefix.bytes.as_slice()) {
         tell_answer(output, written_report(rt.alloc(), prefix))
     } else {
         tell(output, b"refused: cannot write\n", 2)
@@ -60,8 +85,9 @@ fn save<R: Files + AllocGlobal, O: Output>(
 
 /// Writes the first events of the history that the bytes of a file hold, with the replies that the calls which are open then get later,
 /// as [`prefix_file`]. It says how many events that are, and returns the exit status: 0 where the file is written, 2 after a refusal of
-/// the bytes or a failed write, 3 if memory ran out.
-pub fn prefix_history<R: Files + AllocGlobal, O: Output>(
+/// bytes that can't be read or a failed write, 3 if memory ran out. Of a history that is refused for an event or a call it writes what
+/// came before, and says why on standard error.
+pub fn prefix_history<R: Files + AllocGlobal + Eprint, O: Output>(
     rt: &R,
     request: &PrefixRequest<'_>,
     history: &[u8],
@@ -70,8 +96,8 @@ pub fn prefix_history<R: Files + AllocGlobal, O: Output>(
     // With status 0 there is such a prefix, and it is told how many events that has.
     ensures written { result ≡ 0 → (prefix : PrefixFile) × IsPrefixOf history.now request.now.events prefix
         × Appends (O.contents output.old) (O.contents output.new) (events_line prefix.events) }
-    // Bytes that are no history file are refused, memory aside.
-    ensures refused { (fault : HistoryFault) → FirstFault history.now fault → (result ≡ 2)
+    // Bytes that can't be read as the file of a recording are refused, memory aside.
+    ensures refused { (fault : HistoryFault) → FirstFault history.now fault → is_of_events fault ≡ false → (result ≡ 2)
         ⊎ Tells result (O.contents output.old) (O.contents output.new) 3 memory_line }
     ensures memory_line { result ≡ 3 → Appends (O.contents output.old) (O.contents output.new) memory_line }
     ensures known { result < 4 }

@@ -1,3 +1,4 @@
+pub mod Fronts
 pub mod Kept
 pub mod Told
 pub mod Versions

@@ -1,5 +1,5 @@
 -- The version of a history's file, and the file of its prefix.
-use Rattle.std.proofs.Common.{◌≡◌, ℕ, Bool, true, false, cond, List, ◌++◌, length, take, drop, Some, None, sym, ap, subst, ◌∙◌, nat_eq, refl}
+use Rattle.std.proofs.Common.{◌≡◌, ℕ, Bool, true, false, cond, List, ◌++◌, length, take, drop, Option, Some, None, sym, ap, subst, ◌∙◌, nat_eq, refl}
 use Rattle.std.specs.List.{starts_with}
 use Rattle.std.specs.Cmp.Lexicographic.{same_text}
 use Rattle.std.proofs.lemmas.List.{take-append-drop, length-map}
@@ -11,9 +11,11 @@ use Rattle.history_file.specs.Event.{Recording}
 use Rattle.history_file.specs.HistoryFile.{recording, magic, HistoryFile}
 use Rattle.history_file.specs.FileReading.{version_of}
 use Rattle.history_file.specs.Owning.{happened}
+use Rattle.nfs_history.specs.declared.fault.HistoryFault.{HistoryFault}
 use Rattle.nfs_history.specs.HistoryValue.{HistoryValue}
-use Rattle.nfs_history.specs.History.{IsHistory, IsHistoryFile, recording_of}
+use Rattle.nfs_history.specs.History.{IsHistory, recording_of}
 use Rattle.history_prefix.specs.declared.file.PrefixFile.{PrefixFile}
+use Rattle.history_prefix.specs.Front.{IsFrontOf, IsOfFirst}
 use Rattle.history_prefix.specs.Keeping.{prefix_of}
 use Rattle.history_prefix.specs.Prefix.{IsPrefixOf, text_as}
 
@@ -33,10 +35,11 @@ begins_as bytes body First parts = rw parts refl
 begins_as bytes body Second parts = rw parts refl
 
 -- a history's file has a version
-pub has_version : (bytes : List ℕ) (history : HistoryValue) → IsHistoryFile bytes history → version_of bytes ≡ None → ⊥
-has_version bytes history file none =
-    let begins = begins_as bytes file.1.body file.1.version file.1.parts in
-    let wrong : None ≡ Some file.1.version = sym none ∙ begins in
+pub has_version : (bytes : List ℕ) (refusal : Option HistoryFault) (history : HistoryValue) → IsFrontOf bytes refusal history → version_of bytes ≡ None → ⊥
+has_version bytes refusal history front none =
+    let file = front.of_first.file in
+    let begins = begins_as bytes file.body file.version file.parts in
+    let wrong : None ≡ Some file.version = sym none ∙ begins in
     cc
 
 plain_spelled : (version : Version) (body : List ℕ) (seen : Recording) → version ≡ First → Spells (recording version) body seen → seen.head ≡ plain_head seen.head.root
@@ -45,27 +48,28 @@ plain_spelled First body seen is spelled = subst (λ (s : Recording). s.head ≡
 plain_spelled Second body seen is spelled = absurd (cc)
 
 -- one of version 1 begins with nothing
-pub first_plain : (bytes : List ℕ) (history : HistoryValue) (version : Version) → IsHistoryFile bytes history → version_of bytes ≡ Some version → version ≡ First → history.known.head ≡ plain_head history.known.head.root
-first_plain bytes history version file of_bytes is =
-    let begins = begins_as bytes file.1.body file.1.version file.1.parts in
-    let both : Some file.1.version ≡ Some version = sym begins ∙ of_bytes in
-    let first : file.1.version ≡ First = cc in
-    let plain = plain_spelled file.1.version file.1.body file.0 first file.1.spelled in
-    rw file.2.known.head plain
+pub first_plain : (bytes : List ℕ) (history : HistoryValue) (version : Version) → IsOfFirst bytes history → version_of bytes ≡ Some version → version ≡ First → history.known.head ≡ plain_head history.known.head.root
+first_plain bytes history version of_first of_bytes is =
+    let file = of_first.file in
+    let begins = begins_as bytes file.body file.version file.parts in
+    let both : Some file.version ≡ Some version = sym begins ∙ of_bytes in
+    let first : file.version ≡ First = cc in
+    let plain = plain_spelled file.version file.body of_first.seen first file.spelled in
+    rw of_first.first.known.head plain
 
 -- the prefix of a history, as it is recorded
 pub same_recording : (history : HistoryValue) (last : ℕ) (part : HistoryValue) → IsHistory (prefix_of history last) part → recording_of part ≡ prefix_of history last
 same_recording history last part is = λ i. record { head = is.known.head i; events = is.events i }
 
 pub prefix_made : (bytes : List ℕ) (history : HistoryValue) (version : Version) (last : ℕ) (part : HistoryValue) (given : PrefixFile)
-    → IsHistoryFile bytes history → version_of bytes ≡ Some version → IsHistory (prefix_of history last) part → part.spare ≡ 0
+    → IsFrontOf bytes given.refusal history → version_of bytes ≡ Some version → IsHistory (prefix_of history last) part → part.spare ≡ 0
     → HistoryFile given.bytes.items (recording_of part) → given.bytes.items ≡ text_as version (recording_of part) → given.events ≡ length part.events
     → IsPrefixOf bytes last given
-prefix_made bytes history version last part given file of_bytes is spare spelled text count =
+prefix_made bytes history version last part given front of_bytes is spare spelled text count =
     let same = same_recording history last part is in
     record {
       history = history;
-      file = file;
+      front = front;
       version = version;
       body = drop 8 bytes;
       begins = parts_of bytes version of_bytes;

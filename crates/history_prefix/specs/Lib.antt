@@ -1,3 +1,4 @@
+pub mod Front
 pub mod Keeping
 pub mod Marks
 pub mod Prefix

@@ -1,7 +1,7 @@
 -- For the prover, and for callers.
 -- The file of a prefix: of the first events of a history, and of the later replies to the calls that began among them (this project's
--- own).
-use Rattle.std.specs.Prelude.{◌≡◌, ℕ, List, ◌++◌, length}
+-- own). Where a file's events are refused the history is that of its first events.
+use Rattle.std.specs.Prelude.{◌≡◌, ℕ, List, ◌++◌, length, None}
 use Rattle.history_file.specs.declared.version.Version.{Version}
 use Rattle.history_file.specs.declared.version.Version.TheVariants.{First, Second}
 use Rattle.history_file.specs.Event.{Recording}
@@ -14,6 +14,7 @@ use Rattle.nfs_history.specs.History.{IsHistoryFile, recording_of}
 use Rattle.history_prefix.specs.declared.file.PrefixFile.{PrefixFile}
 use Rattle.history_prefix.specs.declared.fault.PrefixFault.{PrefixFault}
 use Rattle.history_prefix.specs.declared.fault.PrefixFault.TheVariants as faults
+use Rattle.history_prefix.specs.Front.{IsFrontOf}
 use Rattle.history_prefix.specs.Keeping.{prefix_of}
 
 -- the file of a recording in a version, as it is written
@@ -21,10 +22,10 @@ abbrev pub text_as : Version → Recording → List ℕ
 text_as First seen = file_text seen.head.root seen.events
 text_as Second seen = file_text_from seen.head seen.events
 
--- the bytes are the file of a history, and what is given is that of its prefix, in the same version: the file of a history too
+-- the bytes are the file of a history, or begin with one, and what is given is the file of its prefix, in the same version: the file of a history too
 pub record IsPrefixOf (bytes : List ℕ) (last : ℕ) (given : PrefixFile) : Type 0 where
   pub history : HistoryValue
-  pub file : IsHistoryFile bytes history
+  pub front : IsFrontOf bytes given.refusal history
   pub version : Version
   pub body : List ℕ
   pub begins : bytes ≡ magic version ++ body
@@ -34,7 +35,11 @@ pub record IsPrefixOf (bytes : List ℕ) (last : ℕ) (given : PrefixFile) : Typ
   pub part_file : IsHistoryFile given.bytes.items part
   pub of_part : recording_of part ≡ prefix_of history last
 
--- why bytes give no prefix that are no history file
+-- of a history that isn't refused
+abbrev pub IsWhole : PrefixFile → Type 0
+IsWhole given = given.refusal ≡ None
+
+-- why bytes give no prefix that can't be read
 abbrev pub told_of : HistoryFault → PrefixFault
 told_of history_faults.NoMemory = faults.NoMemory
 told_of fault = faults.BadHistory fault

@@ -3,9 +3,9 @@
 use crate::lanes::{end_of_lane, lane_of, last_call, message_of, reply_to, transaction_of};
 use crate::messages::{push_arguments_fault, push_head_fault, push_result_fault};
 use crate::places::{Found, FoundEvent, Sought, find};
-use crate::wanted::wanted;
 use history_file::{FileFault, SeenEvent};
 use history_lines::{BegunFile, Text};
+use history_prefix::wanted;
 use nfs_history::HistoryFault;
 use std::alloc::{AllocError, Global};
 

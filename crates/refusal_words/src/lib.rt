@@ -6,7 +6,6 @@ mod lanes;
 mod messages;
 mod places;
 mod plan;
-mod wanted;
 
 pub use history::refused_history;
 pub use plan::refused_certificate;

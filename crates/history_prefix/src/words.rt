@@ -1,4 +1,4 @@
-//! What is wanted where a fault is (`docs/FORMATS.md`).
+//! What is wanted of a history where a fault is (`docs/FORMATS.md`).
 
 use nfs_history::{HistoryFault, Which};
 
@@ -13,7 +13,7 @@ fn wanted_of(which: Which) -> &'static str {
 }
 
 /// What is wanted where a fault is.
-pub(crate) fn wanted(fault: HistoryFault) -> &'static str {
+pub fn wanted(fault: HistoryFault) -> &'static str {
     match fault {
         HistoryFault::BadMagic => "8 bytes at the file's beginning: NFSHIST1 or NFSHIST2",
         HistoryFault::TooLarge => {
