@@ -5,6 +5,7 @@ mod guard;
 mod part;
 mod probing;
 mod recorder;
+mod refusals;
 mod root;
 mod runtime;
 mod saving;

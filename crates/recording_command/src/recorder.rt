@@ -1,6 +1,7 @@
 //! What a recording is made by, and what its orders do.
 
 use crate::guard::Guard;
+use crate::refusals::Refusals;
 use crate::saving::Beginning;
 use nfs_relay::{Order, OrderReader, Relay, RelayRuntime};
 use std::alloc::AllocError;
@@ -20,6 +21,8 @@ pub(crate) struct Recorder {
     pub(crate) beginning: Option<Beginning>,
     /// A connection of its own to the server.
     pub(crate) guard: Guard,
+    /// The calls that have the history refused.
+    pub(crate) refusals: Refusals,
 }
 
 impl Recorder {

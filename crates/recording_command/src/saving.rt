@@ -12,7 +12,7 @@ ghost use Rattle.history_file.specs.Writing.{events_text, file_text, file_text_f
 use history_file::{
     EVENT_LIMIT, Event, HISTORY_LIMIT, WriteFault, write_history, write_history_from,
 };
-use nfs_tap::TapLog;
+use nfs3_types::FileHandle;
 use program_streams::write_pieces;
 use std::alloc::{AllocError, AllocFailed, Global};
 use std::io::{self, Write};
@@ -211,55 +211,57 @@ fn file_behind(
     }
 }
 
-/// Writes the history file of what was noted, of a server that held this at first, or nothing, and says how many events it has.
-pub(crate) fn write_log_of<W: Write>(
+/// Writes the history file of these events, of a server that held this at first, or nothing, and says how many it has.
+pub(crate) fn write_events_of<W: Write>(
     alloc: Global,
     beginning: &Option<Beginning>,
-    log: &TapLog,
+    root: &FileHandle,
+    events: &[Event],
     writer: &mut W,
 ) -> Result<usize, SaveFault> {
     match beginning {
         None => {
-            write_log(alloc, log, writer)?;
-            Ok(log.events().len())
+            write_file(alloc, root, events, writer)?;
+            Ok(events.len())
         }
         Some(beginning) => {
-            let file = file_behind(alloc, beginning, log.root().as_slice(), log.events())?;
+            let file = file_behind(alloc, beginning, root.as_slice(), events)?;
             write_pieces(writer, file.bytes.as_slice())?;
             Ok(file.events)
         }
     }
 }
 
-/// The history file of what was noted, of a server that held this at first, or nothing.
-pub(crate) fn log_file(
+/// The history file of these events, of a server that held this at first, or nothing.
+pub(crate) fn events_file(
     alloc: Global,
     beginning: &Option<Beginning>,
-    log: &TapLog,
+    root: &FileHandle,
+    events: &[Event],
 ) -> Result<LogFile, SaveFault> {
     match beginning {
         None => Ok(LogFile {
-            bytes: write_history(alloc, log.root().as_slice(), log.events())?,
-            events: log.events().len(),
+            bytes: write_history(alloc, root.as_slice(), events)?,
+            events: events.len(),
         }),
-        Some(beginning) => file_behind(alloc, beginning, log.root().as_slice(), log.events()),
+        Some(beginning) => file_behind(alloc, beginning, root.as_slice(), events),
     }
 }
 
-/// Writes the history file of what was noted.
-pub(crate) fn write_log<W: Write>(
+/// Writes the history file of these events.
+pub(crate) fn write_file<W: Write>(
     alloc: Global,
-    log: &TapLog,
+    root: &FileHandle,
+    events: &[Event],
     writer: &mut W,
 ) -> Result<(), SaveFault>
-    ensures written { OnOk result (Appends (W.contents writer.old) (W.contents writer.new) (file_text log.now.head.root log.now.events)) }
-    ensures within { OnOk result (length (file_text log.now.head.root log.now.events) ≤ history_limit) }
+    ensures written { OnOk result (Appends (W.contents writer.old) (W.contents writer.new) (file_text root.now (all_happened events.now))) }
+    ensures within { OnOk result (length (file_text root.now (all_happened events.now)) ≤ history_limit) }
 {
-    let events = log.events();
     if events.len() > EVENT_LIMIT as usize {
         return Err(SaveFault::CannotWrite);
     }
-    let head = file_head(alloc, log.root().as_slice(), events.len() as u32)?;
+    let head = file_head(alloc, root.as_slice(), events.len() as u32)?;
     write_pieces(writer, head.as_slice())?;
     write_events(alloc, events, head.len(), writer)?;
     Ok(())

@@ -10,9 +10,10 @@ use crate::guard::Guard;
 use crate::part::{Part, part_path};
 use crate::probing::{can_write, is_own_port, probe_root};
 use crate::recorder::{Recorder, tell_unfinished, tell_unreadable};
+use crate::refusals::Refusals;
 use crate::root::root_of;
 use crate::runtime::RecordingRuntime;
-use crate::saving::{Beginning, SaveFault, log_file, write_log_of};
+use crate::saving::{Beginning, SaveFault, events_file, write_events_of};
 use crate::tap_end::{TapEnd, refusal_of, tell_end};
 use crate::tap_words::TapRequest;
 use crate::watching::{OrderFile, await_end};
@@ -79,10 +80,11 @@ fn read_orders<R: RelayRuntime, I: Input>(
 /// server held at first isn't written, and that is told.
 fn save<R: RelayRuntime, W: Write>(rt: &R, recorder: &Recorder, file: &mut W) -> TapEnd {
     let halt = recorder.relay.reason(rt);
+    recorder.refusals.finish(rt, &recorder.relay);
     let log = recorder.relay.log().lock(rt);
-    match write_log_of(rt.alloc(), &recorder.beginning, &log, file) {
+    let events = recorder.refusals.kept(rt, log.events());
+    match write_events_of(rt.alloc(), &recorder.beginning, log.root(), events, file) {
         Ok(count) => {
-            let events = log.events();
             let calls = calls_in(events.get(..count).unwrap_or(events));
             let is_cut = count < events.len();
             tell_halt(rt, if is_cut { Some(Halt::LogFull) } else { halt }, calls);
@@ -300,7 +302,18 @@ fn record_as<R: RecordingRuntime, I: Input>(
     }
 }
 
-/// Records in the way that the words ask for, and looks after the server meanwhile where they ask for that.
+/// Begins to report the calls that have the history refused, in a thread of its own. Where there is none, they are reported at the end.
+fn begin_refusals<'s, E, R: RelayRuntime>(
+    scope: &Scope<'s, E>,
+    rt: &'s R,
+    recorder: &'s Recorder,
+) -> Option<JoinHandle<()>> {
+    let following = scope.spawn(move || recorder.refusals.follow(rt, &recorder.relay));
+    following.ok()
+}
+
+/// Records in the way that the words ask for, and reports meanwhile what has the history refused, and looks after the server where the
+/// words ask for that.
 fn record_guarded<R: RecordingRuntime, I: Input>(
     rt: &R,
     recorder: &Recorder,
@@ -311,9 +324,13 @@ fn record_guarded<R: RecordingRuntime, I: Input>(
 ) -> TapEnd {
     thread::scope(thread::scope_env(), rt, |scope| {
         let guarding = begin_guard(scope, rt, recorder);
+        let following = begin_refusals(scope, rt, recorder);
         let end = record_as(rt, recorder, listener, request, orders, input);
         if let Some(guarding) = guarding {
             guarding.join(rt);
+        }
+        if let Some(following) = following {
+            following.join(rt);
         }
         end
     })
@@ -378,10 +395,11 @@ struct ReadBack {
 /// What is read of the history of a log, as it is in its file.
 fn read_back<R: RecordingRuntime>(rt: &R, recorder: &Recorder) -> Result<ReadBack, AllocError> {
     let log = recorder.relay.log().lock(rt);
-    match log_file(rt.alloc(), &recorder.beginning, &log) {
+    let events = recorder.refusals.kept(rt, log.events());
+    match events_file(rt.alloc(), &recorder.beginning, log.root(), events) {
         Ok(file) => Ok(ReadBack {
             reading: reading_of(rt.alloc(), file.bytes.as_slice())?,
-            is_cut: file.events < log.events().len(),
+            is_cut: file.events < events.len(),
         }),
         // It was written, so that this is for memory.
         Err(_) => Err(AllocError),
@@ -601,6 +619,7 @@ fn opened_of<R: RecordingRuntime>(
             relay,
             beginning,
             guard: Guard::new(rt.alloc(), request.server, is_guarded),
+            refusals: Refusals::new(rt.alloc(), request.stops_at_outside),
         },
         listener,
         orders,

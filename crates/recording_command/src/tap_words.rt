@@ -52,6 +52,8 @@ pub struct TapRequest<'a> {
     pub profile: Profile,
     /// Whether a server that wasn't in health makes the status 1.
     pub is_strict: bool,
+    /// Whether the first call that has the history refused ends it, and the history ends before that call.
+    pub stops_at_outside: bool,
     /// Whether it isn't told once a second how far the recording is.
     pub is_quiet: bool,
     /// The path of the history.
@@ -126,6 +128,15 @@ fn strict_option<'a>(alloc: Global) -> Arg<'a> {
         .help("Ends with status 1 where the server wasn't in health")
 }
 
+fn stop_option<'a>(alloc: Global) -> Arg<'a> {
+    Arg::new(alloc, "stop-at-outside")
+        .long("stop-at-outside")
+        .action(ArgAction::SetTrue)
+        .help(
+            "Ends before the first call that has the history refused, such as a LINK that succeeds",
+        )
+}
+
 fn port_option<'a>(alloc: Global) -> Arg<'a> {
     number_option(alloc, "port", 65_535)
         .required(true)
@@ -181,6 +192,7 @@ pub fn tap_command<'a>(alloc: Global) -> Result<Command<'a>, AllocError> {
         .arg(start_option(alloc))?
         .arg(profile_option(alloc))?
         .arg(strict_option(alloc))?
+        .arg(stop_option(alloc))?
         .arg(quiet_option(alloc))?
         .arg(history_path(alloc))
 }
@@ -229,6 +241,7 @@ pub fn tap_request<'a>(tap: &ArgMatches<'a>) -> Option<TapRequest<'a>> {
         start: tap.get_str("start"),
         profile: profile_word(tap),
         is_strict: tap.get_flag("strict"),
+        stops_at_outside: tap.get_flag("stop-at-outside"),
         is_quiet: tap.get_flag("quiet"),
         history: tap.get_str("HISTORY")?,
     })

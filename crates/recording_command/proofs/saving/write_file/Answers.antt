@@ -1,6 +1,6 @@
 use Rattle.std.proofs.Common.{arith, ap, length}
 use Rattle.recording_command.proofs.Saved.{head_small}
-use Rattle.recording_command.proofs.saving.write_log.Goals as goal
+use Rattle.recording_command.proofs.saving.write_file.Goals as goal
 
 pub write_events-requires : goal.write_events-requires
 write_events-requires g c =
