@@ -24,8 +24,18 @@ pub(crate) enum Changed<'c> {
 /// A call that changed something.
 #[derive(Clone, Copy)]
 pub(crate) struct Change {
-    number: u64,
+    pub(crate) number: u64,
     procedure: Procedure,
+}
+
+impl Change {
+    /// That of a call at a place.
+    pub(crate) fn of(placed: &Placed) -> Change {
+        Change {
+            number: placed.number,
+            procedure: placed.call.procedure(),
+        }
+    }
 }
 
 /// Whether it is this name of that directory.
@@ -82,13 +92,11 @@ pub(crate) fn given_handle(outcome: &Outcome) -> Option<&FileHandle> {
     }
 }
 
-/// Whether a CREATE sets a size.
-fn sets_size(mode: &CreateMode) -> bool {
+/// The size that a CREATE sets, if it does.
+pub(crate) fn size_set(mode: &CreateMode) -> Option<u64> {
     match mode {
-        CreateMode::Unchecked(attributes) | CreateMode::Guarded(attributes) => {
-            attributes.size.is_some()
-        }
-        CreateMode::Exclusive(_) => false,
+        CreateMode::Unchecked(attributes) | CreateMode::Guarded(attributes) => attributes.size,
+        CreateMode::Exclusive(_) => None,
     }
 }
 
@@ -128,7 +136,8 @@ fn wrote_some(outcome: &Outcome) -> bool {
 fn writes(scene: &Scene<'_, '_>, placed: &Placed, object: u64) -> bool {
     match &placed.call {
         NfsCall::Create(call) => {
-            sets_size(&call.mode) && is_of_create(scene, &call.place, &placed.outcome, object)
+            size_set(&call.mode).is_some()
+                && is_of_create(scene, &call.place, &placed.outcome, object)
         }
         NfsCall::Write(call) => {
             wrote_some(&placed.outcome) && scene.binds.object(call.file.as_slice()) == Some(object)
@@ -179,11 +188,11 @@ fn may_change(scene: &Scene<'_, '_>, place: Place, changed: Changed<'_>) -> bool
 }
 
 /// The call at a place, where it changed something.
-fn change_at(
+pub(crate) fn changing_at(
     scene: &Scene<'_, '_>,
     place: Place,
     changed: Changed<'_>,
-) -> Result<Option<Change>, AllocError> {
+) -> Result<Option<Placed>, AllocError> {
     if !may_change(scene, place, changed) {
         return Ok(None);
     }
@@ -193,10 +202,7 @@ fn change_at(
     if !is_done(&placed.outcome) || !changes(scene, &placed, changed) {
         return Ok(None);
     }
-    Ok(Some(Change {
-        number: placed.number,
-        procedure: placed.call.procedure(),
-    }))
+    Ok(Some(placed))
 }
 
 /// The last call of these places that changed something.
@@ -206,16 +212,18 @@ fn last_in(
     changed: Changed<'_>,
 ) -> Result<Option<Change>, AllocError> {
     for place in places.iter().rev() {
-        let found = change_at(scene, *place, changed)?;
-        if found.is_some() {
-            return Ok(found);
+        if let Some(placed) = changing_at(scene, *place, changed)? {
+            return Ok(Some(Change::of(&placed)));
         }
     }
     Ok(None)
 }
 
 /// The last call ahead of the place that changed something: of its era, else of what the eras ahead kept.
-fn last_change(scene: &Scene<'_, '_>, changed: Changed<'_>) -> Result<Option<Change>, AllocError> {
+pub(crate) fn last_change(
+    scene: &Scene<'_, '_>,
+    changed: Changed<'_>,
+) -> Result<Option<Change>, AllocError> {
     let found = last_in(scene, scene.front, changed)?;
     if found.is_some() {
         return Ok(found);
@@ -230,14 +238,13 @@ fn last_change(scene: &Scene<'_, '_>, changed: Changed<'_>) -> Result<Option<Cha
     Ok(None)
 }
 
-/// Appends words and the last call that changed something, where there is one.
+/// Appends words and a call that changed something, where there is one.
 pub(crate) fn push_change(
     text: &mut Text<'_>,
-    scene: &Scene<'_, '_>,
     words: &str,
-    changed: Changed<'_>,
+    change: Option<Change>,
 ) -> Result<(), AllocError> {
-    let Some(change) = last_change(scene, changed)? else {
+    let Some(change) = change else {
         return Ok(());
     };
     text.push_number(words, change.number)?;

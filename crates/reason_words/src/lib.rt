@@ -15,6 +15,7 @@ mod objects;
 mod paths;
 mod places;
 mod scene;
+mod sizes;
 mod standing;
 mod verifiers;
 mod words;

@@ -12,7 +12,7 @@ use std::alloc::AllocError;
 use tree_nodes::{Content, Node, Nodes};
 
 /// The call that makes an object, if any.
-fn maker_of(scene: &Scene<'_, '_>, object: u64) -> Option<u64> {
+pub(crate) fn maker_of(scene: &Scene<'_, '_>, object: u64) -> Option<u64> {
     let starts = scene.history.start().count() as u64;
     match object.checked_sub(starts) {
         Some(call) if call > 0 => Some(call),

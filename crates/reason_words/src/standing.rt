@@ -1,9 +1,10 @@
 //! What stands in the tree of the objects and names that a call asks for.
 
-use crate::changes::{Changed, push_change};
+use crate::changes::{Changed, last_change, push_change};
 use crate::handles::{known_path, push_name};
 use crate::objects::{push_kind, push_origin};
 use crate::scene::{Scene, push_line};
+use crate::sizes::push_file_changes;
 use history_lines::Text;
 use nfs3_types::{DirectoryName, FileHandle, NfsCall};
 use std::alloc::AllocError;
@@ -11,7 +12,7 @@ use tree_answers::{first_handle, first_place, object_named};
 use tree_handles::{View, directory_of, live_entry};
 use tree_nodes::{Content, Node, Nodes};
 
-/// Appends what an object is, where it comes from, and which call wrote its bytes last.
+/// Appends what an object is, where it comes from, and which calls wrote its bytes and set its size last.
 fn push_node(
     text: &mut Text<'_>,
     scene: &Scene<'_, '_>,
@@ -24,13 +25,10 @@ fn push_node(
     push_kind(text, nodes, node)?;
     text.push_words(", ")?;
     push_origin(text, scene, node.object)?;
-    match node.content {
-        Content::File(_) => push_change(
-            text,
-            scene,
-            ", written last by call ",
-            Changed::Bytes(node.object),
-        ),
+    match &node.content {
+        Content::File(file) => {
+            push_file_changes(text, scene, node.object, file.bytes.len() as u64)
+        }
         _ => Ok(()),
     }
 }
@@ -105,8 +103,8 @@ fn push_entry(
         Some(node) => push_node(&mut text, scene, nodes, node)?,
         None => push_absent(&mut text, scene, directory, name)?,
     }
-    let words = ", the name changed last by call ";
-    push_change(&mut text, scene, words, Changed::Name(directory, name))?;
+    let change = last_change(scene, Changed::Name(directory, name))?;
+    push_change(&mut text, ", the name changed last by call ", change)?;
     push_line(lines, text)
 }
 
