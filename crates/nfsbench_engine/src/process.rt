@@ -12,13 +12,11 @@ fn words_of<R: Env + AllocGlobal>(rt: &R) -> io::Result<Vec<String>> {
     Ok(env::args(rt)?.collect(rt.alloc())?)
 }
 
-/// Says that standard input is read, where that is a terminal and no word says what to do.
-fn tell_of_terminal<R: Eprint, I: IsTerminal>(rt: &R, input: &I, words: &[String]) {
-    if words.len() < 2 && input.is_terminal() {
-        let _ = eprintln!(rt;
-            "nfsbench: reads a bundle from standard input: a history in hexadecimal, a line feed, a certificate; nfsbench --help lists the commands"
-        );
-    }
+/// Says that standard input is read, since no word says what to do.
+fn tell_of_bundle<R: Eprint>(rt: &R) {
+    let _ = eprintln!(rt;
+        "nfsbench: reads a bundle from standard input: a history in hexadecimal, a line feed, a certificate; nfsbench --help lists the commands"
+    );
 }
 
 /// Does what the process's words ask for, on standard input and standard output, and gives its exit status.
@@ -31,9 +29,18 @@ where
     let status = match words_of(rt) {
         Ok(words) => {
             let reader = rt.reader();
-            tell_of_terminal(rt, &reader, words.as_slice());
+            let is_bundle = words.len() < 2;
+            let is_terminal = reader.is_terminal();
+            // At a terminal it waits.
+            if is_bundle && is_terminal {
+                tell_of_bundle(rt);
+            }
             let mut input = Stream::new(reader);
-            run_words(rt, words.as_slice(), &mut input, &mut output)
+            let status = run_words(rt, words.as_slice(), &mut input, &mut output);
+            if is_bundle && !is_terminal && status == 2 {
+                tell_of_bundle(rt);
+            }
+            status
         }
         Err(error) if error.kind() == ErrorKind::OutOfMemory => tell_want_of_memory(&mut output),
         Err(_) => tell(&mut output, b"error: a word is no text in UTF-8\n", 2),
