@@ -3,6 +3,7 @@
 mod nights;
 mod recordings;
 mod served;
+mod wrong;
 
 use nfs_relay::RelayRuntime;
 use nfsbench_engine::run_words;
@@ -70,6 +71,23 @@ fn is_answered(stream: &mut TcpStream, call: &[u8], reply: &[u8]) -> bool {
     sends(stream, call) && comes(stream, reply)
 }
 
+/// What the words of a line that was made are told, if it is with this status.
+fn told_by<R: RecordingRuntime, I: Input>(
+    rt: &R,
+    line: Result<String, AllocError>,
+    input: &mut I,
+    status: u8,
+) -> Option<Vec<u8>> {
+    let line = line.ok()?;
+    let words = line.split(' ').collect::<Vec<&str>>(rt.alloc()).ok()?;
+    let mut told = Vec::new(rt.alloc());
+    if run_words(rt, words.as_slice(), input, &mut told) == status {
+        Some(told)
+    } else {
+        None
+    }
+}
+
 /// Whether the words of a line that was made are told this, with this status.
 fn says<R: RecordingRuntime, I: Input>(
     rt: &R,
@@ -78,14 +96,37 @@ fn says<R: RecordingRuntime, I: Input>(
     text: &[u8],
     status: u8,
 ) -> bool {
-    let Ok(line) = line else {
+    match told_by(rt, line, input, status) {
+        Some(told) => told.as_slice() == text,
+        None => false,
+    }
+}
+
+/// Where the last line of a text begins, which ends with a line feed.
+fn last_line(text: &[u8]) -> usize {
+    let mut begin = 0;
+    for (place, byte) in text.iter().enumerate() {
+        let next = place.saturating_add(1);
+        if *byte == b'\n' && next < text.len() {
+            begin = next;
+        }
+    }
+    begin
+}
+
+/// Whether the last line that the words of a line that was made are told begins so, with this status.
+fn ends_with<R: RecordingRuntime>(
+    rt: &R,
+    line: Result<String, AllocError>,
+    last: &[u8],
+    status: u8,
+) -> bool {
+    let Some(told) = told_by(rt, line, &mut b"".as_slice(), status) else {
         return false;
     };
-    let Ok(words) = line.split(' ').collect::<Vec<&str>>(rt.alloc()) else {
-        return false;
-    };
-    let mut told = Vec::new(rt.alloc());
-    run_words(rt, words.as_slice(), input, &mut told) == status && told.as_slice() == text
+    let text = told.as_slice();
+    text.get(last_line(text)..)
+        .map_or(false, |line| line.starts_with(last))
 }
 
 /// Whether the recorder at a port, with these options and another port for the server, says this at its end.

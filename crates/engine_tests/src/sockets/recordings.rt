@@ -2,7 +2,7 @@
 
 use super::{comes, connect, ends, free_port, listen, port_of, sends, take_file, taps};
 use crate::histories::Happened::{Closed, Crashed, Done};
-use crate::histories::{Happened, NULL, PLAIN, file, records};
+use crate::histories::{AA, Exchange, Happened, NULL, PLAIN, file, records};
 use nfs_relay::RelayRuntime;
 use program_streams::Stream;
 use recording_command::RecordingRuntime;
@@ -12,16 +12,61 @@ use std::net::{TcpListener, TcpStream};
 use std::test::Fail;
 use std::thread::{self, JoinHandle, Scope};
 
-/// On lane 1 NULL twice, and the close.
-const ONE_LANE: &[Happened] = &[Done(1, 7, NULL), Done(1, 7, NULL), Closed(1)];
+/// What ends a connection.
+#[derive(Clone, Copy)]
+enum Ending {
+    /// The client hangs up.
+    Client,
+    /// A crash is told.
+    Crash,
+    /// The recorder ends.
+    Recorder,
+}
 
-/// On lane 1 NULL and the close, a crash, and the same on lane 2.
-const TWO_ERAS: &[Happened] = &[
-    Done(1, 7, NULL),
-    Closed(1),
-    Crashed,
-    Done(2, 7, NULL),
-    Closed(2),
+/// What clients ask on one connection after the other, and what is recorded of it.
+#[derive(Clone, Copy)]
+struct Row {
+    connections: &'static [(&'static [Exchange], Ending)],
+    options: &'static str,
+    said: &'static [u8],
+    history: &'static [Happened],
+}
+
+/// A LINK of the handle aa to the name `b` of the root, which succeeds (RFC 1813, section 3.3.15).
+const LINK: Exchange = Exchange(15, &[1, AA, 1, 0, 1, 0x6200_0000], &[0, 0, 0, 0]);
+
+const ROWS: [Row; 4] = [
+    Row {
+        connections: &[(&[NULL, NULL], Ending::Client)],
+        options: "--root 00 --lanes 1",
+        said: b"calls 2\n",
+        history: &[Done(1, 7, NULL), Done(1, 7, NULL), Closed(1)],
+    },
+    Row {
+        connections: &[(&[NULL], Ending::Crash), (&[NULL], Ending::Client)],
+        options: "--root 00",
+        said: b"calls 2\n",
+        history: &[
+            Done(1, 7, NULL),
+            Closed(1),
+            Crashed,
+            Done(2, 7, NULL),
+            Closed(2),
+        ],
+    },
+    // What has the history refused is only reported.
+    Row {
+        connections: &[(&[NULL, LINK], Ending::Client)],
+        options: "--root 00 --lanes 1",
+        said: b"calls 2\n",
+        history: &[Done(1, 7, NULL), Done(1, 7, LINK), Closed(1)],
+    },
+    Row {
+        connections: &[(&[NULL, LINK], Ending::Recorder)],
+        options: "--root 00 --lanes 1 --stop-at-outside",
+        said: b"calls 1\n",
+        history: &[Done(1, 7, NULL)],
+    },
 ];
 
 /// The ports of a recording, of its server, and of the stream that tells it of crashes.
@@ -43,52 +88,57 @@ fn connection<R: RelayRuntime>(
     Ok((client, server))
 }
 
-/// Whether NULL that one end sends so often comes to the other, and its reply comes back.
-fn exchange(alloc: Global, client: &mut TcpStream, server: &mut TcpStream, often: u32) -> bool {
-    let Ok((call, reply)) = records(alloc, 7, NULL) else {
-        return false;
-    };
-    for _ in 0..often {
-        let asked = sends(client, &call) && comes(server, &call);
-        if !asked || !sends(server, &reply) || !comes(client, &reply) {
+/// Whether each call that one end sends comes to the other, and its reply comes back.
+fn exchange(
+    alloc: Global,
+    client: &mut TcpStream,
+    server: &mut TcpStream,
+    asked: &[Exchange],
+) -> bool {
+    for exchange in asked {
+        let Ok((call, reply)) = records(alloc, 7, *exchange) else {
+            return false;
+        };
+        let is_asked = sends(client, &call) && comes(server, &call);
+        if !is_asked || !sends(server, &reply) || !comes(client, &reply) {
             return false;
         }
     }
     true
 }
 
-/// Whether a client is answered so often by the server, which then sees it hang up. Where there is a control a crash is told over it first,
-/// and both see their connections end.
+/// Whether a client is answered by the server, and the connection of both ends as it should.
 fn calls<R: RelayRuntime>(
     rt: &R,
     port: u16,
     listener: &TcpListener,
-    often: u32,
-    control: Option<&mut TcpStream>,
+    (asked, ending): (&[Exchange], Ending),
+    control: &mut TcpStream,
 ) -> bool {
     let Ok((mut client, mut server)) = connection(rt, port, listener) else {
         return false;
     };
-    let is_answered = exchange(rt.alloc(), &mut client, &mut server, often);
-    let is_ended = match control {
-        Some(control) => sends(control, b"crash\n") && ends(&mut client) && ends(&mut server),
-        None => true,
+    let is_answered = exchange(rt.alloc(), &mut client, &mut server, asked);
+    let is_ended = match ending {
+        Ending::Client => true,
+        Ending::Crash => sends(control, b"crash\n") && ends(&mut client),
+        Ending::Recorder => ends(&mut client),
     };
     drop(client);
     is_answered && is_ended && ends(&mut server)
 }
 
-/// Whether one client calls twice, or two call once each with a crash between them.
-fn come<R: RelayRuntime>(rt: &R, ports: Ports, listener: &TcpListener, crashes: bool) -> bool {
+/// Whether the clients of a row call one after the other.
+fn come<R: RelayRuntime>(rt: &R, ports: Ports, listener: &TcpListener, row: &Row) -> bool {
     let Ok(mut control) = connect(rt, ports.control) else {
         return false;
     };
-    if crashes {
-        return calls(rt, ports.tap, listener, 1, Some(&mut control))
-            && calls(rt, ports.tap, listener, 1, None);
+    for (asked, ending) in row.connections {
+        if !calls(rt, ports.tap, listener, (*asked, *ending), &mut control) {
+            return false;
+        }
     }
-    drop(control);
-    calls(rt, ports.tap, listener, 2, None)
+    true
 }
 
 /// Begins the clients and the server in a thread of their own.
@@ -97,34 +147,19 @@ fn begin<'s, E, R: RelayRuntime>(
     rt: &'s R,
     ports: Ports,
     listener: &'s TcpListener,
-    crashes: bool,
+    row: &'s Row,
 ) -> Option<JoinHandle<bool>> {
-    scope.spawn(move || come(rt, ports, listener, crashes)).ok()
+    scope.spawn(move || come(rt, ports, listener, row)).ok()
 }
 
-/// Whether two calls are recorded, of which a recording is told on a stream; with crashes until that ends, else one connection.
-fn are_tapped<R: RecordingRuntime>(
-    rt: &R,
-    ports: Ports,
-    control: &TcpListener,
-    crashes: bool,
-) -> bool {
-    let options = if crashes {
-        "--root 00"
-    } else {
-        "--root 00 --lanes 1"
-    };
+/// Whether as many calls are recorded as should be, of which a recording is told on a stream, which is its standard input.
+fn are_tapped<R: RecordingRuntime>(rt: &R, ports: Ports, control: &TcpListener, row: &Row) -> bool {
     let Ok((orders, _)) = control.accept() else {
         return false;
     };
     let mut orders = Stream::new(orders);
-    taps(
-        rt,
-        (ports.tap, ports.server),
-        options,
-        &mut orders,
-        b"calls 2\n",
-    )
+    let servers = (ports.tap, ports.server);
+    taps(rt, servers, row.options, &mut orders, row.said)
 }
 
 /// Whether what is said is recorded: the program runs on this thread, which has the files.
@@ -133,11 +168,11 @@ fn is_tapped<R: RecordingRuntime>(
     ports: Ports,
     listener: &TcpListener,
     control: &TcpListener,
-    crashes: bool,
+    row: &Row,
 ) -> bool {
     thread::scope(thread::scope_env(), rt, |scope| {
-        let came = begin(scope, rt, ports, listener, crashes);
-        let tapped = are_tapped(rt, ports, control, crashes);
+        let came = begin(scope, rt, ports, listener, row);
+        let tapped = are_tapped(rt, ports, control, row);
         match came {
             Some(came) => tapped && came.join(rt),
             None => false,
@@ -145,12 +180,8 @@ fn is_tapped<R: RecordingRuntime>(
     })
 }
 
-/// Whether just this history is recorded, with a crash or without.
-fn is_recorded<R: RecordingRuntime>(
-    rt: &R,
-    crashes: bool,
-    history: &[Happened],
-) -> io::Result<bool> {
+/// Whether just the history of a row is recorded.
+fn is_recorded<R: RecordingRuntime>(rt: &R, row: &Row) -> io::Result<bool> {
     let listener = listen(rt)?;
     let control = listen(rt)?;
     let ports = Ports {
@@ -158,9 +189,9 @@ fn is_recorded<R: RecordingRuntime>(
         server: port_of(&listener)?,
         control: port_of(&control)?,
     };
-    let is_right = is_tapped(rt, ports, &listener, &control, crashes);
+    let is_right = is_tapped(rt, ports, &listener, &control, row);
     let tapped = take_file(rt, ports.tap, "tapped")?;
-    let wanted = file(rt.alloc(), PLAIN, history)?;
+    let wanted = file(rt.alloc(), PLAIN, row.history)?;
     Ok(is_right && tapped.as_slice() == wanted.as_slice())
 }
 
@@ -169,7 +200,8 @@ fn what_clients_say_is_recorded(rt: HostRuntime) -> Result<(), Fail> {
     // The prover knows the types that a function names.
     let _listener: Option<TcpListener> = None;
     let _stream: Option<TcpStream> = None;
-    assert!(rt; is_recorded(&rt, false, ONE_LANE)?, "two calls on a lane");
-    assert!(rt; is_recorded(&rt, true, TWO_ERAS)?, "a crash");
+    for row in ROWS.iter() {
+        assert!(rt; is_recorded(&rt, row)?, "{}", row.options);
+    }
     Ok(())
 }

@@ -38,7 +38,7 @@ const MOUNTING: (&[u8], &[u8]) = (
 );
 
 /// A plain history without a call, of a server that held a file `a` of three bytes at first (`docs/FORMATS.md`, version 2).
-const START: &[u8] = b"NFSHIST2\0\0\0\0\0\0\0\0\0\0\0\x01\
+pub(super) const START: &[u8] = b"NFSHIST2\0\0\0\0\0\0\0\0\0\0\0\x01\
       \0\0\0\0\0\0\0\0\0\0\0\x01a\0\0\0\0\0\0\x01\0\0\0\x03abc\0\0\0\0\0";
 
 /// A READ of the file, which gives its attributes too (RFC 1813, sections 3.3.6 and 2.6).
