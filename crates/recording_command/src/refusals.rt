@@ -45,6 +45,15 @@ impl Known {
         }
     }
 
+    /// How many events a history has that ends before the first refused call was sent; none where no call is refused, or none is known.
+    fn kept(&self) -> Option<u64> {
+        if self.refused == 0 {
+            None
+        } else {
+            Some(self.front.kept())
+        }
+    }
+
     /// Takes some events more, and reports the calls that are refused. Whether there were any.
     fn take<R: RelayRuntime>(&mut self, rt: &R, relay: &Relay) -> Result<bool, AllocError> {
         let log = relay.log().lock(rt);
@@ -159,7 +168,10 @@ impl Refusals {
         if !self.is_end {
             return events;
         }
-        let kept = self.known.lock(rt).front.kept();
-        events.get(..kept as usize).unwrap_or(events)
+        let kept = self.known.lock(rt).kept();
+        match kept {
+            Some(count) => events.get(..count as usize).unwrap_or(events),
+            None => events,
+        }
     }
 }
