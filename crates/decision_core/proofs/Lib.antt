@@ -7,4 +7,5 @@ pub mod OneEvent
 pub mod SpanLaws
 pub mod ErasWalk
 pub mod Skipping
+pub mod Past
 mod ErasExample

@@ -58,7 +58,7 @@ others_without n (m ∷ order) = elim (cases_eq m n) [
 ]
 
 -- what is among the calls is told as placed
-among_told : (calls : List ℕ) (m : ℕ) → IsAmong calls m → list_any (λ k. k == m) calls ≡ true
+pub among_told : (calls : List ℕ) (m : ℕ) → IsAmong calls m → list_any (λ k. k == m) calls ≡ true
 among_told [] m among = absurd among
 among_told (k ∷ calls) m (inl same) = ap (λ b. b || list_any (λ j. j == m) calls) (eq-eqb k m same)
 among_told (k ∷ calls) m (inr among) = or_right (k == m) (list_any (λ j. j == m) calls) (among_told calls m among)

@@ -6,5 +6,6 @@ pub mod Events
 pub mod Walked
 pub mod Spanned
 pub mod Eras
+pub mod Past
 pub mod ErasExample
 pub mod Register

@@ -7,7 +7,7 @@ ghost use Rattle.decision_core.specs.Events.{Tells, IsAdded, IsWithout, IsAnswer
 ghost use Rattle.decision_core.specs.Walked.{NamesAnswer, IfNoWitness, HasState};
 
 use crate::extending::{extend, forget_in_all, settle_all};
-use crate::machine::{Limits, Machine, Stop};
+use crate::machine::{Machine, Stop, Watch};
 use std::alloc::Global;
 
 /// An event of a history.
@@ -73,39 +73,35 @@ fn and_call<R: Drop>(alloc: Global, calls: &[u64], n: u64) -> Result<Vec<u64>, S
 }
 
 /// What the answer of a call makes of the states and of the open calls.
-fn take_answer<M: Machine>(
+fn take_answer<M: Machine, W: Watch>(
     alloc: Global,
     machine: &M,
-    work: &mut M::Work,
     states: Vec<M::State>,
     waiting: Vec<u64>,
     n: u64,
-    limits: &mut Limits,
+    most: usize,
+    watch: &mut W,
 ) -> Result<(Vec<M::State>, Vec<u64>), Stop<M::Reason>>
-    requires { M.Fits machine.now work.old }
-    ensures fits { M.Fits machine.now work.new }
-    ensures answer { IfOk result (λ pair. IsAnswerStep (M.StandsFor machine.now) (M.placed machine.now) (M.Next machine.now) n waiting.items pair.1.items states.items pair.0.items) }
+    ensures { IfOk result (λ pair. IsAnswerStep (M.StandsFor machine.now) (M.placed machine.now) (M.Next machine.now) n waiting.items pair.1.items states.items pair.0.items) }
 {
     let left = others(alloc, waiting.as_slice(), n)?;
     let calls = and_call(alloc, left.as_slice(), n)?;
-    let extended = extend(alloc, machine, work, states, calls.as_slice(), n, limits)?;
-    let after = forget_in_all(alloc, machine, work, extended, n, limits)?;
+    let extended = extend(alloc, machine, states, calls.as_slice(), n, most, watch)?;
+    let after = forget_in_all(alloc, machine, extended, n, most)?;
     Ok((after, left))
 }
 
 /// What one event makes of them.
-fn take_event<M: Machine>(
+fn take_event<M: Machine, W: Watch>(
     alloc: Global,
     machine: &M,
-    work: &mut M::Work,
     states: Vec<M::State>,
     waiting: Vec<u64>,
     event: Event,
-    limits: &mut Limits,
+    most: usize,
+    watch: &mut W,
 ) -> Result<(Vec<M::State>, Vec<u64>), Stop<M::Reason>>
-    requires { M.Fits machine.now work.old }
-    ensures fits { M.Fits machine.now work.new }
-    ensures event { IfOk result (λ pair. IsEventStep (M.StandsFor machine.now) (M.placed machine.now) (M.Next machine.now) event waiting.items pair.1.items states.items pair.0.items) }
+    ensures { IfOk result (λ pair. IsEventStep (M.StandsFor machine.now) (M.placed machine.now) (M.Next machine.now) event waiting.items pair.1.items states.items pair.0.items) }
 {
     match event {
         Event::Called(n) => {
@@ -113,11 +109,11 @@ fn take_event<M: Machine>(
             if waiting.push(n).is_err() {
                 return Err(Stop::NoMemory);
             }
-            let settled = settle_all(alloc, machine, work, states, n, limits)?;
+            let settled = settle_all(alloc, machine, states, n, most)?;
             Ok((settled, waiting))
         }
-        Event::Answered(n) => take_answer(alloc, machine, work, states, waiting, n, limits),
-        Event::AtOnce(n) => take_answer(alloc, machine, work, states, waiting, n, limits),
+        Event::Answered(n) => take_answer(alloc, machine, states, waiting, n, most, watch),
+        Event::AtOnce(n) => take_answer(alloc, machine, states, waiting, n, most, watch),
         Event::Passed => Ok((states, waiting)),
     }
 }
@@ -138,42 +134,34 @@ fn call_unexplained<S>(event: Event, states: &[S]) -> Option<u64>
     }
 }
 
-/// Walks the events with states that stand for all that a plan can have come to. The first answer that leaves none is told: then no
-/// order of the calls is a witness, under any plan. Nothing is said where states are left.
-pub fn decide<M: Machine>(
+/// Walks the events with states that stand for all that a plan can have come to, of which there may be so many at once. It reports the first
+/// answer that leaves none: then no order of the calls is a witness, under any plan. Nothing is said where states are left.
+pub fn decide<M: Machine, W: Watch>(
     alloc: Global,
     machine: &M,
     events: &[Event],
-    limits: Limits,
+    most: usize,
+    watch: &mut W,
 ) -> Result<Walked<M::State>, Stop<M::Reason>>
     ensures answer { IfOk result (NamesAnswer events.now) }
     ensures left { IfOk result HasState }
     ensures none { IfOk result (IfNoWitness ((plan : M.Plan) (times : Times) → Tells times events.now
         → (order : List ℕ) → ¬ IsWitness (M.placed machine.now) (M.Next machine.now plan) times (M.first machine.now plan) order)) }
 {
-    let mut limits = limits;
-    let mut work = machine.work();
     let mut states = Vec::new(alloc);
     if states.push(machine.opening()?).is_err() {
         return Err(Stop::NoMemory);
     }
     let mut waiting = Vec::new(alloc);
     for (index, event) in events.iter().enumerate() {
-        let (after, left) = take_event(
-            alloc,
-            machine,
-            &mut work,
-            states,
-            waiting,
-            *event,
-            &mut limits,
-        )?;
+        let (after, left) = take_event(alloc, machine, states, waiting, *event, most, watch)?;
         if let Some(call) = call_unexplained(*event, after.as_slice()) {
             return Ok(Walked::NoWitness {
                 event: index,
                 call: call,
             });
         }
+        watch.see(index, after.len());
         states = after;
         waiting = left;
     }

@@ -6,22 +6,22 @@ ghost use Rattle.decision_core.specs.States.{Replaces, Forgets, TellsPlaced, Has
 
 use std::alloc::AllocError;
 
-/// How much a walk may do.
-#[derive(Clone, Copy)]
-pub struct Limits {
-    /// How many states may stand at once.
-    pub states: usize,
-    /// How many times a call may be placed in a state.
-    pub steps: u64,
+/// Sees how far a walk has come, and may end it. Nothing that is said of a walk depends on it.
+pub trait Watch {
+    /// Whether the walk is to end undecided. It is asked each time before calls are placed in a state.
+    fn is_over(&mut self) -> bool;
+
+    /// Takes note of how many states are left after an event, from 0.
+    fn see(&mut self, event: usize, states: usize);
 }
 
 /// Why a walk ends undecided, or that there is no memory.
 #[derive(Drop)]
 pub enum Stop<R> {
-    /// More states would stand at once than may.
+    /// There would be more states at once than may be.
     TooManyStates,
-    /// More steps would be taken than may.
-    TooManySteps,
+    /// The watch ended it.
+    Ended,
     /// The machine doesn't decide a step, for this reason.
     NotCovered(R),
     /// There is no memory.
@@ -47,9 +47,6 @@ pub trait Machine {
     /// Why the machine doesn't decide a step.
     type Reason: Drop;
 
-    /// What a walk works in, whichever of its states it is at. Nothing that is said of the states depends on it.
-    type Work: Drop;
-
     // What a plan fixes and the walk leaves open.
     ghost Plan: { Type 0 };
 
@@ -68,16 +65,9 @@ pub trait Machine {
     // The state stands for a plan's point, where it may have forgotten of these calls whether they are placed.
     ghost StandsFor: { Self → Plan → (ℕ → Bool) → Point → Self.State → Type 0 };
 
-    // The machine can go on working in this.
-    ghost Fits: { Self → Self.Work → Type 0 };
-
     /// The state that stands for where each plan begins.
     fn opening(&self) -> Result<Self::State, Stop<Self::Reason>>
         ensures { IfOk result (λ state. (plan : Plan) → StandsFor self.now plan (λ _. false) (first self.now plan) state) };
-
-    /// What a walk works in at first.
-    fn work(&self) -> Self::Work
-        ensures { Fits self.now result };
 
     /// Whether a call is placed that can't be forgotten.
     fn is_placed(&self, state: &Self::State, n: u64) -> bool
@@ -86,35 +76,23 @@ pub trait Machine {
     /// States for all that placing one of these calls may lead to, where it isn't placed yet.
     fn step_each(
         &self,
-        work: &mut Self::Work,
         state: &Self::State,
         calls: &[u64],
     ) -> Result<Vec<Self::State>, Stop<Self::Reason>>
-        requires { Fits self.now work.old }
-        ensures fits { Fits self.now work.new }
-        ensures states { IfOk result (λ states. HasSteps (StandsFor self.now) (placed self.now) (Next self.now) states.items calls.now state.now) };
+        ensures { IfOk result (λ states. HasSteps (StandsFor self.now) (placed self.now) (Next self.now) states.items calls.now state.now) };
 
     /// The state, in which those of these calls are placed that may as well be placed at once: whatever a plan goes on with, it goes on
     /// with after them.
-    fn settle(
-        &self,
-        work: &mut Self::Work,
-        state: Self::State,
-        calls: &[u64],
-    ) -> Result<Self::State, Stop<Self::Reason>>
-        requires { Fits self.now work.old }
-        ensures fits { Fits self.now work.new }
-        ensures settled { IfOk result (Settles (StandsFor self.now) (placed self.now) (Next self.now) calls.now state) };
+    fn settle(&self, state: Self::State, calls: &[u64]) -> Result<Self::State, Stop<Self::Reason>>
+        ensures { IfOk result (Settles (StandsFor self.now) (placed self.now) (Next self.now) calls.now state) };
 
     /// The state, which need not know of this call any more whether it is placed. It isn't asked again.
     fn forget(&self, state: Self::State, n: u64) -> Self::State
         ensures { Forgets (StandsFor self.now) n state result };
 
     /// Whether the second state stands for all that the first stands for.
-    fn is_same(&self, work: &mut Self::Work, state: &Self::State, other: &Self::State) -> bool
-        requires { Fits self.now work.old }
-        ensures fits { Fits self.now work.new }
-        ensures same { IsTrue result → Replaces (StandsFor self.now) state.now other.now };
+    fn is_same(&self, state: &Self::State, other: &Self::State) -> bool
+        ensures { IsTrue result → Replaces (StandsFor self.now) state.now other.now };
 
     /// A number that is the same of states that are the same. Where it isn't, more states are kept than need be.
     fn hash(&self, state: &Self::State) -> u64;

@@ -96,8 +96,6 @@ impl Machine for RegisterMachine {
 
     type Reason = ();
 
-    type Work = ();
-
     ghost Plan = { Unit {0} };
 
     ghost Point = { RegisterState };
@@ -110,24 +108,15 @@ impl Machine for RegisterMachine {
 
     ghost StandsFor = { λ _ _ _. StandsForItself };
 
-    ghost Fits = { λ _ _. Unit {0} };
-
     fn opening(&self) -> Result<Register, Stop<()>> {
         Ok(Register::new(self.alloc))
     }
-
-    fn work(&self) {}
 
     fn is_placed(&self, state: &Register, n: u64) -> bool {
         state.has(n)
     }
 
-    fn step_each(
-        &self,
-        _work: &mut (),
-        state: &Register,
-        calls: &[u64],
-    ) -> Result<Vec<Register>, Stop<()>> {
+    fn step_each(&self, state: &Register, calls: &[u64]) -> Result<Vec<Register>, Stop<()>> {
         let mut states = Vec::new(self.alloc);
         for call in calls {
             put_step(&mut states, state, *call)?;
@@ -135,12 +124,7 @@ impl Machine for RegisterMachine {
         Ok(states)
     }
 
-    fn settle(
-        &self,
-        _work: &mut (),
-        state: Register,
-        _calls: &[u64],
-    ) -> Result<Register, Stop<()>> {
+    fn settle(&self, state: Register, _calls: &[u64]) -> Result<Register, Stop<()>> {
         Ok(state)
     }
 
@@ -148,7 +132,7 @@ impl Machine for RegisterMachine {
         state
     }
 
-    fn is_same(&self, _work: &mut (), state: &Register, other: &Register) -> bool {
+    fn is_same(&self, state: &Register, other: &Register) -> bool {
         state.value == other.value && state.calls == other.calls
     }
 

@@ -4,7 +4,7 @@ ghost use Rattle.std.specs.Prelude.{◌≡◌, Contains, IfOk, IsTrue};
 ghost use Rattle.decision_core.specs.States.{HasFor};
 ghost use Rattle.decision_core.specs.Layers.{Grows};
 
-use crate::machine::{Limits, Machine, Stop};
+use crate::machine::{Machine, Stop};
 use std::alloc::Global;
 use std::collections::BTreeMap;
 
@@ -29,16 +29,8 @@ pub(crate) fn no_states<S: Drop>(alloc: Global) -> States<S> {
 }
 
 /// Whether a state is there that is the same.
-fn has_same<M: Machine>(
-    machine: &M,
-    work: &mut M::Work,
-    states: &States<M::State>,
-    state: &M::State,
-    hash: u64,
-) -> bool
-    requires { M.Fits machine.now work.old }
-    ensures fits { M.Fits machine.now work.new }
-    ensures same { IsTrue result → HasFor (M.StandsFor machine.now) states.now.items.items state.now }
+fn has_same<M: Machine>(machine: &M, states: &States<M::State>, state: &M::State, hash: u64) -> bool
+    ensures { IsTrue result → HasFor (M.StandsFor machine.now) states.now.items.items state.now }
 {
     let mut at = states.latest.get(&hash).copied();
     for _ in 0..states.items.len() {
@@ -48,7 +40,7 @@ fn has_same<M: Machine>(
         let Some(other) = states.items.get(place) else {
             return false;
         };
-        if machine.is_same(work, state, other) {
+        if machine.is_same(state, other) {
             return true;
         }
         at = ahead_of(&states.ahead, place);
@@ -65,21 +57,18 @@ fn ahead_of(ahead: &[Option<usize>], place: usize) -> Option<usize> {
 /// Puts a state there, unless the same one is.
 pub(crate) fn put<M: Machine>(
     machine: &M,
-    work: &mut M::Work,
     states: &mut States<M::State>,
     state: M::State,
-    limits: &Limits,
+    most: usize,
 ) -> Result<(), Stop<M::Reason>>
-    requires { M.Fits machine.now work.old }
-    ensures fits { M.Fits machine.now work.new }
-    ensures there { IfOk result (λ _. Grows states.old.items.items states.new.items.items × HasFor (M.StandsFor machine.now) states.new.items.items state) }
+    ensures { IfOk result (λ _. Grows states.old.items.items states.new.items.items × HasFor (M.StandsFor machine.now) states.new.items.items state) }
 {
     let hash = machine.hash(&state);
-    if has_same(machine, work, states, &state, hash) {
+    if has_same(machine, states, &state, hash) {
         return Ok(());
     }
     let place = states.items.len();
-    if place >= limits.states {
+    if place >= most {
         return Err(Stop::TooManyStates);
     }
     if note(states, hash, place).is_err() {

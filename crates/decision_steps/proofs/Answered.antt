@@ -9,70 +9,67 @@ use Rattle.tree_handles.specs.Binding.{Bindings}
 use Rattle.file_tree.specs.Setting.{under}
 use Rattle.decision_steps.specs.declared.fault.PlaceFault.{PlaceFault}
 use Rattle.decision_steps.specs.declared.fault.PlaceFault.TheVariants.{NotLegal, HandleNotGiven, NoMemory}
-use Rattle.decision_steps.specs.declared.state.State.{State}
+use Rattle.decision_steps.specs.Standing.{Standing}
 use Rattle.decision_steps.specs.Known.{AgreesWith, knows_handles, is_failure}
 use Rattle.decision_steps.specs.Given.{given}
 use Rattle.decision_steps.specs.Bound.{with_handles}
-use Rattle.decision_steps.specs.Placing.{Covers}
+use Rattle.decision_steps.specs.Placing.{placed_in, Covers}
 use Rattle.decision_steps.proofs.Covering.{Follows, follows}
-use Rattle.decision_steps.proofs.Unknown.{under_keeps}
+use Rattle.decision_steps.proofs.Placed.{after_is}
+use Rattle.decision_steps.proofs.Unknown.{under_keeps, failure_given}
 
 module _ (profile : Profile) (known plan : Bindings) (tree after : Tree) (number : ℕ) (call : NfsCall) (outcome : Outcome) (agrees : AgreesWith known plan)
     (knows : knows_handles known call ≡ true) (leads : under profile plan tree number call outcome ≡ Some after) where
   plan_follows : Follows profile known plan tree after number call outcome
   plan_follows = follows profile known plan tree after number call outcome agrees knows leads
 
-  -- where the reply's handles can't be bound there is no such plan
-  pub unbound_covers : {S : Type 0} (result : Result S PlaceFault) (before state : State) (fault : PlaceFault) → result ≡ Err fault
-      → (fault ≡ NotLegal → with_handles known (given known tree number call outcome) ≡ None) → (fault ≡ HandleNotGiven → ⊥) → Covers result before call state plan after
-  unbound_covers {S} result before state fault is refused decided = subst (λ (r : Result S PlaceFault). Covers r before call state plan after) (sym is) (go fault refused decided) where
-    differ : (o : Option Bindings) (more : Bindings) → o ≡ Some more → o ≡ None → ⊥
-    differ o more some none = cc
+  differ : {X : Type 0} (o : Option X) (x : X) → o ≡ Some x → o ≡ None → ⊥
+  differ o x some none = cc
 
-    go : (fault : PlaceFault) → (fault ≡ NotLegal → with_handles known (given known tree number call outcome) ≡ None) → (fault ≡ HandleNotGiven → ⊥) → Covers {S = S} (Err fault) before call state plan after
-    go NotLegal refused decided = differ (with_handles known (given known tree number call outcome)) plan_follows.more plan_follows.is (refused refl)
-    go HandleNotGiven refused decided = absurd (decided refl)
-    go NoMemory refused decided = tt
+  same_some : {X : Type 0} (o : Option X) (x y : X) → o ≡ Some x → o ≡ Some y → x ≡ y
+  same_some o x y is other = cc
+
+  -- where the reply's handles can't be bound there is no such plan
+  pub are_taken : with_handles known (given known tree number call outcome) ≡ None → ⊥
+  are_taken none = differ (with_handles known (given known tree number call outcome)) plan_follows.more plan_follows.is none
 
   -- where they are bound, the tree's step is the plan's
-  pub stepped_covers : {S : Type 0} (result : Result S PlaceFault) (before state : State) (more : Bindings) (between : Tree) → between ≡ tree
-      → with_handles known (given known tree number call outcome) ≡ Some more → state.binds ≡ more
-      → OnOk result (under profile more between number call outcome ≡ Some state.tree) → (result ≡ Err NotLegal → under profile more between number call outcome ≡ None)
-      → (result ≡ Err HandleNotGiven → ⊥) → Covers result before call state plan after
-  stepped_covers {S} result before state more between stays bound binds stepped refused decided = go result stepped refused decided where
-    same_some : {X : Type 0} (o : Option X) (x y : X) → o ≡ Some x → o ≡ Some y → x ≡ y
-    same_some o x y is other = cc
-
+  module _ (more : Bindings) (bound : with_handles known (given known tree number call outcome) ≡ Some more) where
     same : plan_follows.more ≡ more
     same = same_some (with_handles known (given known tree number call outcome)) plan_follows.more more plan_follows.is bound
 
-    here : under profile more between number call outcome ≡ Some after
-    here =
-        ap (λ (t : Tree). under profile more t number call outcome) stays ∙ subst (λ (b : Bindings). under profile b tree number call outcome ≡ Some after) same plan_follows.leads
+    here : under profile more tree number call outcome ≡ Some after
+    here = subst (λ (b : Bindings). under profile b tree number call outcome ≡ Some after) same plan_follows.leads
 
-    differ : (o : Option Tree) → o ≡ Some after → o ≡ None → ⊥
-    differ o some none = cc
+    pub is_stepped : under profile more tree number call outcome ≡ None → ⊥
+    is_stepped none = differ (under profile more tree number call outcome) after here none
 
-    go : (result : Result S PlaceFault) → OnOk result (under profile more between number call outcome ≡ Some state.tree) → (result ≡ Err NotLegal → under profile more between number call outcome ≡ None)
-        → (result ≡ Err HandleNotGiven → ⊥) → Covers result before call state plan after
-    go (Ok step) stepped refused decided =
-        (same_some (under profile more between number call outcome) state.tree after stepped here, subst (λ (b : Bindings). AgreesWith b plan) (same ∙ sym binds) plan_follows.agrees)
-    go (Err NotLegal) stepped refused decided = differ (under profile more between number call outcome) here (refused refl)
-    go (Err HandleNotGiven) stepped refused decided = absurd (decided refl)
-    go (Err NoMemory) stepped refused decided = tt
+    pub stepped_covers : (next : Tree) → under profile more tree number call outcome ≡ Some next → (next ≡ after) × AgreesWith more plan
+    stepped_covers next is = (same_some (under profile more tree number call outcome) next after is here, subst (λ (b : Bindings). AgreesWith b plan) same plan_follows.agrees)
+
+-- an error that isn't one of these two says nothing
+pub fault_covers : (result : Result Standing PlaceFault) (before : Standing) (call : NfsCall) (plan : Bindings) (after : Tree) (fault : PlaceFault) → result ≡ Err fault → (fault ≡ NotLegal → ⊥) → (fault ≡ HandleNotGiven → ⊥)
+    → Covers result before call plan after
+fault_covers result before call plan after fault is refused decided = subst (λ r. Covers r before call plan after) (sym is) (go fault refused decided) where
+  go : (fault : PlaceFault) → (fault ≡ NotLegal → ⊥) → (fault ≡ HandleNotGiven → ⊥) → Covers (Err fault) before call plan after
+  go NotLegal refused decided = refused refl
+  go HandleNotGiven refused decided = absurd (decided refl)
+  go NoMemory refused decided = tt
 
 -- ---- calls of handles that aren't bound
 
 module _ (profile : Profile) (known plan : Bindings) (tree after : Tree) (number : ℕ) (call : NfsCall) (outcome : Outcome) (agrees : AgreesWith known plan)
     (leads : under profile plan tree number call outcome ≡ Some after) (fails : is_failure outcome ≡ true) where
   -- a failure that is permitted without them leaves the tree, as it does by the plan
-  pub kept_covers : (state : State) → state.binds ≡ known → under profile known tree number call outcome ≡ Some state.tree → (state.tree ≡ after) × AgreesWith state.binds plan
+  pub kept_covers : (state : Standing) → state.binds ≡ known → under profile known tree number call outcome ≡ Some state.tree → (state.tree ≡ after) × AgreesWith state.binds plan
   kept_covers state binds stepped = (
     sym (under_keeps profile known tree state.tree number call outcome fails stepped) ∙ under_keeps profile plan tree after number call outcome fails leads,
     subst (λ (b : Bindings). AgreesWith b plan) (sym binds) agrees,
   )
 
--- ---- a step taken back
-
-pub state_is : (state before : State) → state.tree ≡ before.tree → state.binds ≡ before.binds → state ≡ before
-state_is state before tree binds = λ i. record { tree = tree i; binds = binds i }
+-- so it is what placing comes to
+pub kept_placed : (profile : Profile) (state next : Standing) (number : ℕ) (call : NfsCall) (outcome : Outcome) → is_failure outcome ≡ true → next.binds ≡ state.binds
+    → under profile state.binds state.tree number call outcome ≡ Some next.tree → placed_in profile state number call outcome ≡ Some next
+kept_placed profile state next number call outcome fails binds stepped =
+    after_is profile state next number call outcome (ap (with_handles state.binds) (failure_given state.binds state.tree number call outcome fails) ∙ ap Some (sym binds))
+    (ap (λ (b : Bindings). under profile b state.tree number call outcome) binds ∙ stepped)

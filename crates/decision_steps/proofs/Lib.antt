@@ -5,6 +5,5 @@ pub mod Replies
 pub mod Steps
 pub mod Covering
 pub mod Unknown
-pub mod Adding
 pub mod Placed
 pub mod Answered

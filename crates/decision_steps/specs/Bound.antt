@@ -1,7 +1,8 @@
 -- Believed.
--- handles that are bound behind others, and let go again
-use Rattle.std.specs.Prelude.{◌≡◌, ℕ, ◌==◌, Bool, if◌then◌else◌, List, [], ◌∷◌, ◌++◌, Option, Some, None, option_and_then}
-use Rattle.std.specs.List.{list_all}
+-- handles that are bound after others
+use Rattle.std.specs.Prelude.{ℕ, ◌==◌, Bool, false, not, if◌then◌else◌, List, [], ◌∷◌, ◌++◌, Option, Some, None, option_and_then}
+use Rattle.std.specs.Option.{option_map_or}
+use Rattle.std.specs.List.{list_all, list_any}
 use Rattle.tree_handles.specs.Binding.{Bindings, object_of, is_bound}
 
 -- pairs behind those that stand
@@ -25,12 +26,10 @@ with_handles known (pair ∷ pairs) = option_and_then (λ more. with_handles mor
 abbrev pub are_bound : Bindings → List (List ℕ × ℕ) → Bool
 are_bound binds pairs = list_all (λ pair. is_bound binds pair.0 pair.1) pairs
 
--- none of these handles was bound before it, one behind the other
-abbrev pub AreNew : Bindings → List (List ℕ × ℕ) → Type 0
-AreNew known [] = Unit {0}
-AreNew known (pair ∷ pairs) = (object_of known pair.0 ≡ None) × AreNew (bound_behind known (pair ∷ [])) pairs
+-- whether a pair's handle names another object
+abbrev pub names_other : Bindings → List ℕ × ℕ → Bool
+names_other binds pair = option_map_or (λ object. not (object == pair.1)) (object_of binds pair.0) false
 
--- these handles were bound behind those that stood before, which hadn't them
-pub record Adds (before : Bindings) (pairs : List (List ℕ × ℕ)) (after : Bindings) : Type 0 where
-  pub is : after ≡ bound_behind before pairs
-  pub new : AreNew before pairs
+-- whether one of these pairs' does
+abbrev pub has_other : Bindings → List (List ℕ × ℕ) → Bool
+has_other binds pairs = list_any (names_other binds) pairs

@@ -1,55 +1,23 @@
-//! Binding the handles that a reply gives, and letting them go again.
+//! Binding the handles that a reply gives.
 
-ghost use Rattle.std.specs.Prelude.{◌≡◌, [], ◌∷◌, None, Some, Err, OnOk, OnErr};
-ghost use Rattle.tree_handles.specs.Binding.{Bindings, object_of};
-ghost use Rattle.decision_steps.specs.Bound.{bound_behind, with_handle, with_handles, are_bound, Adds};
-ghost use Rattle.decision_steps.specs.Listed.{given_pair, given_pairs, bound_pairs};
+ghost use Rattle.std.specs.Prelude.{◌≡◌, None, Some, Err, IfOk, OnOk};
+ghost use Rattle.std.specs.Arc.{arc_value};
+ghost use Rattle.decision_steps.specs.Bound.{with_handle, with_handles, are_bound, names_other, has_other};
+ghost use Rattle.decision_steps.specs.Listed.{given_pair, given_pairs};
 ghost use Rattle.decision_steps.specs.declared.fault.PlaceFault.TheVariants.{NotLegal, HandleNotGiven};
 
 use crate::fault::PlaceFault;
 use crate::given::GivenHandle;
-use nfs3_types::FileHandle;
-use std::alloc::AllocError;
+use crate::stubs::copy_of;
+use std::alloc::Global;
+use std::sync::Arc;
 use tree_handles::Binds;
 
-/// A handle that was bound, with its object.
-#[derive(Drop)]
-pub struct BoundHandle {
-    /// The handle.
-    pub handle: FileHandle,
-    /// The number of the object.
-    pub object: u64,
-}
-
-/// Binds a handle that isn't bound.
-pub(crate) fn bind_new(
-    binds: &mut Binds,
-    given: &GivenHandle<'_>,
-    bound: &mut Vec<BoundHandle>,
-) -> Result<(), AllocError>
-    requires { object_of binds.old given.now.handle.now ≡ None }
-    ensures ok { OnOk result (binds.new ≡ bound_behind binds.old (given_pair given.now ∷ [])) }
-    ensures adds { (before : Bindings) → Adds before (bound_pairs bound.old.items) binds.old → Adds before (bound_pairs bound.new.items) binds.new }
-    ensures err { OnErr result (binds.new ≡ binds.old) }
-{
-    let handle = given.handle.clone()?;
-    bound.reserve(1)?;
-    binds.push(given.handle.as_slice(), given.object)?;
-    let object = given.object;
-    bound.push(BoundHandle { handle, object }).unwrap();
-    Ok(())
-}
-
 /// Binds a handle where it isn't bound: one that names another object can't be given.
-fn bind(
-    binds: &mut Binds,
-    given: &GivenHandle<'_>,
-    bound: &mut Vec<BoundHandle>,
-) -> Result<(), PlaceFault>
+fn bind(binds: &mut Binds, given: &GivenHandle<'_>) -> Result<(), PlaceFault>
     ensures ok { OnOk result (with_handle binds.old (given_pair given.now) ≡ Some binds.new) }
     ensures not_legal { result ≡ Err NotLegal → with_handle binds.old (given_pair given.now) ≡ None }
     ensures decided { result ≡ Err HandleNotGiven → ⊥ }
-    ensures adds { (before : Bindings) → Adds before (bound_pairs bound.old.items) binds.old → Adds before (bound_pairs bound.new.items) binds.new }
 {
     match binds.object(given.handle.as_slice()) {
         Some(object) => {
@@ -59,45 +27,76 @@ fn bind(
                 Err(PlaceFault::NotLegal)
             }
         }
-        None => Ok(bind_new(binds, given, bound)?),
+        None => Ok(binds.push(given.handle.as_slice(), given.object)?),
     }
 }
 
-/// Binds the handles that a reply gives. What was bound so far stays in the list where it ends early.
-pub(crate) fn bind_all(
-    binds: &mut Binds,
-    given: &[GivenHandle<'_>],
-    bound: &mut Vec<BoundHandle>,
-) -> Result<(), PlaceFault>
+/// Binds handles one after the other.
+fn bind_all(binds: &mut Binds, given: &[GivenHandle<'_>]) -> Result<(), PlaceFault>
     ensures ok { OnOk result (with_handles binds.old (given_pairs given.now) ≡ Some binds.new) }
     ensures not_legal { result ≡ Err NotLegal → with_handles binds.old (given_pairs given.now) ≡ None }
     ensures decided { result ≡ Err HandleNotGiven → ⊥ }
-    ensures adds { (before : Bindings) → Adds before (bound_pairs bound.old.items) binds.old → Adds before (bound_pairs bound.new.items) binds.new }
 {
     for given in given {
-        bind(binds, given, bound)?;
+        bind(binds, given)?;
     }
     Ok(())
 }
 
-/// Lets handles go that were bound one behind the other, the last one first.
-pub(crate) fn forget_all(binds: &mut Binds, bound: Vec<BoundHandle>)
-    ensures { (before : Bindings) → Adds before (bound_pairs bound.items) binds.old → binds.new ≡ before }
-{
-    let mut bound = bound;
-    while let Some(last) = bound.pop() {
-        binds.forget(last.handle.as_slice());
-    }
-}
-
 /// Whether each of these handles is bound to its object.
-pub(crate) fn are_bound(binds: &Binds, bound: &[BoundHandle]) -> bool
-    ensures { result ≡ are_bound binds.now (bound_pairs bound.now) }
+pub(crate) fn are_bound(binds: &Binds, given: &[GivenHandle<'_>]) -> bool
+    ensures { result ≡ are_bound binds.now (given_pairs given.now) }
 {
-    for one in bound {
+    for one in given {
         if binds.object(one.handle.as_slice()) != Some(one.object) {
             return false;
         }
     }
     true
+}
+
+/// Whether a handle is bound to another object.
+fn names_other(binds: &Binds, given: &GivenHandle<'_>) -> bool
+    ensures { result ≡ names_other binds.now (given_pair given.now) }
+{
+    match binds.object(given.handle.as_slice()) {
+        Some(object) => object != given.object,
+        None => false,
+    }
+}
+
+/// Whether one of these handles is.
+fn has_other(binds: &Binds, given: &[GivenHandle<'_>]) -> bool
+    ensures { result ≡ has_other binds.now (given_pairs given.now) }
+{
+    for one in given {
+        if names_other(binds, one) {
+            return true;
+        }
+    }
+    false
+}
+
+/// What binds what was bound, and the handles that a reply gives. Nothing is copied where they were bound.
+pub(crate) fn bound_with(
+    alloc: Global,
+    binds: &Arc<Binds, Global>,
+    given: &[GivenHandle<'_>],
+) -> Result<Arc<Binds, Global>, PlaceFault>
+    ensures ok { IfOk result (λ more. with_handles (arc_value binds.now) (given_pairs given.now) ≡ Some (arc_value more)) }
+    ensures not_legal { result ≡ Err NotLegal → with_handles (arc_value binds.now) (given_pairs given.now) ≡ None }
+    ensures decided { result ≡ Err HandleNotGiven → ⊥ }
+{
+    if are_bound(binds, given) {
+        return Ok(binds.clone()?);
+    }
+    if has_other(binds, given) {
+        return Err(PlaceFault::NotLegal);
+    }
+    let mut more = copy_of(binds)?;
+    bind_all(&mut more, given)?;
+    match Arc::new(alloc, more) {
+        Ok(more) => Ok(more),
+        Err(_) => Err(PlaceFault::NoMemory),
+    }
 }

@@ -7,9 +7,9 @@ mod fault;
 mod given;
 mod law;
 mod state;
+mod stubs;
 
 pub use asked::{is_failure, knows_handles};
-pub use binding::BoundHandle;
 pub use fault::PlaceFault;
 pub use law::a_state_stands_for_its_plans;
-pub use state::{State, Step};
+pub use state::State;

@@ -1,37 +1,34 @@
-//! A state of a walk, in which calls are placed, one after the other, and taken back.
+//! A state of a walk, in which calls are placed.
 
-ghost use Rattle.std.specs.Prelude.{◌≡◌, false, [], None, Some, Err, IfOk, OnOk, OnErr, IsTrue};
+ghost use Rattle.std.specs.Prelude.{◌≡◌, ℕ, List, false, [], None, Some, Err, IfOk, IsTrue};
+ghost use Rattle.std.specs.Arc.{arc_value};
 ghost use Rattle.tree_nodes.specs.Tree.{Tree};
-ghost use Rattle.tree_nodes.specs.Undo.{TakesBack};
 ghost use Rattle.tree_handles.specs.Binding.{Bindings, object_of};
 ghost use Rattle.file_tree.specs.Setting.{under};
 ghost use Rattle.file_tree.specs.StartTree.{start_tree};
 ghost use Rattle.decision_steps.specs.Known.{AgreesWith, knows_handles};
-ghost use Rattle.decision_steps.specs.Given.{given};
-ghost use Rattle.decision_steps.specs.Bound.{with_handles, are_bound, Adds};
-ghost use Rattle.decision_steps.specs.Listed.{bound_pairs};
-ghost use Rattle.decision_steps.specs.Placing.{placed_in, StepsFrom, Covers};
+ghost use Rattle.decision_steps.specs.Placing.{placed_in, Covers};
 ghost use Rattle.decision_steps.specs.declared.fault.PlaceFault.TheVariants.{NotLegal, HandleNotGiven};
 
 use crate::asked::{is_failure, knows_handles};
-use crate::binding::{BoundHandle, are_bound, bind_all, bind_new, forget_all};
+use crate::binding::{are_bound, bound_with};
 use crate::fault::PlaceFault;
-use crate::given::{GivenHandle, given_handles};
+use crate::given::given_handles;
+use crate::stubs::{agrees_with, copy_of, is_same_tree, list_of, number_of, tree_after};
 use file_tree::FileTree;
 use nfs3_types::{FileHandle, NfsCall, Outcome};
-use replay_law::{Replayable, StepFault};
+use replay_law::StepFault;
 use std::alloc::{AllocError, Global};
+use std::marker::Model;
+use std::sync::Arc;
 use tree_handles::{Binds, View};
-use tree_nodes::Undo;
 use tree_starts::{Profile, SeenStart};
 
 /// A state: the tree, and the handles that are bound so far. It stands for every binding of all handles of a history that
-/// binds those alike.
+/// binds those alike. States share what they have in common.
 pub struct State {
-    /// The tree.
-    pub tree: FileTree,
-    /// The handles that are bound.
-    pub binds: Binds,
+    tree: Arc<FileTree, Global>,
+    binds: Arc<Binds, Global>,
 }
 
 impl Drop for State {
@@ -42,30 +39,56 @@ impl Drop for State {
     }
 }
 
-/// What takes a step of a state back.
-pub struct Step {
-    /// What takes the tree back.
-    pub undo: Undo,
-    /// The handles that it bound, in the order in which it did.
-    pub bound: Vec<BoundHandle>,
+impl Model for State {
+    ghost use Rattle.std.specs.Arc.{arc_value};
+    ghost use Rattle.decision_steps.specs.Standing.{Standing, standing_code};
+
+    ghost Value = { Standing };
+
+    ghost coded = { standing_code };
+
+    ghost view = { λ s. record { tree = arc_value s.tree; binds = arc_value s.binds } };
 }
 
-impl Drop for Step {
-    fn drop(self) {
-        let Step { undo, bound } = self;
-        drop(undo);
-        drop(bound);
+/// A tree that states share.
+fn shared_tree(alloc: Global, tree: FileTree) -> Result<Arc<FileTree, Global>, AllocError>
+    ensures { IfOk result (λ shared. arc_value shared ≡ tree) }
+{
+    match Arc::new(alloc, tree) {
+        Ok(shared) => Ok(shared),
+        Err(_) => Err(AllocError),
     }
 }
 
-impl Step {
-    /// What takes the tree back, and the handles that were bound.
-    pub fn into_parts(self) -> (Undo, Vec<BoundHandle>)
-        ensures undo { result.0 ≡ self.undo }
-        ensures bound { result.1.items ≡ self.bound.items }
-    {
-        let Step { undo, bound } = self;
-        (undo, bound)
+/// Handles that states share.
+fn shared_binds(alloc: Global, binds: Binds) -> Result<Arc<Binds, Global>, AllocError>
+    ensures { IfOk result (λ shared. arc_value shared ≡ binds) }
+{
+    match Arc::new(alloc, binds) {
+        Ok(shared) => Ok(shared),
+        Err(_) => Err(AllocError),
+    }
+}
+
+/// The tree after a call, with the handles bound as they are. Nothing is copied where it is the same.
+fn tree_stepped(
+    alloc: Global,
+    tree: &Arc<FileTree, Global>,
+    profile: Profile,
+    binds: &Binds,
+    number: u64,
+    call: &NfsCall,
+    outcome: &Outcome,
+) -> Result<Arc<FileTree, Global>, PlaceFault>
+    ensures next { IfOk result (λ after. under profile binds.now (arc_value tree.now) number call.now outcome.now ≡ Some (arc_value after)) }
+    ensures not_legal { result ≡ Err NotLegal → under profile binds.now (arc_value tree.now) number call.now outcome.now ≡ None }
+    ensures decided { result ≡ Err HandleNotGiven → ⊥ }
+{
+    match tree_after(tree, profile, binds, number, call, outcome) {
+        Ok(Some(after)) => Ok(shared_tree(alloc, after)?),
+        Ok(None) => Ok(tree.clone()?),
+        Err(StepFault::NotAllowed) => Err(PlaceFault::NotLegal),
+        Err(StepFault::NoMemory) => Err(PlaceFault::NoMemory),
     }
 }
 
@@ -76,173 +99,145 @@ impl State {
         ensures binds { IfOk result (λ state. state.binds ≡ record { root = root.now; pairs = [] }) }
         ensures covers { IfOk result (λ state. (plan : Bindings) → plan.root ≡ root.now → AgreesWith state.binds plan) }
     {
+        let tree = shared_tree(alloc, FileTree::of_start(alloc, start)?)?;
+        let binds = shared_binds(alloc, Binds::of_root(alloc, root)?)?;
+        Ok(State { tree, binds })
+    }
+
+    /// The same state.
+    pub fn copy(&self) -> Result<State, AllocError>
+        ensures { IfOk result (λ copy. copy ≡ self.now) }
+    {
         Ok(State {
-            tree: FileTree::of_start(alloc, start)?,
-            binds: Binds::of_root(alloc, root)?,
+            tree: self.tree.clone()?,
+            binds: self.binds.clone()?,
         })
     }
 
-    /// The tree, and the handles that are bound.
-    pub fn into_parts(self) -> (FileTree, Binds)
-        ensures tree { result.0 ≡ self.tree }
-        ensures binds { result.1 ≡ self.binds }
+    /// The other state's tree, with the handles that are bound here.
+    pub fn with_tree_of(&self, other: &State) -> Result<State, AllocError>
+        ensures { IfOk result (λ back. back ≡ record { tree = other.now.tree; binds = self.now.binds }) }
     {
-        let State { tree, binds } = self;
-        (tree, binds)
+        Ok(State {
+            tree: other.tree.clone()?,
+            binds: self.binds.clone()?,
+        })
     }
 
-    /// Takes the tree's step, with the handles bound as they are.
-    fn step(
-        &mut self,
+    /// The tree.
+    pub fn tree(&self) -> &FileTree
+        ensures { result.now ≡ self.now.tree }
+    {
+        self.tree.as_ref()
+    }
+
+    /// The handles that are bound.
+    pub fn binds(&self) -> &Binds
+        ensures { result.now ≡ self.now.binds }
+    {
+        self.binds.as_ref()
+    }
+
+    /// The bound handles with their objects, but for the root's.
+    pub fn bound(&self) -> Result<Vec<(Vec<u8>, u64)>, AllocError> {
+        list_of(&self.binds)
+    }
+
+    /// A number of the tree, the same of trees that are the same.
+    pub fn number(&self) -> u64 {
+        number_of(&self.tree)
+    }
+
+    /// Whether both have the same tree.
+    pub fn has_tree_of(&self, other: &State) -> bool
+        ensures { IsTrue result → self.now.tree ≡ other.now.tree }
+    {
+        is_same_tree(&self.tree, &other.tree)
+    }
+
+    /// Whether each handle that is bound here names the same there.
+    pub fn agrees_with(&self, other: &State) -> bool
+        ensures { IsTrue result → AgreesWith self.now.binds other.now.binds }
+    {
+        agrees_with(&self.binds, &other.binds)
+    }
+
+    /// Places a call whose handles are bound.
+    fn place_known(
+        &self,
+        alloc: Global,
         profile: Profile,
         number: u64,
         call: &NfsCall,
         outcome: &Outcome,
-    ) -> Result<Undo, PlaceFault>
-        ensures next { OnOk result (under profile self.old.binds self.old.tree number call.now outcome.now ≡ Some self.new.tree) }
-        ensures undo { IfOk result (λ undo. TakesBack undo self.new.tree self.old.tree) }
-        ensures not_legal { result ≡ Err NotLegal → under profile self.old.binds self.old.tree number call.now outcome.now ≡ None }
+    ) -> Result<State, PlaceFault>
+        requires { IsTrue (knows_handles self.now.binds call.now) }
+        ensures covers { (plan : Bindings) (after : Tree) → AgreesWith self.now.binds plan → under profile plan self.now.tree number call.now outcome.now ≡ Some after
+            → Covers result self.now call.now plan after }
+        ensures next { IfOk result (λ next. placed_in profile self.now number call.now outcome.now ≡ Some next) }
+        ensures not_legal { result ≡ Err NotLegal → placed_in profile self.now number call.now outcome.now ≡ None }
         ensures decided { result ≡ Err HandleNotGiven → ⊥ }
-        ensures binds { self.new.binds ≡ self.old.binds }
-        ensures err { OnErr result (self.new.tree ≡ self.old.tree) }
-    {
-        match self
-            .tree
-            .step_under(profile, &self.binds, number, call, outcome)
-        {
-            Ok(undo) => Ok(undo),
-            Err(StepFault::NotAllowed) => Err(PlaceFault::NotLegal),
-            Err(StepFault::NoMemory) => Err(PlaceFault::NoMemory),
-        }
-    }
-
-    /// Binds the handles that the outcome gives. Those stay in the list that were bound where it ends early.
-    fn bind_given(
-        &mut self,
-        alloc: Global,
-        number: u64,
-        call: &NfsCall,
-        outcome: &Outcome,
-        bound: &mut Vec<BoundHandle>,
-    ) -> Result<(), PlaceFault>
-        ensures ok { OnOk result (with_handles self.old.binds (given self.old.binds self.old.tree number call.now outcome.now) ≡ Some self.new.binds) }
-        ensures not_legal { result ≡ Err NotLegal → with_handles self.old.binds (given self.old.binds self.old.tree number call.now outcome.now) ≡ None }
-        ensures decided { result ≡ Err HandleNotGiven → ⊥ }
-        ensures adds { (before : Bindings) → Adds before (bound_pairs bound.old.items) self.old.binds → Adds before (bound_pairs bound.new.items) self.new.binds }
-        ensures tree { self.new.tree ≡ self.old.tree }
     {
         let view = View {
             binds: &self.binds,
             nodes: self.tree.nodes(),
         };
-        let list = given_handles(alloc, &view, number, call, outcome)?;
-        bind_all(&mut self.binds, list.as_slice(), bound)
-    }
-
-    /// Binds the handles that the outcome gives, and takes the step. The handles stay bound where it ends early, and in the list.
-    fn bind_and_step(
-        &mut self,
-        alloc: Global,
-        profile: Profile,
-        number: u64,
-        call: &NfsCall,
-        outcome: &Outcome,
-        bound: &mut Vec<BoundHandle>,
-    ) -> Result<Undo, PlaceFault>
-        requires { IsTrue (knows_handles self.old.binds call.now) }
-        ensures covers { (plan : Bindings) (after : Tree) → AgreesWith self.old.binds plan → under profile plan self.old.tree number call.now outcome.now ≡ Some after
-            → Covers result self.old call.now self.new plan after }
-        ensures next { OnOk result (placed_in profile self.old number call.now outcome.now ≡ Some self.new) }
-        ensures not_legal { result ≡ Err NotLegal → placed_in profile self.old number call.now outcome.now ≡ None }
-        ensures undo { IfOk result (λ undo. TakesBack undo self.new.tree self.old.tree) }
-        ensures adds { (before : Bindings) → Adds before (bound_pairs bound.old.items) self.old.binds → Adds before (bound_pairs bound.new.items) self.new.binds }
-        ensures decided { result ≡ Err HandleNotGiven → ⊥ }
-        ensures err { OnErr result (self.new.tree ≡ self.old.tree) }
-    {
-        self.bind_given(alloc, number, call, outcome, bound)?;
-        self.step(profile, number, call, outcome)
-    }
-
-    /// Places a call whose handles are bound.
-    fn place_known(
-        &mut self,
-        alloc: Global,
-        profile: Profile,
-        number: u64,
-        call: &NfsCall,
-        outcome: &Outcome,
-    ) -> Result<Step, PlaceFault>
-        requires { IsTrue (knows_handles self.old.binds call.now) }
-        ensures covers { (plan : Bindings) (after : Tree) → AgreesWith self.old.binds plan → under profile plan self.old.tree number call.now outcome.now ≡ Some after
-            → Covers result self.old call.now self.new plan after }
-        ensures next { OnOk result (placed_in profile self.old number call.now outcome.now ≡ Some self.new) }
-        ensures not_legal { result ≡ Err NotLegal → placed_in profile self.old number call.now outcome.now ≡ None }
-        ensures step { IfOk result (λ step. StepsFrom self.old step self.new) }
-        ensures decided { result ≡ Err HandleNotGiven → ⊥ }
-        ensures err { OnErr result (self.new ≡ self.old) }
-    {
-        let mut bound = Vec::new(alloc);
-        match self.bind_and_step(alloc, profile, number, call, outcome, &mut bound) {
-            Ok(undo) => Ok(Step { undo, bound }),
-            Err(fault) => {
-                forget_all(&mut self.binds, bound);
-                Err(fault)
-            }
-        }
+        let given = given_handles(alloc, &view, number, call, outcome)?;
+        let binds = bound_with(alloc, &self.binds, given.as_slice())?;
+        let tree = tree_stepped(alloc, &self.tree, profile, &binds, number, call, outcome)?;
+        Ok(State { tree, binds })
     }
 
     /// Places a call that names a handle which isn't bound: a failure that is permitted though it names nothing.
     fn place_unknown(
-        &mut self,
+        &self,
         alloc: Global,
         profile: Profile,
         number: u64,
         call: &NfsCall,
         outcome: &Outcome,
-    ) -> Result<Step, PlaceFault>
-        requires { knows_handles self.old.binds call.now ≡ false }
-        ensures covers { (plan : Bindings) (after : Tree) → AgreesWith self.old.binds plan → under profile plan self.old.tree number call.now outcome.now ≡ Some after
-            → Covers result self.old call.now self.new plan after }
-        ensures next { OnOk result (placed_in profile self.old number call.now outcome.now ≡ Some self.new) }
-        ensures not_legal { result ≡ Err NotLegal → placed_in profile self.old number call.now outcome.now ≡ None }
-        ensures step { IfOk result (λ step. StepsFrom self.old step self.new) }
-        ensures err { OnErr result (self.new ≡ self.old) }
+    ) -> Result<State, PlaceFault>
+        requires { knows_handles self.now.binds call.now ≡ false }
+        ensures covers { (plan : Bindings) (after : Tree) → AgreesWith self.now.binds plan → under profile plan self.now.tree number call.now outcome.now ≡ Some after
+            → Covers result self.now call.now plan after }
+        ensures next { IfOk result (λ next. placed_in profile self.now number call.now outcome.now ≡ Some next) }
+        ensures not_legal { result ≡ Err NotLegal → ⊥ }
     {
         if !is_failure(outcome) {
             return Err(PlaceFault::HandleNotGiven);
         }
-        match self
-            .tree
-            .step_under(profile, &self.binds, number, call, outcome)
-        {
-            Ok(undo) => {
-                let bound = Vec::new(alloc);
-                Ok(Step { undo, bound })
-            }
-            Err(StepFault::NotAllowed) => Err(PlaceFault::HandleNotGiven),
-            Err(StepFault::NoMemory) => Err(PlaceFault::NoMemory),
+        let binds = self.binds.clone()?;
+        match tree_stepped(
+            alloc,
+            &self.tree,
+            profile,
+            &self.binds,
+            number,
+            call,
+            outcome,
+        ) {
+            Ok(tree) => Ok(State { tree, binds }),
+            Err(PlaceFault::NotLegal) => Err(PlaceFault::HandleNotGiven),
+            Err(fault) => Err(fault),
         }
     }
 
-    /// Places a call with its outcome. What the call makes, if anything, is the object of this number. The handles that its
+    /// The state after a call with its outcome. What the call makes, if anything, is the object of this number. The handles that its
     /// reply gives are bound to the objects that they have to name.
     pub fn place(
-        &mut self,
+        &self,
         alloc: Global,
         profile: Profile,
         number: u64,
         call: &NfsCall,
         outcome: &Outcome,
-    ) -> Result<Step, PlaceFault>
+    ) -> Result<State, PlaceFault>
         // Each binding of all handles that agrees with the state's, and by which the call leads to a tree, is covered.
-        ensures covers { (plan : Bindings) (after : Tree) → AgreesWith self.old.binds plan → under profile plan self.old.tree number call.now outcome.now ≡ Some after
-            → Covers result self.old call.now self.new plan after }
-        ensures next { OnOk result (placed_in profile self.old number call.now outcome.now ≡ Some self.new) }
-        ensures not_legal { result ≡ Err NotLegal → placed_in profile self.old number call.now outcome.now ≡ None }
-        ensures step { IfOk result (λ step. StepsFrom self.old step self.new) }
-
-        ensures undecided { result ≡ Err HandleNotGiven → knows_handles self.old.binds call.now ≡ false }
-        ensures err { OnErr result (self.new ≡ self.old) }
+        ensures covers { (plan : Bindings) (after : Tree) → AgreesWith self.now.binds plan → under profile plan self.now.tree number call.now outcome.now ≡ Some after
+            → Covers result self.now call.now plan after }
+        ensures next { IfOk result (λ next. placed_in profile self.now number call.now outcome.now ≡ Some next) }
+        ensures not_legal { result ≡ Err NotLegal → placed_in profile self.now number call.now outcome.now ≡ None }
+        ensures undecided { result ≡ Err HandleNotGiven → knows_handles self.now.binds call.now ≡ false }
     {
         if knows_handles(&self.binds, call) {
             self.place_known(alloc, profile, number, call, outcome)
@@ -251,45 +246,50 @@ impl State {
         }
     }
 
-    /// Takes a handle that isn't bound for one of this object, which leaves the tree.
+    /// Whether a call comes out so here, leaves the tree as it is, and gives no handle that isn't bound.
+    pub fn is_left_by(
+        &self,
+        alloc: Global,
+        profile: Profile,
+        number: u64,
+        call: &NfsCall,
+        outcome: &Outcome,
+    ) -> Result<bool, AllocError> {
+        if !knows_handles(&self.binds, call) && !is_failure(outcome) {
+            return Ok(false);
+        }
+        let view = View {
+            binds: &self.binds,
+            nodes: self.tree.nodes(),
+        };
+        let given = given_handles(alloc, &view, number, call, outcome)?;
+        if !are_bound(&self.binds, given.as_slice()) {
+            return Ok(false);
+        }
+        match tree_after(&self.tree, profile, &self.binds, number, call, outcome) {
+            Ok(next) => Ok(next.is_none()),
+            Err(StepFault::NotAllowed) => Ok(false),
+            Err(StepFault::NoMemory) => Err(AllocError),
+        }
+    }
+
+    /// The state in which a handle that isn't bound names this object.
     pub fn guess(
-        &mut self,
+        &self,
         alloc: Global,
         handle: &FileHandle,
         object: u64,
-    ) -> Result<Step, AllocError>
-        requires { object_of self.old.binds handle.now ≡ None }
-        ensures names { OnOk result (object_of self.new.binds handle.now ≡ Some object) }
-        ensures covers { OnOk result ((plan : Bindings) → AgreesWith self.old.binds plan → object_of plan handle.now ≡ Some object → AgreesWith self.new.binds plan) }
-        ensures tree { self.new.tree ≡ self.old.tree }
-        ensures step { IfOk result (λ step. StepsFrom self.old step self.new) }
-        ensures err { OnErr result (self.new ≡ self.old) }
+    ) -> Result<State, AllocError>
+        requires { object_of self.now.binds handle.now ≡ None }
+        ensures names { IfOk result (λ more. object_of more.binds handle.now ≡ Some object) }
+        ensures covers { IfOk result (λ more. (plan : Bindings) → AgreesWith self.now.binds plan → object_of plan handle.now ≡ Some object → AgreesWith more.binds plan) }
+        ensures tree { IfOk result (λ more. more.tree ≡ self.now.tree) }
     {
-        let given = GivenHandle { handle, object };
-        let mut bound = Vec::new(alloc);
-        bind_new(&mut self.binds, &given, &mut bound)?;
-        let undo = Undo::nothing();
-        Ok(Step { undo, bound })
-    }
-
-    /// Whether each of these handles is bound to its object. Where those are all that another state has bound, that one stands for each
-    /// plan that this one stands for, if their trees are the same.
-    pub fn binds_all(&self, bound: &[BoundHandle]) -> bool
-        ensures value { result ≡ are_bound self.now.binds (bound_pairs bound.now) }
-        ensures covered { IsTrue result → (other : Bindings) → other.root ≡ self.now.binds.root → other.pairs ≡ bound_pairs bound.now → AgreesWith other self.now.binds }
-    {
-        are_bound(&self.binds, bound)
-    }
-
-    /// Takes the last step back. The state is spent where there is no memory.
-    pub fn take_back(self, step: Step) -> Result<State, AllocError>
-        requires { (before : State) × StepsFrom before step self }
-        ensures { IfOk result (λ state. (before : State) → StepsFrom before step self → state ≡ before) }
-    {
-        let State { tree, mut binds } = self;
-        let (undo, bound) = step.into_parts();
-        forget_all(&mut binds, bound);
-        let tree = tree.undo(undo)?;
-        Ok(State { tree, binds })
+        let mut more = copy_of(&self.binds)?;
+        more.push(handle.as_slice(), object)?;
+        Ok(State {
+            tree: self.tree.clone()?,
+            binds: shared_binds(alloc, more)?,
+        })
     }
 }

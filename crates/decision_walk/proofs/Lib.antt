@@ -1,10 +1,7 @@
-mod Later
-mod Fronts
-mod Trails
-mod Attempted
+mod Looks
+mod Attempts
 mod MachineLaws
 mod SameCalls
-mod Looks
 mod PlacedLaws
 mod Crashes
 mod Calls
@@ -12,4 +9,5 @@ mod Sameness
 mod Taking
 mod StepLaws
 mod SettleLaws
+mod PastLaws
 pub use Rattle.decision_law.proofs as decision_law_laws

@@ -9,22 +9,22 @@ use Rattle.nfs3_types.specs.declared.replies.Outcome.TheVariants.{Taken}
 use Rattle.nfs_history.specs.declared.recorded.Meaning.TheVariants as meanings
 use Rattle.nfs_history.specs.declared.recorded.RecordedCall.{RecordedCall}
 use Rattle.nfs_history.specs.declared.knowing.KnownCalls.{KnownCalls}
-use Rattle.certificate.specs.declared.plan.Place.{Place}
-use Rattle.certificate.specs.Plan.{call_of}
 use Rattle.order_check.specs.Places.{may_take}
 use Rattle.decision_core.specs.Layers.{Grows}
+use Rattle.file_tree.specs.Setting.{next_in}
+use Rattle.decision_law.specs.Laws.{binds_of}
 use Rattle.decision_law.specs.Machine.{MayComeOut}
-use Rattle.decision_walk.specs.declared.attempt.Attempt.{Attempt}
-use Rattle.decision_walk.specs.declared.way_state.WayState.{WayState}
-use Rattle.decision_walk.specs.Placings.{CoversPlans, HasChild, HasChildren, HasPlaced, HasCounts, HasTaken, HasAllOf, MayNotLose}
+use Rattle.decision_steps.specs.Standing.{Standing}
+use Rattle.decision_walk.specs.View.{WalkView}
+use Rattle.decision_walk.specs.Placings.{child_of, CoversPlans, HasChildren, HasPlaced, HasCounts, HasTaken, HasAllOf, MayNotLose}
 
-pub grows_self : (states : List WayState) → Grows states states
+pub grows_self : (states : List WalkView) → Grows states states
 grows_self states s there = there
 
-pub grows_on : (one two three : List WayState) → Grows one two → Grows two three → Grows one three
+pub grows_on : (one two three : List WalkView) → Grows one two → Grows two three → Grows one three
 grows_on one two three first second s there = second s (first s there)
 
-pub pushed : (old new : List WayState) (child : WayState) → new ≡ old ++ child ∷ [] → Grows old new × Contains new child
+pub pushed : (old new : List WalkView) (child : WalkView) → new ≡ old ++ child ∷ [] → Grows old new × Contains new child
 pushed old new child is = (
   (λ s there. subst (λ l. Contains l s) (sym is) (Contains-append_left old (child ∷ []) s there)),
   subst (λ l. Contains l child) (sym is) (Contains-append_right old (child ∷ []) child (0, omega arith, refl)),
@@ -36,44 +36,41 @@ if_ok (Ok x) P Q f p = f x p
 if_ok (Err e) P Q f p = p
 
 module _ (known : KnownCalls) where
-  pub child_kept : (old new : List WayState) (state : WayState) (place : Place) (attempt : Attempt) (cut : Option ℕ) → Grows old new → HasChild known old state place attempt cut
-      → HasChild known new state place attempt cut
-  child_kept old new state place attempt cut grows child = (child.0, grows child.0 child.1, child.2)
-
   module _ (marks : List Bool) where
-    pub placed_kept : (old new : List WayState) (state : WayState) (n : ℕ) (call : NfsCall) (outcome : Outcome) → Grows old new → HasPlaced known marks old state n call outcome
+    pub placed_kept : (old new : List WalkView) (state : WalkView) (n : ℕ) (call : NfsCall) (outcome : Outcome) → Grows old new → HasPlaced known marks old state n call outcome
         → HasPlaced known marks new state n call outcome
     placed_kept old new state n call outcome grows has plan gone point after at kept comes = let found = has plan gone point after at kept comes in (found.0, grows found.0 found.1, found.2)
 
-    pub none_placed : (states : List WayState) (state : WayState) (place : Place) (call : NfsCall) (outcome : Outcome) → state.era ≤ known.eras → CoversPlans known state place call outcome None
-        → HasPlaced known marks states state (call_of place) call outcome
-    none_placed states state place call outcome inside none plan gone point after at kept comes =
-        absurd (none plan point.tree comes.tree at.binds (at.tree (subst (λ e. e ≤ known.eras) at.era inside)) comes.goes)
+    pub none_placed : (states : List WalkView) (state : WalkView) (n : ℕ) (call : NfsCall) (outcome : Outcome) → state.era ≤ known.eras → CoversPlans known state n call outcome None
+        → HasPlaced known marks states state n call outcome
+    none_placed states state n call outcome inside none plan gone point after at kept comes =
+        absurd (none plan comes.tree at.binds (subst (λ t. next_in known.head.profile (length known.head.start) (binds_of known plan) t n call outcome ≡ Some comes.tree)
+        (sym (at.tree (subst (λ e. e ≤ known.eras) at.era inside))) comes.goes))
 
     -- ---- the children
 
-    pub with_cut : (states : List WayState) (state : WayState) (place : Place) (attempt : Attempt) → (state.cut ≡ None → ⊥) → HasChild known states state place attempt state.cut
-        → HasChildren known marks states state place attempt
-    with_cut states state place attempt some child = (child, λ none early. absurd (some none))
+    pub with_base : (states : List WalkView) (state : WalkView) (n : ℕ) (next : Standing) → (state.base ≡ None → ⊥) → Contains states (child_of state next state.base n)
+        → HasChildren known marks states state n next
+    with_base states state n next some child = (child, λ none early. absurd (some none))
 
-    pub in_last_era : (states : List WayState) (state : WayState) (place : Place) (attempt : Attempt) → known.eras ≤ state.era → HasChild known states state place attempt state.cut
-        → HasChildren known marks states state place attempt
-    in_last_era states state place attempt last child = (child, λ none early. absurd (omega (arith, last, early)))
+    pub in_last_era : (states : List WalkView) (state : WalkView) (n : ℕ) (next : Standing) → known.eras ≤ state.era → Contains states (child_of state next state.base n)
+        → HasChildren known marks states state n next
+    in_last_era states state n next last child = (child, λ none early. absurd (omega (arith, last, early)))
 
-    pub never_lost : (states : List WayState) (state : WayState) (place : Place) (attempt : Attempt) → MayNotLose known marks state (call_of place)
-        → HasChild known states state place attempt state.cut → HasChildren known marks states state place attempt
-    never_lost states state place attempt stays child = (child, λ none early. inl stays)
+    pub never_lost : (states : List WalkView) (state : WalkView) (n : ℕ) (next : Standing) → MayNotLose known marks state n
+        → Contains states (child_of state next state.base n) → HasChildren known marks states state n next
+    never_lost states state n next stays child = (child, λ none early. inl stays)
 
-    pub as_first_lost : (old new : List WayState) (state : WayState) (place : Place) (attempt : Attempt) → Grows old new → HasChild known old state place attempt state.cut
-        → HasChild known new state place attempt (Some (length state.way.items)) → HasChildren known marks new state place attempt
-    as_first_lost old new state place attempt grows child lost = (child_kept old new state place attempt state.cut grows child, λ none early. inr lost)
+    pub as_first_lost : (old new : List WalkView) (state : WalkView) (n : ℕ) (next : Standing) → Grows old new → Contains old (child_of state next state.base n)
+        → Contains new (child_of state next (Some state.tree) n) → HasChildren known marks new state n next
+    as_first_lost old new state n next grows child lost = (grows (child_of state next state.base n) child, λ none early. inr lost)
 
     -- ---- calls that are taken
 
-    pub no_counts : (states : List WayState) (state : WayState) (n : ℕ) (call : NfsCall) → HasCounts known marks states state n call 0
+    pub no_counts : (states : List WalkView) (state : WalkView) (n : ℕ) (call : NfsCall) → HasCounts known marks states state n call 0
     no_counts states state n call count below = absurd (omega (arith, below))
 
-    pub one_count : (old new : List WayState) (state : WayState) (n : ℕ) (call : NfsCall) (count : ℕ) → Grows old new → HasCounts known marks old state n call count
+    pub one_count : (old new : List WalkView) (state : WalkView) (n : ℕ) (call : NfsCall) (count : ℕ) → Grows old new → HasCounts known marks old state n call count
         → HasPlaced known marks new state n call (Taken (Some count)) → HasCounts known marks new state n call (count + 1)
     one_count old new state n call count grows so_far here k below = elim (cases_order k count) [
       | inl same ↦ subst (λ j. HasPlaced known marks new state n call (Taken (Some j))) (sym same) here
@@ -85,24 +82,24 @@ module _ (known : KnownCalls) where
 
     -- ---- calls, however they came out
 
-    pub unjudged : (states : List WayState) (state : WayState) (n : ℕ) (recorded : RecordedCall) → recorded.meaning ≡ meanings.Unjudged → HasAllOf known marks states state n recorded
+    pub unjudged : (states : List WalkView) (state : WalkView) (n : ℕ) (recorded : RecordedCall) → recorded.meaning ≡ meanings.Unjudged → HasAllOf known marks states state n recorded
     unjudged states state n recorded is call outcome judged came = absurd (differ (sym is ∙ judged)) where
       differ : meanings.Unjudged ≡ meanings.Judged call → ⊥
       differ e = cc
 
-    pub by_reply : (states : List WayState) (state : WayState) (n : ℕ) (call : NfsCall) (answer : Option Outcome) (outcome : Outcome) → answer ≡ Some outcome → HasPlaced known marks states state n call outcome
+    pub by_reply : (states : List WalkView) (state : WalkView) (n : ℕ) (call : NfsCall) (answer : Option Outcome) (outcome : Outcome) → answer ≡ Some outcome → HasPlaced known marks states state n call outcome
         → (other : Outcome) → answer ≡ Some other → HasPlaced known marks states state n call other
     by_reply states state n call answer outcome is has other also = subst (λ o. HasPlaced known marks states state n call o) (same outcome other (sym is ∙ also)) has where
       same : (a b : Outcome) → Some a ≡ Some b → a ≡ b
       same a b e = cc
 
-    pub no_reply : (states : List WayState) (state : WayState) (n : ℕ) (call : NfsCall) (answer : Option Outcome) → answer ≡ None → (other : Outcome) → answer ≡ Some other
+    pub no_reply : (states : List WalkView) (state : WalkView) (n : ℕ) (call : NfsCall) (answer : Option Outcome) → answer ≡ None → (other : Outcome) → answer ≡ Some other
         → HasPlaced known marks states state n call other
     no_reply states state n call answer none other also = absurd (differ (sym none ∙ also)) where
       differ : None ≡ Some other → ⊥
       differ e = cc
 
-    pub all_parts : (states : List WayState) (state : WayState) (n : ℕ) (recorded : RecordedCall) (call : NfsCall) → recorded.meaning ≡ meanings.Judged call
+    pub all_parts : (states : List WalkView) (state : WalkView) (n : ℕ) (recorded : RecordedCall) (call : NfsCall) → recorded.meaning ≡ meanings.Judged call
         → ((outcome : Outcome) → recorded.outcome ≡ Some outcome → HasPlaced known marks states state n call outcome) → (recorded.«end» ≡ None → HasTaken known marks states state n call)
         → HasAllOf known marks states state n recorded
     all_parts states state n recorded call is answered taken other outcome judged came =

@@ -7,8 +7,8 @@ use Rattle.nfs3_types.specs.declared.replies.Outcome.TheVariants.{Taken}
 use Rattle.nfs_history.specs.declared.recorded.Meaning.TheVariants as meanings
 use Rattle.nfs_history.specs.declared.knowing.KnownCalls.{KnownCalls}
 use Rattle.order_check.specs.Places.{may_take}
-use Rattle.decision_walk.specs.declared.way_state.WayState.{WayState}
-use Rattle.decision_walk.specs.Way.{may_change}
+use Rattle.decision_walk.specs.View.{WalkView}
+use Rattle.decision_walk.specs.Settling.{may_change}
 use Rattle.decision_walk.specs.Placings.{bytes_brought, HasPlaced, HasCounts, HasTaken}
 
 -- a call that only looks is never taken
@@ -71,7 +71,7 @@ some_count (calls.ReadDir call) count most is may = absurd (cc)
 some_count (calls.ReadDirPlus call) count most is may = absurd (cc)
 some_count (calls.Commit call) count most is may = absurd (cc)
 
-module _ (known : KnownCalls) (marks : List Bool) (states : List WayState) (state : WayState) (n : ℕ) (call : NfsCall) where
+module _ (known : KnownCalls) (marks : List Bool) (states : List WalkView) (state : WalkView) (n : ℕ) (call : NfsCall) where
   pub none_taken : may_change call ≡ false → HasTaken known marks states state n call
   none_taken is count may = absurd (never_taken call count is may)
 

@@ -1,5 +1,4 @@
-pub mod Way
-pub mod Live
+pub mod View
 pub mod Standing
 pub mod Placings
 pub mod Settling

@@ -1,23 +1,21 @@
-//! A walk over a history: the machine whose states are ways of its calls from what stood at first.
+//! The machine of a walk that decides whether a history has a witness: its states are trees with the handles that are bound.
 #![tactic(auto)]
 
 mod attempt;
+mod call_lists;
 mod children;
 mod deeds;
-mod digest;
-mod follow;
-mod going;
+mod eras;
 mod guessing;
-mod live;
 mod machine;
 mod same;
 mod settling;
 mod stepping;
-mod way_state;
+mod walk_state;
 mod why;
 
+pub use decision_law;
 pub use deeds::Deed;
-pub use live::WalkWork;
 pub use machine::HistoryMachine;
-pub use way_state::WayState;
+pub use walk_state::WalkState;
 pub use why::Why;

@@ -7,18 +7,17 @@ ghost use Rattle.decision_core.proofs.ErasWalk.{eras_told};
 ghost use Rattle.tree_nodes.specs.Tree.{Tree};
 ghost use Rattle.decision_law.specs.Laws.{binds_of};
 ghost use Rattle.decision_law.specs.Machine.{Changes, Next, first_point};
-ghost use Rattle.decision_walk.specs.Live.{FitsWork};
 ghost use Rattle.decision_walk.specs.Standing.{IsAt, hints_of, numbers_of};
 
-use crate::deeds::Deeds;
-use crate::live::WalkWork;
-use crate::way_state::{Sums, WayState, has_call};
+use crate::same::is_same_state;
+use crate::walk_state::WalkState;
 use crate::why::Why;
 use decision_core::{Machine, Stop};
+use decision_steps::State;
 use nfs_history::History;
 use std::alloc::Global;
 
-/// The machine of a history: its plans are certificates, and its states are ways. Calls may be marked that no crash takes away.
+/// The machine of a history: its plans are certificates, and its states are trees with handles. Calls may be marked that no crash takes away.
 pub struct HistoryMachine<'h> {
     pub(crate) alloc: Global,
     /// The history.
@@ -53,11 +52,9 @@ impl<'h> HistoryMachine<'h> {
 }
 
 impl<'h> Machine for HistoryMachine<'h> {
-    type State = WayState;
+    type State = WalkState;
 
     type Reason = Why;
-
-    type Work = WalkWork;
 
     ghost Plan = { Certificate };
 
@@ -71,62 +68,35 @@ impl<'h> Machine for HistoryMachine<'h> {
 
     ghost StandsFor = { λ machine. IsAt machine.history.now.known machine.marks.items };
 
-    ghost Fits = { λ machine. FitsWork machine.history.now.known };
-
-    fn opening(&self) -> Result<WayState, Stop<Why>> {
-        let alloc = self.alloc;
-        Ok(WayState {
-            bound: Vec::new(alloc),
-            way: Vec::new(alloc),
-            cut: None,
-            era: 1,
-            placed: Vec::new(alloc),
-            answered_to: 0,
-            sums: Sums::none(),
-            deeds: Deeds::none(alloc),
-            ready: None,
-        })
+    fn opening(&self) -> Result<WalkState, Stop<Why>> {
+        let start = self.history.start().lend(self.alloc)?;
+        let root = self.history.root().as_slice();
+        let stands = State::opening(self.alloc, root, &start)?;
+        Ok(WalkState::opening(self.alloc, stands))
     }
 
-    fn work(&self) -> WalkWork {
-        WalkWork {
-            live: None,
-            beside: None,
-        }
+    fn is_placed(&self, state: &WalkState, n: u64) -> bool {
+        self.is_told(state, n)
     }
 
-    fn is_placed(&self, state: &WayState, n: u64) -> bool {
-        has_call(state.placed.as_slice(), n)
+    fn step_each(&self, state: &WalkState, calls: &[u64]) -> Result<Vec<WalkState>, Stop<Why>> {
+        self.step_calls(state, calls)
     }
 
-    fn step_each(
-        &self,
-        work: &mut WalkWork,
-        state: &WayState,
-        calls: &[u64],
-    ) -> Result<Vec<WayState>, Stop<Why>> {
-        self.step_calls(work, state, calls, calls)
+    fn settle(&self, state: WalkState, calls: &[u64]) -> Result<WalkState, Stop<Why>> {
+        self.settle_state(state, calls)
     }
 
-    fn settle(
-        &self,
-        work: &mut WalkWork,
-        state: WayState,
-        calls: &[u64],
-    ) -> Result<WayState, Stop<Why>> {
-        self.settle_state(work, state, calls)
-    }
-
-    fn forget(&self, state: WayState, n: u64) -> WayState {
+    fn forget(&self, state: WalkState, n: u64) -> WalkState {
         let answered_to = self.answered_with(state.answered_to, n);
         state.without_call(n, answered_to)
     }
 
-    fn is_same(&self, work: &mut WalkWork, state: &WayState, other: &WayState) -> bool {
-        self.same_state(work, state, other)
+    fn is_same(&self, state: &WalkState, other: &WalkState) -> bool {
+        is_same_state(state, other)
     }
 
-    fn hash(&self, state: &WayState) -> u64 {
+    fn hash(&self, state: &WalkState) -> u64 {
         state.digest()
     }
 

@@ -1,46 +1,63 @@
-//! Calls that a state places at once: those that leave the tree as it is, whatever a plan does before them.
+//! Calls that a state places at once: those that leave the tree as it is, whatever a plan does before them; and calls of eras that are over.
 
-ghost use Rattle.std.specs.Prelude.{◌≡◌, ◌∷◌, [], IfOk, IfSome, IsTrue};
-ghost use Rattle.decision_walk.specs.Live.{FitsWork};
-ghost use Rattle.decision_walk.specs.Settling.{LeavesTree, MaySettle, SettlesAt};
+ghost use Rattle.std.specs.Prelude.{◌≡◌, ◌∷◌, [], not, filter, IfOk, IfSome, IsTrue};
+ghost use Rattle.decision_walk.specs.Settling.{may_change, sets_no_size, LeavesTree, MaySettle, SettlesAt};
+ghost use Rattle.decision_walk.specs.Standing.{is_of_earlier};
 
-use crate::attempt::may_change;
-use crate::digest::tree_number;
-use crate::live::{Live, WalkWork};
 use crate::machine::HistoryMachine;
-use crate::way_state::{WayState, has_call};
+use crate::walk_state::WalkState;
 use crate::why::Why;
 use decision_core::Stop;
-use decision_steps::{PlaceFault, State, is_failure};
+use decision_steps::is_failure;
 use nfs_history::{Meaning, RecordedCall};
-use nfs3_types::{NfsCall, Outcome};
+use nfs3_types::NfsCall;
 
-/// Whether a call was answered, and leaves each tree as it is: it is one of a procedure that only looks, or it failed.
+/// Whether a call is one of a procedure that changes the tree where it succeeds.
+pub(crate) fn may_change(call: &NfsCall) -> bool
+    ensures { result ≡ may_change call.now }
+{
+    call.procedure().changes_the_tree()
+}
+
+/// Whether a call is a SETATTR that sets no size.
+fn sets_no_size(call: &NfsCall) -> bool
+    ensures { result ≡ sets_no_size call.now }
+{
+    match call {
+        NfsCall::SetAttr(call) => call.attributes.size.is_none(),
+        _ => false,
+    }
+}
+
+/// Whether a call leaves each tree as it is, however it came out.
 fn leaves_tree(recorded: &RecordedCall) -> bool
     ensures { IsTrue result → LeavesTree recorded.now }
 {
-    if recorded.end.is_none() {
-        return false;
-    }
     let Meaning::Judged(call) = &recorded.meaning else {
         return false;
     };
-    let Some(outcome) = &recorded.outcome else {
+    if sets_no_size(call) {
+        return true;
+    }
+    if recorded.end.is_none() {
         return false;
-    };
-    !may_change(call) || is_failure(outcome)
+    }
+    match &recorded.outcome {
+        Some(outcome) => !may_change(call) || is_failure(outcome),
+        None => false,
+    }
 }
 
 impl<'h> HistoryMachine<'h> {
     /// The call, where it may be placed in a state without a change of the tree: one of the state's era that isn't placed.
-    fn settling(&self, state: &WayState, n: u64) -> Option<&RecordedCall>
+    fn settling(&self, state: &WalkState, n: u64) -> Option<&RecordedCall>
         ensures { IfSome result (λ recorded. MaySettle self.now.history.now.known state.now n recorded.now) }
     {
         let recorded = self.history.find_call(n)?;
         if state.era > 0
             && recorded.era == state.era
             && leaves_tree(recorded)
-            && !has_call(state.placed.as_slice(), n)
+            && !self.is_told(state, n)
         {
             Some(recorded)
         } else {
@@ -48,167 +65,74 @@ impl<'h> HistoryMachine<'h> {
         }
     }
 
-    /// Whether one of these calls may be placed so.
-    fn settles_some(&self, state: &WayState, calls: &[u64]) -> bool {
-        calls.iter().any(|n| self.settling(state, *n).is_some())
-    }
-
-    /// Tries a call where a state stands, and takes it back: whether it comes out so there, and gives no handle that isn't bound yet.
+    /// Whether such a call comes out so in a state, and gives no handle that isn't bound there. One without a reply may.
     fn fits_now(
         &self,
-        stands: State,
+        state: &WalkState,
         n: u64,
-        call: &NfsCall,
-        outcome: &Outcome,
-    ) -> Result<(State, bool), Stop<Why>>
-        ensures stands { IfOk result (λ tried. tried.0 ≡ stands) }
-    {
+        recorded: &RecordedCall,
+    ) -> Result<bool, Stop<Why>> {
+        let (Meaning::Judged(call), Some(outcome)) = (&recorded.meaning, &recorded.outcome) else {
+            return Ok(recorded.end.is_none());
+        };
         let Some(object) = self.object_made(n) else {
-            return Ok((stands, false));
+            return Ok(false);
         };
-        let mut stands = stands;
-        match stands.place(self.alloc, self.history.profile(), object, call, outcome) {
-            Ok(step) => {
-                let fits = step.bound.is_empty();
-                let stands = stands.take_back(step)?;
-                Ok((stands, fits))
-            }
-            Err(PlaceFault::NoMemory) => Err(Stop::NoMemory),
-            Err(_) => Ok((stands, false)),
-        }
+        let profile = self.history.profile();
+        Ok(
+            state
+                .stands
+                .is_left_by(self.alloc, profile, object, call, outcome)?,
+        )
     }
 
-    /// Whether a call that leaves the tree as it is fits where a state stands; this isn't asked of a call that is placed.
-    fn is_ready(&self, stands: State, state: &WayState, n: u64) -> Result<(State, bool), Stop<Why>>
-        ensures stands { IfOk result (λ tried. tried.0 ≡ stands) }
-    {
-        let Some(recorded) = self.settling(state, n) else {
-            return Ok((stands, false));
-        };
-        let Meaning::Judged(call) = &recorded.meaning else {
-            return Ok((stands, false));
-        };
-        match &recorded.outcome {
-            Some(outcome) => self.fits_now(stands, n, call, outcome),
-            None => Ok((stands, false)),
-        }
-    }
-
-    /// Which of these calls leave the tree as it is and fit where what comes of a state stands.
-    pub(crate) fn ready_calls(
-        &self,
-        stands: State,
-        state: &WayState,
-        calls: &[u64],
-    ) -> Result<(State, Vec<u64>), Stop<Why>>
-        ensures stands { IfOk result (λ pair. pair.0 ≡ stands) }
-    {
-        let mut stands = stands;
-        let mut ready = Vec::new(self.alloc);
-        for call in calls {
-            let (same, is_ready) = self.is_ready(stands, state, *call)?;
-            stands = same;
-            if is_ready {
-                ready.reserve(1)?;
-                ready.push(*call).unwrap();
-            }
-        }
-        Ok((stands, ready))
-    }
-
-    /// Places a call that fits in a state, where it leaves the tree as it is.
-    fn settle_noted(&self, state: WayState, n: u64, fits: bool) -> Result<WayState, Stop<Why>>
+    /// Places a call in a state, where it leaves the tree as it is and fits now.
+    fn settle_one(&self, state: WalkState, n: u64) -> Result<WalkState, Stop<Why>>
         ensures { IfOk result (SettlesAt self.now.history.now.known self.now.marks.items (n ∷ []) state) }
     {
-        if !fits {
-            return Ok(state);
-        }
-        let Some(_recorded) = self.settling(&state, n) else {
+        let Some(recorded) = self.settling(&state, n) else {
             return Ok(state);
         };
-        let settled = state.with_settled(n)?;
+        if !self.fits_now(&state, n, recorded)? {
+            return Ok(state);
+        }
+        let settled = state.with_settled(n, recorded.end.is_some())?;
         Ok(settled)
     }
 
-    /// The state, in which those of these calls are placed that are noted to fit there.
-    fn settle_ready(
-        &self,
-        state: WayState,
-        calls: &[u64],
-        ready: &[u64],
-    ) -> Result<WayState, Stop<Why>>
+    /// The same for each of these calls.
+    fn settle_each(&self, state: WalkState, calls: &[u64]) -> Result<WalkState, Stop<Why>>
         ensures { IfOk result (SettlesAt self.now.history.now.known self.now.marks.items calls.now state) }
     {
         let mut state = state;
         for call in calls {
-            state = self.settle_noted(state, *call, has_call(ready, *call))?;
+            state = self.settle_one(state, *call)?;
         }
         Ok(state)
     }
 
-    /// Places a call in a state, where it leaves the tree as it is and fits now.
-    fn settle_one(
-        &self,
-        stands: State,
-        state: WayState,
-        n: u64,
-    ) -> Result<(State, WayState), Stop<Why>>
-        ensures stands { IfOk result (λ pair. pair.0 ≡ stands) }
-        ensures settled { IfOk result (λ pair. SettlesAt self.now.history.now.known self.now.marks.items (n ∷ []) state pair.1) }
+    /// The calls of this era and of later ones.
+    pub(crate) fn without_earlier(&self, calls: Vec<u64>, era: u64) -> Vec<u64>
+        ensures { result.items ≡ filter (λ n. not (is_of_earlier self.now.history.now.known era n)) calls.items }
     {
-        let (stands, fits) = self.is_ready(stands, &state, n)?;
-        let settled = self.settle_noted(state, n, fits)?;
-        Ok((stands, settled))
+        let mut calls = calls;
+        calls.retain(|n| !self.is_of_earlier(era, *n));
+        calls
     }
 
-    /// The same for each of these calls.
-    fn settle_each(
-        &self,
-        stands: State,
-        state: WayState,
-        calls: &[u64],
-    ) -> Result<(State, WayState), Stop<Why>>
-        ensures stands { IfOk result (λ pair. pair.0 ≡ stands) }
-        ensures settled { IfOk result (λ pair. SettlesAt self.now.history.now.known self.now.marks.items calls.now state pair.1) }
-    {
-        let mut stands = stands;
-        let mut state = state;
-        for call in calls {
-            let (same, settled) = self.settle_one(stands, state, *call)?;
-            stands = same;
-            state = settled;
-        }
-        Ok((stands, state))
-    }
-
-    /// The state, in which those of these calls are placed that leave the tree as it is and fit now.
+    /// The state, in which calls of earlier eras count as placed, and those of these calls are placed that leave the tree as it is and fit
+    /// now.
     pub(crate) fn settle_state(
         &self,
-        work: &mut WalkWork,
-        state: WayState,
+        state: WalkState,
         calls: &[u64],
-    ) -> Result<WayState, Stop<Why>>
-        requires { FitsWork self.now.history.now.known work.old }
-        ensures fits { FitsWork self.now.history.now.known work.new }
-        ensures settled { IfOk result (SettlesAt self.now.history.now.known self.now.marks.items calls.now state) }
+    ) -> Result<WalkState, Stop<Why>>
+        ensures { IfOk result (SettlesAt self.now.history.now.known self.now.marks.items calls.now state) }
     {
-        let (state, ready) = state.take_ready();
-        if let Some(ready) = ready {
-            return self.settle_ready(state, calls, ready.as_slice());
+        if state.past < state.era {
+            self.settle_each(state.with_past_done(self), calls)
+        } else {
+            self.settle_each(state, calls)
         }
-        if state.sums.knows_tree() && !self.settles_some(&state, calls) {
-            return Ok(state);
-        }
-        let stood = self.taken_out(work)?;
-        let live = self.go_to(stood, state.bound.as_slice(), state.way.as_slice())?;
-        let (stands, bound, trail) = live.into_parts();
-        let (stands, settled) = self.settle_each(stands, state, calls)?;
-        let number = tree_number(&stands, bound.as_slice(), &[]);
-        work.live = Some(Live {
-            state: stands,
-            bound,
-            trail,
-        });
-        Ok(settled.with_tree(number))
     }
 }

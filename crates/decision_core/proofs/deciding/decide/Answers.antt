@@ -8,7 +8,6 @@ pub loop-index-init : goal.loop-index-init
 loop-index-init g c =
     let one : c.push.new.self.items ≡ c.in_ok-opening.field-0 ∷ [] = search rules in (
       (let many : length c.push.new.self.items ≡ 1 = ap length one in omega (arith, many)),
-      c.work-work.ensures,
       (λ times tells. keeps_first (g.M.Machine.StandsFor c.args.machine.now) (g.M.Machine.placed c.args.machine.now) (g.M.Machine.Next c.args.machine.now) (g.met.M.Machine.told c.args.machine.now) (g.M.Machine.first c.args.machine.now) times c.args.events.now tells
           c.in_ok-opening.field-0 c.push.new.self.items c.new-waiting.result.items one c.new-waiting.ensures.items c.in_ok-opening.ensures (g.met.M.Machine.fresh c.args.machine.now)),
     )
@@ -16,18 +15,17 @@ loop-index-init g c =
 pub loop-index-preserved : goal.loop-index-preserved
 loop-index-preserved g c =
     let behind = subst (HasStateBehind (get_or c.args.events.now c.loop-index.index (Called 0))) c.as_slice.ensures.value (c.call_unexplained.ensures.none c.in_default.is) in (
-      still_left (g.M.Machine.StandsFor c.args.machine.now) (g.M.Machine.placed c.args.machine.now) (g.M.Machine.Next c.args.machine.now) _ c.loop-index.waiting.items c.in_ok-after.left.items c.loop-index.states.items c.in_ok-after.after.items c.in_ok-after.ensures.event c.loop-index.invariant.0 behind,
-      c.take_event.ensures.fits,
+      still_left (g.M.Machine.StandsFor c.args.machine.now) (g.M.Machine.placed c.args.machine.now) (g.M.Machine.Next c.args.machine.now) _ c.loop-index.waiting.items c.in_ok-after.left.items c.loop-index.states.items c.in_ok-after.after.items c.in_ok-after.ensures c.loop-index.invariant.0 behind,
       (λ times tells. take_one times c.args.events.now tells (g.M.Machine.StandsFor c.args.machine.now) (g.M.Machine.placed c.args.machine.now) (g.M.Machine.Next c.args.machine.now) (g.met.M.Machine.told c.args.machine.now) (g.M.Machine.first c.args.machine.now) c.loop-index.index _
           c.loop-index.waiting.items c.in_ok-after.left.items c.loop-index.states.items c.in_ok-after.after.items
-          (stands_itself c.args.events.now c.loop-index.index _ c.loop-index-test.true) c.in_ok-after.ensures.event (c.loop-index.invariant.2 times tells)),
+          (stands_itself c.args.events.now c.loop-index.index _ c.loop-index-test.true) c.in_ok-after.ensures (c.loop-index.invariant.1 times tells)),
     )
 
 pub returns-in-Some-clause-none : goal.returns-in-Some-clause-none
 returns-in-Some-clause-none g c = λ plan times tells.
     let kept = take_one times c.args.events.now tells (g.M.Machine.StandsFor c.args.machine.now) (g.M.Machine.placed c.args.machine.now) (g.M.Machine.Next c.args.machine.now) (g.met.M.Machine.told c.args.machine.now) (g.M.Machine.first c.args.machine.now) c.loop-index.index _
     c.loop-index.waiting.items c.in_ok-after.left.items c.loop-index.states.items c.in_ok-after.after.items
-    (stands_itself c.args.events.now c.loop-index.index _ c.loop-index-test.true) c.in_ok-after.ensures.event (c.loop-index.invariant.2 times tells) in
+    (stands_itself c.args.events.now c.loop-index.index _ c.loop-index-test.true) c.in_ok-after.ensures (c.loop-index.invariant.1 times tells) in
     let empty : c.in_ok-after.after.items ≡ [] = search rules in
     none_after (g.M.Machine.StandsFor c.args.machine.now) (g.M.Machine.placed c.args.machine.now) (g.M.Machine.Next c.args.machine.now) (g.met.M.Machine.told c.args.machine.now) (g.M.Machine.first c.args.machine.now) times c.args.events.now tells (c.loop-index.index + 1) c.in_ok-after.left.items
     c.in_ok-after.after.items empty kept plan

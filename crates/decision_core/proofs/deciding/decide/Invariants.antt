@@ -5,6 +5,6 @@ use Rattle.decision_core.proofs.OneEvent.{Keeps}
 use Rattle.decision_core.proofs.deciding.decide.Given as goal
 
 abbrev pub invariant-loop-index : goal.invariant-loop-index
-invariant-loop-index g l = (0 < length l.states.items) × g.M.Machine.Fits l.machine l.work × ((times : Times) (tells : Tells times l.events)
+invariant-loop-index g l = (0 < length l.states.items) × ((times : Times) (tells : Tells times l.events)
     → Keeps times l.events tells (g.M.Machine.StandsFor l.machine) (g.M.Machine.placed l.machine) (g.M.Machine.Next l.machine) (g.met.M.Machine.told l.machine)
     (g.M.Machine.first l.machine) l.index l.waiting.items l.states.items)

@@ -10,14 +10,13 @@ loop-state-preserved g c =
     let left : c.loop-state.state-iterator.rest.items ≡ c.in-Some.state ∷ c.next.new.self.rest.items = search rules in
     let p : Grows c.loop-state.left.items.items c.put.new.states.items.items × HasFor (g.M.Machine.StandsFor c.args.machine.now) c.put.new.states.items.items c.forget.result = search rules in
     let forgets : Forgets (g.M.Machine.StandsFor c.args.machine.now) c.args.n c.in-Some.state c.forget.result = search rules in
-    let done = done_step (HasForgotten (g.M.Machine.StandsFor c.args.machine.now) c.args.n c.loop-state.left.items.items) (HasForgotten (g.M.Machine.StandsFor c.args.machine.now) c.args.n c.put.new.states.items.items)
+    done_step (HasForgotten (g.M.Machine.StandsFor c.args.machine.now) c.args.n c.loop-state.left.items.items) (HasForgotten (g.M.Machine.StandsFor c.args.machine.now) c.args.n c.put.new.states.items.items)
     c.args.states.items c.in-Some.state c.next.new.self.rest.items c.loop-state.state-iterator.rest.items left
     (λ s has. forgotten_grows (g.M.Machine.StandsFor c.args.machine.now) c.args.n c.loop-state.left.items.items c.put.new.states.items.items s p.0 has)
-    (forgotten_by (g.M.Machine.StandsFor c.args.machine.now) c.args.n c.put.new.states.items.items c.in-Some.state c.forget.result forgets p.1) c.loop-state.invariant.0 in
-    (done, c.put.ensures.fits)
+    (forgotten_by (g.M.Machine.StandsFor c.args.machine.now) c.args.n c.put.new.states.items.items c.in-Some.state c.forget.result forgets p.1) c.loop-state.invariant
 
-pub returns-clause-forgotten : goal.returns-clause-forgotten
-returns-clause-forgotten g c =
+pub returns : goal.returns
+returns g c =
     let left : c.loop-state.state-iterator.rest.items ≡ [] = nil_from_length _ (omega (arith, c.in-None.ensures.steps.0, c.loop-state.state-iterator.rest.ok)) in
     forgets_all (g.M.Machine.StandsFor c.args.machine.now) (g.M.Machine.placed c.args.machine.now) (g.M.Machine.Next c.args.machine.now) c.args.n c.args.states.items c.loop-state.left.items.items
-    (done_all (HasForgotten (g.M.Machine.StandsFor c.args.machine.now) c.args.n c.loop-state.left.items.items) c.args.states.items c.loop-state.state-iterator.rest.items left c.loop-state.invariant.0)
+    (done_all (HasForgotten (g.M.Machine.StandsFor c.args.machine.now) c.args.n c.loop-state.left.items.items) c.args.states.items c.loop-state.state-iterator.rest.items left c.loop-state.invariant)

@@ -23,7 +23,6 @@ pub loop-state-preserved : goal.loop-state-preserved
 loop-state-preserved g c =
     let p : (Grows c.loop-state.with.items.items c.place_calls.new.with.items.items × Grows c.loop-state.without.items.items c.place_calls.new.without.items.items)
     × HasPlacings (g.M.Machine.StandsFor c.args.machine.now) (g.M.Machine.placed c.args.machine.now) (g.M.Machine.Next c.args.machine.now) c.args.calls.now c.args.n c.place_calls.new.with.items.items c.place_calls.new.without.items.items c.args.calls.now c.state-item.result = search rules in
-    let grown = more (g.M.Machine.StandsFor c.args.machine.now) (g.M.Machine.placed c.args.machine.now) (g.M.Machine.Next c.args.machine.now) c.args.calls.now c.args.n c.args.with.now.items.items c.loop-state.with.items.items
+    more (g.M.Machine.StandsFor c.args.machine.now) (g.M.Machine.placed c.args.machine.now) (g.M.Machine.Next c.args.machine.now) c.args.calls.now c.args.n c.args.with.now.items.items c.loop-state.with.items.items
     c.place_calls.new.with.items.items c.args.without.now.items.items c.loop-state.without.items.items c.place_calls.new.without.items.items c.args.each.now c.loop-state.state-index c.state-item.result
-    c.loop-state-test.true c.state-item.is p c.loop-state.invariant.0 c.loop-state.invariant.1 in
-    (grown.0, grown.1, c.place_calls.ensures.fits)
+    c.loop-state-test.true c.state-item.is p c.loop-state.invariant.0 c.loop-state.invariant.1

@@ -17,11 +17,10 @@ loop-state-preserved g c =
           c.args.states.items c.in-Some.state c.next.new.self.rest.items c.loop-state.state-iterator.rest.items left
           (λ s has. put_grows (g.M.Machine.StandsFor c.args.machine.now) (g.M.Machine.placed c.args.machine.now) (g.M.Machine.Next c.args.machine.now) c.args.calls.now c.args.n
           c.loop-state.with.items.items c.put_settled.new.with.items.items c.loop-state.without.items.items c.put_settled.new.without.items.items s p.0.0 p.0.1 has) p.1 inv.1,
-      c.put_settled.ensures.fits,
     )
 
-pub returns-clause-there : goal.returns-clause-there
-returns-clause-there g c =
+pub returns : goal.returns
+returns g c =
     let inv = c.loop-state.invariant in
     let left : c.loop-state.state-iterator.rest.items ≡ [] = nil_from_length _ (omega (arith, c.in-None.ensures.steps.0, c.loop-state.state-iterator.rest.ok)) in (
       inv.0,

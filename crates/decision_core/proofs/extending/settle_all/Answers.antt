@@ -10,16 +10,15 @@ loop-state-preserved g c =
     let left : c.loop-state.state-iterator.rest.items ≡ c.in-Some.state ∷ c.next.new.self.rest.items = search rules in
     let p : Grows c.loop-state.settled.items.items c.put.new.states.items.items × HasFor (g.M.Machine.StandsFor c.args.machine.now) c.put.new.states.items.items c.in_ok-after.after = search rules in
     let settles : Settles (g.M.Machine.StandsFor c.args.machine.now) (g.M.Machine.placed c.args.machine.now) (g.M.Machine.Next c.args.machine.now) (c.args.n ∷ []) c.in-Some.state c.in_ok-after.after = search rules in
-    let done = done_step
+    done_step
     (HasSettled (g.M.Machine.StandsFor c.args.machine.now) (g.M.Machine.placed c.args.machine.now) (g.M.Machine.Next c.args.machine.now) (c.args.n ∷ []) c.loop-state.settled.items.items)
     (HasSettled (g.M.Machine.StandsFor c.args.machine.now) (g.M.Machine.placed c.args.machine.now) (g.M.Machine.Next c.args.machine.now) (c.args.n ∷ []) c.put.new.states.items.items)
     c.args.states.items c.in-Some.state c.next.new.self.rest.items c.loop-state.state-iterator.rest.items left
     (λ s has. settled_grows (g.M.Machine.StandsFor c.args.machine.now) (g.M.Machine.placed c.args.machine.now) (g.M.Machine.Next c.args.machine.now) (c.args.n ∷ []) c.loop-state.settled.items.items c.put.new.states.items.items s p.0 has)
-    (settled_held (g.M.Machine.StandsFor c.args.machine.now) (g.M.Machine.placed c.args.machine.now) (g.M.Machine.Next c.args.machine.now) (c.args.n ∷ []) c.put.new.states.items.items c.in-Some.state c.in_ok-after.after settles p.1) c.loop-state.invariant.0 in
-    (done, c.put.ensures.fits)
+    (settled_held (g.M.Machine.StandsFor c.args.machine.now) (g.M.Machine.placed c.args.machine.now) (g.M.Machine.Next c.args.machine.now) (c.args.n ∷ []) c.put.new.states.items.items c.in-Some.state c.in_ok-after.after settles p.1) c.loop-state.invariant
 
-pub returns-clause-settled : goal.returns-clause-settled
-returns-clause-settled g c =
+pub returns : goal.returns
+returns g c =
     let left : c.loop-state.state-iterator.rest.items ≡ [] = nil_from_length _ (omega (arith, c.in-None.ensures.steps.0, c.loop-state.state-iterator.rest.ok)) in
     done_all (HasSettled (g.M.Machine.StandsFor c.args.machine.now) (g.M.Machine.placed c.args.machine.now) (g.M.Machine.Next c.args.machine.now) (c.args.n ∷ []) c.loop-state.settled.items.items)
-    c.args.states.items c.loop-state.state-iterator.rest.items left c.loop-state.invariant.0
+    c.args.states.items c.loop-state.state-iterator.rest.items left c.loop-state.invariant

@@ -9,18 +9,17 @@ loop-state-preserved g c =
     let left : c.loop-state.state-iterator.rest.items ≡ c.in-Some.state ∷ c.next.new.self.rest.items = search rules in
     let p : (Grows c.loop-state.with.items.items c.sort_into.new.with.items.items × Grows c.loop-state.without.items.items c.sort_into.new.without.items.items)
     × IsSortedInto (g.M.Machine.StandsFor c.args.machine.now) (g.M.Machine.placed c.args.machine.now) (g.M.Machine.Next c.args.machine.now) c.args.n c.sort_into.new.with.items.items c.sort_into.new.without.items.items c.in-Some.state = search rules in
-    let done = done_step
+    done_step
     (IsSortedInto (g.M.Machine.StandsFor c.args.machine.now) (g.M.Machine.placed c.args.machine.now) (g.M.Machine.Next c.args.machine.now) c.args.n c.loop-state.with.items.items c.loop-state.without.items.items)
     (IsSortedInto (g.M.Machine.StandsFor c.args.machine.now) (g.M.Machine.placed c.args.machine.now) (g.M.Machine.Next c.args.machine.now) c.args.n c.sort_into.new.with.items.items c.sort_into.new.without.items.items)
     c.args.states.items c.in-Some.state c.next.new.self.rest.items c.loop-state.state-iterator.rest.items left
     (λ s sorted. sorted_grows (g.M.Machine.StandsFor c.args.machine.now) (g.M.Machine.placed c.args.machine.now) (g.M.Machine.Next c.args.machine.now) c.args.n c.loop-state.with.items.items
     c.sort_into.new.with.items.items c.loop-state.without.items.items c.sort_into.new.without.items.items s p.0.0 p.0.1 sorted)
-    p.1 c.loop-state.invariant.0 in
-    (done, c.sort_into.ensures.fits)
+    p.1 c.loop-state.invariant
 
-pub returns-clause-sorted : goal.returns-clause-sorted
-returns-clause-sorted g c =
+pub returns : goal.returns
+returns g c =
     let left : c.loop-state.state-iterator.rest.items ≡ [] = nil_from_length _ (omega (arith, c.in-None.ensures.steps.0, c.loop-state.state-iterator.rest.ok)) in
     done_all
     (IsSortedInto (g.M.Machine.StandsFor c.args.machine.now) (g.M.Machine.placed c.args.machine.now) (g.M.Machine.Next c.args.machine.now) c.args.n c.loop-state.with.items.items c.loop-state.without.items.items)
-    c.args.states.items c.loop-state.state-iterator.rest.items left c.loop-state.invariant.0
+    c.args.states.items c.loop-state.state-iterator.rest.items left c.loop-state.invariant

@@ -5,4 +5,4 @@ use Rattle.decision_core.proofs.extending.sort_out.Given as goal
 abbrev pub invariant-loop-state : goal.invariant-loop-state
 invariant-loop-state g l =
     DoneOrLeft (IsSortedInto (g.M.Machine.StandsFor l.machine) (g.M.Machine.placed l.machine) (g.M.Machine.Next l.machine) l.n l.with.items.items l.without.items.items) l.fn.states.items
-    l.state-iterator.rest.items × g.M.Machine.Fits l.machine l.work
+    l.state-iterator.rest.items

@@ -20,7 +20,7 @@ loop-call-preserved c =
     one_more (λ n. HasRegisterStep c.loop-call.states.items n c.args.state.now) (λ n. HasRegisterStep c.put_step.new.states.items n c.args.state.now) c.args.calls.now c.loop-call.call-index 0 c.loop-call-test.true
     (λ n has. grown c.loop-call.states.items c.put_step.new.states.items c.args.state.now n put.0 has) c.loop-call.invariant put.1
 
-pub returns-clause-states : goal.returns-clause-states
-returns-clause-states c =
+pub returns : goal.returns
+returns c =
     all_weaker (λ n. HasRegisterStep c.loop-call.states.items n c.args.state.now) _ (λ n has. step_of c.loop-call.states.items c.args.state.now n has) c.args.calls.now
     (all_gone_over (λ n. HasRegisterStep c.loop-call.states.items n c.args.state.now) c.args.calls.now c.loop-call.call-index (omega (arith, c.loop-call-test.false)) c.loop-call.invariant)

@@ -1,8 +1,8 @@
-use Rattle.std.proofs.Common.{◌≡◌, true, false, None, refl, rules}
+use Rattle.std.proofs.Common.{◌≡◌, true, false, None, Some, refl, rules}
 use Rattle.file_tree.specs.Setting.{under}
 use Rattle.decision_steps.specs.Known.{is_failure}
 use Rattle.decision_steps.proofs.Unknown.{success_names, failure_names}
-use Rattle.decision_steps.proofs.Answered.{kept_covers}
+use Rattle.decision_steps.proofs.Answered.{kept_covers, kept_placed}
 use Rattle.decision_steps.proofs.state.State.place_unknown.Goals as goal
 
 pub returns-then-not-is_failure-clause-covers : goal.returns-then-not-is_failure-clause-covers
@@ -13,11 +13,20 @@ returns-then-not-is_failure-clause-covers c =
 pub returns-in-Ok-clause-covers : goal.returns-in-Ok-clause-covers
 returns-in-Ok-clause-covers c =
     let fails : is_failure c.args.outcome.now ≡ true = search rules in
+    let same : c.in_ok-binds.binds.value ≡ c.args.self.now.binds = search rules in
+    let stepped : under c.args.profile c.args.self.now.binds c.args.self.now.tree c.args.number c.args.call.now c.args.outcome.now ≡ Some c.in-Ok.tree.value = search rules in
     λ plan after agrees leads. kept_covers c.args.profile c.args.self.now.binds plan c.args.self.now.tree after c.args.number c.args.call.now c.args.outcome.now agrees leads fails
-    (record { tree = c.step_under.new.self; binds = c.args.self.now.binds }) refl c.in-Ok.ensures.next
+    (record { tree = c.in-Ok.tree.value; binds = c.in_ok-binds.binds.value }) same stepped
 
-pub returns-in-Err-NotAllowed-clause-covers : goal.returns-in-Err-NotAllowed-clause-covers
-returns-in-Err-NotAllowed-clause-covers c =
+pub returns-in-Ok-clause-next : goal.returns-in-Ok-clause-next
+returns-in-Ok-clause-next c =
+    let fails : is_failure c.args.outcome.now ≡ true = search rules in
+    let same : c.in_ok-binds.binds.value ≡ c.args.self.now.binds = search rules in
+    let stepped : under c.args.profile c.args.self.now.binds c.args.self.now.tree c.args.number c.args.call.now c.args.outcome.now ≡ Some c.in-Ok.tree.value = search rules in
+    kept_placed c.args.profile c.args.self.now (record { tree = c.in-Ok.tree.value; binds = c.in_ok-binds.binds.value }) c.args.number c.args.call.now c.args.outcome.now fails same stepped
+
+pub returns-in-Err-NotLegal-clause-covers : goal.returns-in-Err-NotLegal-clause-covers
+returns-in-Err-NotLegal-clause-covers c =
     let fails : is_failure c.args.outcome.now ≡ true = search rules in
     let refused : under c.args.profile c.args.self.now.binds c.args.self.now.tree c.args.number c.args.call.now c.args.outcome.now ≡ None = search rules in
     λ plan after agrees leads. failure_names c.args.profile c.args.self.now.binds plan c.args.self.now.tree after c.args.number c.args.call.now c.args.outcome.now agrees leads fails refused

@@ -5,8 +5,8 @@ use Rattle.decision_walk.specs.Placings.{HasPlaced}
 use Rattle.decision_walk.proofs.StepLaws.{if_ok, by_reply}
 use Rattle.decision_walk.proofs.machine.HistoryMachine.place_answered.Goals as goal
 
-pub returns-in-Some-clause-answered : goal.returns-in-Some-clause-answered
-returns-in-Some-clause-answered c =
+pub returns-in-Some : goal.returns-in-Some
+returns-in-Some c =
     let known = c.args.self.now.history.now.known in
     let marks = c.args.self.now.marks.items in
     let old = c.args.states.now.items in
@@ -16,4 +16,4 @@ returns-in-Some-clause-answered c =
     if_ok c.place_as.result (λ _. Grows old new × HasPlaced known marks new state c.args.n c.args.call.now c.in-Some.outcome)
     (λ _. Grows old new × ((outcome : Outcome) → c.args.recorded.now.outcome ≡ Some outcome → HasPlaced known marks new state c.args.n c.args.call.now outcome))
     (λ _ found. (found.0, by_reply known marks new state c.args.n c.args.call.now c.args.recorded.now.outcome c.in-Some.outcome answer found.1))
-    c.place_as.ensures.placed
+    c.place_as.ensures

@@ -1,20 +1,27 @@
-use Rattle.std.proofs.Common.{◌≡◌, Some, None, sym, ◌∙◌, subst, rules}
-use Rattle.decision_walk.specs.Placings.{CoversPlans}
+use Rattle.std.proofs.Common.{◌≡◌, Some, None, subst, rules}
+use Rattle.certificate.specs.Plan.{call_of}
+use Rattle.decision_core.specs.Layers.{Grows}
+use Rattle.decision_walk.specs.Placings.{CoversPlans, HasChildren, HasPlaced}
 use Rattle.decision_walk.proofs.PlacedLaws.{children_cover}
-use Rattle.decision_walk.proofs.StepLaws.{grows_self, none_placed}
+use Rattle.decision_walk.proofs.StepLaws.{grows_self, none_placed, if_ok}
 use Rattle.decision_walk.proofs.machine.HistoryMachine.place_as.Goals as goal
 
-pub returns-clause-placed : goal.returns-clause-placed
-returns-clause-placed c =
+pub returns-in-Some : goal.returns-in-Some
+returns-in-Some c =
     let known = c.args.self.now.history.now.known in
+    let marks = c.args.self.now.marks.items in
     let state = c.args.state.now in
-    let some : c.into_parts-stands.result.1 ≡ Some c.in-Some.attempt = search rules in
-    let covers = subst (λ found. CoversPlans known state c.args.place c.args.call.now c.args.outcome.now found) (sym c.into_parts-stands.ensures.found ∙ some) c.in_ok-tried.ensures.found in
-    (c.in_ok-put_children.ensures.0, children_cover known c.args.self.now.marks.items c.put_children.new.states.items state c.args.place c.args.call.now c.args.outcome.now c.in-Some.attempt c.requires.inside covers c.in_ok-put_children.ensures.1)
+    let n = call_of c.args.place in
+    let old = c.args.states.now.items in
+    let new = c.put_children.new.states.items in
+    let is : c.in_ok-next.field-0 ≡ Some c.in-Some.next = search rules in
+    let covers = subst (CoversPlans known state n c.args.call.now c.args.outcome.now) is c.in_ok-next.ensures in
+    if_ok c.put_children.result (λ _. Grows old new × HasChildren known marks new state n c.in-Some.next) (λ _. Grows old new × HasPlaced known marks new state n c.args.call.now c.args.outcome.now)
+    (λ _ found. (found.0, children_cover known marks new state n c.args.call.now c.args.outcome.now c.in-Some.next c.requires covers found.1)) c.put_children.ensures
 
-pub returns-in_default-clause-placed : goal.returns-in_default-clause-placed
-returns-in_default-clause-placed c =
+pub returns-in-None : goal.returns-in-None
+returns-in-None c =
     let known = c.args.self.now.history.now.known in
-    let none : c.into_parts-stands.result.1 ≡ None = search rules in
-    let covers = subst (λ found. CoversPlans known c.args.state.now c.args.place c.args.call.now c.args.outcome.now found) (sym c.into_parts-stands.ensures.found ∙ none) c.in_ok-tried.ensures.found in
-    (grows_self c.args.states.now.items, none_placed known c.args.self.now.marks.items c.args.states.now.items c.args.state.now c.args.place c.args.call.now c.args.outcome.now c.requires.inside covers)
+    let n = call_of c.args.place in
+    let covers : CoversPlans known c.args.state.now n c.args.call.now c.args.outcome.now None = search rules in
+    (grows_self c.args.states.now.items, none_placed known c.args.self.now.marks.items c.args.states.now.items c.args.state.now n c.args.call.now c.args.outcome.now c.requires covers)

@@ -1,4 +1,3 @@
-use Rattle.std.proofs.Common.{◌≡◌}
 use Rattle.decision_core.specs.Layers.{Grows}
 use Rattle.decision_walk.specs.Placings.{HasCounts}
 use Rattle.decision_walk.proofs.machine.HistoryMachine.place_counts.Given as goal
@@ -6,4 +5,3 @@ use Rattle.decision_walk.proofs.machine.HistoryMachine.place_counts.Given as goa
 -- each count so far was tried
 abbrev pub invariant-loop-count : goal.invariant-loop-count
 invariant-loop-count l = Grows l.fn.states.items l.states.items × HasCounts l.self.history.now.known l.self.marks.items l.states.items l.state l.n l.call l.count
-    × (l.stands ≡ l.fn.stands)

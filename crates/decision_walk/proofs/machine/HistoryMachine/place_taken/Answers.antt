@@ -1,27 +1,27 @@
 use Rattle.std.proofs.Common.{◌≡◌, ◌+◌, false, Some, None, IfOk, rules}
 use Rattle.nfs3_types.specs.declared.replies.Outcome.TheVariants.{Taken}
 use Rattle.decision_core.specs.Layers.{Grows}
-use Rattle.decision_walk.specs.Way.{may_change}
+use Rattle.decision_walk.specs.Settling.{may_change}
 use Rattle.decision_walk.specs.Placings.{bytes_brought, HasPlaced, HasCounts, HasTaken}
 use Rattle.decision_walk.proofs.StepLaws.{grows_self, if_ok}
 use Rattle.decision_walk.proofs.Taking.{none_taken, whole_taken, counts_taken}
 use Rattle.decision_walk.proofs.machine.HistoryMachine.place_taken.Goals as goal
 
-pub returns-else-brought-gt-MOST_BYTES-clause-taken : goal.returns-else-brought-gt-MOST_BYTES-clause-taken
-returns-else-brought-gt-MOST_BYTES-clause-taken c =
+pub returns-else-brought-gt-MOST_BYTES : goal.returns-else-brought-gt-MOST_BYTES
+returns-else-brought-gt-MOST_BYTES c =
     let known = c.args.self.now.history.now.known in
     let marks = c.args.self.now.marks.items in
     let old = c.args.states.now.items in
     let new = c.place_counts.new.states.items in
     let state = c.args.state.now in
     let is : bytes_brought c.args.call.now ≡ Some c.in-Some.brought = search rules in
-    let counted : IfOk c.place_counts.result (λ _. Grows old new × HasCounts known marks new state c.args.n c.args.call.now (c.in-Some.brought + 1)) = c.place_counts.ensures.counts in
+    let counted : IfOk c.place_counts.result (λ _. Grows old new × HasCounts known marks new state c.args.n c.args.call.now (c.in-Some.brought + 1)) = c.place_counts.ensures in
     if_ok c.place_counts.result (λ _. Grows old new × HasCounts known marks new state c.args.n c.args.call.now (c.in-Some.brought + 1))
     (λ _. Grows old new × HasTaken known marks new state c.args.n c.args.call.now)
     (λ _ found. (found.0, counts_taken known marks new state c.args.n c.args.call.now c.in-Some.brought is found.1)) counted
 
-pub returns-in-None-clause-taken : goal.returns-in-None-clause-taken
-returns-in-None-clause-taken c =
+pub returns-in-None : goal.returns-in-None
+returns-in-None c =
     let known = c.args.self.now.history.now.known in
     let marks = c.args.self.now.marks.items in
     let old = c.args.states.now.items in
@@ -30,9 +30,9 @@ returns-in-None-clause-taken c =
     let is : bytes_brought c.args.call.now ≡ None = search rules in
     if_ok c.place_as.result (λ _. Grows old new × HasPlaced known marks new state c.args.n c.args.call.now (Taken None))
     (λ _. Grows old new × HasTaken known marks new state c.args.n c.args.call.now)
-    (λ _ found. (found.0, whole_taken known marks new state c.args.n c.args.call.now is found.1)) c.place_as.ensures.placed
+    (λ _ found. (found.0, whole_taken known marks new state c.args.n c.args.call.now is found.1)) c.place_as.ensures
 
-pub returns-then-not-may_change-clause-taken : goal.returns-then-not-may_change-clause-taken
-returns-then-not-may_change-clause-taken c =
+pub returns-then-not-may_change : goal.returns-then-not-may_change
+returns-then-not-may_change c =
     let no : may_change c.args.call.now ≡ false = search rules in
     (grows_self c.args.states.now.items, none_taken c.args.self.now.history.now.known c.args.self.now.marks.items c.args.states.now.items c.args.state.now c.args.n c.args.call.now no)

@@ -1,7 +1,9 @@
-use Rattle.std.proofs.Common.{◌≡◌, false, Some, length, subst, rules}
+use Rattle.std.proofs.Common.{◌≡◌, false, Some, subst, rules}
+use Rattle.std.specs.Prelude.{Contains, option_map}
 use Rattle.certificate.specs.Plan.{call_of}
 use Rattle.decision_core.specs.Layers.{Grows}
-use Rattle.decision_walk.specs.Placings.{HasChild, HasChildren, MayNotLose}
+use Rattle.decision_steps.specs.Standing.{Standing}
+use Rattle.decision_walk.specs.Placings.{child_of, HasChildren, MayNotLose}
 use Rattle.decision_walk.proofs.StepLaws.{grows_on, if_ok, never_lost, as_first_lost}
 use Rattle.decision_walk.proofs.machine.HistoryMachine.put_children.Goals as goal
 
@@ -9,9 +11,13 @@ pub returns-then-not-may_lose : goal.returns-then-not-may_lose
 returns-then-not-may_lose c =
     let known = c.args.self.now.history.now.known in
     let marks = c.args.self.now.marks.items in
-    let no : c.may_lose.result ≡ false = search rules in
-    let stays : MayNotLose known marks c.args.state.now (call_of c.args.place) = subst (λ n. MayNotLose known marks c.args.state.now n) c.number.ensures (c.may_lose.ensures no) in
-    (c.in_ok-put_child.ensures.0, never_lost known marks c.put_child.new.states.items c.args.state.now c.args.place c.args.attempt.now stays c.in_ok-put_child.ensures.1)
+    let state = c.args.state.now in
+    let n = call_of c.args.place in
+    let new = c.put_child.new.states.items in
+    let not : c.may_lose.result ≡ false = search rules in
+    let stays : MayNotLose known marks state n = subst (λ k. MayNotLose known marks state k) c.number.ensures (c.may_lose.ensures not) in
+    let there = subst (λ b. Contains new (child_of state c.args.next.now b n)) c.in_ok-copy_base.ensures c.in_ok-put_child.ensures.1 in
+    (c.in_ok-put_child.ensures.0, never_lost known marks new state n c.args.next.now stays there)
 
 pub returns : goal.returns
 returns c =
@@ -21,11 +27,14 @@ returns c =
     let middle = c.put_child.new.states.items in
     let new = c.put_child-2.new.states.items in
     let state = c.args.state.now in
-    let many : c.len.result ≡ length state.way.items = search rules in
-    if_ok c.put_child-2.result (λ _. Grows middle new × HasChild known new state c.args.place c.args.attempt.now (Some c.len.result))
-    (λ _. Grows old new × HasChildren known marks new state c.args.place c.args.attempt.now)
+    let next = c.args.next.now in
+    let n = call_of c.args.place in
+    let there = subst (λ b. Contains middle (child_of state next b n)) c.in_ok-copy_base.ensures c.in_ok-put_child.ensures.1 in
+    let tree : c.in_ok-copy.field-0.tree ≡ state.tree = search rules in
+    if_ok c.put_child-2.result (λ _. Grows middle new × Contains new (child_of state next (Some c.in_ok-copy.field-0.tree) n))
+    (λ _. Grows old new × HasChildren known marks new state n next)
     (λ _ found. (
       grows_on old middle new c.in_ok-put_child.ensures.0 found.0,
-      as_first_lost known marks middle new state c.args.place c.args.attempt.now found.0 c.in_ok-put_child.ensures.1 (subst (λ k. HasChild known new state c.args.place c.args.attempt.now (Some k)) many found.1),
+      as_first_lost known marks middle new state n next found.0 there (subst (λ t. Contains new (child_of state next (Some t) n)) tree found.1),
     ))
     c.put_child-2.ensures

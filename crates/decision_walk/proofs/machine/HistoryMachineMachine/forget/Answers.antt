@@ -1,9 +1,13 @@
+use Rattle.std.proofs.Common.{◌≤◌, sym, subst, rules}
+use Rattle.decision_core.specs.States.{also}
+use Rattle.decision_walk.specs.Standing.{IsAt}
 use Rattle.decision_walk.proofs.MachineLaws.{forgets}
-use Rattle.std.proofs.Common.{sym, subst, ◌≤◌}
-use Rattle.decision_walk.specs.Standing.{EndsBy}
 use Rattle.decision_walk.proofs.machine.HistoryMachineMachine.forget.Goals as goal
 
 pub returns : goal.returns
-returns c = λ plan gone point at. forgets c.args.self.now.history.now.known c.args.self.now.marks.items plan gone point c.args.state c.without_call.result c.args.n c.without_call.ensures.bound c.without_call.ensures.way
-    c.without_call.ensures.cut c.without_call.ensures.era c.without_call.ensures.placed (subst (λ e. c.args.state.answered_to ≤ e) (sym c.without_call.ensures.answered) c.answered_with-answered_to.ensures.later)
-    (subst (EndsBy c.args.self.now.history.now.known c.args.n) (sym c.without_call.ensures.answered) c.answered_with-answered_to.ensures.ends) at
+returns c =
+    let known = c.args.self.now.history.now.known in
+    let marks = c.args.self.now.marks.items in
+    let later : c.args.state.answered_to ≤ c.answered_with-answered_to.result = search rules in
+    λ plan gone point at. subst (IsAt known marks plan (also gone c.args.n) point) (sym c.without_call.ensures)
+    (forgets known marks plan gone point c.args.state c.args.n c.answered_with-answered_to.result later c.answered_with-answered_to.ensures.ends at)

@@ -1,0 +1,26 @@
+-- For the prover, and for callers.
+-- What a contract sees of a state of the walk (a form of this project's own).
+use Rattle.std.specs.Prelude.{ℕ, List, Option, refl}
+use Rattle.std.specs.Coded.{Coded, code_by, coded×, coded_list, coded_option, coded_ℕ}
+use Rattle.tree_nodes.specs.Tree.{Tree}
+use Rattle.tree_handles.specs.Binding.{Bindings}
+use Rattle.decision_steps.specs.Standing.{tree_code, bindings_code}
+
+-- the tree, the handles that are bound, the tree to which the era's crash goes back once a call is lost, the era, from which era on the
+-- calls are listed that are placed (earlier ones count as placed), these calls, and by which event each forgotten call was answered
+pub record WalkView : Type 0 where
+  pub tree : Tree
+  pub binds : Bindings
+  pub base : Option Tree
+  pub era : ℕ
+  pub past : ℕ
+  pub placed : List ℕ
+  pub answered_to : ℕ
+
+-- ---- for the prover: how these are told apart
+
+abbrev pub view_code : Coded WalkView
+view_code = code_by (Tree × (Bindings × (Option Tree × (ℕ × (ℕ × (List ℕ × ℕ))))))
+    (coded× tree_code (coded× bindings_code (coded× (coded_option tree_code) (coded× coded_ℕ (coded× coded_ℕ (coded× (coded_list coded_ℕ) coded_ℕ))))))
+    (λ v. (v.tree, (v.binds, (v.base, (v.era, (v.past, (v.placed, v.answered_to)))))))
+    (λ p. record { tree = p.0; binds = p.1.0; base = p.1.1.0; era = p.1.1.1.0; past = p.1.1.1.1.0; placed = p.1.1.1.1.1.0; answered_to = p.1.1.1.1.1.1 }) (λ _. refl)
