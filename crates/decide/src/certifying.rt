@@ -1,30 +1,22 @@
-//! A certificate out of the way of a state. It is judged by who makes it, and nothing rests on it.
+//! A certificate out of what happened on the way to a state. It is judged by who makes it, and nothing rests on it.
 
 use certificate::{Bind, Certificate, EraPlan, Place};
-use decision_steps::BoundHandle;
-use decision_walk::{Deed, WayState};
+use decision_walk::{Deed, WalkState};
 use nfs3_types::{FileHandle, ItemList};
 use std::alloc::{AllocError, Global};
 use std::collections::BTreeMap;
 
-/// A handle's bind.
-fn bind_of(alloc: Global, handle: &FileHandle, object: u64) -> Result<Bind, AllocError> {
-    let handle = FileHandle::from_slice(alloc, handle.as_slice())?;
-    Ok(Bind { handle, object })
-}
-
 /// The binds in the order of their handles.
-fn binds_of(alloc: Global, bound: &[BoundHandle]) -> Result<ItemList<Bind>, AllocError> {
-    let mut places = BTreeMap::new(alloc);
-    for (place, one) in bound.iter().enumerate() {
-        let key = Vec::from_slice(alloc, one.handle.as_slice())?;
-        places.insert(key, place)?;
+fn binds_of(alloc: Global, bound: Vec<(Vec<u8>, u64)>) -> Result<ItemList<Bind>, AllocError> {
+    let mut objects = BTreeMap::new(alloc);
+    for (handle, object) in bound {
+        objects.insert(handle, object)?;
     }
     let mut binds = Vec::new(alloc);
-    for (_key, place) in places.iter() {
-        if let Some(one) = bound.get(*place) {
-            binds.push(bind_of(alloc, &one.handle, one.object)?)?;
-        }
+    for (handle, object) in objects.iter() {
+        let handle = FileHandle::from_slice(alloc, handle.as_slice())?;
+        let object = *object;
+        binds.push(Bind { handle, object })?;
     }
     Ok(ItemList::new(binds))
 }
@@ -64,13 +56,13 @@ fn eras_of(alloc: Global, deeds: &[Deed], count: u64) -> Result<ItemList<EraPlan
     Ok(ItemList::new(eras))
 }
 
-/// The certificate of a way over so many eras.
+/// The certificate of a state after so many eras.
 pub(crate) fn certificate_of(
     alloc: Global,
-    state: &WayState,
+    state: &WalkState,
     eras: u64,
 ) -> Result<Certificate, AllocError> {
-    let binds = binds_of(alloc, state.bound())?;
+    let binds = binds_of(alloc, state.bound()?)?;
     let deeds = state.deeds()?;
     let eras = eras_of(alloc, deeds.as_slice(), eras)?;
     Ok(Certificate { binds, eras })

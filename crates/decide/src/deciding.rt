@@ -16,8 +16,8 @@ use crate::marking::marks_of;
 use crate::spans::{crash_marks, spans_of};
 use crate::verifiers::second_verifier;
 use certificate::Certificate;
-use decision_core::{Event, Limits, Stop, Walked, timeline};
-use decision_walk::{HistoryMachine, WayState, Why};
+use decision_core::{Event, Stop, Walked, Watch, timeline};
+use decision_walk::{HistoryMachine, WalkState, Why};
 use nfs_history::History;
 use std::alloc::{AllocError, Global};
 use witness_check::{Verdict, check};
@@ -28,7 +28,7 @@ fn decision_of(stop: Stop<Why>) -> Decision
 {
     match stop {
         Stop::TooManyStates => Decision::Undecided(Undecided::TooManyStates),
-        Stop::TooManySteps => Decision::Undecided(Undecided::TooManySteps),
+        Stop::Ended => Decision::Undecided(Undecided::Ended),
         Stop::NotCovered(why) => Decision::Undecided(Undecided::NotCovered(why)),
         Stop::NoMemory => Decision::NoMemory,
     }
@@ -50,7 +50,7 @@ fn events_of(alloc: Global, history: &History) -> Result<Option<Vec<Event>>, All
 fn accepted(
     alloc: Global,
     history: &History,
-    state: &WayState,
+    state: &WalkState,
 ) -> Result<Option<Certificate>, AllocError>
     ensures { IfOk result (λ found. IfSome found (IsWitness history.now.known)) }
 {
@@ -65,7 +65,7 @@ fn accepted(
 fn first_accepted(
     alloc: Global,
     history: &History,
-    states: &[WayState],
+    states: &[WalkState],
 ) -> Result<Option<Certificate>, AllocError>
     ensures { IfOk result (λ found. IfSome found (IsWitness history.now.known)) }
 {
@@ -111,19 +111,20 @@ fn refusal_of(
 }
 
 /// Walks a history by its machine, where these are the events.
-fn walk(
+fn walk<W: Watch>(
     alloc: Global,
     history: &History,
     machine: &HistoryMachine<'_>,
     events: &[Event],
-    limits: Limits,
-) -> Result<Walked<WayState>, Stop<Why>>
+    most: usize,
+    watch: &mut W,
+) -> Result<Walked<WalkState>, Stop<Why>>
     requires history { machine.now.history.now ≡ history.now }
     requires marks { AreNeverLost history.now.known machine.now.marks.items }
     requires tells { TellsOf history.now events.now }
     ensures { IfOk result (Walks history.now.known) }
 {
-    decision_core::decide(alloc, machine, events, limits)
+    decision_core::decide(alloc, machine, events, most, watch)
 }
 
 /// What is decided where states are left and none gives a witness: no, where an era shows two write verifiers.
@@ -142,7 +143,7 @@ fn told_by_verifiers(alloc: Global, history: &History) -> Result<Decision, Alloc
 }
 
 /// What a walk decides.
-fn told(alloc: Global, history: &History, walked: Walked<WayState>) -> Result<Decision, AllocError>
+fn told(alloc: Global, history: &History, walked: Walked<WalkState>) -> Result<Decision, AllocError>
     requires walks { Walks history.now.known walked }
     requires timed { AreTimed history.now.known (era_start (recording_of history.now).events) }
     ensures { IfOk result (Says history.now.known) }
@@ -160,19 +161,20 @@ fn told(alloc: Global, history: &History, walked: Walked<WayState>) -> Result<De
 
 /// What is decided where a walk came to a step that it doesn't decide: a yes where a walk that leaves such steps out, or guesses what a
 /// handle names, comes to a witness.
-fn decided_by_guesses(
+fn decided_by_guesses<W: Watch>(
     alloc: Global,
     history: &History,
     machine: &HistoryMachine<'_>,
     events: &[Event],
-    limits: Limits,
+    most: usize,
+    watch: &mut W,
     why: Why,
 ) -> Result<Decision, AllocError>
     ensures { IfOk result (Says history.now.known) }
 {
     let leaving = LeavingOut::new(alloc, machine);
     let undecided = Decision::Undecided(Undecided::NotCovered(why));
-    match decision_core::decide(alloc, &leaving, events, limits) {
+    match decision_core::decide(alloc, &leaving, events, most, watch) {
         Ok(Walked::Left(states)) => match first_accepted(alloc, history, states.as_slice())? {
             Some(certificate) => Ok(Decision::Yes(certificate)),
             None => Ok(undecided),
@@ -183,7 +185,12 @@ fn decided_by_guesses(
 }
 
 /// What is decided, with memory.
-fn decided(alloc: Global, history: &History, limits: Limits) -> Result<Decision, AllocError>
+fn decided<W: Watch>(
+    alloc: Global,
+    history: &History,
+    most: usize,
+    watch: &mut W,
+) -> Result<Decision, AllocError>
     ensures { IfOk result (Says history.now.known) }
 {
     let Some(events) = events_of(alloc, history)? else {
@@ -192,20 +199,21 @@ fn decided(alloc: Global, history: &History, limits: Limits) -> Result<Decision,
     let marks = marks_of(alloc, history)?;
     let machine = HistoryMachine::new(alloc, history, marks);
     let events = events.as_slice();
-    match walk(alloc, history, &machine, events, limits) {
+    match walk(alloc, history, &machine, events, most, watch) {
         Ok(walked) => told(alloc, history, walked),
         Err(Stop::NotCovered(why)) => {
-            decided_by_guesses(alloc, history, &machine, events, limits, why)
+            decided_by_guesses(alloc, history, &machine, events, most, watch, why)
         }
         Err(stop) => Ok(decision_of(stop)),
     }
 }
 
-/// Whether a history has any witness. A yes has one; where the answer is no, no certificate is one.
-pub fn decide(alloc: Global, history: &History, limits: Limits) -> Decision
+/// Whether a history has any witness, by a walk of so many states at once at most, which a watch may end. A yes has one; where the answer is
+/// no, no certificate is one.
+pub fn decide<W: Watch>(alloc: Global, history: &History, most: usize, watch: &mut W) -> Decision
     ensures { Says history.now.known result }
 {
-    match decided(alloc, history, limits) {
+    match decided(alloc, history, most, watch) {
         Ok(decision) => decision,
         Err(AllocError) => Decision::NoMemory,
     }

@@ -18,10 +18,10 @@ pub struct Refusal {
 /// Why nothing is decided.
 #[derive(Clone, Copy, Drop)]
 pub enum Undecided {
-    /// More states would stand at once than may.
+    /// There would be more states at once than may be.
     TooManyStates,
-    /// More steps would be taken than may.
-    TooManySteps,
+    /// The watch ended the walk.
+    Ended,
     /// A step isn't decided.
     NotCovered(Why),
     /// States are left, and none of them gives a certificate that is accepted.

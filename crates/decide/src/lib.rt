@@ -12,5 +12,5 @@ mod verifiers;
 
 pub use deciding::decide;
 pub use decision::{Decision, Refusal, Undecided};
-pub use decision_core::Limits;
+pub use decision_core::Watch;
 pub use decision_walk;

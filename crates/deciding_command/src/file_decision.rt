@@ -6,7 +6,7 @@ ghost use Rattle.nfs_history.specs.FirstFault.{FirstFault};
 ghost use Rattle.nfs_history.specs.History.{IsHistoryFile};
 ghost use Rattle.deciding_command.specs.FileDecision.{Decides, IsRefused};
 
-use crate::rounds::{Effort, decide_in_rounds};
+use crate::within_time::{Effort, decide_within};
 use certificate::{Certificate, write_certificate};
 use decide::{Decision, Undecided};
 use nfs_history::{History, HistoryFault, read_history};
@@ -59,7 +59,7 @@ fn decide_read<R: Clock + AllocGlobal>(
     requires { IsHistoryFile bytes.now history.now }
     ensures { IfOk result (Decides bytes.now) }
 {
-    match decide_in_rounds(rt, history, effort) {
+    match decide_within(rt, history, effort) {
         Decision::Yes(certificate) => accepted_text(rt.alloc(), bytes, &certificate),
         Decision::No(refusal) => Ok(FileDecision::NoWitness {
             event: refusal.event,
@@ -70,8 +70,7 @@ fn decide_read<R: Clock + AllocGlobal>(
     }
 }
 
-/// Decides whether the bytes of a history file are accepted with any certificate: by a walk of few steps, by sweeps of a search, and by
-/// walks of more and more steps, as long as the next is likely to end in time.
+/// Decides whether the bytes of a history file are accepted with any certificate, within so many seconds.
 ///
 /// An `Err` means that memory ran out. It says nothing of the bytes.
 pub fn decide_file<R: Clock + AllocGlobal>(

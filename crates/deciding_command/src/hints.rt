@@ -3,8 +3,8 @@
 ghost use Rattle.std.specs.Prelude.{◌≡◌, ◌⊎◌};
 ghost use Rattle.deciding_command.specs.Told.{Grows};
 
-use crate::rounds::decide_in_rounds;
 use crate::telling::hint_line;
+use crate::within_time::decide_within;
 use crate::words::DecideRequest;
 use decide::decision_walk::Why;
 use decide::{Decision, Undecided};
@@ -99,7 +99,7 @@ fn hint_without<R: Clock + AllocGlobal>(
         Ok(rest) => rest,
         Err(fault) => return Hint::NoHistory(fault),
     };
-    match decide_in_rounds(rt, &rest.history, request.effort) {
+    match decide_within(rt, &rest.history, request.effort) {
         Decision::Yes(_certificate) => Hint::Explained,
         Decision::No(refusal) => rest.refused(refusal.event, refusal.call),
         Decision::Undecided(reason) => rest.undecided(reason),

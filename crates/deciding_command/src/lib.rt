@@ -6,16 +6,16 @@ mod file_decision;
 mod hints;
 mod prefix_words;
 mod prefixing;
-mod rounds;
 mod telling;
+mod within_time;
 mod words;
 
 pub use deciding::decide_history;
 pub use file_decision::{FileDecision, decide_file};
 pub use prefix_words::{PrefixRequest, prefix_command, prefix_request};
 pub use prefixing::prefix_history;
-pub use rounds::Effort;
 pub use telling::{reason_line, report_of};
+pub use within_time::Effort;
 pub use words::{
     DecideRequest, decide_command, decide_request, effort_of, seconds_option, states_option,
 };

@@ -20,7 +20,7 @@ fn reason_at(alloc: Global, reason: &str, call: u64) -> Result<String, AllocErro
 pub fn reason_line(alloc: Global, reason: Undecided) -> Result<String, AllocError> {
     match reason {
         Undecided::TooManyStates => line_of(alloc, "undecided: ", &"too many states"),
-        Undecided::TooManySteps => line_of(alloc, "undecided: ", &"out of time"),
+        Undecided::Ended => line_of(alloc, "undecided: ", &"out of time"),
         Undecided::NotCovered(Why::HandleNotGiven(call)) => {
             reason_at(alloc, "no reply gave a handle of call", call)
         }

@@ -1,6 +1,6 @@
 //! The words that ask for a decision.
 
-use crate::rounds::Effort;
+use crate::within_time::Effort;
 use clap::builder::ValueParser;
 use clap::{Arg, ArgMatches, Command};
 use std::alloc::{AllocError, Global};

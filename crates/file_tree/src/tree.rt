@@ -1,6 +1,6 @@
 //! The file tree, stepped by the calls of a history and taken back.
 
-ghost use Rattle.std.specs.Prelude.{◌≡◌, ◌↔◌, Some, None, Err, OnOk, OnErr, IfOk, IsTrue, option_map};
+ghost use Rattle.std.specs.Prelude.{◌≡◌, ◌↔◌, Some, None, Err, OnOk, OnErr, IfOk, IsTrue, option_map, unwrap_or};
 ghost use Rattle.replay_law.specs.declared.replay.StepFault.TheVariants.{NotAllowed};
 ghost use Rattle.tree_nodes.specs.Tree.{opening};
 ghost use Rattle.tree_nodes.specs.Undo.{TakesBack, held_nodes};
@@ -31,11 +31,18 @@ use tree_starts::{Profile, SeenStart};
 pub struct FileTree {
     alloc: Global,
     nodes: Nodes,
+    /// A number of what the calls changed that led from one tree to the next, each a copy: trees that come of one and are the same have the
+    /// same. What changes a tree in place leaves it.
+    number: u64,
 }
 
 impl Drop for FileTree {
     fn drop(self) {
-        let FileTree { alloc: _, nodes } = self;
+        let FileTree {
+            alloc: _,
+            nodes,
+            number: _,
+        } = self;
         drop(nodes);
     }
 }
@@ -52,6 +59,53 @@ impl Model for FileTree {
     ghost coded = { map.code (coded_list (coded_list coded_ℕ)) node.the_row.coded };
 
     ghost view = { λ t. t.nodes };
+}
+
+/// The objects that a change touches.
+fn touched(nodes: &Nodes, plan: &ObjectChange<'_>) -> (Option<u64>, Option<u64>) {
+    match plan {
+        ObjectChange::Keep => (None, None),
+        ObjectChange::Make { node, .. } => (Some(node.object), None),
+        ObjectChange::Write { object, .. }
+        | ObjectChange::Resize { object, .. }
+        | ObjectChange::Remove { object } => (Some(*object), None),
+        ObjectChange::Rename {
+            object,
+            directory,
+            name,
+        } => (Some(*object), nodes.object(*directory, name)),
+    }
+}
+
+/// A number of two objects.
+fn number_of(nodes: &Nodes, (one, other): (Option<u64>, Option<u64>)) -> u64 {
+    let mut number: u64 = 0;
+    if let Some(object) = one {
+        number = number.wrapping_add(number_of_node(nodes, object));
+    }
+    if let Some(object) = other {
+        number = number.wrapping_add(number_of_node(nodes, object));
+    }
+    number
+}
+
+/// STUB
+fn number_of_node(_nodes: &Nodes, _object: u64) -> u64 {
+    0
+}
+
+/// STUB
+fn copy_nodes(_nodes: &Nodes) -> Result<Nodes, AllocError>
+    ensures { IfOk result (λ copy. copy ≡ _nodes.now) }
+{
+    Err(AllocError)
+}
+
+/// STUB
+fn is_same_nodes(_nodes: &Nodes, _other: &Nodes) -> bool
+    ensures { IsTrue result → _nodes.now ≡ _other.now }
+{
+    false
 }
 
 impl FileTree {
@@ -93,6 +147,7 @@ impl FileTree {
         Ok(FileTree {
             alloc,
             nodes: Nodes::opening(alloc)?,
+            number: 0,
         })
     }
 
@@ -103,6 +158,7 @@ impl FileTree {
         Ok(FileTree {
             alloc,
             nodes: nodes_of(alloc, start)?,
+            number: 0,
         })
     }
 
@@ -151,6 +207,77 @@ impl FileTree {
 }
 
 impl FileTree {
+    /// A copy of the tree, in which a change was made.
+    fn with_change(&self, plan: ObjectChange<'_>) -> Result<FileTree, AllocError>
+        requires { (change : Change) × Does self.now plan change }
+        ensures { IfOk result (λ next. (change : Change) → Does self.now plan.entry change → next ≡ changed self.now change) }
+    {
+        let touched = touched(&self.nodes, &plan);
+        let before = number_of(&self.nodes, touched);
+        let mut next = FileTree {
+            alloc: self.alloc,
+            nodes: copy_nodes(&self.nodes)?,
+            number: self.number,
+        };
+        drop(next.carry_out(plan)?);
+        let after = number_of(&next.nodes, touched);
+        next.number = next.number.wrapping_sub(before).wrapping_add(after);
+        Ok(next)
+    }
+
+    /// The tree in which what a call with its outcome makes of it is done, where the profile lets it; none, where that is nothing.
+    fn planned(
+        &self,
+        profile: Profile,
+        binds: &Binds,
+        number: u64,
+        call: &NfsCall,
+        outcome: &Outcome,
+    ) -> Result<Option<FileTree>, StepFault>
+        ensures next { IfOk result (λ next. option_map (changed self.now) (change_under profile binds.now self.now number call.now outcome.now) ≡ Some (unwrap_or next self.now)) }
+        ensures not_allowed { result ≡ Err NotAllowed → change_under profile binds.now self.now number call.now outcome.now ≡ None }
+    {
+        let view = View {
+            binds,
+            nodes: &self.nodes,
+        };
+        let plan = change_under(self.alloc, profile, &view, number, call, outcome)?;
+        match plan {
+            ObjectChange::Keep => Ok(None),
+            plan => Ok(Some(self.with_change(plan)?)),
+        }
+    }
+
+    /// The tree after a call with its outcome, which leaves this one as it is; none, where it is the same. What both have in common they
+    /// share. What the call makes, if anything, is the object of this number.
+    ///
+    /// `Err(NotAllowed)`: the call can't have come out so in this tree. `Err(NoMemory)` says nothing of the call.
+    pub fn after(
+        &self,
+        profile: Profile,
+        binds: &Binds,
+        number: u64,
+        call: &NfsCall,
+        outcome: &Outcome,
+    ) -> Result<Option<FileTree>, StepFault>
+        ensures next { IfOk result (λ next. under profile binds.now self.now number call.now outcome.now ≡ Some (unwrap_or next self.now)) }
+        ensures not_allowed { result ≡ Err NotAllowed → under profile binds.now self.now number call.now outcome.now ≡ None }
+    {
+        self.planned(profile, binds, number, call, outcome)
+    }
+
+    /// A number that is the same of trees that are the same, where `after` led to both from one tree.
+    pub fn number(&self) -> u64 {
+        self.number
+    }
+
+    /// Whether both are the same.
+    pub fn is_same(&self, other: &FileTree) -> bool
+        ensures { IsTrue result → self.now ≡ other.now }
+    {
+        self.number == other.number && is_same_nodes(&self.nodes, &other.nodes)
+    }
+
     /// Whether call number `number` may succeed: some success of its procedure has a next tree. For a LOOKUP of an
     /// object whose handle isn't its number in eight bytes it goes over all handles that are found by a hash; what else
     /// it takes doesn't grow with them.

@@ -2,9 +2,10 @@
 
 use crate::histories::Happened::{Answered, Asked, Crashed, Done};
 use crate::histories::{Happened, built};
+use crate::registers::FewSteps;
 use crate::requests::Request::{Guarded, Lookup, MakeDirectory, Read, Remove, Write};
 use crate::requests::{Request, SYNCED, UNSTABLE};
-use decide::{Decision, Limits, decide};
+use decide::{Decision, decide};
 use nfs_history::{History, HistoryFault};
 use std::alloc::Global;
 use std::test::Fail;
@@ -115,11 +116,8 @@ const CASES: &[(&[Happened], usize, Want)] = &[
 
 /// Whether a history is decided so.
 fn comes_to(alloc: Global, history: &History, states: usize, want: Want) -> bool {
-    let limits = Limits {
-        states,
-        steps: 10_000,
-    };
-    match (decide(alloc, history, limits), want) {
+    let mut watch = FewSteps { left: 10_000 };
+    match (decide(alloc, history, states, &mut watch), want) {
         (Decision::Yes(_), Want::Yes) => true,
         (Decision::No(refusal), Want::No(event, call)) => {
             (refusal.event, refusal.call) == (event, call)

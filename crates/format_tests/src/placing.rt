@@ -1,14 +1,11 @@
 //! Runs of calls in one state.
 
-ghost use Rattle.std.specs.Prelude.{IfOk};
-ghost use Rattle.decision_steps.specs.Placing.{StepsFrom};
-
 use crate::placing::Row::{Guessed, NotGiven, NotLegal, Placed};
 use crate::requests::Request::{
     Absent, Create, List, Lookup, MakeDirectory, Read, Remove, Rename, Stale, Taken, Write,
 };
 use crate::requests::{Request, SYNCED, call, outcome};
-use decision_steps::{PlaceFault, State, Step};
+use decision_steps::{PlaceFault, State};
 use file_tree::{Profile, SeenStart};
 use nfs3_types::FileHandle;
 use std::alloc::{AllocError, Global};
@@ -88,42 +85,55 @@ fn opening(alloc: Global) -> Result<State, AllocError> {
     State::opening(alloc, &[0], &SeenStart::empty(alloc))
 }
 
-/// Places a request.
-fn place(
+/// What comes of a request.
+fn placed(
     alloc: Global,
     profile: Profile,
-    state: &mut State,
+    state: &State,
     number: u64,
     request: Request,
-) -> Result<Step, PlaceFault>
-    ensures { IfOk result (λ step. StepsFrom state.old step state.new) }
-{
+) -> Result<State, PlaceFault> {
     let call = call(alloc, request)?;
     let outcome = outcome(alloc, request)?;
     state.place(alloc, profile, number, &call, &outcome)
 }
 
-/// Takes a handle for one of this object, and says whether it wasn't bound.
-fn guess(alloc: Global, state: &mut State, byte: u8, object: u64) -> Result<bool, AllocError> {
+/// What comes of it that a handle that isn't bound is taken for one of this object.
+fn guessed(alloc: Global, state: &State, byte: u8, object: u64) -> Result<State, PlaceFault> {
     let handle = FileHandle::from_slice(alloc, &[byte])?;
-    if state.binds.object(handle.as_slice()).is_some() {
-        return Ok(false);
+    if state.binds().object(handle.as_slice()).is_some() {
+        return Err(PlaceFault::NotLegal);
     }
-    drop(state.guess(alloc, &handle, object)?);
-    Ok(true)
+    Ok(state.guess(alloc, &handle, object)?)
 }
 
-/// Whether a row is answered so.
-fn is_answered(alloc: Global, profile: Profile, state: &mut State, number: u64, row: Row) -> bool {
-    let (request, want) = match row {
-        Placed(request) => (request, None),
-        NotLegal(request) => (request, Some(PlaceFault::NotLegal)),
-        NotGiven(request) => (request, Some(PlaceFault::HandleNotGiven)),
-        Guessed(byte, object) => return guess(alloc, state, byte, object) == Ok(true),
+/// The state after a row, which is the one before it where nothing is to come of it; none, where it is answered otherwise.
+fn after(
+    alloc: Global,
+    profile: Profile,
+    state: State,
+    number: u64,
+    row: Row,
+) -> Result<Option<State>, AllocError> {
+    let (came, want) = match row {
+        Placed(request) => (placed(alloc, profile, &state, number, request), None),
+        NotLegal(request) => (
+            placed(alloc, profile, &state, number, request),
+            Some(PlaceFault::NotLegal),
+        ),
+        NotGiven(request) => (
+            placed(alloc, profile, &state, number, request),
+            Some(PlaceFault::HandleNotGiven),
+        ),
+        Guessed(byte, object) => (guessed(alloc, &state, byte, object), None),
     };
-    match place(alloc, profile, state, number, request) {
-        Ok(_) => want.is_none(),
-        Err(fault) => want == Some(fault),
+    match came {
+        Ok(next) => Ok(if want.is_none() { Some(next) } else { None }),
+        Err(fault) => Ok(if want == Some(fault) {
+            Some(state)
+        } else {
+            None
+        }),
     }
 }
 
@@ -133,9 +143,10 @@ fn are_answered(alloc: Global, profile: Profile, rows: &[Row]) -> Result<bool, A
     let mut number: u64 = 0;
     for row in rows {
         number = number.saturating_add(1);
-        if !is_answered(alloc, profile, &mut state, number, *row) {
+        let Some(next) = after(alloc, profile, state, number, *row)? else {
             return Ok(false);
-        }
+        };
+        state = next;
     }
     Ok(true)
 }
@@ -151,21 +162,22 @@ fn calls_are_placed(rt: HostRuntime) -> Result<(), Fail> {
     Ok(())
 }
 
-/// Whether a CREATE that is taken back leaves neither the file nor its handle, and is placed again.
-fn is_taken_back(alloc: Global) -> Result<bool, PlaceFault> {
+/// Whether two states may come of one, which stays as it was: each has the file that it made, and its handle.
+fn two_come_of_one(alloc: Global) -> Result<bool, PlaceFault> {
     let made = Create(0, b'a', Some(0xaa));
-    let mut state = opening(alloc)?;
-    let step = place(alloc, Profile::Plain, &mut state, 1, made)?;
-    let was_bound = state.binds.object(&[0xaa]) == Some(1)
-        && state.binds_all(step.bound.as_slice());
-    let mut state = state.take_back(step)?;
-    let is_gone = state.binds.object(&[0xaa]).is_none() && state.tree.nodes().count() == 1;
-    drop(place(alloc, Profile::Plain, &mut state, 2, made)?);
-    Ok(was_bound && is_gone && state.binds.object(&[0xaa]) == Some(2))
+    let state = opening(alloc)?;
+    let one = placed(alloc, Profile::Plain, &state, 1, made)?;
+    let other = placed(alloc, Profile::Plain, &state, 2, made)?;
+    let is_bare = state.binds().object(&[0xaa]).is_none() && state.tree().nodes().count() == 1;
+    let are_made = one.binds().object(&[0xaa]) == Some(1)
+        && other.binds().object(&[0xaa]) == Some(2)
+        && one.tree().nodes().node(1).is_some()
+        && other.tree().nodes().node(1).is_none();
+    Ok(is_bare && are_made)
 }
 
 #[test]
-fn a_step_is_taken_back_with_its_handles(rt: HostRuntime) -> Result<(), Fail> {
-    assert!(rt; is_taken_back(rt.alloc())?);
+fn a_state_stays_where_a_call_is_placed(rt: HostRuntime) -> Result<(), Fail> {
+    assert!(rt; two_come_of_one(rt.alloc())?);
     Ok(())
 }

@@ -1,7 +1,7 @@
 //! Walks over a register: the answers that its calls give by their order alone.
 
 use decision_core::Event::{Answered, AtOnce, Called, Passed};
-use decision_core::{Event, Limits, RegisterMachine, Span, Stop, Walked, decide, timeline};
+use decision_core::{Event, RegisterMachine, Span, Stop, Walked, Watch, decide, timeline};
 use std::alloc::{AllocError, Global};
 use std::test::Fail;
 
@@ -13,22 +13,46 @@ enum Want {
     /// States are left.
     Left,
     TooManyStates,
-    TooManySteps,
+    Ended,
     /// The calls have no events.
     NoEvents,
 }
 
+/// Ends a walk after so many states in which calls are placed.
+#[derive(Drop)]
+pub(crate) struct FewSteps {
+    pub(crate) left: u64,
+}
+
+impl Watch for FewSteps {
+    fn is_over(&mut self) -> bool {
+        if self.left == 0 {
+            return true;
+        }
+        self.left -= 1;
+        false
+    }
+
+    fn see(&mut self, _event: usize, _states: usize) {}
+}
+
 /// Whether a walk over these comes to that.
 fn comes_to(alloc: Global, events: &[Event], states: usize, steps: u64, want: Want) -> bool {
-    let limits = Limits { states, steps };
+    let mut watch = FewSteps { left: steps };
     match (
-        decide(alloc, &RegisterMachine::new(alloc), events, limits),
+        decide(
+            alloc,
+            &RegisterMachine::new(alloc),
+            events,
+            states,
+            &mut watch,
+        ),
         want,
     ) {
         (Ok(Walked::NoWitness { event, .. }), Want::No(at)) => event == at,
         (Ok(Walked::Left(_)), Want::Left) => true,
         (Err(Stop::TooManyStates), Want::TooManyStates) => true,
-        (Err(Stop::TooManySteps), Want::TooManySteps) => true,
+        (Err(Stop::Ended), Want::Ended) => true,
         _ => false,
     }
 }
@@ -50,9 +74,9 @@ const WALKS: &[(&[Event], usize, u64, Want)] = &[
     (UNWRITTEN, 9, 99, Want::No(2)),
     (EARLY, 9, 99, Want::Left),
     (EARLY, 0, 99, Want::TooManyStates),
-    (EARLY, 9, 1, Want::TooManySteps),
+    (EARLY, 9, 1, Want::Ended),
     (EARLY, 1, 3, Want::Left),
-    (EARLY, 1, 2, Want::TooManySteps),
+    (EARLY, 1, 1, Want::Ended),
     (EARLY, 0, 3, Want::TooManyStates),
 ];
 

@@ -14,7 +14,7 @@ use crate::teller::Teller;
 use crate::words::{MOST_WORKERS, SearchRequest};
 use cert_search::{SearchEnd, SearchGate, SearchRuntime, search_calls};
 use certificate::{Certificate, write_certificate};
-use decide::{Decision, Limits, decide};
+use decide::{Decision, Watch, decide};
 use first_look::look;
 use json_reports::{SearchMiss, found_line, miss_line};
 use nfs_history::{HistoryFault, KnownCalls, read_calls, read_history};
@@ -26,8 +26,27 @@ use witness_check::{FileVerdict, check_files};
 /// How many states stand at once at most, where a decision is asked after a search found nothing.
 const MOST_STATES: usize = 1_000;
 
-/// How many steps such a decision takes at most.
+/// In how many states calls are placed at most.
 const MOST_STEPS: u64 = 200_000;
+
+/// Ends a decision where a search's time is over, and after so many states.
+#[derive(Drop)]
+struct GateWatch<'g, G> {
+    gate: &'g G,
+    left: u64,
+}
+
+impl<'g, G: SearchGate> Watch for GateWatch<'g, G> {
+    fn is_over(&mut self) -> bool {
+        if self.left == 0 {
+            return true;
+        }
+        self.left -= 1;
+        self.gate.is_over()
+    }
+
+    fn see(&mut self, _event: usize, _states: usize) {}
+}
 
 /// Why no certificate is printed.
 #[derive(Drop)]
@@ -74,11 +93,11 @@ fn decided_text<G: SearchGate>(
     let Ok(known) = read_history(alloc, history) else {
         return Err(miss);
     };
-    let limits = Limits {
-        states: MOST_STATES,
-        steps: turns.min(MOST_STEPS),
+    let mut watch = GateWatch {
+        gate,
+        left: turns.min(MOST_STEPS),
     };
-    match decide(alloc, &known, limits) {
+    match decide(alloc, &known, MOST_STATES, &mut watch) {
         Decision::Yes(certificate) => accepted_text(alloc, history, &certificate),
         Decision::No(_) | Decision::Undecided(_) | Decision::NoMemory => Err(miss),
     }

@@ -1,0 +1,136 @@
+//! A decision within so many seconds: a walk, and where that isn't over in a quarter of the time, sweeps for a certificate and a walk to the
+//! end.
+
+ghost use Rattle.std.specs.Prelude.{IfOk, IfSome};
+ghost use Rattle.witness_check.specs.Witness.{IsWitness};
+ghost use Rattle.decide.specs.Decision.{Says};
+
+use certificate::Certificate;
+use decide::{Decision, Undecided, Watch, decide};
+use nfs_history::History;
+use search_problem::Problem;
+use search_sweeps::{SweepWatch, plan_of};
+use std::alloc::AllocError;
+use std::time::{Clock, Instant};
+use witness_check::{Verdict, check_calls};
+
+/// How many sweeps are made at most.
+const SWEEPS: u64 = 16;
+
+/// How much a decision may cost.
+#[derive(Clone, Copy)]
+pub struct Effort {
+    /// How many states there may be at once.
+    pub states: u32,
+    /// After how many seconds it gives up.
+    pub seconds: u32,
+}
+
+/// When a decision began, and after how many seconds it gives up.
+#[derive(Clone, Copy)]
+struct Term {
+    start: Option<Instant>,
+    seconds: u32,
+}
+
+impl Term {
+    /// Whether a part of the time is over, of which there are so many. Without a clock it is.
+    fn is_over<R: Clock>(&self, rt: &R, parts: u32) -> bool {
+        match (self.start, Instant::now(rt)) {
+            (Some(start), Ok(now)) => {
+                let gone = now.duration_since(start).as_millis();
+                let given = u128::from(self.seconds).saturating_mul(1_000);
+                gone.saturating_mul(u128::from(parts)) >= given
+            }
+            _ => true,
+        }
+    }
+}
+
+/// Ends a walk, or sweeps, when a part of the time is over, of which there are so many.
+#[derive(Drop)]
+struct PartOfTime<'r, R> {
+    rt: &'r R,
+    term: Term,
+    parts: u32,
+}
+
+impl<'r, R: Clock> Watch for PartOfTime<'r, R> {
+    fn is_over(&mut self) -> bool {
+        self.term.is_over(self.rt, self.parts)
+    }
+
+    fn see(&mut self, _event: usize, _states: usize) {}
+}
+
+impl<'r, R: Clock> SweepWatch for PartOfTime<'r, R> {
+    fn at(&mut self, _depth: usize) {}
+
+    fn is_over(&self) -> bool {
+        self.term.is_over(self.rt, self.parts)
+    }
+}
+
+/// The certificate that sweeps come to within half the time, if it is a witness.
+fn swept<R: Clock + AllocGlobal>(
+    rt: &R,
+    history: &History,
+    term: Term,
+) -> Result<Option<Certificate>, AllocError>
+    ensures { IfOk result (λ found. IfSome found (IsWitness history.now.known)) }
+{
+    let alloc = rt.alloc();
+    let known = history.lend_calls(alloc)?;
+    let problem = Problem::new(alloc, &known)?;
+    let mut watch = PartOfTime { rt, term, parts: 2 };
+    let Some(plan) = plan_of(alloc, &problem, SWEEPS, &mut watch)? else {
+        return Ok(None);
+    };
+    match check_calls(alloc, &known, &plan)? {
+        Verdict::Yes => Ok(Some(plan)),
+        Verdict::No(_fault) => Ok(None),
+    }
+}
+
+/// What a walk decides that ends when a part of the time is over, of which there are so many.
+fn decide_in_part<R: Clock + AllocGlobal>(
+    rt: &R,
+    history: &History,
+    effort: Effort,
+    term: Term,
+    parts: u32,
+) -> Decision
+    ensures { Says history.now.known result }
+{
+    let mut watch = PartOfTime { rt, term, parts };
+    decide(rt.alloc(), history, effort.states as usize, &mut watch)
+}
+
+/// Decides of a history.
+pub(crate) fn decide_within<R: Clock + AllocGlobal>(
+    rt: &R,
+    history: &History,
+    effort: Effort,
+) -> Decision
+    ensures { Says history.now.known result }
+{
+    let term = Term {
+        start: Instant::now(rt).ok(),
+        seconds: effort.seconds,
+    };
+    let first = decide_in_part(rt, history, effort, term, 4);
+    if !matches!(&first, Decision::Undecided(_)) {
+        return first;
+    }
+    match swept(rt, history, term) {
+        Ok(Some(certificate)) => Decision::Yes(certificate),
+        Ok(None) => {
+            if matches!(&first, Decision::Undecided(Undecided::Ended)) {
+                decide_in_part(rt, history, effort, term, 1)
+            } else {
+                first
+            }
+        }
+        Err(AllocError) => Decision::NoMemory,
+    }
+}
