@@ -3,9 +3,11 @@
 
 mod file_bytes;
 pub mod names;
+mod shared;
 pub mod slots;
 
 pub use file_bytes::{FileBytes, FileUndo};
 pub use names::Names;
 pub use nfs3_types;
-pub use slots::Slots;
+pub use shared::{Copied, Shared};
+pub use slots::{Pages, Slots};
