@@ -163,7 +163,17 @@ pub(crate) fn are_same(one: &[u8], other: &[u8]) -> bool
     ensures { IsTrue result → (k : ℕ) → slice_index one.now k ≡ slice_index other.now k }
 {
     let count = one.len().min(other.len());
-    one[..count] == other[..count] && are_zeros(&one[count..]) && are_zeros(&other[count..])
+    if one[..count] == other[..count] {
+        return both_are_zeros(&one[count..], &other[count..]);
+    }
+    false
+}
+
+/// Whether all bytes of both are zeros.
+fn both_are_zeros(one: &[u8], other: &[u8]) -> bool
+    ensures { IsTrue result → EachIndex one.now (λ k. slice_index one.now k ≡ 0) × EachIndex other.now (λ k. slice_index other.now k ≡ 0) }
+{
+    are_zeros(one) && are_zeros(other)
 }
 
 /// Whether bytes stand at a place of a page.

@@ -70,14 +70,24 @@ impl Pages {
         true
     }
 
+    /// The same, both ways.
+    fn shows_both(&self, other: &Pages) -> bool
+        ensures { IsTrue result → AllShown other.now self.now.rest.entries × AllShown self.now other.now.rest.entries }
+    {
+        self.shows(other) && other.shows(self)
+    }
+
     /// Whether the bytes are the same.
     pub(crate) fn is_same(&self, other: &Pages) -> bool
         ensures { IsTrue result → byte_of self.now ≡ byte_of other.now }
     {
-        self.first.sum() == other.first.sum()
-            && are_same(self.first.as_slice(), other.first.as_slice())
-            && self.shows(other)
-            && other.shows(self)
+        if self.first.sum() != other.first.sum() {
+            return false;
+        }
+        if are_same(self.first.as_slice(), other.first.as_slice()) {
+            return self.shows_both(other);
+        }
+        false
     }
 }
 
