@@ -87,4 +87,17 @@ impl<T> Shared<T> {
             None => Err(AllocError),
         }
     }
+
+    /// The value, which is copied where others have it.
+    pub fn into_inner(self) -> Result<T, AllocError>
+    where
+        T: Copied,
+        ensures { IfOk result (λ value. value ≡ self) }
+    {
+        let Shared { alloc: _, value } = self;
+        match Arc::try_unwrap(value) {
+            Ok(value) => Ok(value),
+            Err(shared) => shared.copied(),
+        }
+    }
 }
