@@ -81,7 +81,10 @@ pub(crate) fn same_entries(one: &Slots<Entry>, other: &Slots<Entry>) -> bool
             return false;
         }
     }
-    theirs.next().is_none()
+    match theirs.next() {
+        None => true,
+        Some(_) => false,
+    }
 }
 
 /// A number of bytes that come after others.
