@@ -1,5 +1,6 @@
 pub mod SlotLemmas
 pub mod PageLemmas
+pub mod MarkLemmas
 pub mod Orders
 pub mod FewLemmas
 pub mod ManyLemmas
