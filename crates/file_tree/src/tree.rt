@@ -129,7 +129,7 @@ impl FileTree {
                 bytes,
             } => self.nodes.write(object, offset, bytes),
             ObjectChange::Resize { object, size } => self.nodes.resize(object, size),
-            ObjectChange::Remove { object } => Ok(self.nodes.remove(object)),
+            ObjectChange::Remove { object } => self.nodes.remove(object),
             ObjectChange::Rename {
                 object,
                 directory,

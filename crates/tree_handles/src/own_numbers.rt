@@ -5,7 +5,7 @@ ghost use Rattle.std.specs.Int.{w64, to_be_bytes};
 ghost use Rattle.tree_handles.specs.Finding.{number_of, own_object, Gains, Lacks};
 
 use std::alloc::{AllocError, Global};
-use tree_nodes::tree_stores::Slots;
+use tree_nodes::tree_stores::Marks;
 
 /// How far above the number of handles a number may lie, as a multiple: its bytes take no more than that many handles do that are
 /// found by a hash.
@@ -28,7 +28,7 @@ fn number_of(handle: &[u8]) -> Option<u64>
 /// without a hash, in one place of memory.
 #[derive(Drop)]
 pub(crate) struct OwnNumbers {
-    pub(crate) objects: Slots<()>,
+    pub(crate) objects: Marks,
 }
 
 impl OwnNumbers {
@@ -37,7 +37,7 @@ impl OwnNumbers {
         ensures { (handle : List ℕ) → own_object result handle ≡ None }
     {
         OwnNumbers {
-            objects: Slots::new(alloc),
+            objects: Marks::new(alloc),
         }
     }
 
@@ -56,8 +56,7 @@ impl OwnNumbers {
         ensures ok { OnOk result (Gains (own_object self.old) (own_object self.new) (to_be_bytes w64 object) object) }
         ensures err { OnErr result (self.new ≡ self.old) }
     {
-        self.objects.insert(object, ())?;
-        Ok(())
+        self.objects.insert(object)
     }
 
     /// Takes the object of a handle away, where it has one.
@@ -74,7 +73,7 @@ impl OwnNumbers {
         ensures { result ≡ own_object self.now handle.now }
     {
         let number = number_of(handle)?;
-        if self.objects.get(number).is_some() {
+        if self.objects.has(number) {
             Some(number)
         } else {
             None

@@ -36,7 +36,7 @@ module _ (m : Table) (t : Tree) (good : IsTableOf m t) (before : Tree) where
     pub unmake_bare : (x : List ℕ) → child m o x ≡ None
     unmake_bare = childless t (child m) (held m) good.table.tree good.agrees o back.entry back.stands back.bare
 
-    pub unmake_good : (n : Table) (entry : Entry) → held m o ≡ Some (placed entry) → Cuts entry.parent entry.body.value.name o (child m) (child n) (held m) (held n) → map.len n + 1 ≡ map.len m → IsTableOf n before
+    pub unmake_good : (n : Table) (entry : Entry) → held m o ≡ Some (placed entry) → Cuts entry.parent entry.body.name o (child m) (child n) (held m) (held n) → map.len n + 1 ≡ map.len m → IsTableOf n before
     unmake_good n entry is cuts len = subst (IsTableOf n) (sym back.gives) (cut_good m t good n o entry back.entry back.stands back.isnt_root back.bare is cuts len)
 
   -- ---- an object that was taken away
@@ -45,12 +45,12 @@ module _ (m : Table) (t : Tree) (good : IsTableOf m t) (before : Tree) where
     pub put_back_stands : IsSome (held m entry.parent)
     put_back_stands = held_where m t good entry.parent (there _ back.directory back.stands)
 
-    pub put_back_new : held m entry.body.value.node.object ≡ None
-    put_back_new = new_where m t good entry.body.value.node.object back.new
+    pub put_back_new : held m entry.body.node.object ≡ None
+    put_back_new = new_where m t good entry.body.node.object back.new
 
-    pub put_back_good : (n : Table) → Adds entry.parent entry.body.value.name entry.body.value.node.object entry.body.value.node (child m) (child n) (held m) (held n) → map.len n ≡ map.len m + 1 → IsTableOf n before
+    pub put_back_good : (n : Table) → Adds entry.parent entry.body.name entry.body.node.object entry.body.node (child m) (child n) (held m) (held n) → map.len n ≡ map.len m + 1 → IsTableOf n before
     put_back_good n adds len = subst (IsTableOf n) (sym back.gives)
-        (put_good m t good n entry.parent entry.body.value.name entry.body.value.node back.directory back.stands back.free back.new back.room adds len)
+        (put_good m t good n entry.parent entry.body.name entry.body.node back.directory back.stands back.free back.new back.room adds len)
 
   -- ---- a file's bytes
 

@@ -14,6 +14,7 @@ pub mod Taking
 pub mod Setting
 pub mod Shifting
 pub mod Tables
+pub mod Replacing
 pub mod MovedLaw
 pub mod Undoing
 pub mod Counting
@@ -31,3 +32,4 @@ pub mod Paths
 pub mod Prints
 pub mod Rooted
 pub mod Below
+pub mod Alike

@@ -22,7 +22,7 @@ use Rattle.tree_nodes.specs.Shown.{Agrees, Shown, IsTable, IsTableOf}
 use Rattle.tree_nodes.specs.Edits.{edited}
 use Rattle.tree_nodes.specs.Place.{node_in}
 use Rattle.tree_nodes.specs.Undo.{TakesBack, StepsBack}
-use Rattle.tree_nodes.specs.Results.{IsMade, IsEdited, IsMoved}
+use Rattle.tree_nodes.specs.Results.{IsMade, IsRemoved, IsEdited, IsMoved}
 use Rattle.tree_nodes.proofs.Entries.{path_total, path_ties}
 use Rattle.tree_nodes.proofs.Chains.{differ, value_of}
 use Rattle.tree_nodes.proofs.Found.{from_front}
@@ -122,7 +122,7 @@ module _ (m : Table) (t : Tree) (good : IsTableOf m t) where
   bare_where o there bare x = let e = value_of _ there in childless t (child m) (held m) good.table.tree good.agrees o e.0 e.1 (bare e.0 e.1) x
 
   module _ (n : Table) (o : ℕ) (entry : Entry) (e : Names × Node) (at : entry_of t o ≡ Some e) (apart : o ≡ 0 → ⊥) (bare : is_bare t e.0 ≡ true) (is : held m o ≡ Some (placed entry))
-      (cuts : Cuts entry.parent entry.body.value.name o (child m) (child n) (held m) (held n)) (len : map.len n + 1 ≡ map.len m) where
+      (cuts : Cuts entry.parent entry.body.name o (child m) (child n) (held m) (held n)) (len : map.len n + 1 ≡ map.len m) where
     cut_shows : Shows (child n) (held n) (map.remove t e.0)
     cut_shows = take_shows t (child m) (held m) shows (child n) (held n) o e (placed entry) at is apart bare cuts
 
@@ -132,6 +132,13 @@ module _ (m : Table) (t : Tree) (good : IsTableOf m t) where
     pub cut_back : TakesBack (record { step = Removed entry }) (map.remove t e.0) t
     unfolding TakesBack
     cut_back = take_back t (child m) (held m) shows (child n) (held n) o e (placed entry) at is apart bare cuts entry refl few
+
+  module _ (n : Table) (o : ℕ) (undo : Undo) (e : Names × Node) (at : entry_of t o ≡ Some e) (apart : o ≡ 0 → ⊥) (bare : is_bare t e.0 ≡ true) (change : IsRemoved o undo m n) where
+    pub removed_good : IsTableOf n (map.remove t e.0)
+    removed_good = cut_good n o change.entry e at apart bare change.stood change.cuts change.len
+
+    pub removed_back : TakesBack undo (map.remove t e.0) t
+    removed_back = subst (λ (z : Undo). TakesBack z (map.remove t e.0) t) (sym change.step) (cut_back n o change.entry e at apart bare change.stood change.cuts change.len)
 
   -- ---- write and resize
 

@@ -19,7 +19,7 @@ module _ (m : Table) (t : Tree) (tree : IsTree (child m) (held m)) (agrees : (pa
     go None e = subst (λ z. IfSome z (AreNamesIn t o)) (sym (is ∙ ap (option_map names_in) e)) tt
     go (Some entry) e =
         let here : AreNamesIn t o (names_in entry) =
-        (entry.body.value.names, refl, λ name. sym (ap (option_and_then (λ x. named x name)) e) ∙ object_in_is t (child m) (held m) tree agrees o name) in
+        (entry.body.names, refl, λ name. sym (ap (option_and_then (λ x. named x name)) e) ∙ object_in_is t (child m) (held m) tree agrees o name) in
         subst (λ z. IfSome z (AreNamesIn t o)) (sym (is ∙ ap (option_map names_in) e)) here
 
   pub names_stand : (names : Option (List (List ℕ × ℕ))) → names ≡ option_map names_in (entry_at m o) → IsSome names ↔ IsSome (entry_of t o)

@@ -114,12 +114,12 @@ module _ (t : Tree) (c : Steps) (v : Holds) (shows : Shows c v t) where
     pub take_back : (entry : Entry) → placed entry ≡ h → map.len t ≤ node_limit → IsPutBack entry (map.remove t e.0) t
     take_back entry is few =
         let after = map.remove t e.0 in
-        let path : e.0 ≡ lies.front ++ entry.body.value.name ∷ [] = lies.parts ∙ ap (λ (z : Held). lies.front ++ z.1 ∷ []) (sym is) in
+        let path : e.0 ≡ lies.front ++ entry.body.name ∷ [] = lies.parts ∙ ap (λ (z : Held). lies.front ++ z.1 ∷ []) (sym is) in
         let parent : entry.parent ≡ h.0 = ap (λ (z : Held). z.0) is in
-        let node : entry.body.value.node ≡ e.1 = ap (λ (z : Held). z.2) is ∙ same_some h.2 e.1 (sym (ap (option_map {T = Held} (λ z. z.2)) held) ∙ (reached t c v shows.tree shows.agrees o e at).1) in
+        let node : entry.body.node ≡ e.1 = ap (λ (z : Held). z.2) is ∙ same_some h.2 e.1 (sym (ap (option_map {T = Held} (λ z. z.2)) held) ∙ (reached t c v shows.tree shows.agrees o e at).1) in
         let leads = directory_same c d v shows.tree lies.front h.0 h.1 lies.leads cuts.others in
         let directory = reached_held d w take_shows.tree lies.front h.0 leads in
-        let number : entry.body.value.node.object ≡ o = ap (λ (z : Held). z.2.object) is ∙ shows.tree.numbered o h held in
+        let number : entry.body.node.object ≡ o = ap (λ (z : Held). z.2.object) is ∙ shows.tree.numbered o h held in
         record {
           directory = (lies.front, directory.0.2);
           stands = ap (entry_of after) parent ∙ entry_is after d w take_shows.tree take_shows.agrees lies.front h.0 directory.0.2 leads (ap (option_map {T = Held} (λ z. z.2)) directory.1);

@@ -8,7 +8,6 @@ use Rattle.std.specs.Ordering.{nat_cmp, is_eq, eq_by_cmp}
 use Rattle.std.specs.Cmp.Lexicographic.{slice_cmp}
 use Rattle.std.specs.Cmp.{nat_cmp_total}
 use Rattle.std.specs.FinMap as map
-use Rattle.std.specs.Box.{with_value}
 use Rattle.std.specs.FinMap.Entries as es
 use Rattle.tree_stores.specs.Names.{Objects, name_cmp}
 use Rattle.std.specs.Map.{lookup}
@@ -42,13 +41,13 @@ tie x y e = map.slice_cmp-IsAntisymmetric map.nat_cmp-IsAntisymmetric x y (is_eq
 
 -- an entry with another node, and with other names
 abbrev pub with_node : Entry → Node → Entry
-with_node e node = record e { body = with_value e.body (record e.body.value { node = node }) }
+with_node e node = record e { body = (record e.body { node = node }) }
 
 abbrev pub with_names : Entry → Body → Objects → Entry
-with_names e body names = record e { body = with_value e.body (record body { names = names }) }
+with_names e body names = record e { body = (record body { names = names }) }
 
 abbrev pub with_content : Entry → Body → Content → Entry
-with_content e body content = record e { body = with_value e.body (record body { node = record { object = body.node.object; content = content } }) }
+with_content e body content = record e { body = record body { node = record { object = body.node.object; content = content } } }
 
 -- a name has this object, or none, and each other one has what it had
 pub record NameSet (a b : Objects) (x : List ℕ) (w : Option ℕ) : Type 0 where
@@ -82,10 +81,10 @@ pub record Updates (o : ℕ) (m n : Table) (w : Option Entry) : Type 0 where
   pub here : entry_at n o ≡ w
   pub kept : (a : ℕ) → (a ≡ o → ⊥) → entry_at n a ≡ entry_at m a
 
-same_key : (o : ℕ) → eq_by_cmp nat_cmp o o ≡ true
+pub same_key : (o : ℕ) → eq_by_cmp nat_cmp o o ≡ true
 same_key o = ap is_eq (tied_itself nat_cmp_total o)
 
-other_key : (o a : ℕ) → (a ≡ o → ⊥) → eq_by_cmp nat_cmp a o ≡ false
+pub other_key : (o a : ℕ) → (a ≡ o → ⊥) → eq_by_cmp nat_cmp a o ≡ false
 other_key o a ne = isnt (eq_by_cmp nat_cmp a o) (λ e. ne (map.nat_cmp-IsAntisymmetric a o (is_equal (nat_cmp a o) e)))
 
 pub put_in : (m n : Table) (o : ℕ) (e : Entry) → n ≡ map.insert m o e → Updates o m n (Some e)
@@ -135,7 +134,7 @@ module _ (m : Table) (o : ℕ) (e f : Entry) (was : entry_at m o ≡ Some e) whe
   pub same_table : placed f ≡ placed e → ((x : List ℕ) → named f x ≡ named e x) → IsSame m (map.insert m o f)
   same_table place names = record { steps = same_steps names; places = same_places place; len = as_many }
 
-  pub name_set : placed f ≡ placed e → (x : List ℕ) (w : Option ℕ) → NameSet e.body.value.names f.body.value.names x w → HasName o x w m (map.insert m o f)
+  pub name_set : placed f ≡ placed e → (x : List ℕ) (w : Option ℕ) → NameSet e.body.names f.body.names x w → HasName o x w m (map.insert m o f)
   name_set same x w names = record {
     here = ap (option_and_then (λ z. named z x)) now.here ∙ names.here;
     others = λ a y ne. go a y ne (same_number a o);
@@ -148,12 +147,12 @@ module _ (m : Table) (o : ℕ) (e f : Entry) (was : entry_at m o ≡ Some e) whe
         ∙ sym (ap (λ z. child m z y) is ∙ ap (option_and_then (λ z. named z y)) was)
     go a y ne (inr apart) = ap (option_and_then (λ z. named z y)) (now.kept a apart)
 
-  pub place_set : f.body.value.node ≡ e.body.value.node → f.body.value.names ≡ e.body.value.names → HasPlace o f.parent f.body.value.name m (map.insert m o f)
+  pub place_set : f.body.node ≡ e.body.node → f.body.names ≡ e.body.names → HasPlace o f.parent f.body.name m (map.insert m o f)
   place_set node names = record {
     steps = same_steps (λ x. ap (λ z. name_in z x) names);
     place = λ h is.
         ap (option_map placed) now.here
-        ∙ ap (λ (z : Node). Some (f.parent, f.body.value.name, z)) (node ∙ ap (λ (z : Held). z.2) (same_some (placed e) h (sym (ap (option_map placed) was) ∙ is)));
+        ∙ ap (λ (z : Node). Some (f.parent, f.body.name, z)) (node ∙ ap (λ (z : Held). z.2) (same_some (placed e) h (sym (ap (option_map placed) was) ∙ is)));
     kept = λ a ne. ap (option_map placed) (now.kept a ne);
     len = as_many;
   }
@@ -172,7 +171,7 @@ module _ (m n : Table) (o : ℕ) (w : Option Entry) (h : Updates o m n w) where
   pub held_now : held n o ≡ option_map placed w
   held_now = ap (option_map placed) h.here
 
-nothing_held : (m : Table) (o : ℕ) → held m o ≡ None → entry_at m o ≡ None
+pub nothing_held : (m : Table) (o : ℕ) → held m o ≡ None → entry_at m o ≡ None
 nothing_held m o e = go (entry_at m o) refl where
   go : (s : Option Entry) → entry_at m o ≡ s → s ≡ None
   go None is = refl
@@ -185,11 +184,11 @@ entry_held m o h e = go (entry_at m o) refl where
   go (Some x) is = (x, is)
 
 -- no names yet
-nameless : (e : Entry) (x : List ℕ) → e.body.value.names ≡ map.empty → named e x ≡ None
+pub nameless : (e : Entry) (x : List ℕ) → e.body.names ≡ map.empty → named e x ≡ None
 nameless e x empty = ap (λ (z : Objects). map.get z x) empty ∙ map.get-empty name_cmp x
 
-pub added : (m k n : Table) (o : ℕ) (e : Entry) (x : List ℕ) → k ≡ map.insert m o e → HasName e.parent x (Some o) k n → x ≡ e.body.value.name
-    → e.body.value.names ≡ map.empty → held m o ≡ None → Adds e.parent e.body.value.name o e.body.value.node (child m) (child n) (held m) (held n)
+pub added : (m k n : Table) (o : ℕ) (e : Entry) (x : List ℕ) → k ≡ map.insert m o e → HasName e.parent x (Some o) k n → x ≡ e.body.name
+    → e.body.names ≡ map.empty → held m o ≡ None → Adds e.parent e.body.name o e.body.node (child m) (child n) (held m) (held n)
 added m k n o e x put name is empty new = record {
   here = ap (child n e.parent) (sym is) ∙ name.here;
   others = λ a y ne. name.others a y (λ s t. ne s (t ∙ is)) ∙ steps a y;
@@ -216,7 +215,7 @@ stands_still m k o a e put there = go (same_number a o) where
   go (inr ne) = subst IsSome (sym (held_but m k o (Some e) h a ne)) there
 
 -- an object that was put and taken out again
-pub taken_again : (m k l n : Table) (o : ℕ) (e : Entry) → k ≡ map.insert m o e → IsSame k l → n ≡ map.remove l o → e.body.value.names ≡ map.empty → held m o ≡ None → IsSame m n
+pub taken_again : (m k l n : Table) (o : ℕ) (e : Entry) → k ≡ map.insert m o e → IsSame k l → n ≡ map.remove l o → e.body.names ≡ map.empty → held m o ≡ None → IsSame m n
 taken_again m k l n o e put same out empty new = record { steps = steps; places = places; len = len } where
   h : Updates o m k (Some e)
   h = put_in m k o e put
@@ -244,8 +243,8 @@ taken_again m k l n o e put same out empty new = record { steps = steps; places 
       let there = entry_held l o (placed e) (same.places o ∙ ap (option_map placed) h.here) in
       omega (arith, ap map.len put, len_one_more m o e none, same.len, ap (λ (z : Table). map.len z + 1) out, len_one_less l o there.0 there.1)
 
-pub was_cut : (m k n : Table) (o : ℕ) (e : Entry) (x : List ℕ) → k ≡ map.remove m o → HasName e.parent x None k n → x ≡ e.body.value.name
-    → ((y : List ℕ) → child m o y ≡ None) → Cuts e.parent e.body.value.name o (child m) (child n) (held m) (held n)
+pub was_cut : (m k n : Table) (o : ℕ) (e : Entry) (x : List ℕ) → k ≡ map.remove m o → HasName e.parent x None k n → x ≡ e.body.name
+    → ((y : List ℕ) → child m o y ≡ None) → Cuts e.parent e.body.name o (child m) (child n) (held m) (held n)
 was_cut m k n o e x out name is bare = record {
   here = ap (child n e.parent) (sym is) ∙ name.here;
   others = λ a y ne. name.others a y (λ s t. ne s (t ∙ is)) ∙ steps a y;
@@ -269,7 +268,7 @@ stands_above m k o e out was stands =
     subst IsSome (sym (held_but m k o None (taken_out m k o out) e.parent (λ s. stands.2 (sym up ∙ s)) ∙ ap (held m) up)) stands.3
 
 -- the first object
-pub opening_alone : (m n : Table) (e : Entry) → m ≡ map.empty → n ≡ map.insert m 0 e → placed e ≡ (0, [], record { object = 0; content = Directory }) → e.body.value.names ≡ map.empty → IsOpening n
+pub opening_alone : (m n : Table) (e : Entry) → m ≡ map.empty → n ≡ map.insert m 0 e → placed e ≡ (0, [], record { object = 0; content = Directory }) → e.body.names ≡ map.empty → IsOpening n
 opening_alone m n e empty put place nameless_root = record { root = root; others = beside; bare = bare; len = len } where
   h : Updates 0 m n (Some e)
   h = put_in m n 0 e put
@@ -314,7 +313,7 @@ pub node_set : (m : Table) (o : ℕ) (e : Entry) (node : Node) → entry_at m o 
 node_set m o e node was = node_set_by m (map.insert m o (with_node e node)) o e node was refl
 
 -- an entry with the node that it had
-pub node_same : (m : Table) (o : ℕ) (e : Entry) (node : Node) → entry_at m o ≡ Some e → node ≡ e.body.value.node → IsSame m (map.insert m o (with_node e node))
+pub node_same : (m : Table) (o : ℕ) (e : Entry) (node : Node) → entry_at m o ≡ Some e → node ≡ e.body.node → IsSame m (map.insert m o (with_node e node))
 node_same m o e node was same = same_table m o e (with_node e node) was (ap (λ (z : Node). placed (with_node e z)) same) (λ x. refl)
 
 -- where there are names, one of them leads on
@@ -322,26 +321,26 @@ first_name : (xs : List (List ℕ × ℕ)) → (length xs ≡ 0 → ⊥) → (x 
 first_name [] h = absurd (h refl)
 first_name (e ∷ xs) h = (e.0, e.1, ap (λ r. cond (is_eq r) (Some e.1) (es.find name_cmp e.0 xs)) (tied_itself nat_list_cmp_total e.0))
 
-pub leads_on : (m : Table) (o : ℕ) (e : Entry) → entry_at m o ≡ Some e → (map.len e.body.value.names ≡ 0 → ⊥) → (x : List ℕ) × (k : ℕ) × (child m o x ≡ Some k)
+pub leads_on : (m : Table) (o : ℕ) (e : Entry) → entry_at m o ≡ Some e → (map.len e.body.names ≡ 0 → ⊥) → (x : List ℕ) × (k : ℕ) × (child m o x ≡ Some k)
 leads_on m o e was h =
-    let first = first_name (map.entries e.body.value.names) (λ none. h (map.len-entries e.body.value.names ∙ none)) in
-    (first.0, first.1, ap (option_and_then (λ z. named z first.0)) was ∙ map.get-entries e.body.value.names first.0 ∙ first.2)
+    let first = first_name (map.entries e.body.names) (λ none. h (map.len-entries e.body.names ∙ none)) in
+    (first.0, first.1, ap (option_and_then (λ z. named z first.0)) was ∙ map.get-entries e.body.names first.0 ∙ first.2)
 
-pub leads_nowhere : (m : Table) (o : ℕ) (e : Entry) → entry_at m o ≡ Some e → map.len e.body.value.names ≡ 0 → (x : List ℕ) → child m o x ≡ None
-leads_nowhere m o e was none x = ap (option_and_then (λ z. named z x)) was ∙ nameless e x (map.empty_of_len e.body.value.names none)
+pub leads_nowhere : (m : Table) (o : ℕ) (e : Entry) → entry_at m o ≡ Some e → map.len e.body.names ≡ 0 → (x : List ℕ) → child m o x ≡ None
+leads_nowhere m o e was none x = ap (option_and_then (λ z. named z x)) was ∙ nameless e x (map.empty_of_len e.body.names none)
 
 pub isnt_true : (b : Bool) → b ≡ false → IsTrue b → ⊥
 isnt_true true e h = absurd (cc)
 isnt_true false e h = absurd (cc)
 
 -- the body of an entry, lent with what it is, has other content
-module _ (m : Table) (o : ℕ) (e : Entry) (body : Body) (was : entry_at m o ≡ Some e) (lent : body ≡ e.body.value) where
-  pub content_set : (content : Content) (node : Node) → record { object = e.body.value.node.object; content = content } ≡ node
+module _ (m : Table) (o : ℕ) (e : Entry) (body : Body) (was : entry_at m o ≡ Some e) (lent : body ≡ e.body) where
+  pub content_set : (content : Content) (node : Node) → record { object = e.body.node.object; content = content } ≡ node
       → Sets o node (child m) (child (map.insert m o (with_content e body content))) (held m) (held (map.insert m o (with_content e body content)))
   content_set content node is =
       subst (λ (z : Body). Sets o node (child m) (child (map.insert m o (with_content e z content))) (held m) (held (map.insert m o (with_content e z content)))) (sym lent)
-      (subst (λ (z : Node). Sets o z (child m) (child (map.insert m o (with_content e e.body.value content))) (held m) (held (map.insert m o (with_content e e.body.value content)))) is
-      (node_set m o e (record { object = e.body.value.node.object; content = content }) was))
+      (subst (λ (z : Node). Sets o z (child m) (child (map.insert m o (with_content e e.body content))) (held m) (held (map.insert m o (with_content e e.body content)))) is
+      (node_set m o e (record { object = e.body.node.object; content = content }) was))
 
   pub content_len : (content : Content) → map.len (map.insert m o (with_content e body content)) ≡ map.len m
   content_len content = as_many m o e (with_content e body content) was
@@ -356,8 +355,8 @@ module _ (m : Table) (o : ℕ) (e : Entry) (body : Body) (was : entry_at m o ≡
 
   pub names_put : (names : Objects) (x : List ℕ) (k : ℕ) → names ≡ map.insert body.names x k → HasName o x (Some k) m (map.insert m o (with_names e body names))
   names_put names x k is = name_set m o e (with_names e body names) was (ap (λ (z : Body). (e.parent, z.name, z.node)) lent) x (Some k)
-      (name_put e.body.value.names names x k (is ∙ ap (λ (z : Body). map.insert z.names x k) lent))
+      (name_put e.body.names names x k (is ∙ ap (λ (z : Body). map.insert z.names x k) lent))
 
   pub names_gone : (names : Objects) (x : List ℕ) → names ≡ map.remove body.names x → HasName o x None m (map.insert m o (with_names e body names))
   names_gone names x is = name_set m o e (with_names e body names) was (ap (λ (z : Body). (e.parent, z.name, z.node)) lent) x None
-      (name_gone e.body.value.names names x (is ∙ ap (λ (z : Body). map.remove z.names x) lent))
+      (name_gone e.body.names names x (is ∙ ap (λ (z : Body). map.remove z.names x) lent))

@@ -7,15 +7,16 @@ use Rattle.tree_nodes.specs.declared.node.File.{File}
 use Rattle.tree_nodes.specs.declared.node.Content.TheVariants as contents
 use Rattle.tree_stores.specs.declared.file_bytes.changes.FileUndo.{FileUndo}
 use Rattle.tree_nodes.specs.declared.table.Edit.{Edit}
+use Rattle.tree_nodes.specs.declared.table.Entry.{Entry}
 use Rattle.tree_nodes.specs.declared.undo.Undo.{Undo}
 use Rattle.tree_nodes.specs.declared.undo.Move.{Move}
-use Rattle.tree_nodes.specs.declared.undo.Step.TheVariants.{Made, Edited, Moved}
+use Rattle.tree_nodes.specs.declared.undo.Step.TheVariants.{Made, Removed, Edited, Moved}
 use Rattle.tree_nodes.specs.Files.{file_node}
 use Rattle.tree_stores.specs.Undo.{Restores}
 use Rattle.tree_nodes.specs.Edits.{edited}
 use Rattle.tree_nodes.specs.Walk.{Held}
-use Rattle.tree_nodes.specs.Changes.{Adds, Sets}
-use Rattle.tree_nodes.specs.Table.{Table, child, held}
+use Rattle.tree_nodes.specs.Changes.{Adds, Cuts, Sets}
+use Rattle.tree_nodes.specs.Table.{Table, child, held, placed}
 use Rattle.tree_nodes.specs.Renames.{IsRenamed}
 
 -- an object more
@@ -38,3 +39,11 @@ pub record IsMoved (object directory : ℕ) (name : List ℕ) (undo : Undo) (bef
   pub move : Move
   pub step : undo.step ≡ Moved move
   pub renamed : IsRenamed object directory name move before after
+
+-- an object less
+pub record IsRemoved (object : ℕ) (undo : Undo) (before after : Table) : Type 0 where
+  pub entry : Entry
+  pub step : undo ≡ record { step = Removed entry }
+  pub stood : held before object ≡ Some (placed entry)
+  pub cuts : Cuts entry.parent entry.body.name object (child before) (child after) (held before) (held after)
+  pub len : map.len after + 1 ≡ map.len before

@@ -18,17 +18,17 @@ abbrev pub name_in : Objects → List ℕ → Option ℕ
 name_in names name = map.get names name
 
 abbrev pub named : Entry → List ℕ → Option ℕ
-named entry name = name_in entry.body.value.names name
+named entry name = name_in entry.body.names name
 
 -- the names in an object, in their order, with their objects
 abbrev pub names_in : Entry → List (List ℕ × ℕ)
-names_in entry = map.entries entry.body.value.names
+names_in entry = map.entries entry.body.names
 
 abbrev pub child : Table → ℕ → List ℕ → Option ℕ
 child entries object name = option_and_then (λ entry. named entry name) (entry_at entries object)
 
 abbrev pub placed : Entry → Held
-placed entry = (entry.parent, entry.body.value.name, entry.body.value.node)
+placed entry = (entry.parent, entry.body.name, entry.body.node)
 
 abbrev pub held : Table → ℕ → Option Held
 held entries object = option_map placed (entry_at entries object)

@@ -28,10 +28,10 @@ pub record IsUnmade (object : ℕ) (after before : Tree) : Type 0 where
 pub record IsPutBack (entry : Entry) (after before : Tree) : Type 0 where
   pub directory : Names × Node
   pub stands : entry_of after entry.parent ≡ Some directory
-  pub new : entry_of after entry.body.value.node.object ≡ None
-  pub free : map.get after (directory.0 ++ entry.body.value.name ∷ []) ≡ None
+  pub new : entry_of after entry.body.node.object ≡ None
+  pub free : map.get after (directory.0 ++ entry.body.name ∷ []) ≡ None
   pub room : map.len after < node_limit
-  pub gives : before ≡ map.insert after (directory.0 ++ entry.body.value.name ∷ []) entry.body.value.node
+  pub gives : before ≡ map.insert after (directory.0 ++ entry.body.name ∷ []) entry.body.node
 
 -- the tree with the bytes that a file had
 pub record IsEditedBack (object : ℕ) (undo : FileUndo) (after before : Tree) : Type 0 where

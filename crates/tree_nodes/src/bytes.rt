@@ -49,6 +49,15 @@ impl Bytes {
         })
     }
 
+    /// The same bytes.
+    pub fn copy(&self) -> Result<Bytes, AllocError>
+        ensures { IfOk result (λ b. b ≡ self.now) }
+    {
+        Ok(Bytes {
+            text: self.text.clone()?,
+        })
+    }
+
     /// The bytes.
     pub fn as_slice(&self) -> &[u8]
         ensures value { result.now ≡ self.now }

@@ -2,12 +2,16 @@
 #![tactic(auto)]
 
 mod bytes;
+mod changes;
 mod content;
+mod copies;
+mod edits;
 mod lift;
 mod node;
 mod nodes;
 mod print;
 mod ranks;
+mod same;
 mod table;
 mod undo;
 

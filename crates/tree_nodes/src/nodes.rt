@@ -1,6 +1,6 @@
 //! The nodes of a tree, by the numbers of their objects.
 
-ghost use Rattle.std.specs.Prelude.{List, ◌≡◌, ◌≢◌, ◌↔◌, ◌<◌, ◌≤◌, ◌+◌, ◌^◌, ℕ, false, true, [], ◌∷◌, ◌++◌, IfOk, OnOk, OnErr, Some, None, IsSome, IfSome, All, length, option_and_then};
+ghost use Rattle.std.specs.Prelude.{List, ◌≡◌, ◌≢◌, ◌↔◌, ◌<◌, ◌≤◌, ◌+◌, ◌^◌, ℕ, false, true, [], ◌∷◌, ◌++◌, IsTrue, IfOk, OnOk, OnErr, Some, None, IsSome, IfSome, All, length, option_and_then};
 ghost use Rattle.std.specs.Option.{option_copied, option_map};
 ghost use Rattle.std.specs.FinMap as map;
 ghost use Rattle.tree_stores.specs.nfs3_types_specs.Limits.{file_limit};
@@ -26,11 +26,12 @@ use crate::lift::lift;
 use crate::node::Node;
 use crate::print::{put_entry, put_word};
 use crate::ranks::{Ranks, TOP};
+use crate::same::{entry_number, same_entries};
 use crate::table::{
-    Edit, Entry, child, cut, entry_in, is_bare, lists_all, look_below, names_of, node_at,
-    parent_of, place_of, root_alone,
+    Edit, Entry, child, entry_in, is_bare, lists_all, look_below, names_of, node_at, parent_of,
+    place_of, root_alone,
 };
-use crate::undo::{Step, Undo, edit, make, rename, take_back};
+use crate::undo::{Undo, edit, make, remove, rename, take_back};
 use std::alloc::{AllocError, Global};
 use std::collections::{BTreeMap, BTreeSet};
 use std::marker::Model;
@@ -89,6 +90,34 @@ impl Nodes {
             entries: root_alone(alloc)?,
             ranks: Ranks::new(alloc),
         })
+    }
+
+    /// The same nodes. It costs a step for each 64 numbers of objects: what the trees have in common they share, until one of them
+    /// changes.
+    pub fn copy(&self) -> Result<Nodes, AllocError>
+        ensures { IfOk result (λ nodes. nodes ≡ self.now) }
+    {
+        Ok(Nodes {
+            alloc: self.alloc,
+            entries: self.entries.copy()?,
+            ranks: Ranks::never(self.alloc),
+        })
+    }
+
+    /// Whether two trees are the same. It compares their objects one by one, and bytes only where their numbers are the same.
+    pub fn is_same(&self, other: &Nodes) -> bool
+        ensures { IsTrue result → self.now ≡ other.now }
+    {
+        same_entries(&self.entries, &other.entries)
+    }
+
+    /// A number of an object: of its own number, of the directory that it lies in, its name there, its type and what it holds. It is the
+    /// same for objects that are the same, and 0 where there is no object of that number.
+    pub fn number_of(&self, object: u64) -> u64 {
+        match self.entries.get(object) {
+            Some(entry) => entry_number(object, entry),
+            None => 0,
+        }
     }
 
     /// How many nodes there are, and what every tree keeps.
@@ -234,16 +263,15 @@ impl Nodes {
     }
 
     /// Takes an object with nothing below it away, unless it is the root.
-    pub fn remove(&mut self, object: u64) -> Undo
+    pub fn remove(&mut self, object: u64) -> Result<Undo, AllocError>
         requires stands { IsSome (entry_of self.old object) }
         requires isnt_root { (e : Names × Node) → entry_of self.old object ≡ Some e → e.0 ≡ [] → ⊥ }
         requires bare { (e : Names × Node) → entry_of self.old object ≡ Some e → is_bare self.old e.0 ≡ true }
-        ensures ok { (e : Names × Node) → entry_of self.old object ≡ Some e → self.new ≡ map.remove self.old e.0 }
-        ensures undo { TakesBack result self.new self.old }
+        ensures ok { OnOk result ((e : Names × Node) → entry_of self.old object ≡ Some e → self.new ≡ map.remove self.old e.0) }
+        ensures undo { IfOk result (λ undo. TakesBack undo self.new self.old) }
+        ensures err { OnErr result (self.new ≡ self.old) }
     {
-        Undo {
-            step: Step::Removed(cut(&mut self.entries, object)),
-        }
+        remove(&mut self.entries, object)
     }
 
     /// Writes bytes to a file. Those outside stay, and a gap behind the end is filled with zeros.

@@ -31,6 +31,16 @@ impl Ranks {
         }
     }
 
+    /// No ranks, also later.
+    pub(crate) fn never(alloc: Global) -> Ranks
+        ensures { (object : ℕ) → rank_of result object ≡ TOP }
+    {
+        Ranks {
+            first: u64::MAX,
+            ranks: Vec::new(alloc),
+        }
+    }
+
     /// The rank of an object.
     pub(crate) fn get(&self, object: u64) -> u32
         ensures { result ≡ rank_of self.now object }

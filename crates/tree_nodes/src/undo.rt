@@ -8,13 +8,15 @@ ghost use Rattle.tree_nodes.specs.Walk.{Held};
 ghost use Rattle.tree_nodes.specs.Table.{child, held};
 ghost use Rattle.tree_nodes.specs.TableChanges.{IsSame};
 ghost use Rattle.tree_nodes.specs.Edits.{IsWithin};
-ghost use Rattle.tree_nodes.specs.Results.{IsMade, IsEdited, IsMoved};
+ghost use Rattle.tree_nodes.specs.Results.{IsMade, IsRemoved, IsEdited, IsMoved};
 ghost use Rattle.tree_nodes.specs.Shown.{IsTableOf};
 ghost use Rattle.tree_nodes.specs.Undo.{IsPutBack, IsMovedBack, StepsBack, TakesBack, held_nodes};
 
 use crate::bytes::Bytes;
+use crate::changes::{add, cut, shift, shift_over};
+use crate::edits::{edit_bytes, restore_bytes};
 use crate::node::Node;
-use crate::table::{Edit, Entry, Place, add, child, cut, edit_bytes, restore_bytes, shift};
+use crate::table::{Edit, Entry, Place, child};
 use std::alloc::{AllocError, Global};
 use tree_stores::{FileUndo, Slots};
 
@@ -91,6 +93,19 @@ pub(crate) fn make(
     })
 }
 
+/// Takes an object with no names in it away.
+pub(crate) fn remove(entries: &mut Slots<Entry>, object: u64) -> Result<Undo, AllocError>
+    requires stands { (h : Held) × (held entries.old object ≡ Some h) × (h.0 ≡ object → ⊥) × IsSome (held entries.old h.0) }
+    requires bare { (name : List ℕ) → child entries.old object name ≡ None }
+    ensures ok { IfOk result (λ undo. IsRemoved object undo entries.old entries.new) }
+    ensures err { OnErr result (IsSame entries.old entries.new) }
+{
+    let entry = cut(entries, object)?;
+    Ok(Undo {
+        step: Step::Removed(entry),
+    })
+}
+
 /// Changes the bytes of a file that stands.
 pub(crate) fn edit(
     entries: &mut Slots<Entry>,
@@ -128,12 +143,46 @@ pub(crate) fn rename(
         parent: directory,
         name: Bytes::from_slice(alloc, name)?,
     };
-    let target = child(entries, directory, name);
+    match child(entries, directory, name) {
+        Some(other) => move_over(entries, object, place, other),
+        None => move_free(entries, object, place),
+    }
+}
+
+/// Puts an object under a free name.
+fn move_free(entries: &mut Slots<Entry>, object: u64, place: Place) -> Result<Undo, AllocError>
+    requires stands { (h : Held) × (held entries.old object ≡ Some h) × IsSome (held entries.old h.0) × (place.parent ≡ h.0 → place.name ≡ h.1 → ⊥) }
+    requires directory { IsSome (held entries.old place.parent) }
+    requires free { child entries.old place.parent place.name ≡ None }
+    ensures ok { IfOk result (λ undo. IsMoved object place.parent place.name undo entries.old entries.new) }
+    ensures err { OnErr result (IsSame entries.old entries.new) }
+{
     let place = shift(entries, object, place)?;
-    let displaced = match target {
-        Some(target) => entries.remove(target),
-        None => None,
-    };
+    Ok(Undo {
+        step: Step::Moved(Move {
+            object,
+            place,
+            displaced: None,
+        }),
+    })
+}
+
+/// Puts an object under the name of another one, which goes.
+fn move_over(
+    entries: &mut Slots<Entry>,
+    object: u64,
+    place: Place,
+    other: u64,
+) -> Result<Undo, AllocError>
+    requires stands { (h : Held) × (held entries.old object ≡ Some h) × IsSome (held entries.old h.0) × (place.parent ≡ h.0 → place.name ≡ h.1 → ⊥) }
+    requires directory { IsSome (held entries.old place.parent) }
+    requires there { child entries.old place.parent place.name ≡ Some other }
+    requires displaced { IsSome (held entries.old other) × (other ≡ object → ⊥) × (other ≡ place.parent → ⊥) }
+    requires bare { (any : List ℕ) → child entries.old other any ≡ None }
+    ensures ok { IfOk result (λ undo. IsMoved object place.parent place.name undo entries.old entries.new) }
+    ensures err { OnErr result (IsSame entries.old entries.new) }
+{
+    let (place, displaced) = shift_over(entries, object, place, other)?;
     Ok(Undo {
         step: Step::Moved(Move {
             object,
@@ -149,7 +198,7 @@ fn put_back(entries: &mut Slots<Entry>, alloc: Global, entry: Entry) -> Result<(
     ensures ok { OnOk result ((tree before : Tree) → IsTableOf entries.old tree → IsPutBack entry tree before → IsTableOf entries.new before) }
     ensures err { OnErr result (IsSame entries.old entries.new) }
 {
-    let body = Box::into_inner(entry.body);
+    let body = entry.body.into_inner()?;
     let name = body.name;
     add(entries, alloc, entry.parent, name.as_slice(), body.node)
 }
@@ -180,7 +229,7 @@ pub(crate) fn take_back(
     match step {
         Step::Nothing => Ok(()),
         Step::Made(object) => {
-            drop(cut(entries, object));
+            drop(cut(entries, object)?);
             Ok(())
         }
         Step::Removed(entry) => put_back(entries, alloc, entry),

@@ -1,4 +1,6 @@
 pub mod SlotLemmas
+pub mod PageLemmas
+pub mod MarkLemmas
 pub mod Orders
 pub mod FewLemmas
 pub mod ManyLemmas
@@ -10,3 +12,4 @@ pub mod Paging
 pub mod Windows
 pub mod Reading
 pub mod Undoing
+pub mod Alike

@@ -15,7 +15,7 @@ use Rattle.tree_stores.specs.declared.file_bytes.pages.Pages.{Pages}
 use Rattle.tree_stores.specs.Paged.{page_of, byte_of, HasRoom, changed}
 use Rattle.tree_stores.proofs.Places.{by_places, zeros}
 
-same_number : (a b : ℕ) → is_eq (nat_cmp a b) ≡ eqb a b
+pub same_number : (a b : ℕ) → is_eq (nat_cmp a b) ≡ eqb a b
 same_number a b = grind (arith, nat_tests)
 
 -- ---- pages that keep the same

@@ -18,7 +18,7 @@ use Rattle.tree_stores.proofs.Windows.{piece_of, byte_at}
 abbrev pub AgreesTo : (ℕ → ℕ) → ℕ → List ℕ → ℕ → Type 0
 AgreesTo f offset bytes end = (j : ℕ) → j < length bytes → offset + j < end → get_or bytes j 0 ≡ f (offset + j)
 
-equal_bytes : (xs ys : List ℕ) → pointwise nat_eq xs ys ≡ true → xs ≡ ys
+pub equal_bytes : (xs ys : List ℕ) → pointwise nat_eq xs ys ≡ true → xs ≡ ys
 equal_bytes xs ys h = (bytes_eq-Decides xs ys).0 h
 
 bytes_equal : (xs ys : List ℕ) → xs ≡ ys → pointwise nat_eq xs ys ≡ true

@@ -9,8 +9,8 @@ use Rattle.std.specs.FinMap as map
 use Rattle.std.specs.FinMap.Entries as es
 use Rattle.std.proofs.lemmas.Bool.{cases_eq, cases_lt, eq-eqb, ne_eqb}
 use Rattle.std.proofs.lemmas.List.{get_or-set_same, get_or-set_other, get_or_past, get_or_read}
-use Rattle.tree_stores.specs.declared.slots.Slot.{Slot}
-use Rattle.tree_stores.specs.declared.slots.Slot.TheVariants.{Empty, Filled}
+use Rattle.tree_stores.specs.declared.slots.slot.Slot.{Slot}
+use Rattle.tree_stores.specs.declared.slots.slot.Slot.TheVariants.{Empty, Filled}
 use Rattle.tree_stores.specs.Slots.{value_of, rewritten, entries_from, map_of}
 
 same : (m n : ℕ) → m ≡ n → eq_by_cmp nat_cmp m n ≡ true

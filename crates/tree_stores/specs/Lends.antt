@@ -1,16 +1,12 @@
 -- For the prover, and for callers.
--- what becomes of slots where a `&mut` to one of their values is returned
-use Rattle.std.specs.Prelude.{ℕ, Option}
+-- what becomes of slots where their pages are lent
 use Rattle.std.specs.Ordering.{nat_cmp}
-use Rattle.std.specs.Borrow.{Lends, LendsIf, Fml, RattleType, MutBor}
+use Rattle.std.specs.Borrow.{Lends, Fml, RattleType, MutBor}
 use Rattle.std.specs.FinMap as map
+use Rattle.tree_stores.specs.Books.{Book}
 use Rattle.tree_stores.specs.contracts.slots.Slots.{the_row}
+use Rattle.tree_stores.specs.contracts.slots.pages.Pages as pages
 
-module _ (V : RattleType) (slots : MutBor (map.FinMap nat_cmp V.Denot)) (number : ℕ) where
-  -- once the borrow ends, the number has the last value written through it
-  abbrev pub lends_value : MutBor V.Denot → Fml
-  lends_value value = Lends (the_row V) V slots value (map.insert slots.now number)
-
-  -- the same where there is a reference, and at `None` all stays as it is
-  abbrev pub lends_get : Option (MutBor V.Denot) → Fml
-  lends_get value = LendsIf (the_row V) V slots value (map.insert slots.now number) slots.now
+-- once the borrow ends, the slots have the values that the pages have
+abbrev pub lends_pages : (V : RattleType) → MutBor (map.FinMap nat_cmp V.Denot) → MutBor (Book V.Denot) → Fml
+lends_pages V slots book = Lends (the_row V) (pages.the_row V) slots book (λ (b : Book V.Denot). b.map)

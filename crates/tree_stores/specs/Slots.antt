@@ -3,8 +3,8 @@
 use Rattle.std.specs.Prelude.{ℕ, ◌+◌, List, [], ◌∷◌, Option, Some, None}
 use Rattle.std.specs.Ordering.{nat_cmp}
 use Rattle.std.specs.FinMap as map
-use Rattle.tree_stores.specs.declared.slots.Slot.{Slot}
-use Rattle.tree_stores.specs.declared.slots.Slot.TheVariants.{Empty, Filled}
+use Rattle.tree_stores.specs.declared.slots.slot.Slot.{Slot}
+use Rattle.tree_stores.specs.declared.slots.slot.Slot.TheVariants.{Empty, Filled}
 
 module _ {V : Type 0} where
   -- the value of a slot, where it has one

@@ -124,6 +124,19 @@ impl Store {
         Ok(Store::Long(long::copy_of(alloc, self.iter())?))
     }
 
+    /// The same names in the same form.
+    fn copy(&self, alloc: Global) -> Result<Store, AllocError>
+        requires { IsKept self.now }
+        ensures same { IfOk result (λ store. pairs_of store ≡ pairs_of self.now) }
+        ensures kept { IfOk result IsKept }
+    {
+        match self {
+            Store::Few(few) => Ok(Store::Few(few::copy_of(few.as_slice(), alloc)?)),
+            Store::Short(many) => Ok(Store::Short(many.clone()?)),
+            Store::Long(_) => Ok(Store::Long(long::copy_of(alloc, self.iter())?)),
+        }
+    }
+
     /// Moves the names to another form, where this one has no room for a name that isn't there.
     fn make_room(&mut self, alloc: Global, name: &[u8]) -> Result<(), AllocError>
         requires { IsKept self.old }
@@ -175,6 +188,16 @@ impl Names {
             alloc,
             store: Store::Few(Vec::new(alloc)),
         }
+    }
+
+    /// The same names.
+    pub fn copy(&self) -> Result<Names, AllocError>
+        ensures { IfOk result (λ names. names ≡ self.now) }
+    {
+        Ok(Names {
+            alloc: self.alloc,
+            store: self.store.copy(self.alloc)?,
+        })
     }
 
     /// Whether there are no names.

@@ -1,6 +1,6 @@
 //! The bytes of a regular file. A contract sees the whole list of them.
 
-ghost use Rattle.std.specs.Prelude.{◌≡◌, ◌+◌, ◌≤◌, ◌++◌, List, ℕ, [], length, take, drop, replicate, max, nat_eq, IfOk, OnOk, OnErr};
+ghost use Rattle.std.specs.Prelude.{◌≡◌, ◌+◌, ◌≤◌, ◌++◌, List, ℕ, [], length, take, drop, replicate, max, nat_eq, IsTrue, IfOk, OnOk, OnErr};
 ghost use Rattle.std.specs.Cmp.Lexicographic.{pointwise};
 ghost use Rattle.nfs3_types.specs.Limits.{file_limit};
 ghost use Rattle.tree_stores.specs.Files.{resized, written};
@@ -186,5 +186,17 @@ impl FileBytes {
             size: self.size,
             pages: self.pages.copy()?,
         })
+    }
+
+    /// A number of the bytes, the same for equal files. It costs a step for each page that is kept.
+    pub fn number(&self) -> u64 {
+        self.pages.number().wrapping_add(self.size)
+    }
+
+    /// Whether another file has the same bytes. It compares no bytes of pages that tell by their numbers that they differ.
+    pub fn is_same(&self, other: &FileBytes) -> bool
+        ensures { IsTrue result → self.now ≡ other.now }
+    {
+        self.size == other.size && self.pages.is_same(&other.pages)
     }
 }

@@ -1,9 +1,10 @@
 //! One page of a file, without the zeros at its end.
 
-ghost use Rattle.std.specs.Prelude.{◌≡◌, ◌+◌, ◌++◌, ◌≤◌, [], length, take, drop, nat_eq, slice_index, IsTrue, ◌↔◌, EachIndex, IfOk, OnOk};
+ghost use Rattle.std.specs.Prelude.{◌≡◌, ◌+◌, ◌++◌, ◌≤◌, ℕ, [], length, take, drop, nat_eq, slice_index, IsTrue, ◌↔◌, EachIndex, IfOk, OnOk};
 ghost use Rattle.std.specs.Cmp.Lexicographic.{pointwise};
 ghost use Rattle.tree_stores.specs.Files.{resized, written};
 
+use crate::shared::Shared;
 use std::alloc::{AllocError, Global};
 use std::marker::Model;
 
@@ -13,31 +14,60 @@ pub(crate) const PAGE: u64 = 512;
 /// A page takes memory in steps of so many bytes: what one leaves is mostly as large as what the next one needs.
 const ROOM: usize = 128;
 
-/// The bytes of a page up to some place; those behind it are zeros.
+/// What mixes the bits of eight bytes.
+const MIX: u64 = 0x9e37_79b9_7f4a_7c15;
+
+/// What the first eight bytes of a page count with.
+const FACTOR: u64 = 0x81da_def4_bc2d_d44d;
+
+/// By how much the factor of the next eight is more.
+const STEP: u64 = 0x7fb5_d329_728e_a186;
+
+/// The bytes of a page up to some place; those behind it are zeros. Copies share them.
 #[derive(Drop)]
 pub(crate) struct Page {
-    bytes: Vec<u8>,
+    /// Absent where there are none.
+    bytes: Option<Shared<Vec<u8>>>,
+    /// A number of the bytes, the same whether zeros at the end are stored or not.
+    sum: u64,
 }
 
 impl Model for Page {
     ghost use Rattle.std.specs.Prelude.{◌≤◌, List, ℕ, length};
     ghost use Rattle.tree_stores.specs.declared.file_bytes.page.TheConstants.{PAGE};
+    ghost use Rattle.tree_stores.specs.Stored.{stored_in};
 
     ghost Value = { List ℕ };
 
-    ghost view = { λ p. p.bytes.items };
+    ghost view = { λ p. stored_in (λ b. b.items) p.bytes };
 
-    ghost invariant = { λ p. length p.bytes.items ≤ PAGE };
+    ghost invariant = { λ p. length (stored_in (λ b. b.items) p.bytes) ≤ PAGE };
 }
 
 impl Page {
     /// A page of zeros.
-    pub(crate) fn new(alloc: Global) -> Page
+    pub(crate) fn new() -> Page
         ensures { result ≡ [] }
     {
         Page {
-            bytes: Vec::new(alloc),
+            bytes: None,
+            sum: 0,
         }
+    }
+
+    /// A page of these bytes.
+    fn of(alloc: Global, bytes: Vec<u8>) -> Result<Page, AllocError>
+        requires { length bytes.items ≤ PAGE }
+        ensures { IfOk result (λ page. page ≡ bytes.items) }
+    {
+        if bytes.is_empty() {
+            return Ok(Page::new());
+        }
+        let sum = sum_of(bytes.as_slice());
+        Ok(Page {
+            bytes: Some(Shared::new(alloc, bytes)?),
+            sum,
+        })
     }
 
     /// The front of a page, as far as a length.
@@ -46,9 +76,7 @@ impl Page {
         ensures { IfOk result (λ page. page ≡ take len stored.now) }
     {
         let len = len.min(stored.len() as u64) as usize;
-        Ok(Page {
-            bytes: Vec::from_slice(alloc, &stored[..len])?,
-        })
+        Page::of(alloc, Vec::from_slice(alloc, &stored[..len])?)
     }
 
     /// A page with other bytes at a place.
@@ -69,7 +97,7 @@ impl Page {
         bytes.resize(at, 0)?;
         bytes.extend_from_slice(added)?;
         bytes.extend_from_slice(&stored[end.min(stored.len())..])?;
-        Ok(Page { bytes })
+        Page::of(alloc, bytes)
     }
 
     /// The bytes.
@@ -77,7 +105,15 @@ impl Page {
         ensures value { result.now ≡ self.now }
         ensures bound { length self.now ≤ PAGE }
     {
-        self.bytes.as_slice()
+        match &self.bytes {
+            Some(bytes) => bytes.get().as_slice(),
+            None => &[],
+        }
+    }
+
+    /// A number of the bytes, the same for pages that show the same.
+    pub(crate) fn sum(&self) -> u64 {
+        self.sum
     }
 }
 
@@ -85,10 +121,59 @@ impl Clone for Page {
     ghost is_clone = { λ page copy. copy ≡ page };
 
     fn clone(&self) -> Result<Page, AllocError> {
+        let bytes = match &self.bytes {
+            Some(bytes) => Some(bytes.copy()?),
+            None => None,
+        };
         Ok(Page {
-            bytes: self.bytes.clone()?,
+            bytes,
+            sum: self.sum,
         })
     }
+}
+
+/// A number of bytes: each eight of them, as one number, count with a factor of their own, so that zeros add nothing.
+fn sum_of(bytes: &[u8]) -> u64 {
+    let words = bytes.chunks_exact(8);
+    let mut last: u64 = 0;
+    for byte in words.remainder().iter().rev() {
+        last = (last << 8) | u64::from(*byte);
+    }
+    let mut factor = FACTOR;
+    let mut sum: u64 = 0;
+    for word in words {
+        let word = match word.try_into() {
+            Ok(word) => u64::from_le_bytes(word),
+            Err(_) => 0,
+        };
+        sum = sum.wrapping_add(mixed(word).wrapping_mul(factor));
+        factor = factor.wrapping_add(STEP);
+    }
+    sum.wrapping_add(mixed(last).wrapping_mul(factor))
+}
+
+/// A number each bit of which counts for others; zero stays.
+fn mixed(word: u64) -> u64 {
+    let word = word.wrapping_mul(MIX);
+    word ^ (word >> 32)
+}
+
+/// Whether two pages show the same bytes.
+pub(crate) fn are_same(one: &[u8], other: &[u8]) -> bool
+    ensures { IsTrue result → (k : ℕ) → slice_index one.now k ≡ slice_index other.now k }
+{
+    let count = one.len().min(other.len());
+    if one[..count] == other[..count] {
+        return both_are_zeros(&one[count..], &other[count..]);
+    }
+    false
+}
+
+/// Whether all bytes of both are zeros.
+fn both_are_zeros(one: &[u8], other: &[u8]) -> bool
+    ensures { IsTrue result → EachIndex one.now (λ k. slice_index one.now k ≡ 0) × EachIndex other.now (λ k. slice_index other.now k ≡ 0) }
+{
+    are_zeros(one) && are_zeros(other)
 }
 
 /// Whether bytes stand at a place of a page.

@@ -1,10 +1,11 @@
 //! The pages of a file by their numbers, and what they are to be after a write or a cut.
 
-ghost use Rattle.std.specs.Prelude.{◌≡◌, ◌+◌, ◌-◌, ◌*◌, ◌^◌, ◌<◌, ◌≤◌, ℕ, length, take, drop, cond, nat_eq, slice_index, IfOk, OnOk};
+ghost use Rattle.std.specs.Prelude.{◌≡◌, ◌+◌, ◌-◌, ◌*◌, ◌^◌, ◌<◌, ◌≤◌, ℕ, length, take, drop, cond, nat_eq, slice_index, IsTrue, IfOk, OnOk};
+ghost use Rattle.tree_stores.specs.Shows.{AllShown};
 ghost use Rattle.tree_stores.specs.Paged.{page_of, byte_of, HasRoom, changed, overwritten, first_cut, cut};
 
 use crate::file_bytes::changes::Change;
-use crate::file_bytes::page::{PAGE, Page};
+use crate::file_bytes::page::{PAGE, Page, are_same};
 use std::alloc::{AllocError, Global};
 use std::collections::BTreeMap;
 use std::mem;
@@ -23,7 +24,7 @@ impl Pages {
         ensures { byte_of result ≡ (λ _. 0) }
     {
         Pages {
-            first: Page::new(alloc),
+            first: Page::new(),
             rest: BTreeMap::new(alloc),
         }
     }
@@ -47,6 +48,52 @@ impl Pages {
         let rest = self.rest.clone()?;
         Ok(Pages { first, rest })
     }
+
+    /// A number of the bytes, the same for equal ones.
+    pub(crate) fn number(&self) -> u64 {
+        let mut number = self.first.sum();
+        for (place, page) in self.rest.iter() {
+            number = number.wrapping_add(page.sum().wrapping_mul(factor_of(*place)));
+        }
+        number
+    }
+
+    /// Whether each page behind the first shows here what others show there.
+    fn shows(&self, others: &Pages) -> bool
+        ensures { IsTrue result → AllShown others.now self.now.rest.entries }
+    {
+        for (number, page) in self.rest.iter() {
+            if !are_same(page.as_slice(), stored(others, *number)) {
+                return false;
+            }
+        }
+        true
+    }
+
+    /// The same, both ways.
+    fn shows_both(&self, other: &Pages) -> bool
+        ensures { IsTrue result → AllShown other.now self.now.rest.entries × AllShown self.now other.now.rest.entries }
+    {
+        self.shows(other) && other.shows(self)
+    }
+
+    /// Whether the bytes are the same.
+    pub(crate) fn is_same(&self, other: &Pages) -> bool
+        ensures { IsTrue result → byte_of self.now ≡ byte_of other.now }
+    {
+        if self.first.sum() != other.first.sum() {
+            return false;
+        }
+        if are_same(self.first.as_slice(), other.first.as_slice()) {
+            return self.shows_both(other);
+        }
+        false
+    }
+}
+
+/// What the bytes of a page count with by its number.
+fn factor_of(number: u64) -> u64 {
+    number.wrapping_mul(0x9e37_79b9_7f4a_7c16).wrapping_add(1)
 }
 
 /// The bytes of a page.
@@ -75,7 +122,7 @@ pub(crate) fn set_up(alloc: Global, pages: &mut Pages, number: u64) -> Result<()
     if pages.rest.contains_key(&number) {
         return Ok(());
     }
-    drop(pages.rest.insert(number, Page::new(alloc))?);
+    drop(pages.rest.insert(number, Page::new())?);
     Ok(())
 }
 

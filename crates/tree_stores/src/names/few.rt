@@ -37,6 +37,20 @@ pub(crate) fn object_of(few: &[Named], name: &[u8]) -> Option<u64>
     None
 }
 
+/// The same names.
+pub(crate) fn copy_of(few: &[Named], alloc: Global) -> Result<Vec<Named>, AllocError>
+    ensures { IfOk result (λ copies. copies.items ≡ few.now) }
+{
+    let mut copies = Vec::with_capacity(alloc, few.len())?;
+    for named in few {
+        copies.push(Named {
+            name: named.name.clone()?,
+            object: named.object,
+        })?;
+    }
+    Ok(copies)
+}
+
 /// Gives a name an object.
 pub(crate) fn put(
     few: &mut Vec<Named>,

@@ -7,6 +7,7 @@ ghost use Rattle.std.specs.Cmp.Lexicographic.{pointwise, slice_cmp, texts_ties};
 ghost use Rattle.std.specs.Slice.Scan.{big_endian};
 ghost use Rattle.std.proofs.lemmas.Cmp.{nat_list_eq_equiv, nat_list_cmp_total};
 
+use std::alloc::AllocError;
 use std::cmp::Ordering;
 use std::marker::Model;
 
@@ -84,6 +85,14 @@ impl ShortName {
         ensures { result.now ≡ self.now }
     {
         &self.bytes[..self.bytes[SHORT_LIMIT] as usize]
+    }
+}
+
+impl Clone for ShortName {
+    ghost is_clone = { λ name copy. copy ≡ name };
+
+    fn clone(&self) -> Result<ShortName, AllocError> {
+        Ok(ShortName { bytes: self.bytes })
     }
 }
 

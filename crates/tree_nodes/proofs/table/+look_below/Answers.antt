@@ -15,8 +15,8 @@ pub loop-next-init : goal.loop-next-init
 loop-next-init t c =
     let steps = child c.args.entries.now c.args.front in
     let fact = IsBeyond (child c.args.entries.now) c.args.object in
-    let here = c.deref.result.now.names in
-    let same : (x : List ℕ) → steps x ≡ map.get here x = λ x. sym (ap (option_and_then (λ e. named e x)) c.in-Some.ensures.value) ∙ ap (λ (z : Body). name_in z.names x) (sym c.deref.ensures) in
+    let here = c.get-2.result.now.names in
+    let same : (x : List ℕ) → steps x ≡ map.get here x = λ x. sym (ap (option_and_then (λ e. named e x)) c.in-Some.ensures.value) ∙ ap (λ (z : Body). name_in z.names x) (sym c.get-2.ensures) in
     let less : c.args.most - 1 < c.args.most = omega (arith, c.if-most-eq0.false) in
     (less, subst (λ (z : List (List ℕ × ℕ)). Passed fact steps z) (sym (c.into_iter-next-iterator.ensures.into_iter_gives ∙ c.iter-next-items.ensures)) (none_passed fact steps here same))
 

@@ -35,7 +35,7 @@ returns-then-not-contains-clause-missing c = λ _.
       name,
       c.in-Some.object,
       first,
-      ap (contains (slice_cmp nat_cmp) c.args.names.now) (sym (ap (λ (z : Held). z.1) same ∙ known.2) ∙ ap (λ (z : Body). z.name) (sym c.deref.ensures)) ∙ sym c.contains.ensures ∙ c.if-not-contains.true,
+      ap (contains (slice_cmp nat_cmp) c.args.names.now) (sym (ap (λ (z : Held). z.1) same ∙ known.2) ∙ ap (λ (z : Body). z.name) (sym c.get-in-loop-object.ensures)) ∙ sym c.contains.ensures ∙ c.if-not-contains.true,
     )
 
 pub loop-object-preserved : goal.loop-object-preserved
@@ -47,4 +47,4 @@ loop-object-preserved c =
     let known = c.requires name c.in-Some.object first in
     let same : placed c.in-Some-get.listed.now ≡ known.0 = same_some _ _ (ap (option_map placed) c.in-Some-get.ensures.value ∙ known.1) in
     one_less c.args.names.now here c.next.new.self (name, c.in-Some.object) left
-    (ap (contains (slice_cmp nat_cmp) c.args.names.now) (sym (ap (λ (z : Held). z.1) same ∙ known.2) ∙ ap (λ (z : Body). z.name) (sym c.deref.ensures)) ∙ sym c.contains.ensures ∙ c.if-not-contains.false)
+    (ap (contains (slice_cmp nat_cmp) c.args.names.now) (sym (ap (λ (z : Held). z.1) same ∙ known.2) ∙ ap (λ (z : Body). z.name) (sym c.get-in-loop-object.ensures)) ∙ sym c.contains.ensures ∙ c.if-not-contains.false)

@@ -4,7 +4,7 @@ use Rattle.tree_nodes.specs.declared.undo.Step.{Step}
 use Rattle.tree_nodes.specs.Shown.{IsTableOf}
 use Rattle.tree_nodes.specs.Undo.{StepsBack}
 use Rattle.tree_nodes.proofs.Backs.{unmake_stands, unmake_bare, unmake_good, restore_file, restore_good}
-use Rattle.tree_nodes.proofs.Methods.{unchanged}
+use Rattle.tree_nodes.proofs.Methods.{unchanged, on_err_always}
 use Rattle.tree_nodes.proofs.undo.take_back.Goals as goal
 
 pub cut-requires-clause-stands : goal.cut-requires-clause-stands
@@ -40,9 +40,14 @@ move_back-requires c =
 pub returns-in-Nothing-clause-ok : goal.returns-in-Nothing-clause-ok
 returns-in-Nothing-clause-ok c = λ tree before good back. subst (IsTableOf c.args.entries.now) (subst (λ (s : Step). StepsBack s tree before) c.in-Nothing.is back) good
 
-pub returns-in-Made-clause-ok : goal.returns-in-Made-clause-ok
-returns-in-Made-clause-ok c = λ tree before good back.
-    unmake_good c.args.entries.now tree good before c.in-Made.object (subst (λ (s : Step). StepsBack s tree before) c.in-Made.is back) c.cut.new.entries c.cut.result c.cut.ensures.entry c.cut.ensures.ok c.cut.ensures.len
+pub returns-in_ok-cut-in-Made-clause-ok : goal.returns-in_ok-cut-in-Made-clause-ok
+returns-in_ok-cut-in-Made-clause-ok c = λ tree before good back.
+    unmake_good c.args.entries.now tree good before c.in-Made.object (subst (λ (s : Step). StepsBack s tree before) c.in-Made.is back) c.cut.new.entries c.in_ok-cut-in-Made.field-0
+    c.in_ok-cut-in-Made.ensures.entry c.in_ok-cut-in-Made.ensures.ok c.in_ok-cut-in-Made.ensures.len
+
+pub returns-in_err-cut-in-Made-clause-err : goal.returns-in_err-cut-in-Made-clause-err
+returns-in_err-cut-in-Made-clause-err c =
+    on_err_always c.from_residual.result _ (λ tree before good back. (tree, unchanged c.args.entries.now tree good c.cut.new.entries c.in_err-cut-in-Made.ensures.err))
 
 pub returns-in-Removed-clause-ok : goal.returns-in-Removed-clause-ok
 returns-in-Removed-clause-ok c = on_ok_weaker c.put_back.result (λ put tree before good back.

@@ -4,7 +4,7 @@ use Rattle.tree_stores.proofs.slots.iter.IterIterator.next.Given as goal
 
 -- only empty slots were passed over
 abbrev pub invariant-loop-slot : goal.invariant-loop-slot
-invariant-loop-slot g l = (l.self-inside.number + length l.self-inside.slots.now < 2 ^ 64) × (entries_from l.self-inside.number l.self-inside.slots.now ≡ l.fn.self)
+invariant-loop-slot g l = (l.self-inside.number + length l.self-inside.walk < 2 ^ 64) × (entries_from l.self-inside.number l.self-inside.walk ≡ l.fn.self)
 
 abbrev pub decreases-loop-slot : goal.decreases-loop-slot
-decreases-loop-slot g l = length l.self-inside.slots.now
+decreases-loop-slot g l = length l.self-inside.walk

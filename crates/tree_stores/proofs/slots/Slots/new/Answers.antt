@@ -1,8 +1,0 @@
-use Rattle.tree_stores.proofs.SlotLemmas.{map_of_none, len_of_none}
-use Rattle.tree_stores.proofs.slots.Slots.new.Goals as goal
-
-pub invariant_of-result : goal.invariant_of-result
-invariant_of-result g c = rw c.new.ensures.items (len_of_none g.row.V.Denot)
-
-pub returns : goal.returns
-returns g c = rw c.new.ensures.items map_of_none
