@@ -81,31 +81,12 @@ fn touched(nodes: &Nodes, plan: &ObjectChange<'_>) -> (Option<u64>, Option<u64>)
 fn number_of(nodes: &Nodes, (one, other): (Option<u64>, Option<u64>)) -> u64 {
     let mut number: u64 = 0;
     if let Some(object) = one {
-        number = number.wrapping_add(number_of_node(nodes, object));
+        number = number.wrapping_add(nodes.number_of(object));
     }
     if let Some(object) = other {
-        number = number.wrapping_add(number_of_node(nodes, object));
+        number = number.wrapping_add(nodes.number_of(object));
     }
     number
-}
-
-/// STUB
-fn number_of_node(_nodes: &Nodes, _object: u64) -> u64 {
-    0
-}
-
-/// STUB
-fn copy_nodes(_nodes: &Nodes) -> Result<Nodes, AllocError>
-    ensures { IfOk result (λ copy. copy ≡ _nodes.now) }
-{
-    Err(AllocError)
-}
-
-/// STUB
-fn is_same_nodes(_nodes: &Nodes, _other: &Nodes) -> bool
-    ensures { IsTrue result → _nodes.now ≡ _other.now }
-{
-    false
 }
 
 impl FileTree {
@@ -216,7 +197,7 @@ impl FileTree {
         let before = number_of(&self.nodes, touched);
         let mut next = FileTree {
             alloc: self.alloc,
-            nodes: copy_nodes(&self.nodes)?,
+            nodes: self.nodes.copy()?,
             number: self.number,
         };
         drop(next.carry_out(plan)?);
@@ -275,7 +256,7 @@ impl FileTree {
     pub fn is_same(&self, other: &FileTree) -> bool
         ensures { IsTrue result → self.now ≡ other.now }
     {
-        self.number == other.number && is_same_nodes(&self.nodes, &other.nodes)
+        self.number == other.number && self.nodes.is_same(&other.nodes)
     }
 
     /// Whether call number `number` may succeed: some success of its procedure has a next tree. For a LOOKUP of an
