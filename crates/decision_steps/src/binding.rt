@@ -8,7 +8,6 @@ ghost use Rattle.decision_steps.specs.declared.fault.PlaceFault.TheVariants.{Not
 
 use crate::fault::PlaceFault;
 use crate::given::GivenHandle;
-use crate::stubs::copy_of;
 use std::alloc::Global;
 use std::sync::Arc;
 use tree_handles::Binds;
@@ -93,7 +92,7 @@ pub(crate) fn bound_with(
     if has_other(binds, given) {
         return Err(PlaceFault::NotLegal);
     }
-    let mut more = copy_of(binds)?;
+    let mut more = binds.copy()?;
     bind_all(&mut more, given)?;
     match Arc::new(alloc, more) {
         Ok(more) => Ok(more),

@@ -7,7 +7,6 @@ mod fault;
 mod given;
 mod law;
 mod state;
-mod stubs;
 
 pub use asked::{is_failure, knows_handles};
 pub use fault::PlaceFault;

@@ -14,7 +14,6 @@ use crate::asked::{is_failure, knows_handles};
 use crate::binding::{are_bound, bound_with};
 use crate::fault::PlaceFault;
 use crate::given::given_handles;
-use crate::stubs::{agrees_with, copy_of, is_same_tree, list_of, number_of, tree_after};
 use file_tree::FileTree;
 use nfs3_types::{FileHandle, NfsCall, Outcome};
 use replay_law::StepFault;
@@ -84,7 +83,7 @@ fn tree_stepped(
     ensures not_legal { result ≡ Err NotLegal → under profile binds.now (arc_value tree.now) number call.now outcome.now ≡ None }
     ensures decided { result ≡ Err HandleNotGiven → ⊥ }
 {
-    match tree_after(tree, profile, binds, number, call, outcome) {
+    match tree.after(profile, binds, number, call, outcome) {
         Ok(Some(after)) => Ok(shared_tree(alloc, after)?),
         Ok(None) => Ok(tree.clone()?),
         Err(StepFault::NotAllowed) => Err(PlaceFault::NotLegal),
@@ -93,14 +92,24 @@ fn tree_stepped(
 }
 
 impl State {
-    /// What stands before any call: the tree of what the server held at first, and the root's handle alone.
-    pub fn opening(alloc: Global, root: &[u8], start: &SeenStart<'_>) -> Result<State, AllocError>
+    /// What stands before any call: the tree of what the server held at first, and the root's handle alone. It is told which handles may be
+    /// bound later, so that binding one of them copies few others.
+    pub fn opening(
+        alloc: Global,
+        root: &[u8],
+        start: &SeenStart<'_>,
+        handles: &[&FileHandle],
+    ) -> Result<State, AllocError>
         ensures tree { IfOk result (λ state. state.tree ≡ start_tree start.now) }
         ensures binds { IfOk result (λ state. state.binds ≡ record { root = root.now; pairs = [] }) }
         ensures covers { IfOk result (λ state. (plan : Bindings) → plan.root ≡ root.now → AgreesWith state.binds plan) }
     {
         let tree = shared_tree(alloc, FileTree::of_start(alloc, start)?)?;
-        let binds = shared_binds(alloc, Binds::of_root(alloc, root)?)?;
+        let mut binds = Binds::of_root(alloc, root)?;
+        for handle in handles {
+            binds.know(handle.as_slice())?;
+        }
+        let binds = shared_binds(alloc, binds)?;
         Ok(State { tree, binds })
     }
 
@@ -140,26 +149,26 @@ impl State {
 
     /// The bound handles with their objects, but for the root's.
     pub fn bound(&self) -> Result<Vec<(Vec<u8>, u64)>, AllocError> {
-        list_of(&self.binds)
+        self.binds.list()
     }
 
     /// A number of the tree, the same of trees that are the same.
     pub fn number(&self) -> u64 {
-        number_of(&self.tree)
+        self.tree.number()
     }
 
     /// Whether both have the same tree.
     pub fn has_tree_of(&self, other: &State) -> bool
         ensures { IsTrue result → self.now.tree ≡ other.now.tree }
     {
-        is_same_tree(&self.tree, &other.tree)
+        self.tree.is_same(&other.tree)
     }
 
     /// Whether each handle that is bound here names the same there.
     pub fn agrees_with(&self, other: &State) -> bool
         ensures { IsTrue result → AgreesWith self.now.binds other.now.binds }
     {
-        agrees_with(&self.binds, &other.binds)
+        self.binds.agrees_with(&other.binds)
     }
 
     /// Places a call whose handles are bound.
@@ -266,7 +275,7 @@ impl State {
         if !are_bound(&self.binds, given.as_slice()) {
             return Ok(false);
         }
-        match tree_after(&self.tree, profile, &self.binds, number, call, outcome) {
+        match self.tree.after(profile, &self.binds, number, call, outcome) {
             Ok(next) => Ok(next.is_none()),
             Err(StepFault::NotAllowed) => Ok(false),
             Err(StepFault::NoMemory) => Err(AllocError),
@@ -285,7 +294,7 @@ impl State {
         ensures covers { IfOk result (λ more. (plan : Bindings) → AgreesWith self.now.binds plan → object_of plan handle.now ≡ Some object → AgreesWith more.binds plan) }
         ensures tree { IfOk result (λ more. more.tree ≡ self.now.tree) }
     {
-        let mut more = copy_of(&self.binds)?;
+        let mut more = self.binds.copy()?;
         more.push(handle.as_slice(), object)?;
         Ok(State {
             tree: self.tree.clone()?,

@@ -7,6 +7,7 @@ mod children;
 mod deeds;
 mod eras;
 mod guessing;
+mod handles;
 mod machine;
 mod same;
 mod settling;

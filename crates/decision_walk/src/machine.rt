@@ -71,7 +71,8 @@ impl<'h> Machine for HistoryMachine<'h> {
     fn opening(&self) -> Result<WalkState, Stop<Why>> {
         let start = self.history.start().lend(self.alloc)?;
         let root = self.history.root().as_slice();
-        let stands = State::opening(self.alloc, root, &start)?;
+        let handles = self.handles()?;
+        let stands = State::opening(self.alloc, root, &start, handles.as_slice())?;
         Ok(WalkState::opening(self.alloc, stands))
     }
 

@@ -82,7 +82,7 @@ const GUESS: &[Row] = &[
 
 /// The state before any call of a server that held nothing.
 fn opening(alloc: Global) -> Result<State, AllocError> {
-    State::opening(alloc, &[0], &SeenStart::empty(alloc))
+    State::opening(alloc, &[0], &SeenStart::empty(alloc), &[])
 }
 
 /// What comes of a request.
