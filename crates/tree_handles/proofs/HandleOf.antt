@@ -1,15 +1,22 @@
 -- objects that some handle names
-use Rattle.std.proofs.Common.{◌≡◌, ◌⊎◌, inl, inr, ℕ, Bool, true, false, cond, List, [], ◌∷◌, Option, Some, None, refl, sym, ap, ◌∙◌}
-use Rattle.std.specs.Prelude.{◌==◌, ◌||◌, nat_le, length}
+use Rattle.std.proofs.Common.{◌≡◌, ◌⊎◌, inl, inr, ℕ, Bool, true, false, cond, List, [], ◌∷◌, map, get_or, is_some, position, slice_get, Option, Some, None, refl, sym, ap, ◌∙◌}
+use Rattle.std.specs.Prelude.{◌==◌, ◌||◌}
+use Rattle.std.specs.Arc.{arc_value}
 use Rattle.std.specs.List.{list_any}
 use Rattle.std.specs.Option.{option_map_or}
 use Rattle.std.specs.Cmp.Lexicographic.{bytes_decides}
 use Rattle.std.specs.Map.{lookup}
 use Rattle.std.specs.Int.{w64, to_be_bytes}
 use Rattle.std.proofs.lemmas.Bool.{eqb-true, eq-eqb}
+use Rattle.std.proofs.lemmas.List.Quantifiers.{position-Some}
+use Rattle.std.proofs.lemmas.Map.Keys.{any_passes_from_place}
+use Rattle.std.proofs.lemmas.Option.{slice_get-get_or}
 use Rattle.tree_handles.specs.Binding.{Bindings, same_bytes, object_of, is_bound, is_named}
 use Rattle.tree_handles.specs.declared.objects.Objects.{Objects}
-use Rattle.tree_handles.specs.Finding.{own_object, tabled, found, first_of, GivesFirst}
+use Rattle.tree_handles.specs.Places.{Handles, is_short}
+use Rattle.tree_handles.specs.Finding.{own_object, object_at, stored, tabled, found, first_of, GivesFirst}
+use Rattle.tree_handles.proofs.Positions.{same_is, true_or_false}
+use Rattle.tree_handles.proofs.Lookups.{placed, short_stored, long_stored}
 use Rattle.tree_handles.proofs.OwnNumbers.{own_is}
 
 either_of : (a b : Bool) → (a || b) ≡ true → (a ≡ true) ⊎ (b ≡ true)
@@ -31,6 +38,33 @@ any_item {X} test (x ∷ xs) e = go (either_of (test x) (list_any test xs) e) (a
   go : (test x ≡ true) ⊎ (list_any test xs ≡ true) → (list_any test xs ≡ true → (y : X) × (test y ≡ true)) → (y : X) × (test y ≡ true)
   go (inl here) later = (x, here)
   go (inr there) later = later there
+
+-- a test of the bytes of keys
+pub any_map : {Key X : Type 0} (f : Key → X) (test : X → Bool) (ks : List Key) → list_any (λ k. test (f k)) ks ≡ list_any test (map f ks)
+any_map f test [] = refl
+any_map f test (k ∷ ks) = ap (λ b. test (f k) || b) (any_map f test ks)
+
+-- a handle stands at a place that has an object
+abbrev pub StandsAt : List (List ℕ) → List (Option ℕ) → List ℕ → Type 0
+StandsAt keys objects handle = (p : ℕ) × (slice_get keys p ≡ Some handle) × (is_some (get_or objects p None) ≡ true)
+
+placed_stands : (keys : List (List ℕ)) (objects : List (Option ℕ)) (handle : List ℕ) (object : ℕ) → placed keys objects handle ≡ Some object → StandsAt keys objects handle
+placed_stands keys objects handle object is = go (position (same_bytes handle) keys) refl where
+  nothing : None ≡ Some object → ⊥
+  nothing e = absurd (cc)
+
+  go : (o : Option ℕ) → position (same_bytes handle) keys ≡ o → StandsAt keys objects handle
+  go None none = absurd (nothing (sym (ap (object_at objects) none) ∙ is))
+  go (Some p) at =
+      let there = position-Some (same_bytes handle) keys p [] at in
+      (p, slice_get-get_or keys p [] there.0 ∙ ap Some (sym (same_is handle (get_or keys p []) there.1)), ap is_some (sym (ap (object_at objects) at) ∙ is))
+
+-- one that has an object stands among the short ones, or among the long ones
+pub stored_stands : (handles : Handles) (short long : List (Option ℕ)) (handle : List ℕ) (object : ℕ) → stored handles short long handle ≡ Some object → StandsAt handles.short short handle ⊎ StandsAt handles.long long handle
+stored_stands handles short long handle object is = go (true_or_false (is_short handle)) where
+  go : (is_short handle ≡ true) ⊎ (is_short handle ≡ false) → StandsAt handles.short short handle ⊎ StandsAt handles.long long handle
+  go (inl s) = inl (placed_stands handles.short short handle object (sym (short_stored handles short long handle s) ∙ is))
+  go (inr l) = inr (placed_stands handles.long long handle object (sym (long_stored handles short long handle l) ∙ is))
 
 -- what is found of a handle has an entry with its bytes
 found_any : {Key : Type 0} (bytes : Key → List ℕ) (test : List ℕ → Bool) (handle : List ℕ) (object : ℕ) (es : List (Key × ℕ))
@@ -82,32 +116,28 @@ module _ (binds : Bindings) (handle : List ℕ) (object : ℕ) (bound : is_bound
       let zero : object ≡ 0 = cc in
       eq-eqb object 0 zero
 
-  -- so it is found, as its number or in the maps
+  -- whether one of these names the object
+  abbrev pub any_of : List (List ℕ) → Bool
+  any_of = list_any (λ h. is_bound binds h object)
+
+  -- so it is found, as its number or by its place
   pub in_maps : (objects : Objects) → GivesFirst objects binds.pairs
-      → ((object == 0) ≡ true) ⊎ ((handle ≡ to_be_bytes w64 object) ⊎ ((list_any (λ e. is_bound binds e.0 object) objects.others.short.entries ≡ true) ⊎ (list_any (λ e. is_bound binds e.0.items object) objects.others.long.entries ≡ true)))
+      → ((object == 0) ≡ true) ⊎ ((handle ≡ to_be_bytes w64 object) ⊎ ((any_of (arc_value objects.others.places).short ≡ true) ⊎ (any_of (arc_value objects.others.places).long ≡ true)))
   in_maps objects gives = go root_or_pair where
-    short_one : Option ℕ
-    short_one = lookup (same_bytes handle) objects.others.short.entries
-
-    long_one : Option ℕ
-    long_one = lookup (λ key. same_bytes handle key.items) objects.others.long.entries
-
-    by_length : (b : Bool) → nat_le (length handle) 31 ≡ b → tabled objects.others handle ≡ Some object
-        → (list_any (λ e. is_bound binds e.0 object) objects.others.short.entries ≡ true) ⊎ (list_any (λ e. is_bound binds e.0.items object) objects.others.long.entries ≡ true)
-    by_length true short is =
-        let there : short_one ≡ Some object = ap (λ b. cond b short_one long_one) (sym short) ∙ is in
-        inl (found_any (λ (h : List ℕ). h) (λ h. is_bound binds h object) handle object objects.others.short.entries there bound)
-    by_length false long is =
-        let there : long_one ≡ Some object = ap (λ b. cond b short_one long_one) (sym long) ∙ is in
-        inr (found_any (λ key. key.items) (λ h. is_bound binds h object) handle object objects.others.long.entries there bound)
+    by_place : tabled objects.others handle ≡ Some object → (any_of (arc_value objects.others.places).short ≡ true) ⊎ (any_of (arc_value objects.others.places).long ≡ true)
+    by_place is = either (stored_stands (arc_value objects.others.places) objects.others.short.items objects.others.long.items handle object is) where
+      either : StandsAt (arc_value objects.others.places).short objects.others.short.items handle ⊎ StandsAt (arc_value objects.others.places).long objects.others.long.items handle
+          → (any_of (arc_value objects.others.places).short ≡ true) ⊎ (any_of (arc_value objects.others.places).long ≡ true)
+      either (inl there) = inl (any_passes_from_place (λ h. is_bound binds h object) (arc_value objects.others.places).short there.0 handle there.1 bound)
+      either (inr there) = inr (any_passes_from_place (λ h. is_bound binds h object) (arc_value objects.others.places).long there.0 handle there.1 bound)
 
     by_kind : (own : Option ℕ) → own_object objects.own handle ≡ own → found objects handle ≡ Some object
-        → (handle ≡ to_be_bytes w64 object) ⊎ ((list_any (λ e. is_bound binds e.0 object) objects.others.short.entries ≡ true) ⊎ (list_any (λ e. is_bound binds e.0.items object) objects.others.long.entries ≡ true))
-    by_kind None none is = inr (by_length (nat_le (length handle) 31) refl (ap (λ o. first_of o (tabled objects.others handle)) (sym none) ∙ is))
-    by_kind (Some n) its is = inl (own_is objects.own handle object (its ∙ ap (λ o. first_of o (tabled objects.others handle)) (sym its) ∙ is))
+        → (handle ≡ to_be_bytes w64 object) ⊎ ((any_of (arc_value objects.others.places).short ≡ true) ⊎ (any_of (arc_value objects.others.places).long ≡ true))
+    by_kind None none is = inr (by_place (ap (λ o. first_of o (tabled objects.others handle)) (sym none) ∙ is))
+    by_kind (Some n) its is = inl (own_is objects.own handle object (its ∙ ap (λ o. first_of o (tabled objects.others handle)) (sym its) ∙ is)).0
 
     go : (same_bytes handle binds.root ≡ true) ⊎ (lookup (same_bytes handle) binds.pairs ≡ Some object)
-        → ((object == 0) ≡ true) ⊎ ((handle ≡ to_be_bytes w64 object) ⊎ ((list_any (λ e. is_bound binds e.0 object) objects.others.short.entries ≡ true) ⊎ (list_any (λ e. is_bound binds e.0.items object) objects.others.long.entries ≡ true)))
+        → ((object == 0) ≡ true) ⊎ ((handle ≡ to_be_bytes w64 object) ⊎ ((any_of (arc_value objects.others.places).short ≡ true) ⊎ (any_of (arc_value objects.others.places).long ≡ true)))
     go (inl same) = inl (root_is_first same)
     go (inr pair) = inr (by_kind (own_object objects.own handle) refl (gives handle ∙ pair))
 
@@ -125,16 +155,16 @@ zero_is_named binds object e = is_among_names binds binds.root object (object_is
 -- another object that isn't named by its number is named by a short handle or by a long one
 module _ (binds : Bindings) (objects : Objects) (gives : GivesFirst objects binds.pairs) (object : ℕ) (other : (object == 0) ≡ false) (unlike : is_bound binds (to_be_bytes w64 object) object ≡ false) where
   abbrev pub any_short : Bool
-  any_short = list_any (λ e. is_bound binds e.0 object) objects.others.short.entries
+  any_short = list_any (λ h. is_bound binds h object) (arc_value objects.others.places).short
 
   abbrev pub any_long : Bool
-  any_long = list_any (λ e. is_bound binds e.0.items object) objects.others.long.entries
+  any_long = list_any (λ h. is_bound binds h object) (arc_value objects.others.places).long
 
   yes : (any_short || any_long) ≡ true → is_named binds object ≡ true
   yes e = go (either_of any_short any_long e) where
     go : (any_short ≡ true) ⊎ (any_long ≡ true) → is_named binds object ≡ true
-    go (inl short) = let it = any_item (λ e. is_bound binds e.0 object) objects.others.short.entries short in is_among_names binds it.0.0 object it.1
-    go (inr long) = let it = any_item (λ e. is_bound binds e.0.items object) objects.others.long.entries long in is_among_names binds it.0.0.items object it.1
+    go (inl short) = let it = any_item (λ h. is_bound binds h object) (arc_value objects.others.places).short short in is_among_names binds it.0 object it.1
+    go (inr long) = let it = any_item (λ h. is_bound binds h object) (arc_value objects.others.places).long long in is_among_names binds it.0 object it.1
 
   no : is_named binds object ≡ true → (any_short || any_long) ≡ true
   no e = go (in_maps binds it.0 object it.1 objects gives) where

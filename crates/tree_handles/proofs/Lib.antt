@@ -1,3 +1,4 @@
+pub mod Positions
 pub mod Lookups
 pub mod Losing
 pub mod OwnNumbers
@@ -5,4 +6,5 @@ pub mod Standing
 pub mod Paths
 pub mod Walks
 pub mod HandleOf
+pub mod Agreeing
 pub use Rattle.tree_nodes.proofs as tree_nodes_laws

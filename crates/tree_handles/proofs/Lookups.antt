@@ -1,20 +1,17 @@
--- maps that give each handle the object of its first pair
-use Rattle.std.proofs.Common.{◌≡◌, ◌⊎◌, inl, inr, ℕ, Bool, true, false, cond, List, [], ◌∷◌, ◌++◌, length, Option, Some, None, refl, sym, ap, ◌∙◌, true≢false}
-use Rattle.std.specs.Prelude.{is_some, nat_le}
-use Rattle.std.specs.Cmp.Lexicographic.{bytes_decides}
+-- what a table gives for its handles, once one more has a place or an object
+use Rattle.std.proofs.Common.{◌≡◌, ◌<◌, ◌≤◌, ◌⊎◌, inl, inr, ℕ, Bool, true, false, cond, List, [], ◌∷◌, ◌++◌, length, take, get_or, position, Option, Some, None, refl, sym, ap, ◌∙◌, true≢false, if◌then◌else◌, arith}
+use Rattle.std.specs.Prelude.{◌==◌, is_some}
+use Rattle.std.specs.Arc.{arc_value}
 use Rattle.std.specs.Map.{lookup}
+use Rattle.std.proofs.lemmas.Bool.{eqb-true, eq-eqb}
+use Rattle.std.proofs.lemmas.List.{get_or-take, get_or_past, length-take}
+use Rattle.std.proofs.lemmas.List.Quantifiers.{position-Some}
 use Rattle.tree_handles.specs.Binding.{same_bytes}
+use Rattle.tree_handles.specs.Places.{Handles, is_short, of_length, place_of, with_handle, Rewrites}
 use Rattle.tree_handles.specs.declared.handle_table.HandleTable.{HandleTable}
 use Rattle.tree_handles.specs.declared.objects.Objects.{Objects}
-use Rattle.tree_handles.specs.Finding.{own_object, tabled, found, first_of, GivesFirst, Gains, Notes}
-
--- only equal byte strings are the same
-pub same_is : (x y : List ℕ) → same_bytes x y ≡ true → x ≡ y
-same_is x y = (bytes_decides x y).0
-
-pub true_or_false : (b : Bool) → (b ≡ true) ⊎ (b ≡ false)
-true_or_false true = inl refl
-true_or_false false = inr refl
+use Rattle.tree_handles.specs.Finding.{own_object, object_at, stored, tabled, found, first_of, GivesFirst, Gains, Keeps, Lacks}
+use Rattle.tree_handles.proofs.Positions.{same_is, same_self, true_or_false, position_more}
 
 -- what isn't there is nothing
 pub absent : {X : Type 0} (o : Option X) → is_some o ≡ false → o ≡ None
@@ -37,57 +34,138 @@ lookup-append {Key} {X} test (x ∷ xs) ys = go (test x.0) (lookup-append test x
 alone : (other handle : List ℕ) (v : ℕ) (o : Option ℕ) → same_bytes other handle ≡ false → first_of o (lookup (same_bytes other) ((handle, v) ∷ [])) ≡ o
 alone other handle v o apart = ap (λ (b : Bool). first_of o (cond b (Some v) None)) apart ∙ first_or_none o
 
-module _ {Key : Type 0} (bytes : Key → List ℕ) (es : List (Key × ℕ)) (handle : List ℕ) (v : ℕ) where
-  -- a handle that has an entry
-  pub noted_there : is_some (lookup (λ key. same_bytes handle (bytes key)) es) ≡ true → Notes bytes es es handle v
-  noted_there there other = go (true_or_false (same_bytes other handle)) where
-    keeps : (o : Option ℕ) → is_some o ≡ true → first_of o (lookup (same_bytes other) ((handle, v) ∷ [])) ≡ o
-    keeps None e = cc
-    keeps (Some x) e = refl
+-- the object of a handle among those of its kind
+abbrev pub placed : List (List ℕ) → List (Option ℕ) → List ℕ → Option ℕ
+placed keys objects handle = object_at objects (position (same_bytes handle) keys)
 
-    go : (same_bytes other handle ≡ true) ⊎ (same_bytes other handle ≡ false)
-        → lookup (λ key. same_bytes other (bytes key)) es ≡ first_of (lookup (λ key. same_bytes other (bytes key)) es) (lookup (same_bytes other) ((handle, v) ∷ []))
-    go (inl same) = sym (keeps _ (ap (λ (h : List ℕ). is_some (lookup (λ key. same_bytes h (bytes key)) es)) (same_is other handle same) ∙ there))
-    go (inr apart) = sym (alone other handle v _ apart)
+-- two handles at one place are one
+one_place : (keys : List (List ℕ)) (a b : List ℕ) (p : ℕ) → position (same_bytes a) keys ≡ Some p → position (same_bytes b) keys ≡ Some p → a ≡ b
+one_place keys a b p x y =
+    same_is a (get_or keys p []) (position-Some (same_bytes a) keys p [] x).1 ∙ sym (same_is b (get_or keys p []) (position-Some (same_bytes b) keys p [] y).1)
 
-  -- a handle that has none
-  pub noted_new : (k : Key) → bytes k ≡ handle → Notes bytes es (es ++ (k, v) ∷ []) handle v
-  noted_new k is other =
-      lookup-append (λ key. same_bytes other (bytes key)) es ((k, v) ∷ [])
-      ∙ ap (λ (h : List ℕ). first_of (lookup (λ key. same_bytes other (bytes key)) es) (cond (same_bytes other h) (Some v) None)) is
+-- a write at the place of a handle
+module _ (keys : List (List ℕ)) (before after : List (Option ℕ)) (handle : List ℕ) (p : ℕ) (item : Option ℕ) (here : position (same_bytes handle) keys ≡ Some p) (writes : Rewrites None before after p item) where
+  pub rewritten : (other : List ℕ) → same_bytes other handle ≡ true → placed keys after other ≡ item
+  rewritten other same =
+      ap (λ (h : List ℕ). placed keys after h) (same_is other handle same) ∙ ap (object_at after) here ∙ writes p ∙ ap (λ (b : Bool). if b then item else get_or before p None) (eq-eqb p p refl)
 
-module _ (before after : HandleTable) (handle : List ℕ) (v : ℕ) where
-  abbrev pub is_short : List ℕ → Bool
-  is_short other = nat_le (length other) 31
+  pub left : (other : List ℕ) → same_bytes other handle ≡ false → placed keys after other ≡ placed keys before other
+  left other apart = go (position (same_bytes other) keys) refl where
+    unlike : (q : ℕ) → position (same_bytes other) keys ≡ Some q → (b : Bool) → (q == p) ≡ b → b ≡ false
+    unlike q at false e = refl
+    unlike q at true e =
+        absurd (true≢false (sym (ap (same_bytes other) (sym (one_place keys other handle p (at ∙ ap Some (eqb-true q p e)) here)) ∙ same_self other) ∙ apart))
 
-  -- a handle of another length is another handle
-  other_length : (other : List ℕ) → (is_short other ≡ is_short handle → ⊥) → same_bytes other handle ≡ false
-  other_length other apart = go (true_or_false (same_bytes other handle)) where
-    go : (same_bytes other handle ≡ true) ⊎ (same_bytes other handle ≡ false) → same_bytes other handle ≡ false
-    go (inl same) = absurd (apart (ap is_short (same_is other handle same)))
-    go (inr other) = other
+    go : (o : Option ℕ) → position (same_bytes other) keys ≡ o → placed keys after other ≡ placed keys before other
+    go None none = ap (object_at after) none ∙ sym (ap (object_at before) none)
+    go (Some q) at =
+        ap (object_at after) at ∙ writes q ∙ ap (λ (b : Bool). if b then item else get_or before q None) (unlike q at (q == p) refl) ∙ sym (ap (object_at before) at)
 
-  pub short_noted : is_short handle ≡ true → Notes (λ key. key) before.short.entries after.short.entries handle v → after.long ≡ before.long → Gains (tabled before) (tabled after) handle v
-  short_noted short notes same other = go (true_or_false (is_short other)) where
-    go : (is_short other ≡ true) ⊎ (is_short other ≡ false) → tabled after other ≡ first_of (tabled before other) (lookup (same_bytes other) ((handle, v) ∷ []))
-    go (inl here) =
-        let at : (o : HandleTable) → tabled o other ≡ lookup (same_bytes other) o.short.entries = λ o. ap (λ (b : Bool). cond b (lookup (same_bytes other) o.short.entries) (lookup (λ key. same_bytes other key.items) o.long.entries)) here in
-        at after ∙ notes other ∙ ap (λ (o : Option ℕ). first_of o (lookup (same_bytes other) ((handle, v) ∷ []))) (sym (at before))
-    go (inr there) =
-        let at : (o : HandleTable) → tabled o other ≡ lookup (λ key. same_bytes other key.items) o.long.entries = λ o. ap (λ (b : Bool). cond b (lookup (same_bytes other) o.short.entries) (lookup (λ key. same_bytes other key.items) o.long.entries)) there in
-        at after ∙ ap (λ l. lookup (λ key. same_bytes other key.items) l.entries) same ∙ sym (at before)
-        ∙ sym (alone other handle v (tabled before other) (other_length other (λ e. true≢false (sym (sym there ∙ e ∙ short)))))
+-- a handle of another length is another handle
+other_length : (other handle : List ℕ) (b c : Bool) → is_short other ≡ b → is_short handle ≡ c → (b ≡ c → ⊥) → same_bytes other handle ≡ false
+other_length other handle b c x y apart = go (true_or_false (same_bytes other handle)) where
+  go : (same_bytes other handle ≡ true) ⊎ (same_bytes other handle ≡ false) → same_bytes other handle ≡ false
+  go (inl same) = absurd (apart (sym x ∙ ap is_short (same_is other handle same) ∙ y))
+  go (inr other) = other
 
-  pub long_noted : is_short handle ≡ false → Notes (λ key. key.items) before.long.entries after.long.entries handle v → after.short ≡ before.short → Gains (tabled before) (tabled after) handle v
-  long_noted long notes same other = go (true_or_false (is_short other)) where
-    go : (is_short other ≡ true) ⊎ (is_short other ≡ false) → tabled after other ≡ first_of (tabled before other) (lookup (same_bytes other) ((handle, v) ∷ []))
-    go (inr here) =
-        let at : (o : HandleTable) → tabled o other ≡ lookup (λ key. same_bytes other key.items) o.long.entries = λ o. ap (λ (b : Bool). cond b (lookup (same_bytes other) o.short.entries) (lookup (λ key. same_bytes other key.items) o.long.entries)) here in
-        at after ∙ notes other ∙ ap (λ (o : Option ℕ). first_of o (lookup (same_bytes other) ((handle, v) ∷ []))) (sym (at before))
-    go (inl there) =
-        let at : (o : HandleTable) → tabled o other ≡ lookup (same_bytes other) o.short.entries = λ o. ap (λ (b : Bool). cond b (lookup (same_bytes other) o.short.entries) (lookup (λ key. same_bytes other key.items) o.long.entries)) there in
-        at after ∙ ap (λ l. lookup (same_bytes other) l.entries) same ∙ sym (at before)
-        ∙ sym (alone other handle v (tabled before other) (other_length other (λ e. true≢false (sym there ∙ e ∙ long))))
+module _ (handles : Handles) (short long : List (Option ℕ)) where
+  pub short_stored : (handle : List ℕ) → is_short handle ≡ true → stored handles short long handle ≡ placed handles.short short handle
+  short_stored handle is = ap (λ (b : Bool). object_at (if b then short else long) (position (same_bytes handle) (if b then handles.short else handles.long))) is
+
+  pub long_stored : (handle : List ℕ) → is_short handle ≡ false → stored handles short long handle ≡ placed handles.long long handle
+  long_stored handle is = ap (λ (b : Bool). object_at (if b then short else long) (position (same_bytes handle) (if b then handles.short else handles.long))) is
+
+-- the place of a handle among those of its kind
+pub short_place : (handles : Handles) (handle : List ℕ) (o : Option ℕ) → is_short handle ≡ true → place_of handles handle ≡ o → position (same_bytes handle) handles.short ≡ o
+short_place handles handle o is at = sym (ap (λ (b : Bool). position (same_bytes handle) (if b then handles.short else handles.long)) is) ∙ at
+
+pub long_place : (handles : Handles) (handle : List ℕ) (o : Option ℕ) → is_short handle ≡ false → place_of handles handle ≡ o → position (same_bytes handle) handles.long ≡ o
+long_place handles handle o is at = sym (ap (λ (b : Bool). position (same_bytes handle) (if b then handles.short else handles.long)) is) ∙ at
+
+-- what a write among short handles, or among long ones, makes of a table
+module _ (handles : Handles) (handle : List ℕ) (p : ℕ) (item : Option ℕ) (here : place_of handles handle ≡ Some p) where
+  pub short_write : (short after long : List (Option ℕ)) → is_short handle ≡ true → Rewrites None short after p item
+      → (other : List ℕ) → stored handles after long other ≡ (if same_bytes other handle then item else stored handles short long other)
+  short_write short after long is writes other = go (true_or_false (is_short other)) where
+    given : Bool → Option ℕ
+    given b = if b then item else stored handles short long other
+
+    go : (is_short other ≡ true) ⊎ (is_short other ≡ false) → stored handles after long other ≡ given (same_bytes other handle)
+    go (inl kind) = short_stored handles after long other kind ∙ same (true_or_false (same_bytes other handle)) where
+      at : position (same_bytes handle) handles.short ≡ Some p
+      at = short_place handles handle (Some p) is here
+
+      same : (same_bytes other handle ≡ true) ⊎ (same_bytes other handle ≡ false) → placed handles.short after other ≡ given (same_bytes other handle)
+      same (inl one) = rewritten handles.short short after handle p item at writes other one ∙ sym (ap given one)
+      same (inr apart) = left handles.short short after handle p item at writes other apart ∙ sym (short_stored handles short long other kind) ∙ sym (ap given apart)
+    go (inr kind) =
+        long_stored handles after long other kind ∙ sym (long_stored handles short long other kind)
+        ∙ sym (ap given (other_length other handle false true kind is (λ e. true≢false (sym e))))
+
+  pub long_write : (short long after : List (Option ℕ)) → is_short handle ≡ false → Rewrites None long after p item
+      → (other : List ℕ) → stored handles short after other ≡ (if same_bytes other handle then item else stored handles short long other)
+  long_write short long after is writes other = go (true_or_false (is_short other)) where
+    given : Bool → Option ℕ
+    given b = if b then item else stored handles short long other
+
+    go : (is_short other ≡ true) ⊎ (is_short other ≡ false) → stored handles short after other ≡ given (same_bytes other handle)
+    go (inl kind) =
+        short_stored handles short after other kind ∙ sym (short_stored handles short long other kind)
+        ∙ sym (ap given (other_length other handle true false kind is true≢false))
+    go (inr kind) = long_stored handles short after other kind ∙ same (true_or_false (same_bytes other handle)) where
+      at : position (same_bytes handle) handles.long ≡ Some p
+      at = long_place handles handle (Some p) is here
+
+      same : (same_bytes other handle ≡ true) ⊎ (same_bytes other handle ≡ false) → placed handles.long after other ≡ given (same_bytes other handle)
+      same (inl one) = rewritten handles.long long after handle p item at writes other one ∙ sym (ap given one)
+      same (inr apart) = left handles.long long after handle p item at writes other apart ∙ sym (long_stored handles short long other kind) ∙ sym (ap given apart)
+
+  -- its object is there first
+  gained : (before after : List ℕ → Option ℕ) (v : ℕ) → item ≡ first_of (before handle) (Some v) → ((other : List ℕ) → after other ≡ (if same_bytes other handle then item else before other)) → Gains before after handle v
+  gained before after v is writes other = writes other ∙ go (true_or_false (same_bytes other handle)) where
+    go : (same_bytes other handle ≡ true) ⊎ (same_bytes other handle ≡ false) → (if same_bytes other handle then item else before other) ≡ first_of (before other) (lookup (same_bytes other) ((handle, v) ∷ []))
+    go (inl same) =
+        ap (λ (b : Bool). if b then item else before other) same ∙ is ∙ ap (λ (h : List ℕ). first_of (before h) (Some v)) (sym (same_is other handle same))
+        ∙ ap (λ (b : Bool). first_of (before other) (cond b (Some v) None)) (sym same)
+    go (inr apart) = ap (λ (b : Bool). if b then item else before other) apart ∙ sym (alone other handle v (before other) apart)
+
+-- a handle gets its object
+module _ (handles : Handles) (handle : List ℕ) (p v : ℕ) (here : place_of handles handle ≡ Some p) where
+  pub short_gains : (short after long : List (Option ℕ)) → is_short handle ≡ true → Rewrites None short after p (first_of (get_or short p None) (Some v)) → Gains (stored handles short long) (stored handles after long) handle v
+  short_gains short after long is writes =
+      let had : stored handles short long handle ≡ get_or short p None = short_stored handles short long handle is ∙ ap (object_at short) (short_place handles handle (Some p) is here) in
+      gained handles handle p (first_of (get_or short p None) (Some v)) here (stored handles short long) (stored handles after long) v (ap (λ o. first_of o (Some v)) (sym had))
+      (short_write handles handle p (first_of (get_or short p None) (Some v)) here short after long is writes)
+
+  pub long_gains : (short long after : List (Option ℕ)) → is_short handle ≡ false → Rewrites None long after p (first_of (get_or long p None) (Some v)) → Gains (stored handles short long) (stored handles short after) handle v
+  long_gains short long after is writes =
+      let had : stored handles short long handle ≡ get_or long p None = long_stored handles short long handle is ∙ ap (object_at long) (long_place handles handle (Some p) is here) in
+      gained handles handle p (first_of (get_or long p None) (Some v)) here (stored handles short long) (stored handles short after) v (ap (λ o. first_of o (Some v)) (sym had))
+      (long_write handles handle p (first_of (get_or long p None) (Some v)) here short long after is writes)
+
+-- and is there itself
+pub taken_place : (handles after : Handles) (handle : List ℕ) (place : ℕ) → place_of handles handle ≡ None → after ≡ with_handle handles handle → place ≡ of_length handle (length handles.short) (length handles.long)
+    → place_of after handle ≡ Some place
+taken_place handles after handle place none is at = ap (λ (h : Handles). place_of h handle) is ∙ go (true_or_false (is_short handle)) where
+  put : Bool → Handles
+  put b = if b then record { short = handles.short ++ handle ∷ []; long = handles.long } else record { short = handles.short; long = handles.long ++ handle ∷ [] }
+
+  last : (keys : List (List ℕ)) → position (same_bytes handle) keys ≡ None → position (same_bytes handle) (keys ++ handle ∷ []) ≡ Some (length keys)
+  last keys free =
+      position_more (same_bytes handle) keys handle ∙ ap (λ o. first_of o (cond (same_bytes handle handle) (Some (length keys)) None)) free
+      ∙ ap (λ b. cond b (Some (length keys)) None) (same_self handle)
+
+  go : (is_short handle ≡ true) ⊎ (is_short handle ≡ false) → position (same_bytes handle) (of_length handle (put (is_short handle)).short (put (is_short handle)).long) ≡ Some place
+  go (inl s) =
+      ap (λ (b : Bool). position (same_bytes handle) (if b then (put b).short else (put b).long)) s ∙ last handles.short (short_place handles handle None s none)
+      ∙ ap Some (sym (at ∙ ap (λ (b : Bool). if b then length handles.short else length handles.long) s))
+  go (inr l) =
+      ap (λ (b : Bool). position (same_bytes handle) (if b then (put b).short else (put b).long)) l ∙ last handles.long (long_place handles handle None l none)
+      ∙ ap Some (sym (at ∙ ap (λ (b : Bool). if b then length handles.short else length handles.long) l))
+
+-- what was kept and then gained was gained
+pub kept_then_gained : (a b c : List ℕ → Option ℕ) (handle : List ℕ) (v : ℕ) → Keeps a b → Gains b c handle v → Gains a c handle v
+kept_then_gained a b c handle v keeps gains other = gains other ∙ ap (λ o. first_of o (lookup (same_bytes other) ((handle, v) ∷ []))) (keeps other)
 
 -- what a handle more gives all of them
 pub joined : (before after : Objects) (pairs : List (List ℕ × ℕ)) (handle : List ℕ) (v : ℕ) → GivesFirst before pairs → Gains (found before) (found after) handle v → GivesFirst after (pairs ++ (handle, v) ∷ [])

@@ -1,14 +1,14 @@
 -- For the prover.
--- the objects of handles: those whose handles are their numbers in eight bytes, and of the others the short handles in one map and
--- the long ones in another
-use Rattle.std.specs.Prelude.{◌≡◌, ℕ, List, [], ◌∷◌, Option, Some, None, option_and_then, option_map, nat_le, length, if◌then◌else◌}
-use Rattle.std.specs.FinMap as map
+-- the objects of handles: those whose handles are their numbers in eight bytes, and the others by the places of their handles, the
+-- short handles in one list and the long ones in another
+use Rattle.std.specs.Prelude.{◌≡◌, ◌==◌, ℕ, Bool, false, List, [], ◌∷◌, ◌++◌, Option, Some, None, option_and_then, nat_le, length, position, get_or, if◌then◌else◌}
+use Rattle.std.specs.Arc.{arc_value}
 use Rattle.std.specs.Int.{w64, to_be_bytes, from_be_bytes}
 use Rattle.std.specs.Map.{lookup}
 use Rattle.tree_handles.specs.declared.handle_table.HandleTable.{HandleTable}
-use Rattle.tree_handles.specs.declared.own_numbers.OwnNumbers.{OwnNumbers}
 use Rattle.tree_handles.specs.declared.objects.Objects.{Objects}
 use Rattle.tree_handles.specs.Binding.{same_bytes}
+use Rattle.tree_handles.specs.Places.{Handles, of_length, place_of}
 
 -- the number that a handle is in eight bytes, the first byte the greatest
 unfoldable pub number_of : List ℕ → Option ℕ
@@ -19,13 +19,24 @@ abbrev pub first_of : {X : Type 0} → Option X → Option X → Option X
 first_of None other = other
 first_of (Some x) other = Some x
 
--- the object of a handle that is its number
-abbrev pub own_object : OwnNumbers → List ℕ → Option ℕ
-own_object own handle = option_and_then (λ number. option_map (λ _. number) (map.get own.objects number)) (number_of handle)
+-- a number that is a handle, by a list that says of each whether it is one
+abbrev pub taken : List Bool → ℕ → Option ℕ
+taken own number = if get_or own number false then Some number else None
 
--- the object of a handle in the map of those of its length
+-- the object of a handle that is its number
+abbrev pub own_object : List Bool → List ℕ → Option ℕ
+own_object own handle = option_and_then (taken own) (number_of handle)
+
+-- the object at a place
+abbrev pub object_at : List (Option ℕ) → Option ℕ → Option ℕ
+object_at objects place = option_and_then (λ p. get_or objects p None) place
+
+-- the object of a handle that has a place
+abbrev pub stored : Handles → List (Option ℕ) → List (Option ℕ) → List ℕ → Option ℕ
+stored handles short long handle = object_at (of_length handle short long) (place_of handles handle)
+
 abbrev pub tabled : HandleTable → List ℕ → Option ℕ
-tabled table handle = if nat_le (length handle) 31 then lookup (same_bytes handle) table.short.entries else lookup (λ key. same_bytes handle key.items) table.long.entries
+tabled table = stored (arc_value table.places) table.short.items table.long.items
 
 abbrev pub found : Objects → List ℕ → Option ℕ
 found objects handle = first_of (own_object objects.own handle) (tabled objects.others handle)
@@ -42,9 +53,6 @@ Gains before after handle object = (other : List ℕ) → after other ≡ first_
 abbrev pub Lacks : (List ℕ → Option ℕ) → (List ℕ → Option ℕ) → List ℕ → Type 0
 Lacks before after handle = (other : List ℕ) → after other ≡ (if same_bytes other handle then None else before other)
 
--- the same of a map by the bytes of its keys
-abbrev pub Notes : {Key : Type 0} → (Key → List ℕ) → List (Key × ℕ) → List (Key × ℕ) → List ℕ → ℕ → Type 0
-Notes bytes before after = Gains (λ other. lookup (λ key. same_bytes other (bytes key)) before) (λ other. lookup (λ key. same_bytes other (bytes key)) after)
-
-abbrev pub Loses : {Key : Type 0} → (Key → List ℕ) → List (Key × ℕ) → List (Key × ℕ) → List ℕ → Type 0
-Loses bytes before after = Lacks (λ other. lookup (λ key. same_bytes other (bytes key)) before) (λ other. lookup (λ key. same_bytes other (bytes key)) after)
+-- each handle has what it had
+abbrev pub Keeps : (List ℕ → Option ℕ) → (List ℕ → Option ℕ) → Type 0
+Keeps before after = (other : List ℕ) → after other ≡ before other

@@ -1,90 +1,113 @@
 //! The objects of handles that are found by a hash.
 
-ghost use Rattle.std.specs.Prelude.{◌≡◌, ◌≤◌, ℕ, List, None, length, OnOk, OnErr};
-ghost use Rattle.tree_handles.specs.Finding.{tabled, Gains, Lacks, Loses, Notes};
+ghost use Rattle.std.specs.Prelude.{◌≡◌, ℕ, List, None, Some, get_or, IfOk, OnOk, OnErr};
+ghost use Rattle.std.specs.Arc.{arc_value};
+ghost use Rattle.tree_handles.specs.Places.{of_length, place_of, Rewrites, TakesPlace};
+ghost use Rattle.tree_handles.specs.Finding.{first_of, object_at, tabled, Gains, Keeps, Lacks};
 
-use crate::short_handle::{SHORT_LIMIT, ShortHandle};
-use indexmap::IndexMap;
+use crate::padded::{at, clear, put};
+use crate::places::Places;
+use crate::short_handle::SHORT_LIMIT;
 use std::alloc::{AllocError, Global};
+use std::sync::Arc;
 
-/// The objects of handles. A short handle, as most are, stands in the index itself, so that to find it takes no step to the heap.
+/// The objects of handles. Where the handles stand is shared by the copies of a table, until one of them takes a handle more.
 pub(crate) struct HandleTable {
-    pub(crate) short: IndexMap<ShortHandle, u64>,
-    pub(crate) long: IndexMap<Vec<u8>, u64>,
+    pub(crate) places: Arc<Places>,
+    /// The objects of short handles, by their places.
+    pub(crate) short: Vec<Option<u64>>,
+    /// Those of long ones.
+    pub(crate) long: Vec<Option<u64>>,
 }
 
 impl Drop for HandleTable {
     fn drop(self) {
-        let HandleTable { short, long } = self;
+        let HandleTable {
+            places,
+            short,
+            long,
+        } = self;
+        drop(places);
         drop(short);
         drop(long);
     }
 }
 
-/// Gives a short handle its object, unless it has one.
-fn note_short(
-    short: &mut IndexMap<ShortHandle, u64>,
-    handle: &[u8],
-    object: u64,
-) -> Result<(), AllocError>
-    requires { length handle.now ≤ 31 }
-    ensures ok { OnOk result (Notes (λ key. key) short.old.entries short.new.entries handle.now object) }
-    ensures err { OnErr result (short.new.entries ≡ short.old.entries) }
+/// Gives a handle that has no place the next one. It copies the places if they are shared.
+fn add_place(places: &mut Arc<Places>, alloc: Global, handle: &[u8]) -> Result<usize, AllocError>
+    requires { place_of (arc_value places.old) handle.now ≡ None }
+    ensures ok { IfOk result (λ place. TakesPlace (arc_value places.old) (arc_value places.new) handle.now place) }
+    ensures err { OnErr result (arc_value places.new ≡ arc_value places.old) }
 {
-    let key = ShortHandle::from_slice(handle);
-    if !short.contains_key(&key) {
-        short.insert(key, object)?;
+    Arc::make_mut(places)?.add(alloc, handle)
+}
+
+/// Gives a place its object, unless it has one.
+fn fill(objects: &mut Vec<Option<u64>>, place: usize, object: u64) -> Result<(), AllocError>
+    ensures ok { OnOk result (Rewrites None objects.old.items objects.new.items place (first_of (get_or objects.old.items place None) (Some object))) }
+    ensures err { OnErr result (objects.new.items ≡ objects.old.items) }
+{
+    if at(objects.as_slice(), None, place).is_none() {
+        put(objects, None, place, Some(object))
+    } else {
+        Ok(())
     }
-    Ok(())
 }
 
-/// Gives a long handle its object, unless it has one.
-fn note_long(
-    alloc: Global,
-    long: &mut IndexMap<Vec<u8>, u64>,
-    handle: &[u8],
-    object: u64,
-) -> Result<(), AllocError>
-    ensures ok { OnOk result (Notes (λ key. key.items) long.old.entries long.new.entries handle.now object) }
-    ensures err { OnErr result (long.new.entries ≡ long.old.entries) }
+/// The object at a place, if there is a place.
+fn object_of(objects: &[Option<u64>], place: Option<usize>) -> Option<u64>
+    ensures { result ≡ object_at objects.now place }
 {
-    if long.contains_key(handle) {
-        return Ok(());
+    match place {
+        Some(place) => at(objects, None, place),
+        None => None,
     }
-    let key = Vec::from_slice(alloc, handle)?;
-    long.insert(key, object)?;
-    Ok(())
-}
-
-/// Takes a short handle away, where it is there.
-fn lose_short(short: &mut IndexMap<ShortHandle, u64>, handle: &[u8])
-    requires { length handle.now ≤ 31 }
-    ensures { Loses (λ key. key) short.old.entries short.new.entries handle.now }
-{
-    let _object = short.swap_remove(&ShortHandle::from_slice(handle));
-}
-
-/// Takes a long handle away, where it is there.
-fn lose_long(long: &mut IndexMap<Vec<u8>, u64>, handle: &[u8])
-    ensures { Loses (λ key. key.items) long.old.entries long.new.entries handle.now }
-{
-    let _object = long.swap_remove(handle);
 }
 
 impl HandleTable {
     /// No handles.
-    pub(crate) fn new(alloc: Global) -> HandleTable
-        ensures { (handle : List ℕ) → tabled result handle ≡ None }
+    pub(crate) fn new(alloc: Global) -> Result<HandleTable, AllocError>
+        ensures { IfOk result (λ table. (handle : List ℕ) → tabled table handle ≡ None) }
     {
-        HandleTable {
-            short: IndexMap::new(alloc),
-            long: IndexMap::new(alloc),
-        }
+        Ok(HandleTable {
+            places: Arc::new(alloc, Places::new(alloc))?,
+            short: Vec::new(alloc),
+            long: Vec::new(alloc),
+        })
     }
 
-    /// How many handles have an object.
+    /// A table that shares the places.
+    pub(crate) fn copy(&self, alloc: Global) -> Result<HandleTable, AllocError>
+        ensures { IfOk result (λ copy. Keeps (tabled self.now) (tabled copy)) }
+    {
+        Ok(HandleTable {
+            places: self.places.clone()?,
+            short: Vec::from_slice(alloc, self.short.as_slice())?,
+            long: Vec::from_slice(alloc, self.long.as_slice())?,
+        })
+    }
+
+    /// How many handles have a place.
     pub(crate) fn len(&self) -> usize {
-        self.short.len().saturating_add(self.long.len())
+        self.places.len()
+    }
+
+    /// The place of a handle, which takes one if it has none.
+    pub(crate) fn know(&mut self, alloc: Global, handle: &[u8]) -> Result<usize, AllocError>
+        ensures ok { IfOk result (λ place. place_of (arc_value self.new.places) handle.now ≡ Some place) }
+        ensures same { Keeps (tabled self.old) (tabled self.new) }
+    {
+        if let Some(place) = self.places.place(handle) {
+            return Ok(place);
+        }
+        let place = add_place(&mut self.places, alloc, handle)?;
+        // No object stands at a place that is new.
+        if handle.len() <= SHORT_LIMIT {
+            self.short.truncate(place);
+        } else {
+            self.long.truncate(place);
+        }
+        Ok(place)
     }
 
     /// Gives a handle its object, unless it has one.
@@ -95,23 +118,27 @@ impl HandleTable {
         object: u64,
     ) -> Result<(), AllocError>
         ensures ok { OnOk result (Gains (tabled self.old) (tabled self.new) handle.now object) }
-        ensures err { OnErr result ((other : List ℕ) → tabled self.new other ≡ tabled self.old other) }
+        ensures err { OnErr result (Keeps (tabled self.old) (tabled self.new)) }
     {
+        let place = self.know(alloc, handle)?;
         if handle.len() <= SHORT_LIMIT {
-            note_short(&mut self.short, handle, object)
+            fill(&mut self.short, place, object)
         } else {
-            note_long(alloc, &mut self.long, handle, object)
+            fill(&mut self.long, place, object)
         }
     }
 
-    /// Takes the object of a handle away, where it has one.
+    /// Takes the object of a handle away, where it has one. Its place stays.
     pub(crate) fn lose(&mut self, handle: &[u8])
         ensures { Lacks (tabled self.old) (tabled self.new) handle.now }
     {
+        let Some(place) = self.places.place(handle) else {
+            return;
+        };
         if handle.len() <= SHORT_LIMIT {
-            lose_short(&mut self.short, handle);
+            clear(&mut self.short, None, place);
         } else {
-            lose_long(&mut self.long, handle);
+            clear(&mut self.long, None, place);
         }
     }
 
@@ -119,10 +146,24 @@ impl HandleTable {
     pub(crate) fn get(&self, handle: &[u8]) -> Option<u64>
         ensures { result ≡ tabled self.now handle.now }
     {
+        self.object_there(handle, self.places.place(handle))
+    }
+
+    /// The same, with no hash where the handle has the place that is guessed.
+    pub(crate) fn get_near(&self, handle: &[u8], guess: usize) -> Option<u64>
+        ensures { result ≡ tabled self.now handle.now }
+    {
+        self.object_there(handle, self.places.place_near(handle, guess))
+    }
+
+    /// The object at a place of handles of this one's length.
+    fn object_there(&self, handle: &[u8], place: Option<usize>) -> Option<u64>
+        ensures { result ≡ object_at (of_length handle.now self.now.short.items self.now.long.items) place }
+    {
         if handle.len() <= SHORT_LIMIT {
-            self.short.get(&ShortHandle::from_slice(handle)).copied()
+            object_of(self.short.as_slice(), place)
         } else {
-            self.long.get(handle).copied()
+            object_of(self.long.as_slice(), place)
         }
     }
 }

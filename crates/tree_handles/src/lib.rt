@@ -1,6 +1,7 @@
 //! What handles name in a file tree, and what names lead to in its directories.
 #![tactic(auto)]
 
+mod agreement;
 mod binds;
 mod entry;
 mod handle_table;
@@ -8,7 +9,9 @@ mod kind;
 mod live;
 mod objects;
 mod own_numbers;
+mod padded;
 mod pairs;
+mod places;
 mod short_handle;
 
 pub use binds::Binds;

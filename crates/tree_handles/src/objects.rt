@@ -1,7 +1,7 @@
 //! The objects of handles.
 
-ghost use Rattle.std.specs.Prelude.{◌≡◌, ℕ, List, [], ◌∷◌, ◌++◌, OnOk, OnErr};
-ghost use Rattle.tree_handles.specs.Finding.{found, GivesFirst};
+ghost use Rattle.std.specs.Prelude.{◌≡◌, ℕ, List, [], ◌∷◌, ◌++◌, IfOk, OnOk, OnErr};
+ghost use Rattle.tree_handles.specs.Finding.{found, GivesFirst, Keeps};
 ghost use Rattle.tree_handles.specs.Binding.{pairs_without};
 
 use crate::handle_table::HandleTable;
@@ -17,13 +17,31 @@ pub(crate) struct Objects {
 
 impl Objects {
     /// No objects.
-    pub(crate) fn new(alloc: Global) -> Objects
-        ensures { GivesFirst result [] }
+    pub(crate) fn new(alloc: Global) -> Result<Objects, AllocError>
+        ensures { IfOk result (λ objects. GivesFirst objects []) }
     {
-        Objects {
+        Ok(Objects {
             own: OwnNumbers::new(alloc),
-            others: HandleTable::new(alloc),
-        }
+            others: HandleTable::new(alloc)?,
+        })
+    }
+
+    /// The same objects once more, with the places of their handles shared.
+    pub(crate) fn copy(&self, alloc: Global) -> Result<Objects, AllocError>
+        ensures { IfOk result (λ copy. Keeps (found self.now) (found copy)) }
+    {
+        Ok(Objects {
+            own: self.own.copy(alloc)?,
+            others: self.others.copy(alloc)?,
+        })
+    }
+
+    /// Gives a handle a place, unless it has one.
+    pub(crate) fn know(&mut self, alloc: Global, handle: &[u8]) -> Result<(), AllocError>
+        ensures { Keeps (found self.old) (found self.new) }
+    {
+        self.others.know(alloc, handle)?;
+        Ok(())
     }
 
     /// Gives a handle its object, unless it has one.
@@ -34,7 +52,7 @@ impl Objects {
         object: u64,
     ) -> Result<(), AllocError>
         ensures ok { OnOk result ((pairs : List (List ℕ × ℕ)) → GivesFirst self.old pairs → GivesFirst self.new (pairs ++ (handle.now, object) ∷ [])) }
-        ensures err { OnErr result ((handle : List ℕ) → found self.new handle ≡ found self.old handle) }
+        ensures err { OnErr result (Keeps (found self.old) (found self.new)) }
     {
         if self.own.takes(handle, object, self.others.len()) && self.others.get(handle).is_none() {
             self.own.note(object)
@@ -58,6 +76,16 @@ impl Objects {
         match self.own.get(handle) {
             Some(object) => Some(object),
             None => self.others.get(handle),
+        }
+    }
+
+    /// The same, with no hash where the handle has the place that is guessed.
+    pub(crate) fn get_near(&self, handle: &[u8], guess: usize) -> Option<u64>
+        ensures { result ≡ found self.now handle.now }
+    {
+        match self.own.get(handle) {
+            Some(object) => Some(object),
+            None => self.others.get_near(handle, guess),
         }
     }
 }

@@ -30,7 +30,14 @@ impl Pairs {
         Pairs {}
     }
 
-    /// These, with one more behind them.
+    /// These once more.
+    pub(crate) fn copy(&self) -> Pairs
+        ensures { result.all ≡ self.now.all }
+    {
+        Pairs {}
+    }
+
+    /// These, with one more after them.
     pub(crate) fn then(&self, _handle: &[u8], _object: u64) -> Pairs
         ensures { result.all ≡ self.now.all ++ (_handle.now, _object) ∷ [] }
     {

@@ -6,6 +6,7 @@ ghost use Rattle.std.specs.Cmp.Lexicographic.{pointwise, bytes_decides};
 ghost use Rattle.std.proofs.Common.{ap};
 ghost use Rattle.std.proofs.lemmas.Cmp.{nat_list_eq_equiv};
 
+use std::alloc::AllocError;
 use std::hash::{Hash, Hasher};
 use std::marker::Model;
 
@@ -49,6 +50,17 @@ impl ShortHandle {
         ensures { result.now ≡ self.now }
     {
         &self.bytes[..self.count as usize]
+    }
+}
+
+impl Clone for ShortHandle {
+    ghost is_clone = { λ handle copy. copy ≡ handle };
+
+    fn clone(&self) -> Result<Self, AllocError> {
+        Ok(ShortHandle {
+            count: self.count,
+            bytes: self.bytes,
+        })
     }
 }
 

@@ -1,6 +1,5 @@
 pub mod SlotLemmas
 pub mod PageLemmas
-pub mod MarkLemmas
 pub mod Orders
 pub mod FewLemmas
 pub mod ManyLemmas

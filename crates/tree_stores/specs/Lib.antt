@@ -2,7 +2,6 @@ pub mod Slots
 pub mod Pages
 pub mod Books
 pub mod Lends
-pub mod Marks
 pub mod Names
 pub mod Padding
 pub mod Stored

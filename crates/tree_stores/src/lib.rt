@@ -2,13 +2,11 @@
 #![tactic(auto)]
 
 mod file_bytes;
-mod marks;
 pub mod names;
 mod shared;
 pub mod slots;
 
 pub use file_bytes::{FileBytes, FileUndo};
-pub use marks::Marks;
 pub use names::Names;
 pub use nfs3_types;
 pub use shared::{Copied, Shared};

@@ -5,4 +5,4 @@ use Rattle.tree_handles.proofs.binds.any_long_names_it.Given as goal
 
 -- no handle that was looked at names it
 abbrev pub invariant-loop-handle : goal.invariant-loop-handle
-invariant-loop-handle l = list_any (λ e. is_bound l.binds e.0.items l.object) l.long.entries ≡ list_any (λ e. is_bound l.binds e.0.items l.object) l.handle-iterator
+invariant-loop-handle l = list_any (λ key. is_bound l.binds key.items l.object) l.long.keys ≡ list_any (λ key. is_bound l.binds key.items l.object) l.handle-iterator

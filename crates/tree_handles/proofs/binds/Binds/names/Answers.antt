@@ -1,8 +1,10 @@
-use Rattle.std.proofs.Common.{◌≡◌, ℕ, List, false, sym, ap, ◌∙◌, subst, rules}
+use Rattle.std.proofs.Common.{◌≡◌, ◌||◌, ℕ, Bool, List, false, sym, ap, ◌∙◌, subst, rules}
 use Rattle.std.specs.Prelude.{◌==◌}
 use Rattle.std.proofs.lemmas.Bool.{eq-eqb}
 use Rattle.std.specs.Int.{w64, to_be_bytes}
 use Rattle.tree_handles.specs.Binding.{Bindings, is_bound}
+use Rattle.std.specs.List.{list_any}
+use Rattle.tree_handles.specs.Places.{Handles}
 use Rattle.tree_handles.specs.Finding.{GivesFirst}
 use Rattle.tree_handles.proofs.HandleOf.{zero_is_named, is_among_names, other_is_named}
 use Rattle.tree_handles.proofs.binds.Binds.names.Goals as goal
@@ -20,4 +22,5 @@ returns c =
     let gives = subst (λ (b : Bindings). GivesFirst objects b.pairs) c.self.view_is c.self.invariant in
     let unlike : is_bound c.args.self.now (to_be_bytes w64 c.args.object) c.args.object ≡ false =
     ap (λ (h : List ℕ). is_bound c.args.self.now h c.args.object) (sym (c.as_slice.ensures ∙ c.to_be_bytes.ensures)) ∙ sym c.names_it.ensures ∙ c.if-names_it.false in
-    c.any_names_it.ensures ∙ other_is_named c.args.self.now objects gives c.args.object other unlike
+    let any : Handles → Bool = λ handles. list_any (λ h. is_bound c.args.self.now h c.args.object) handles.short || list_any (λ h. is_bound c.args.self.now h c.args.object) handles.long in
+    c.any_names_it.ensures ∙ ap any c.deref.ensures ∙ other_is_named c.args.self.now objects gives c.args.object other unlike

@@ -1,17 +1,27 @@
-use Rattle.std.proofs.Common.{length, refl}
+use Rattle.std.proofs.Common.{length}
+use Rattle.std.specs.Arc.{arc_value}
 use Rattle.std.proofs.lemmas.Bool.{le-leb, lt-leb}
 use Rattle.indexmap.proofs.MapLemmas.{OnOk-map}
-use Rattle.tree_handles.proofs.Lookups.{short_noted, long_noted}
+use Rattle.tree_handles.specs.declared.handle_table.HandleTable.{HandleTable}
+use Rattle.tree_handles.specs.Finding.{tabled}
+use Rattle.tree_handles.proofs.Lookups.{short_gains, long_gains, kept_then_gained}
 use Rattle.tree_handles.proofs.handle_table.HandleTable.note.Goals as goal
 
 pub returns-then-handle-le-SHORT_LIMIT-clause-ok : goal.returns-then-handle-le-SHORT_LIMIT-clause-ok
 returns-then-handle-le-SHORT_LIMIT-clause-ok c =
     let handle = c.args.handle.now in
-    OnOk-map c.note_short.result _ _ (λ notes. short_noted c.args.self.now (record { short = c.note_short.new.short; long = c.args.self.now.long }) handle c.args.object
-    (le-leb (length handle) 31 c.if-handle-le-SHORT_LIMIT.true) notes refl) c.note_short.ensures.ok
+    let known = c.know.new.self in
+    let after : HandleTable = record { places = known.places; short = c.fill.new.objects; long = known.long } in
+    OnOk-map c.fill.result _ _ (λ writes. kept_then_gained (tabled c.args.self.now) (tabled known) (tabled after) handle c.args.object c.know.ensures.same
+    (short_gains (arc_value known.places) handle c.in_ok-place.place c.args.object c.in_ok-place.ensures.ok known.short.items c.fill.new.objects.items known.long.items
+    (le-leb (length handle) 31 c.if-handle-le-SHORT_LIMIT.true) writes)) c.fill.ensures.ok
 
 pub returns-else-handle-le-SHORT_LIMIT-clause-ok : goal.returns-else-handle-le-SHORT_LIMIT-clause-ok
 returns-else-handle-le-SHORT_LIMIT-clause-ok c =
     let handle = c.args.handle.now in
-    OnOk-map c.note_long.result _ _ (λ notes. long_noted c.args.self.now (record { short = c.args.self.now.short; long = c.note_long.new.long }) handle c.args.object
-    (lt-leb (length handle) 31 c.if-handle-le-SHORT_LIMIT.false) notes refl) c.note_long.ensures.ok
+    let known = c.know.new.self in
+    let fill = c.fill-else-handle-le-SHORT_LIMIT in
+    let after : HandleTable = record { places = known.places; short = known.short; long = fill.new.objects } in
+    OnOk-map fill.result _ _ (λ writes. kept_then_gained (tabled c.args.self.now) (tabled known) (tabled after) handle c.args.object c.know.ensures.same
+    (long_gains (arc_value known.places) handle c.in_ok-place.place c.args.object c.in_ok-place.ensures.ok known.short.items known.long.items fill.new.objects.items
+    (lt-leb (length handle) 31 c.if-handle-le-SHORT_LIMIT.false) writes)) fill.ensures.ok

@@ -1,7 +1,9 @@
-use Rattle.std.proofs.Common.{rules}
-use Rattle.std.proofs.lemmas.Result.{on_ok_weaker}
-use Rattle.tree_handles.proofs.OwnNumbers.{noted}
+use Rattle.std.proofs.Common.{◌≡◌, Bool, List, sym, ap, ◌∙◌, subst, rules}
+use Rattle.tree_handles.proofs.OwnNumbers.{noted, noted_before}
 use Rattle.tree_handles.proofs.own_numbers.OwnNumbers.note.Goals as goal
 
+pub returns-then-at-clause-ok : goal.returns-then-at-clause-ok
+returns-then-at-clause-ok c = noted_before c.args.self.now c.args.object (search rules) (search rules)
+
 pub returns-clause-ok : goal.returns-clause-ok
-returns-clause-ok c = on_ok_weaker c.insert.result (noted c.args.self.now (record { objects = c.insert.new.self }) c.args.object (search rules)) c.insert.ensures.updates
+returns-clause-ok c = noted c.args.self.now c.put.new.items.items c.args.object (search rules) (search rules)

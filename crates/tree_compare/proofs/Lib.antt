@@ -1,4 +1,0 @@
-mod Bytes
-mod Pairs
-mod Named
-mod Alike

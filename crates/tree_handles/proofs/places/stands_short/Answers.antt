@@ -1,0 +1,9 @@
+use Rattle.std.proofs.Common.{◌≡◌, ℕ, List, get_or, sym, ap, ◌∙◌, rules, arith}
+use Rattle.tree_handles.proofs.Positions.{stands, same_is}
+use Rattle.tree_handles.proofs.places.stands_short.Goals as goal
+
+pub returns-in-Some : goal.returns-in-Some
+returns-in-Some c = λ same.
+    let key = c.in-Some.key.now in
+    let there : get_or c.args.short.now.keys c.args.place key ≡ c.as_slice-in-Some.result.now = search rules in
+    stands (λ (k : List ℕ). k) c.args.short.now.keys c.args.place key c.args.handle.now c.as_slice.ensures.unique (search rules) (there ∙ same_is c.as_slice-in-Some.result.now c.args.handle.now (sym c.eq.ensures ∙ same))
