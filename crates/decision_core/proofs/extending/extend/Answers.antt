@@ -14,7 +14,7 @@ loop-round-preserved g c =
     let p : (Grows c.loop-round.found.items.items c.place_in_all.new.with.items.items × Grows c.no_states-next.result.items.items c.place_in_all.new.without.items.items)
     × HasAllPlacings (g.M.Machine.StandsFor c.args.machine.now) (g.M.Machine.placed c.args.machine.now) (g.M.Machine.Next c.args.machine.now) c.args.calls.now c.args.n c.place_in_all.new.with.items.items c.place_in_all.new.without.items.items c.loop-round.layer.items.items = search rules in
     awaits_next (g.M.Machine.StandsFor c.args.machine.now) (g.M.Machine.placed c.args.machine.now) (g.M.Machine.Next c.args.machine.now) (g.met.M.Machine.told c.args.machine.now) c.args.calls.now c.args.n c.args.states.items c.loop-round.layer.items.items
-          c.place_in_all.new.without.items.items c.loop-round.found.items.items c.place_in_all.new.with.items.items p.0.0 p.1 c.loop-round.invariant
+    c.place_in_all.new.without.items.items c.loop-round.found.items.items c.place_in_all.new.with.items.items p.0.0 p.1 c.loop-round.invariant
 
 pub returns-then-is_empty : goal.returns-then-is_empty
 returns-then-is_empty g c =
