@@ -1,11 +1,10 @@
 -- tables that lose a handle
-use Rattle.std.proofs.Common.{◌≡◌, ◌⊎◌, inl, inr, ℕ, Bool, true, false, cond, List, [], ◌∷◌, position, Option, Some, None, refl, sym, ap, ◌∙◌, if◌then◌else◌}
+use Rattle.std.proofs.Common.{◌≡◌, ◌⊎◌, inl, inr, ℕ, Bool, true, false, cond, List, [], ◌∷◌, Option, Some, None, refl, sym, ap, ◌∙◌, if◌then◌else◌}
 use Rattle.std.specs.Prelude.{not}
 use Rattle.std.specs.Map.{lookup}
 use Rattle.tree_handles.specs.Binding.{same_bytes, pairs_without}
-use Rattle.tree_handles.specs.Places.{Handles, of_length, place_of, Rewrites}
 use Rattle.tree_handles.specs.declared.objects.Objects.{Objects}
-use Rattle.tree_handles.specs.Finding.{own_object, object_at, stored, tabled, found, first_of, GivesFirst, Lacks}
+use Rattle.tree_handles.specs.Finding.{own_object, tabled, found, first_of, GivesFirst, Lacks}
 use Rattle.tree_handles.proofs.Positions.{same_is, true_or_false}
 
 -- what pairs without those of a handle say of another one

@@ -1,8 +1,8 @@
 -- handles by their places
-use Rattle.std.proofs.Common.{◌≡◌, ◌+◌, ◌<◌, ◌≤◌, ◌⊎◌, inl, inr, ℕ, suc, Bool, true, false, cond, not, nat_lt, nat_eq, List, [], ◌∷◌, ◌++◌, map, length, take, get_or, position, Option, Some, None, refl, sym, ap, ◌∙◌, true≢false, if◌then◌else◌, arith, lt-ltb, Vec, Global}
-use Rattle.std.specs.Prelude.{◌==◌, ◌||◌, option_map, vec_len}
+use Rattle.std.proofs.Common.{◌≡◌, ◌+◌, ◌<◌, ◌⊎◌, inl, inr, ℕ, suc, Bool, true, false, cond, not, nat_lt, List, [], ◌∷◌, ◌++◌, map, length, get_or, position, Option, Some, None, refl, sym, ap, ◌∙◌, if◌then◌else◌, arith, lt-ltb, Vec, Global}
+use Rattle.std.specs.Prelude.{◌||◌, option_map, vec_len}
 use Rattle.std.specs.List.{list_any, position_or_len, IsDistinct, AllZip}
-use Rattle.std.specs.Cmp.Lexicographic.{pointwise, bytes_decides}
+use Rattle.std.specs.Cmp.Lexicographic.{bytes_decides}
 use Rattle.std.proofs.lemmas.Bool.Decides.{nat_tests}
 use Rattle.std.proofs.lemmas.List.{map-append, length-map}
 use Rattle.std.proofs.lemmas.List.Elements.{same_from_all_zip}
@@ -10,7 +10,7 @@ use Rattle.std.proofs.lemmas.List.Sums.{position_or_len_is}
 use Rattle.std.proofs.lemmas.Map.Keys.{apart_from_distinct}
 use Rattle.indexmap.specs.IndexSet.{insert_key}
 use Rattle.tree_handles.specs.Binding.{same_bytes}
-use Rattle.tree_handles.specs.Places.{Handles, is_short, TakesPlace, with_handle, of_length}
+use Rattle.tree_handles.specs.Places.{Handles, is_short, TakesPlace, with_handle}
 use Rattle.tree_handles.specs.Finding.{first_of}
 
 -- only equal byte strings are the same

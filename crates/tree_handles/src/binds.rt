@@ -1,9 +1,8 @@
 //! What the handles of a history name.
 
 ghost use Rattle.std.specs.Prelude.{◌≡◌, ◌||◌, ℕ, List, Some, [], ◌∷◌, ◌++◌, map, IfOk, IsTrue, OnOk, OnErr};
-ghost use Rattle.std.specs.Arc.{arc_value};
 ghost use Rattle.std.specs.List.{list_any};
-ghost use Rattle.tree_handles.specs.Binding.{object_of, is_bound, is_named, pairs_without};
+ghost use Rattle.tree_handles.specs.Binding.{same_bytes, object_of, is_bound, is_named, pairs_without};
 
 use crate::agreement::{all_long_agree, all_own_agree, all_short_agree, is_kept};
 use crate::objects::Objects;
@@ -111,11 +110,18 @@ impl Binds {
         self.pairs = self.pairs.without(handle);
     }
 
+    /// Whether a handle is the root's.
+    fn is_root(&self, handle: &[u8]) -> bool
+        ensures { result ≡ same_bytes handle.now self.now.root }
+    {
+        handle == self.root.as_slice()
+    }
+
     /// The object that a handle names.
     pub fn object(&self, handle: &[u8]) -> Option<u64>
         ensures { result ≡ object_of self.now handle.now }
     {
-        if handle == self.root.as_slice() {
+        if self.is_root(handle) {
             return Some(0);
         }
         self.objects.get(handle)
@@ -185,7 +191,7 @@ impl Binds {
     pub(crate) fn object_near(&self, handle: &[u8], guess: usize) -> Option<u64>
         ensures { result ≡ object_of self.now handle.now }
     {
-        if handle == self.root.as_slice() {
+        if self.is_root(handle) {
             return Some(0);
         }
         self.objects.get_near(handle, guess)
@@ -218,6 +224,7 @@ impl Binds {
             table.long.as_slice(),
         )
     }
+
     /// Adds a handle with its object to a list, if it is bound and not the root's. It is likely to stand at this place.
     fn list_one(
         &self,
@@ -225,7 +232,7 @@ impl Binds {
         handle: &[u8],
         place: usize,
     ) -> Result<(), AllocError> {
-        if handle == self.root.as_slice() {
+        if self.is_root(handle) {
             return Ok(());
         }
         let Some(object) = self.objects.get_near(handle, place) else {

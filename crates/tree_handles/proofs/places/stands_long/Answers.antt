@@ -1,4 +1,4 @@
-use Rattle.std.proofs.Common.{◌≡◌, ℕ, List, Vec, Global, get_or, sym, ap, ◌∙◌, rules}
+use Rattle.std.proofs.Common.{◌≡◌, ℕ, List, Vec, Global, get_or, sym, ◌∙◌, rules}
 use Rattle.tree_handles.proofs.Positions.{stands, same_is}
 use Rattle.tree_handles.proofs.places.stands_long.Goals as goal
 

@@ -1,4 +1,4 @@
-use Rattle.std.proofs.Common.{◌≡◌, ℕ, List, Option, Some, Vec, Global, true, map, sym, ap, ◌∙◌, subst}
+use Rattle.std.proofs.Common.{◌≡◌, ℕ, List, Some, Vec, Global, true, map, sym, ap, ◌∙◌, subst}
 use Rattle.std.specs.Arc.{arc_value}
 use Rattle.tree_handles.specs.Binding.{Bindings, object_of}
 use Rattle.tree_handles.specs.Places.{Handles}

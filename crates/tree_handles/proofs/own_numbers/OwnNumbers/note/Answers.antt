@@ -1,4 +1,4 @@
-use Rattle.std.proofs.Common.{◌≡◌, Bool, List, sym, ap, ◌∙◌, subst, rules}
+use Rattle.std.proofs.Common.{rules}
 use Rattle.tree_handles.proofs.OwnNumbers.{noted, noted_before}
 use Rattle.tree_handles.proofs.own_numbers.OwnNumbers.note.Goals as goal
 

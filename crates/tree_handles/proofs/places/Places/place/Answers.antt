@@ -1,4 +1,4 @@
-use Rattle.std.proofs.Common.{◌≡◌, ℕ, List, Vec, Global, map, position, length, ap, ◌∙◌, sym, if◌then◌else◌, Bool, Option}
+use Rattle.std.proofs.Common.{ℕ, List, Vec, Global, map, position, length, ap, ◌∙◌, sym, if◌then◌else◌, Bool}
 use Rattle.std.proofs.lemmas.Bool.{lt-leb}
 use Rattle.tree_handles.specs.Binding.{same_bytes}
 use Rattle.tree_handles.specs.Places.{Handles, place_of}

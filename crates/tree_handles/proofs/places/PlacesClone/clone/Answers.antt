@@ -1,6 +1,5 @@
-use Rattle.std.proofs.Common.{◌≡◌, ℕ, List, ap, ◌∙◌}
+use Rattle.std.proofs.Common.{◌≡◌, ℕ, List, ◌∙◌}
 use Rattle.std.proofs.lemmas.List.Elements.{same_from_all_zip}
-use Rattle.tree_handles.specs.Places.{Handles}
 use Rattle.tree_handles.proofs.Positions.{bytes_of_clones}
 use Rattle.tree_handles.proofs.places.PlacesClone.clone.Goals as goal
 
