@@ -1,5 +1,4 @@
-//! A decision within so many seconds: a walk, and where that isn't over in a quarter of the time, sweeps for a certificate and a walk to the
-//! end.
+//! A decision within so many seconds: a short walk, and where that isn't done, sweeps for a certificate and a walk to the end of the time.
 
 ghost use Rattle.std.specs.Prelude.{IfOk, IfSome};
 ghost use Rattle.witness_check.specs.Witness.{IsWitness};
@@ -13,6 +12,9 @@ use search_sweeps::{SweepWatch, plan_of};
 use std::alloc::AllocError;
 use std::time::{Clock, Instant};
 use witness_check::{Verdict, check_calls};
+
+/// In how many parts the time is taken, of which the first walk gets one.
+const PARTS: u32 = 60;
 
 /// How many sweeps are made at most.
 const SWEEPS: u64 = 16;
@@ -118,7 +120,7 @@ pub(crate) fn decide_within<R: Clock + AllocGlobal>(
         start: Instant::now(rt).ok(),
         seconds: effort.seconds,
     };
-    let first = decide_in_part(rt, history, effort, term, 4);
+    let first = decide_in_part(rt, history, effort, term, PARTS);
     if !matches!(&first, Decision::Undecided(_)) {
         return first;
     }
