@@ -17,7 +17,8 @@ BELOW = "Not a directory (os error 20)"
 FOLDER = "is a directory"
 FRONT = ("this isn't a history file of nfsbench: a history begins with NFSHIST1 or NFSHIST2; a packet capture goes to nfsbench import")
 NOTHING = "nothing was judged: no call of a judged procedure was answered"
-TERMINAL = ("nfsbench: reads a bundle from standard input: a history in hexadecimal, a line feed, a certificate; nfsbench --help lists the commands")
+READ_TOO = "this file is read too"
+BUNDLE = ("nfsbench: reads a bundle from standard input: a history in hexadecimal, a line feed, a certificate; nfsbench --help lists the commands")
 # A history of no events, and one of a crash. The certificate has an era for each.
 EMPTY = b"NFSHIST1" + bytes(8)
 CRASHED = b"NFSHIST1" + bytes(4) + b"\0\0\0\1" + b"\0\0\0\3"
@@ -25,6 +26,7 @@ NUMBERS = "calls 0\njudged 0\nanswered 0\nunjudged 0\nexcused 0\neras {}\nlost 0
 FILES = {
     "empty": EMPTY, "crashed": CRASHED, "none": b"witness 1\nend\n", "cut": b"witness 1\ncut 0\nend\n", "capture": b"\xd4\xc3\xb2\xa1" + bytes(40),
     "short": b"NFSHIST", "plan": b"plan 1\nend\n",
+    "bundle": EMPTY.hex().encode() + b"\nwitness 1\nend\n",
 }
 
 
@@ -51,6 +53,10 @@ CASES = [
     ("search missing", refused("unreadable history"), told("missing", MISSING)),
     ("decide missing", refused("unreadable history"), told("missing", MISSING)),
     ("prefix missing 1 new", refused("unreadable history"), told("missing", MISSING)),
+    ("prefix crashed 1 crashed", refused("cannot write"), told("crashed", READ_TOO)),
+    ("prefix crashed 1 missing/new", refused("cannot write"), told("missing/new", MISSING)),
+    ("decide --certificate empty empty", refused("cannot write"), told("empty", READ_TOO)),
+    ("decide --certificate missing/new empty", refused("cannot write"), told("missing/new", MISSING)),
     ("mend missing new", refused("unreadable part"), told("missing", MISSING)),
     ("mend empty empty", refused("cannot write"), told("empty", "this file is the one to be mended")),
     ("mend capture new", refused("BadMagic"), told("capture", "this isn't what nfsbench left: a history begins with NFSHIST1 or NFSHIST2")),
@@ -109,9 +115,11 @@ def main():
             pathlib.Path(folder, name).write_bytes(data)
         pathlib.Path(folder, "folder").mkdir()
         faults = sum(differs(line, (said, stderr), run(program, folder, line.split())) for line, said, stderr in CASES)
-        faults += differs("at a terminal", (refused("bad bundle"), TERMINAL + "\n"), at_terminal(program, folder))
-        faults += differs("without a terminal", (refused("bad bundle"), ""), run(program, folder, []))
-    print(f"{len(CASES) + 2} cases, {faults} at fault")
+        faults += differs("at a terminal", (refused("bad bundle"), BUNDLE + "\n"), at_terminal(program, folder))
+        faults += differs("of nothing", (refused("bad bundle"), BUNDLE + "\n"), run(program, folder, []))
+        with open(pathlib.Path(folder, "bundle"), "rb") as bundle:
+            faults += differs("of a bundle", (("yes\n", 0), ""), run(program, folder, [], bundle))
+    print(f"{len(CASES) + 3} cases, {faults} at fault")
     sys.exit(1 if faults else 0)
 
 
