@@ -4,9 +4,9 @@
 A history has two to CALLS calls (5 if not said) on a few lanes, often a crash or two, and replies that are drawn, so that about half of the histories have no
 witness. Every plan is tried by force: each binding of the handles to objects, each order, each cut, each call without a reply taken or not, a WRITE with each
 count. The rules of the tree and of cuts are those of `differ`, which share nothing with the program. COUNT is 1,000 and SEED 1 if they are left out. It prints
-how many were a yes, a no and undecided, and each history that the two decide differently; the status is 1 where there is one. Its last line has how many there
-were with a WRITE of over 64 bytes that got no reply, with a handle that no reply gave before a call asked by it, and with an object that a crash may have brought
-back. The options ask for more of these.
+how many were a yes, a no and undecided, and each history that the two decide differently; the status is 1 where there is one. Its last line has how many
+there were with a WRITE of over 64 bytes that got no reply, with a handle that no reply gave before a call asked by it, and with an object that a crash may
+have brought back. The options ask for more of these.
 """
 import argparse
 import collections
@@ -171,8 +171,8 @@ class Draw:
         self.send(*((9, name + UNSET, made) if is_directory else (8, name + word(0) + UNSET, made)))
         self.answer_at(0)
         self.send(13 if is_directory else 12, name, None)
-        looks = [(1, opaque(handle), word(STALE)), (3, name, word(NOENT) + NO_ATTRIBUTES), (6, opaque(handle) + hyper(0) + word(4), word(STALE) + NO_ATTRIBUTES)]
-        self.send(*dice.choice(looks))
+        self.send(*dice.choice([(1, opaque(handle), word(STALE)), (3, name, word(NOENT) + NO_ATTRIBUTES),
+                                (6, opaque(handle) + hyper(0) + word(4), word(STALE) + NO_ATTRIBUTES)]))
         self.answer_at(1)
         if dice.random() < 0.3:
             self.begin()

@@ -4,11 +4,11 @@
 The histories are those of `try_histories.py`: clients over files, directories and links, crashes, starting objects, both profiles, right ones and ones with a
 change or two. The walk is written apart from the program, over the rules of `differ`, and takes no short cut: at each reply it places every list of open calls
 that ends in the call, each place may be the first that a crash loses, and what is lost behind it is judged place by place. A handle is bound by the first placed
-reply that gives it, or before that by a call that asks by it, which is placed with each object that it may name then, or nothing. States are merged only if
-nothing that is judged later can tell them apart. A history with more than 5,000 states at once, or of which the walk needs more than 2 GiB, isn't decided, and
-the program isn't asked. COUNT is 1,000 and SEED 1 if they are left out. It prints how many were a yes, a no and undecided, and each history that the two
-decide differently; the status is 1 where there is one. Its last line has how many there were with a WRITE of over 64 bytes that got no reply, with a handle that
-no reply gave before a call asked by it, and with an object that a crash may have brought back. The options ask for more of these.
+reply that gives it, or before that by a call that asks by it, which is placed with each object that it may name, and with none. States are merged only if
+nothing that is judged later can tell them apart. A history with more than 5,000 states at once, or of which the walk needs more than 2 GiB, isn't decided,
+and the program isn't asked. COUNT is 1,000 and SEED 1 if they are left out. It prints how many were a yes, a no and undecided, and each history that the two
+decide differently; the status is 1 where there is one. Its last line has how many there were with a WRITE of over 64 bytes that got no reply, with a handle
+that no reply gave before a call asked by it, and with an object that a crash may have brought back. The options ask for more of these.
 """
 import argparse
 import collections
@@ -98,8 +98,9 @@ def lost(history, state, call, number, is_taken):
 @functools.lru_cache(maxsize=1)
 def nameable(history):
     """What a handle may name: the root, what stood at first, what a call may make, or nothing."""
+    first = history.head.first
     makers = [number for number, call in enumerate(history.calls, 1) if call.is_judged and call.procedure in MAKING and (call.result is None or call.has_success)]
-    return [NOTHING, *range(history.head.first + 1), *(history.head.first + number for number in makers)]
+    return [NOTHING, *range(first + 1), *(first + number for number in makers)]
 
 
 def bound(history, state, call, place):
