@@ -1,31 +1,39 @@
 #!/usr/bin/env python3
-"""Walks histories of up to some thirty calls in a plain way, and compares what `nfsbench decide` says: try_walks.py PROGRAM [COUNT [SEED]].
+"""Walks histories of up to some thirty calls in a plain way, and compares what `nfsbench decide` says: try_walks.py PROGRAM [COUNT [SEED]] [OPTION..].
 
 The histories are those of `try_histories.py`: clients over files, directories and links, crashes, starting objects, both profiles, right ones and ones with a
 change or two. The walk is written apart from the program, over the rules of `differ`, and takes no short cut: at each reply it places every list of open calls
 that ends in the call, each place may be the first that a crash loses, and what is lost behind it is judged place by place. A handle is bound by the first placed
-reply that gives it; a success or a judged failure that names a handle which isn't bound is not decided. States are merged only if nothing that is judged later
-can tell them apart. A history with more than 5,000 states at once, or with more memory than the process may have (`ulimit -v`), isn't decided, and the
-program isn't asked. COUNT is 1,000 and SEED 1 if they are left out. It prints how many were a yes, a no and undecided, and each history that the two
-decide differently; the status is 1 where there is one.
+reply that gives it, or before that by a call that asks by it, which is placed with each object that it may name, and with none. States are merged only if
+nothing that is judged later can tell them apart. A history with more than 5,000 states at once, or of which the walk needs more than 2 GiB, isn't decided,
+and the program isn't asked. COUNT is 1,000 and SEED 1 if they are left out. It prints how many were a yes, a no and undecided, and each history that the two
+decide differently; the status is 1 where there is one. Its last line has how many there were with a WRITE of over 64 bytes that got no reply, with a handle
+that no reply gave before a call asked by it, and with an object that a crash may have brought back. The options ask for more of these.
 """
+import argparse
 import collections
+import functools
+import itertools
 import pathlib
+import resource
 import sys
 import tempfile
 
 from differ import layouts as nfs
 from differ.certificates import Place
 from differ.changes import make_case
-from differ.failure import HANDLE_FIELDS, JUDGED_STATUSES
+from differ.failure import JUDGED_STATUSES
 from differ.histories import read_history
 from differ.plans import is_stable, next_tree, shown_verifiers
+from differ.rare import Tally, add_options, named
 from differ.refusals import Refused
 from differ.success import found
 from differ.trees import Binds, entries_of, path_of
 from try_decisions import noted, tell, told_by
 
-MOST_STATES = 5_000
+MOST_STATES, MOST_MEMORY = 5_000, 2 << 30
+MAKING = (nfs.CREATE, nfs.MKDIR, nfs.SYMLINK)
+NOTHING = -1
 
 
 class Undecided(Exception):
@@ -87,32 +95,50 @@ def lost(history, state, call, number, is_taken):
     return behind | {number} if call.procedure == nfs.WRITE and call.result[1]["count"] > 0 else behind
 
 
+@functools.lru_cache(maxsize=1)
+def nameable(history):
+    """What a handle may name: the root, what stood at first, what a call may make, or nothing."""
+    first = history.head.first
+    makers = [number for number, call in enumerate(history.calls, 1) if call.is_judged and call.procedure in MAKING and (call.result is None or call.has_success)]
+    return [NOTHING, *range(first + 1), *(first + number for number in makers)]
+
+
+def bound(history, state, call, place):
+    """The state with each way to bind the handles by which the call asks, and which aren't bound. One of no bytes can't be. A failure that may answer any
+    call asks for none, unless its attributes are judged."""
+    is_judged = place.is_taken or call.result[0] == 0 or call.result[0] in JUDGED_STATUSES or history.head.is_strict
+    free = {handle for handle in named(call) if handle and handle != history.head.root and handle not in state.pairs} if is_judged else ()
+    for things in itertools.product(nameable(history), repeat=len(free)):
+        yield state.copy(pairs={**state.pairs, **dict(zip(free, things))})
+
+
 def step(history, state, number):
     """The states to which a call may lead."""
     call = history.calls[number - 1]
     if not call.is_judged:
         return
-    root = {history.head.root: 0}
     for place in ways(call, number):
-        is_success = place.is_taken or call.result[0] == 0
-        is_known = all(call.arguments[field] in state.pairs or call.arguments[field] in root for field in HANDLE_FIELDS[call.procedure])
-        if not is_known and (is_success or call.result[0] in JUDGED_STATUSES):
-            raise Undecided("handle")
-        pairs = dict(state.pairs)
-        if is_success and not place.is_taken:
-            for handle, thing in given(history, state, number, call, call.result[1]):
-                if handle not in root:
-                    pairs.setdefault(handle, thing)
-        tree = next_tree(Binds(history.head.root, pairs), state.tree, history, place)
-        if tree is None:
-            continue
-        after = state.copy(tree=tree, pairs=pairs, placed=state.placed | {number})
-        if state.base is None:
-            yield after
-        if call.era < history.eras:
-            behind = lost(history, after.copy(base=state.base), call, number, place.is_taken)
-            if behind is not None:
-                yield after.copy(base=(state.tree if state.base is None else state.base[0], behind))
+        for before in bound(history, state, call, place):
+            yield from after_place(history, before, call, place)
+
+
+def after_place(history, state, call, place):
+    """The states behind a place: up to the cut, and behind it."""
+    pairs, number = dict(state.pairs), place.number
+    if not place.is_taken and call.result[0] == 0:
+        for handle, thing in given(history, state, number, call, call.result[1]):
+            if handle and handle != history.head.root:
+                pairs.setdefault(handle, thing)
+    tree = next_tree(Binds(history.head.root, pairs), state.tree, history, place)
+    if tree is None:
+        return
+    after = state.copy(tree=tree, pairs=pairs, placed=state.placed | {number})
+    if state.base is None:
+        yield after
+    if call.era < history.eras:
+        behind = lost(history, after.copy(base=state.base), call, number, place.is_taken)
+        if behind is not None:
+            yield after.copy(base=(state.tree if state.base is None else state.base[0], behind))
 
 
 def merged(states, by_key=None):
@@ -191,14 +217,27 @@ def walk(history):
     return any(verifiers_agree(history, shown, state.losers) for state in states)
 
 
+def limit_memory():
+    """The walk is given up where it takes too much."""
+    _, most = resource.getrlimit(resource.RLIMIT_AS)
+    resource.setrlimit(resource.RLIMIT_AS, (MOST_MEMORY if most == resource.RLIM_INFINITY else min(MOST_MEMORY, most), most))
+
+
 def main():
-    program, count, seed = sys.argv[1], *(int(it) for it in (sys.argv[2:] + ["1000", "1"][len(sys.argv) - 2:])[:2])
-    tally, whys, sizes, differ = collections.Counter(), collections.Counter(), collections.Counter(), 0
+    parser = argparse.ArgumentParser(description=__doc__, formatter_class=argparse.RawDescriptionHelpFormatter)
+    parser.add_argument("program", metavar="PROGRAM")
+    parser.add_argument("count", metavar="COUNT", type=int, nargs="?", default=1000)
+    parser.add_argument("seed", metavar="SEED", nargs="?", default="1")
+    add_options(parser)
+    words = parser.parse_intermixed_args()
+    program, seed = words.program, words.seed
+    tally, whys, sizes, rare, differ = collections.Counter(), collections.Counter(), collections.Counter(), Tally(), 0
     left_out = 0
+    limit_memory()
     with tempfile.TemporaryDirectory() as folder:
         file = pathlib.Path(folder) / "some.history"
-        for number in range(count):
-            data = make_case(f"{seed}/{number}")[0]
+        for number in range(words.count):
+            data = make_case(f"{seed}/{number}", words.wishes)[0]
             try:
                 history = read_history(data)
             except Refused:
@@ -211,12 +250,15 @@ def main():
                 continue
             file.write_bytes(data)
             line = told_by(program, file)
-            if {wanted, noted(tally, whys, wanted, line)} == {"yes", "no"}:
+            got = noted(tally, whys, wanted, line)
+            rare.note(history, wanted, got)
+            if {wanted, got} == {"yes", "no"}:
                 differ += 1
                 print(f"{number}: the plain walk says {wanted}, the program {line}")
     tell("the plain walk", tally, whys)
     print(f"undecided by the plain walk: {left_out}")
     print("calls:", ", ".join(f"{size} to {size + 9}: {many}" for size, many in sorted(sizes.items())))
+    print(rare.line())
     return 1 if differ else 0
 
 

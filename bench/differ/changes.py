@@ -72,10 +72,10 @@ def spoiled(dice: Dice, run: Run, changes: int):
     return spell(dice, run)
 
 
-def make_case(seed: str):
-    """The two files of a case."""
+def make_case(seed: str, wishes=()):
+    """The two files of a case, of a run with these wishes."""
     dice = Dice(seed)
-    run, changes = make_run(dice), dice.weighted({0: 45, 1: 37, 2: 18})
+    run, changes = make_run(dice, wishes), dice.weighted({0: 45, 1: 37, 2: 18})
     if changes == 0:
         return spell(dice, run)
     if dice.chance(0.25):

@@ -2,7 +2,9 @@
 from . import draws
 from . import layouts as nfs
 from .draws import FAR, Dice
+from .rare import LONG
 
+MOST_LONG = 200
 ALL = {procedure: 1 for procedure in nfs.JUDGED}
 FEW = dict.fromkeys(ALL, 0.2)
 THEMES = {
@@ -31,6 +33,9 @@ class World:
         self.root, self.tree, self.handles, self.names = root, tree, {0: [root]}, names
         self.right_share, self.hit_share, self.odd_share, self.alias_share = 86, 0, 0.06, dice.choice([0.05, 0.05, 0.4])
         self.own_share = dice.choice([0, 0.5, 0.9])
+        # How many long WRITEs may come, how many WRITEs write a part, how many objects that are made are shown by their handles, and whether clients know
+        # the others by handles all the same.
+        self.long_left, self.part_share, self.shown_share, self.is_silent = 0, 0.15, 0.88, False
         self.writes = []
 
     def known(self) -> set:
@@ -88,8 +93,15 @@ def read_arguments(dice, world):
     return {"object": handle, "offset": offset, "count": dice.choice([0, 1, 2, 3, 5, 10, 100, 2**32 - 1])}
 
 
+def some_data(dice: Dice, world: World) -> bytes:
+    if world.long_left and dice.chance(0.5):
+        world.long_left -= 1
+        return bytes(dice.choices(b"abcxyz", k=dice.randrange(LONG + 1, MOST_LONG + 1)))
+    return dice.some(dice.choice([0, 1, 3, 6, 12]))
+
+
 def write_arguments(dice, world):
-    handle, data = any_handle(dice, world, {nfs.REGULAR}), dice.some(dice.choice([0, 1, 3, 6, 12]))
+    handle, data = any_handle(dice, world, {nfs.REGULAR}), some_data(dice, world)
     offset = offset_near(dice, world, handle)
     if dice.chance(0.004):
         offset = FAR - len(data)

@@ -41,7 +41,7 @@ def read_value(dice, world, one):
 
 def write_value(dice, world, one):
     asked = one.arguments["level"]
-    count = dice.randrange(one.arguments["count"] + 1) if dice.chance(0.15) else one.arguments["count"]
+    count = dice.randrange(one.arguments["count"] + 1) if dice.chance(world.part_share) else one.arguments["count"]
     level = dice.randrange(asked, 3) if dice.chance(0.15) else asked
     return {"weak": draws.weak(dice), "count": count, "level": level, "verifier": world.verifier}
 
@@ -49,7 +49,10 @@ def write_value(dice, world, one):
 def made_value(dice, world, one):
     target = one.target()
     there = one.tree.get(target) if target else None
-    handle = world.handle_for(dice, there.object if there else one.number) if dice.chance(0.88) else None
+    made = there.object if there else one.number
+    handle = world.handle_for(dice, made) if dice.chance(world.shown_share) else None
+    if handle is None and world.is_silent:
+        world.handle_for(dice, made)
     return {"handle": handle, "post": draws.post(dice), "weak": draws.weak(dice)}
 
 

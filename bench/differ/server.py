@@ -3,7 +3,7 @@
 A call takes effect at one moment between its call and its reply; the certificate has the order of these moments. At a crash the server loses a
 suffix of what took effect in that era, but nothing stable, and changes its write verifier where it has to.
 """
-from . import carried, lies, replies
+from . import carried, lies, rare, replies
 from . import layouts as nfs
 from . import rpc
 from .clients import ALL, NAME_POOLS, STARTS, THEMES, World, draw_call
@@ -69,12 +69,15 @@ class Habits:
         self.success_share = dice.choice([0.6, 0.85, 0.97])
         self.odd_share = dice.choice([0, 0.05, 0.1])
         self.given_share, self.wrong_share = dice.choice([0.3, 0.7, 1]), 0.3
+        self.back_share = 0
         self.small_xids = dice.chance(0.4)
         self.odd_lanes = dice.chance(0.2)
 
 
 class Server:
-    def __init__(self, dice: Dice):
+    """`wishes` are kinds of `rare` of which there are more than else."""
+
+    def __init__(self, dice: Dice, wishes=()):
         self.dice, self.habits = dice, Habits(dice)
         root = dice.choice([b"\0", b"\0", b"", b"\xff" * 64, dice.randbytes(8), dice.randbytes(32)])
         names = dice.choice(NAME_POOLS)
@@ -82,6 +85,7 @@ class Server:
         self.base = tree_of(start)
         self.world, self.run = World(dice, root, self.base, names), Run(root, start=start)
         self.know_some()
+        self.wish(wishes)
         self.world.verifier = dice.choice([bytes(7) + b"\1", bytes(8), dice.randbytes(8)])
         self.calls = self.next_xid = 0
         self.lanes, self.used, self.closed, self.waiting = [], set(), set(), set()
@@ -93,6 +97,14 @@ class Server:
         for number in range(1, self.run.first + 1):
             if self.dice.chance(share):
                 self.world.handle_for(self.dice, number)
+
+    def wish(self, wishes) -> None:
+        if rare.LONG_WRITES in wishes:
+            self.world.long_left, self.world.part_share = 2, 0.5
+        if rare.UNKNOWN_HANDLES in wishes:
+            self.world.shown_share, self.world.is_silent = 0.3, True
+        if rare.OBJECTS_BACK in wishes:
+            self.habits.back_share = 0.15
 
     # Lanes and transaction numbers
 
@@ -136,6 +148,8 @@ class Server:
         return served
 
     def fate(self, event: CallEvent) -> str:
+        if self.world.part_share > 0.15 and rare.is_long(event) and self.dice.chance(0.85):
+            return self.dice.choice([PLACED, PLACED, LOST])
         if not is_linking(event) and self.dice.chance(self.habits.unanswered_share):
             return self.dice.choice([PLACED, PLACED, LOST])
         if self.dice.chance(self.habits.odd_share / 3):
@@ -231,6 +245,27 @@ class Server:
         self.used, self.open, self.placed, self.world.writes = set(), [], [], []
         self.lanes = [lane for lane in self.lanes if lane not in self.closed]
 
+    def done(self, procedure: int, arguments: dict, fate: str) -> None:
+        """A call that comes to its end at once."""
+        served = self.begin(procedure, arguments, odd_share=0)
+        served.fate, served.event.flavor = fate, rpc.AUTH_NONE
+        while served in self.open:
+            self.go_on(served)
+
+    def take_away_and_crash(self) -> None:
+        """An object is taken away without a reply, and clients look for it; after the crash, which may bring it back, they look again."""
+        world, dice = self.world, self.dice
+        places = [path for path in world.tree if path and world.handles.get(world.tree[path].object) and world.handles.get(world.tree[path[:-1]].object)]
+        if not places:
+            return
+        path = dice.choice(places)
+        node, place = world.tree[path], {"dir": dice.choice(world.handles[world.tree[path[:-1]].object]), "name": path[-1]}
+        looks = [(nfs.GETATTR, {"object": dice.choice(world.handles[node.object])}), (nfs.LOOKUP, place)]
+        self.done(nfs.RMDIR if node.is_directory else nfs.REMOVE, place, PLACED)
+        self.done(*dice.choice(looks), ANSWERED)
+        self.crash()
+        self.done(*looks[0], ANSWERED)
+
     # Eras
 
     def end_era(self, has_cut: bool) -> None:
@@ -272,6 +307,8 @@ class Server:
                 self.lie()
             elif dice.chance(self.habits.crash_share):
                 self.crash()
+            elif self.habits.back_share and dice.chance(self.habits.back_share):
+                self.take_away_and_crash()
             elif dice.chance(self.habits.close_share):
                 self.close()
             elif self.open and (len(self.open) >= self.habits.most_open or dice.chance(0.5)):
@@ -314,5 +351,5 @@ def is_linking(event: CallEvent) -> bool:
     return (event.program, event.version) == (nfs.PROGRAM, nfs.VERSION) and event.procedure in (nfs.LINK, nfs.MKNOD)
 
 
-def make_run(dice: Dice) -> Run:
-    return Server(dice).make()
+def make_run(dice: Dice, wishes=()) -> Run:
+    return Server(dice, wishes).make()

@@ -337,6 +337,124 @@ class Crashes(unittest.TestCase):
         self.assertEqual(self.survivors(calls), {b"a"})
 
 
+class SpoiledStorage(unittest.TestCase):
+    """The faults of crashes that spoil what is on stable storage: what they do to what had to survive, and that they leave the rest."""
+
+    def after_crash(self, name: str, calls, look, seeds=range(12)) -> list:
+        """What a look gives after the calls and a crash, for each seed; None where the fault didn't happen."""
+        seen = []
+        for seed in seeds:
+            talk = Talk(all_faults()[name](seed, tell=quiet))
+            known = calls(talk)
+            talk.server.crash()
+            seen.append(look(talk, known) if talk.server.times else None)
+        return seen
+
+    def write(self, talk: Talk, file: bytes, data: bytes, level: int = nfs.FILE_SYNC) -> None:
+        talk.ask(nfs.WRITE, object=file, offset=0, count=len(data), level=level, data=data)
+
+    def contents(self, talk: Talk, files: list) -> list:
+        return [talk.ask(nfs.READ, object=file, offset=0, count=100)[1]["data"] for file in files]
+
+    def files(self, level: int, *later):
+        """Calls that make two files with bytes, of which some calls may follow."""
+        def calls(talk):
+            files = [talk.make(b"f"), talk.make(b"g")]
+            for file, data in zip(files, [b"abc", b"de"]):
+                self.write(talk, file, data, level)
+            for call in later:
+                call(talk, files)
+            return files
+        return calls
+
+    def commit(self, talk: Talk, files: list) -> None:
+        for file in files:
+            talk.ask(nfs.COMMIT, object=file, offset=0, count=0)
+
+    def leave_open(self, talk: Talk, files: list) -> None:
+        """Two calls that change other things have no reply when the crash comes."""
+        talk.done(nfs.MKDIR, spelled(nfs.MKDIR, {"dir": talk.root, "name": b"open", "new": NOTHING}))
+        talk.done(nfs.RMDIR, spelled(nfs.RMDIR, {"dir": talk.root, "name": b"open"}))
+
+    def test_files_swapped(self):
+        for calls in self.files(nfs.FILE_SYNC), self.files(nfs.UNSTABLE, self.commit), self.files(nfs.FILE_SYNC, self.leave_open):
+            self.assertEqual(self.after_crash("files_swapped", calls, self.contents), [[b"de", b"abc"]] * 12)
+        self.assertEqual(self.after_crash("files_swapped", self.files(nfs.UNSTABLE), self.contents), [None] * 12)
+
+    def test_size_lost(self):
+        for calls in self.files(nfs.FILE_SYNC), self.files(nfs.UNSTABLE, self.commit), self.files(nfs.FILE_SYNC, self.leave_open):
+            seen = self.after_crash("size_lost", calls, self.contents)
+            self.assertEqual({tuple(contents) for contents in seen}, {(b"", b"de"), (b"abc", b"")})
+        self.assertEqual(self.after_crash("size_lost", self.files(nfs.UNSTABLE), self.contents), [None] * 12)
+
+    def test_size_that_was_asked_for(self):
+        def resize(talk, files):
+            talk.ask(nfs.SETATTR, object=files[0], new={**NOTHING, "size": 2}, guard=None)
+            talk.ask(nfs.REMOVE, dir=talk.root, name=b"g")
+        seen = self.after_crash("size_lost", self.files(nfs.FILE_SYNC, resize), lambda talk, files: self.contents(talk, files[:1]))
+        self.assertEqual({contents[0] for contents in seen}, {b"", b"a"})
+
+    def test_link_text_emptied(self):
+        def answered(talk):
+            return [talk.make(name, nfs.SYMLINK) for name in (b"l", b"m")]
+
+        def unanswered(talk):
+            talk.done(nfs.SYMLINK, spelled(nfs.SYMLINK, {"dir": talk.root, "name": b"l", "new": NOTHING, "text": b"text"}))
+
+        def look(talk, links):
+            return tuple(talk.ask(nfs.READLINK, object=link)[1]["text"] for link in links)
+        self.assertEqual(set(self.after_crash("link_text_emptied", answered, look)), {(b"", b"text"), (b"text", b"")})
+        self.assertEqual(self.after_crash("link_text_emptied", unanswered, look), [None] * 12)
+
+    def test_rename_forgotten(self):
+        def calls(talk, is_answered=True):
+            directory = talk.make(b"d", nfs.MKDIR)
+            made = talk.make(b"old"), talk.make(b"new", directory=directory)
+            arguments = {"dir": talk.root, "name": b"old", "to_dir": directory, "to_name": b"new"}
+            if is_answered:
+                talk.ask(nfs.RENAME, **arguments)
+            else:
+                talk.done(nfs.RENAME, spelled(nfs.RENAME, arguments))
+            return directory, *made
+
+        def look(talk, known):
+            directory, old, new = known
+            names = [talk.ask(nfs.LOOKUP, dir=place, name=name)[1].get("handle") for place, name in ((talk.root, b"old"), (directory, b"new"))]
+            return names == [old, new]
+        self.assertEqual(self.after_crash("rename_forgotten", calls, look), [True] * 12)
+        self.assertEqual(self.after_crash("rename_forgotten", lambda talk: calls(talk, is_answered=False), look), [None] * 12)
+
+    def test_rename_that_cannot_be_forgotten(self):
+        """The old name was given away, and a directory isn't moved below itself."""
+        def given_away(talk):
+            talk.make(b"old")
+            talk.ask(nfs.RENAME, dir=talk.root, name=b"old", to_dir=talk.root, to_name=b"new")
+            talk.make(b"old")
+
+        def turned_over(talk):
+            above, below = talk.make(b"a", nfs.MKDIR), talk.make(b"b", nfs.MKDIR)
+            inner = talk.make(b"c", nfs.MKDIR, above)
+            talk.ask(nfs.RENAME, dir=above, name=b"c", to_dir=below, to_name=b"c")
+            talk.ask(nfs.RENAME, dir=talk.root, name=b"a", to_dir=inner, to_name=b"a")
+            talk.make(b"a", nfs.MKDIR)
+        for calls in given_away, turned_over:
+            self.assertEqual(self.after_crash("rename_forgotten", calls, lambda talk, known: None), [None] * 12)
+
+    def test_the_seed_chooses(self):
+        for name, procedure in ("files_swapped", nfs.CREATE), ("size_lost", nfs.CREATE), ("link_text_emptied", nfs.SYMLINK):
+            def told(seed):
+                lines = []
+                talk = Talk(all_faults()[name](seed, tell=lines.append))
+                for number in range(9):
+                    made = talk.make(b"n%d" % number, procedure)
+                    if procedure == nfs.CREATE:
+                        self.write(talk, made, b"data %d" % number)
+                talk.server.crash()
+                return lines
+            self.assertEqual([told(seed) for seed in range(6)], [told(seed) for seed in range(6)])
+            self.assertGreater(len({tuple(told(seed)) for seed in range(6)}), 1)
+
+
 class EachFault(unittest.TestCase):
     """Each fault that a history can show is shown: one client's calls, one after the other, that no plan explains."""
 
