@@ -1,6 +1,6 @@
-use Rattle.std.proofs.Common.{rules, ◌≡◌, true, Some, None, Err, sym, ap, ◌∙◌}
+use Rattle.std.proofs.Common.{rules, ◌≡◌, true, Some, sym, ap, ◌∙◌}
 use Rattle.std.specs.Arc.{arc_value}
-use Rattle.decision_steps.specs.Bound.{with_handles, are_bound, has_other}
+use Rattle.decision_steps.specs.Bound.{are_bound, has_other}
 use Rattle.decision_steps.specs.Listed.{given_pairs}
 use Rattle.decision_steps.proofs.Placed.{all_kept, other_refuses}
 use Rattle.decision_steps.proofs.binding.bound_with.Goals as goal

@@ -1,4 +1,4 @@
-use Rattle.std.proofs.Common.{rules, ◌≡◌, ◌∙◌, true, None, Some, Err, sym, ap}
+use Rattle.std.proofs.Common.{rules, ◌≡◌, ◌∙◌, true, Some, Err, sym, ap}
 use Rattle.file_tree.specs.Setting.{under}
 use Rattle.decision_steps.specs.Known.{knows_handles}
 use Rattle.decision_steps.specs.Given.{given}

@@ -1,4 +1,4 @@
-use Rattle.std.proofs.Common.{◌≡◌, true, false, None, Some, refl, rules}
+use Rattle.std.proofs.Common.{◌≡◌, true, false, None, Some, rules}
 use Rattle.file_tree.specs.Setting.{under}
 use Rattle.decision_steps.specs.Known.{is_failure}
 use Rattle.decision_steps.proofs.Unknown.{success_names, failure_names}
