@@ -10,7 +10,7 @@ use Rattle.xdr_records.proofs.Written.{long_spelled}
 use Rattle.tree_nodes.specs.Tree.{Tree, entry_of}
 use Rattle.tree_nodes.proofs.Chains.{decide, isnt}
 use Rattle.tree_handles.specs.Binding.{same_bytes, is_bound}
-use Rattle.tree_handles.proofs.Lookups.{same_is}
+use Rattle.tree_handles.proofs.Positions.{same_is}
 use Rattle.tree_laws.specs.Agreeing.{AgreeOn}
 use Rattle.book_laws.specs.Book.{handle_of, bindings_made}
 use Rattle.book_laws.specs.Steps.{with_object}

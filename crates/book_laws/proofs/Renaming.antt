@@ -7,7 +7,7 @@ use Rattle.xdr_records.specs.Items.{long_of}
 use Rattle.xdr_records.proofs.Written.{long_spelled}
 use Rattle.tree_nodes.proofs.Chains.{decide, differ}
 use Rattle.tree_handles.specs.Binding.{same_bytes, is_bound}
-use Rattle.tree_handles.proofs.Lookups.{same_is}
+use Rattle.tree_handles.proofs.Positions.{same_is}
 use Rattle.journal.specs.Rebuilding.{handle_of, bindings_made}
 use Rattle.journal.proofs.Numbers.{Among, is_paired, seen, paired_own, found}
 

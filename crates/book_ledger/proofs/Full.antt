@@ -16,7 +16,7 @@ use Rattle.tree_nodes.specs.Tree.{Tree}
 use Rattle.tree_nodes.proofs.Chains.{mapped, both_pass}
 use Rattle.tree_handles.specs.Binding.{Bindings, same_bytes}
 use Rattle.tree_handles.specs.Live.{FileEntry, file_of}
-use Rattle.tree_handles.proofs.Lookups.{same_is}
+use Rattle.tree_handles.proofs.Positions.{same_is}
 use Rattle.tree_answers.specs.Look.{read_is_legal, read_is_right, same_flag}
 use Rattle.file_tree.specs.Change.{Change}
 use Rattle.file_tree.specs.Change.Change.{Keep}

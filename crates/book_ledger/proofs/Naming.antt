@@ -12,7 +12,7 @@ use Rattle.xdr_records.specs.Items.{long_of}
 use Rattle.xdr_records.proofs.Written.{long_spelled}
 use Rattle.tree_nodes.proofs.Chains.{decide}
 use Rattle.tree_handles.specs.Binding.{Bindings, same_bytes, object_of, is_bound, pairs_without}
-use Rattle.tree_handles.proofs.Lookups.{same_is}
+use Rattle.tree_handles.proofs.Positions.{same_is}
 use Rattle.tree_starts.specs.declared.profile.Profile.{Profile}
 use Rattle.file_tree.specs.Setting.{under}
 use Rattle.file_tree.specs.Success.{next_tree}
