@@ -1,6 +1,6 @@
 -- where a walk begins, and what a state forgets
 use Rattle.std.proofs.Common.{◌≡◌, ◌≢◌, inl, inr, ℕ, ◌≤◌, Bool, true, false, cond, List, [], ◌∷◌, None, refl, sym, ap, ◌∙◌, subst, eq-eqb, arith}
-use Rattle.std.specs.Prelude.{◌==◌, ◌||◌, nat_lt, not, filter}
+use Rattle.std.specs.Prelude.{◌==◌, ◌||◌, not, filter}
 use Rattle.std.proofs.lemmas.Bool.{eqb-true, ne_eqb, or_parts, or_cases, true≢false, le-ltb}
 use Rattle.nfs_history.specs.declared.knowing.KnownCalls.{KnownCalls}
 use Rattle.certificate.specs.declared.plan.Certificate.{Certificate}
@@ -12,7 +12,7 @@ use Rattle.decision_law.specs.Laws.{binds_of}
 use Rattle.decision_law.specs.Machine.{Point, first_point}
 use Rattle.decision_law.specs.Times.{era_of_number}
 use Rattle.decision_walk.specs.View.{WalkView}
-use Rattle.decision_walk.specs.Standing.{has_call, is_of_earlier, is_told, EndsBy, IsAt}
+use Rattle.decision_walk.specs.Standing.{has_call, is_of_earlier, EndsBy, IsAt}
 
 module _ (known : KnownCalls) (marks : List Bool) where
   pub opens : (state : WalkView) → state.tree ≡ base_of known → state.base ≡ None → state.era ≡ 1 → state.past ≡ 0 → state.placed ≡ [] → (plan : Certificate)

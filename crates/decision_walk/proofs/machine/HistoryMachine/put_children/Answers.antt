@@ -1,8 +1,7 @@
 use Rattle.std.proofs.Common.{◌≡◌, false, Some, subst, rules}
-use Rattle.std.specs.Prelude.{Contains, option_map}
+use Rattle.std.specs.Prelude.{Contains}
 use Rattle.certificate.specs.Plan.{call_of}
 use Rattle.decision_core.specs.Layers.{Grows}
-use Rattle.decision_steps.specs.Standing.{Standing}
 use Rattle.decision_walk.specs.Placings.{child_of, HasChildren, MayNotLose}
 use Rattle.decision_walk.proofs.StepLaws.{grows_on, if_ok, never_lost, as_first_lost}
 use Rattle.decision_walk.proofs.machine.HistoryMachine.put_children.Goals as goal

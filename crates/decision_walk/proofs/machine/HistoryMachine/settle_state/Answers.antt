@@ -1,4 +1,4 @@
-use Rattle.std.proofs.Common.{◌≤◌, ◌<◌, IfOk, subst, arith, rules}
+use Rattle.std.proofs.Common.{◌<◌, IfOk, subst, arith, rules}
 use Rattle.decision_walk.specs.Settling.{past_done, SettlesAt}
 use Rattle.decision_walk.proofs.StepLaws.{if_ok}
 use Rattle.decision_walk.proofs.SettleLaws.{settles_on}
