@@ -1,6 +1,6 @@
 -- calls that no crash takes away
-use Rattle.std.proofs.Common.{◌≡◌, ◌⊎◌, inl, inr, ℕ, zero, suc, ◌+◌, ◌<◌, ◌≤◌, Bool, true, false, cond, IsTrue, List, [], ◌∷◌, ◌++◌, length, take, get_or, Option, Some, None, refl, sym, ap, ◌∙◌, subst, arith}
-use Rattle.std.specs.Prelude.{◌&&◌, slice_get}
+use Rattle.std.proofs.Common.{◌≡◌, inl, inr, ℕ, zero, suc, ◌+◌, ◌<◌, ◌≤◌, Bool, true, false, cond, List, [], ◌∷◌, ◌++◌, length, get_or, Some, None, refl, sym, ap, ◌∙◌, arith}
+use Rattle.std.specs.Prelude.{slice_get}
 use Rattle.std.proofs.lemmas.Bool.{cases_order, true≢false}
 use Rattle.nfs3_types.specs.declared.calls.NfsCall.{NfsCall}
 use Rattle.nfs3_types.specs.declared.calls.NfsCall.TheVariants as calls
@@ -9,12 +9,11 @@ use Rattle.nfs_history.specs.declared.recorded.RecordedCall.{RecordedCall}
 use Rattle.nfs_history.specs.declared.knowing.KnownCalls.{KnownCalls}
 use Rattle.nfs_history.specs.Precedence.{call_at}
 use Rattle.nfs_history.specs.Success.{succeeded}
-use Rattle.cut_check.specs.declared.effect.Effect.{Effect}
 use Rattle.cut_check.specs.declared.effect.Effect.TheVariants.{Lasting, Nothing}
 use Rattle.cut_check.specs.Effect.{is_synchronous, effect_of}
 use Rattle.decision_walk.specs.decision_law_specs.NeverLost.{IsLasting, IsCommitted, IsShownLater, IsNeverLost, AreRight}
-use Rattle.decision_walk.specs.Standing.{is_marked, hints_of}
-use Rattle.decide.specs.Marking.{Lasts, CommitsIt, ShowsIt, IsSaved, IsKept, AreNeverLost}
+use Rattle.decision_walk.specs.Standing.{hints_of}
+use Rattle.decide.specs.Marking.{Lasts, CommitsIt, ShowsIt, IsKept, AreNeverLost}
 
 -- a change other than a WRITE, which succeeded
 pub change_lasts : (call : NfsCall) (outcome : Outcome) → is_synchronous call ≡ true → succeeded call outcome ≡ true → effect_of None call outcome ≡ Lasting

@@ -22,7 +22,7 @@ use Rattle.decide.proofs.SpanLaws.{spans_are_of_times}
 use Rattle.decision_walk.specs.decision_law_specs.Laws.{binds_of}
 use Rattle.decision_walk.specs.decision_law_specs.Machine.{Next, first_point}
 use Rattle.decision_walk.specs.decision_law_specs.Plans.{eras_of_plan}
-use Rattle.decision_walk.specs.decision_law_specs.Times.{AreTimed, era_start, numbering_of, times_of}
+use Rattle.decision_walk.specs.decision_law_specs.Times.{era_start, numbering_of, times_of}
 use Rattle.decision_walk.proofs.decision_law_laws.Orders.{is_order}
 use Rattle.decision_walk.proofs.decision_law_laws.Starts.{are_timed}
 use Rattle.decision_walk.specs.Standing.{hints_of}

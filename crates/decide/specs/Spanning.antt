@@ -1,6 +1,6 @@
 -- For the prover.
 -- The begins and ends of a history's calls and crashes, one behind the other (those of `decision_law`, as code makes them).
-use Rattle.std.specs.Prelude.{◌≡◌, ℕ, ◌+◌, Bool, cond, List, [], ◌∷◌, ◌++◌, length, Some}
+use Rattle.std.specs.Prelude.{ℕ, ◌+◌, cond, List, [], ◌∷◌, ◌++◌, length, Some}
 use Rattle.history_file.specs.Event.{Event}
 use Rattle.history_file.specs.Event.Event.{call, reply, close, crash}
 use Rattle.nfs_history.specs.declared.recorded.RecordedCall.{RecordedCall}

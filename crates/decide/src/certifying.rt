@@ -2,7 +2,7 @@
 
 use certificate::{Bind, Certificate, EraPlan, Place};
 use decision_walk::{Deed, WalkState};
-use nfs3_types::{FileHandle, ItemList};
+use nfs3_types::{FileHandle, HANDLE_LIMIT, ItemList};
 use std::alloc::{AllocError, Global};
 use std::collections::BTreeMap;
 
@@ -14,9 +14,11 @@ fn binds_of(alloc: Global, bound: Vec<(Vec<u8>, u64)>) -> Result<ItemList<Bind>,
     }
     let mut binds = Vec::new(alloc);
     for (handle, object) in objects.iter() {
-        let handle = FileHandle::from_slice(alloc, handle.as_slice())?;
-        let object = *object;
-        binds.push(Bind { handle, object })?;
+        if handle.len() <= HANDLE_LIMIT {
+            let handle = FileHandle::from_slice(alloc, handle.as_slice())?;
+            let object = *object;
+            binds.push(Bind { handle, object })?;
+        }
     }
     Ok(ItemList::new(binds))
 }

@@ -1,4 +1,4 @@
 use Rattle.decide.proofs.deciding.decided.Goals as goal
 
 pub returns : goal.returns
-returns c = c.decision_of.ensures c.args.history.now.known
+returns g c = c.decision_of.ensures c.args.history.now.known
