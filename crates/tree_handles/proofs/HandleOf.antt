@@ -1,5 +1,5 @@
 -- objects that some handle names
-use Rattle.std.proofs.Common.{◌≡◌, ◌⊎◌, inl, inr, ℕ, Bool, true, false, cond, List, [], ◌∷◌, map, get_or, is_some, position, slice_get, Option, Some, None, refl, sym, ap, ◌∙◌}
+use Rattle.std.proofs.Common.{◌≡◌, ◌⊎◌, inl, inr, ℕ, Bool, true, false, cond, List, [], ◌∷◌, map, get_or, position, slice_get, Option, Some, None, refl, sym, ap, ◌∙◌}
 use Rattle.std.specs.Prelude.{◌==◌, ◌||◌}
 use Rattle.std.specs.Arc.{arc_value}
 use Rattle.std.specs.List.{list_any}
@@ -44,25 +44,25 @@ pub any_map : {Key X : Type 0} (f : Key → X) (test : X → Bool) (ks : List Ke
 any_map f test [] = refl
 any_map f test (k ∷ ks) = ap (λ b. test (f k) || b) (any_map f test ks)
 
--- a handle stands at a place that has an object
-abbrev pub StandsAt : List (List ℕ) → List (Option ℕ) → List ℕ → Type 0
-StandsAt keys objects handle = (p : ℕ) × (slice_get keys p ≡ Some handle) × (is_some (get_or objects p None) ≡ true)
+-- a handle stands at a place that has this object
+abbrev pub StandsAt : List (List ℕ) → List (Option ℕ) → List ℕ → ℕ → Type 0
+StandsAt keys objects handle object = (p : ℕ) × (slice_get keys p ≡ Some handle) × (get_or objects p None ≡ Some object)
 
-placed_stands : (keys : List (List ℕ)) (objects : List (Option ℕ)) (handle : List ℕ) (object : ℕ) → placed keys objects handle ≡ Some object → StandsAt keys objects handle
+placed_stands : (keys : List (List ℕ)) (objects : List (Option ℕ)) (handle : List ℕ) (object : ℕ) → placed keys objects handle ≡ Some object → StandsAt keys objects handle object
 placed_stands keys objects handle object is = go (position (same_bytes handle) keys) refl where
   nothing : None ≡ Some object → ⊥
   nothing e = absurd (cc)
 
-  go : (o : Option ℕ) → position (same_bytes handle) keys ≡ o → StandsAt keys objects handle
+  go : (o : Option ℕ) → position (same_bytes handle) keys ≡ o → StandsAt keys objects handle object
   go None none = absurd (nothing (sym (ap (object_at objects) none) ∙ is))
   go (Some p) at =
       let there = position-Some (same_bytes handle) keys p [] at in
-      (p, slice_get-get_or keys p [] there.0 ∙ ap Some (sym (same_is handle (get_or keys p []) there.1)), ap is_some (sym (ap (object_at objects) at) ∙ is))
+      (p, slice_get-get_or keys p [] there.0 ∙ ap Some (sym (same_is handle (get_or keys p []) there.1)), sym (ap (object_at objects) at) ∙ is)
 
 -- one that has an object stands among the short ones, or among the long ones
-pub stored_stands : (handles : Handles) (short long : List (Option ℕ)) (handle : List ℕ) (object : ℕ) → stored handles short long handle ≡ Some object → StandsAt handles.short short handle ⊎ StandsAt handles.long long handle
+pub stored_stands : (handles : Handles) (short long : List (Option ℕ)) (handle : List ℕ) (object : ℕ) → stored handles short long handle ≡ Some object → StandsAt handles.short short handle object ⊎ StandsAt handles.long long handle object
 stored_stands handles short long handle object is = go (true_or_false (is_short handle)) where
-  go : (is_short handle ≡ true) ⊎ (is_short handle ≡ false) → StandsAt handles.short short handle ⊎ StandsAt handles.long long handle
+  go : (is_short handle ≡ true) ⊎ (is_short handle ≡ false) → StandsAt handles.short short handle object ⊎ StandsAt handles.long long handle object
   go (inl s) = inl (placed_stands handles.short short handle object (sym (short_stored handles short long handle s) ∙ is))
   go (inr l) = inr (placed_stands handles.long long handle object (sym (long_stored handles short long handle l) ∙ is))
 
@@ -126,7 +126,7 @@ module _ (binds : Bindings) (handle : List ℕ) (object : ℕ) (bound : is_bound
   in_maps objects gives = go root_or_pair where
     by_place : tabled objects.others handle ≡ Some object → (any_of (arc_value objects.others.places).short ≡ true) ⊎ (any_of (arc_value objects.others.places).long ≡ true)
     by_place is = either (stored_stands (arc_value objects.others.places) objects.others.short.items objects.others.long.items handle object is) where
-      either : StandsAt (arc_value objects.others.places).short objects.others.short.items handle ⊎ StandsAt (arc_value objects.others.places).long objects.others.long.items handle
+      either : StandsAt (arc_value objects.others.places).short objects.others.short.items handle object ⊎ StandsAt (arc_value objects.others.places).long objects.others.long.items handle object
           → (any_of (arc_value objects.others.places).short ≡ true) ⊎ (any_of (arc_value objects.others.places).long ≡ true)
       either (inl there) = inl (any_passes_from_place (λ h. is_bound binds h object) (arc_value objects.others.places).short there.0 handle there.1 bound)
       either (inr there) = inr (any_passes_from_place (λ h. is_bound binds h object) (arc_value objects.others.places).long there.0 handle there.1 bound)

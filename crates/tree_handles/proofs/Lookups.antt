@@ -1,14 +1,16 @@
 -- what a table gives for its handles, once one more has a place or an object
-use Rattle.std.proofs.Common.{◌≡◌, ◌⊎◌, inl, inr, ℕ, Bool, true, false, cond, List, [], ◌∷◌, ◌++◌, length, get_or, position, Option, Some, None, refl, sym, ap, ◌∙◌, true≢false, if◌then◌else◌}
+use Rattle.std.proofs.Common.{◌≡◌, ◌⊎◌, inl, inr, ℕ, Bool, true, false, cond, List, [], ◌∷◌, ◌++◌, length, take, get_or, position, Option, Some, None, refl, sym, ap, ◌∙◌, true≢false, if◌then◌else◌, arith}
 use Rattle.std.specs.Prelude.{◌==◌, is_some}
 use Rattle.std.specs.Map.{lookup}
 use Rattle.std.proofs.lemmas.Bool.{eqb-true, eq-eqb}
+use Rattle.std.proofs.lemmas.List.{get_or-take, get_or_past, length-take}
 use Rattle.std.proofs.lemmas.List.Quantifiers.{position-Some}
 use Rattle.tree_handles.specs.Binding.{same_bytes}
 use Rattle.tree_handles.specs.Places.{Handles, is_short, of_length, place_of, with_handle, Rewrites}
 use Rattle.tree_handles.specs.declared.objects.Objects.{Objects}
 use Rattle.tree_handles.specs.Finding.{own_object, object_at, stored, tabled, found, first_of, GivesFirst, Gains, Keeps}
-use Rattle.tree_handles.proofs.Positions.{same_is, same_self, true_or_false, position_more}
+pub use Rattle.tree_handles.proofs.Positions.{same_is}
+use Rattle.tree_handles.proofs.Positions.{same_self, true_or_false, position_more}
 
 -- what isn't there is nothing
 pub absent : {X : Type 0} (o : Option X) → is_some o ≡ false → o ≡ None
@@ -57,6 +59,22 @@ module _ (keys : List (List ℕ)) (before after : List (Option ℕ)) (handle : L
     go None none = ap (object_at after) none ∙ sym (ap (object_at before) none)
     go (Some q) at =
         ap (object_at after) at ∙ writes q ∙ ap (λ (b : Bool). if b then item else get_or before q None) (unlike q at (q == p) refl) ∙ sym (ap (object_at before) at)
+
+-- a handle with a place more
+pub longer : (keys : List (List ℕ)) (objects : List (Option ℕ)) (handle other : List ℕ) → placed (keys ++ handle ∷ []) (take (length keys) objects) other ≡ placed keys objects other
+longer keys objects handle other =
+    ap (object_at (take (length keys) objects)) (position_more (same_bytes other) keys handle) ∙ go (position (same_bytes other) keys) refl where
+      past : get_or (take (length keys) objects) (length keys) None ≡ None
+      past = get_or_past (take (length keys) objects) (length keys) None (omega (arith, length-take (length keys) objects))
+
+      last : (b : Bool) → object_at (take (length keys) objects) (cond b (Some (length keys)) None) ≡ None
+      last true = past
+      last false = refl
+
+      go : (o : Option ℕ) → position (same_bytes other) keys ≡ o
+          → object_at (take (length keys) objects) (first_of o (cond (same_bytes other handle) (Some (length keys)) None)) ≡ object_at objects o
+      go None none = last (same_bytes other handle)
+      go (Some q) at = get_or-take (length keys) objects q None (position-Some (same_bytes other) keys q [] at).0
 
 -- a handle of another length is another handle
 other_length : (other handle : List ℕ) (b c : Bool) → is_short other ≡ b → is_short handle ≡ c → (b ≡ c → ⊥) → same_bytes other handle ≡ false
@@ -139,6 +157,30 @@ module _ (handles : Handles) (handle : List ℕ) (p v : ℕ) (here : place_of ha
       let had : stored handles short long handle ≡ get_or long p None = long_stored handles short long handle is ∙ ap (object_at long) (long_place handles handle (Some p) is here) in
       gained handles handle p (first_of (get_or long p None) (Some v)) here (stored handles short long) (stored handles short after) v (ap (λ o. first_of o (Some v)) (sym had))
       (long_write handles handle p (first_of (get_or long p None) (Some v)) here short long after is writes)
+
+-- a handle gets a place
+module _ (handles : Handles) (short long : List (Option ℕ)) (handle : List ℕ) (after : Handles) (is : after ≡ with_handle handles handle) where
+  pub short_known : is_short handle ≡ true → Keeps (stored handles short long) (stored after (take (length handles.short) short) long)
+  short_known kind other =
+      let now : after ≡ record { short = handles.short ++ handle ∷ []; long = handles.long } = is ∙ ap (λ (b : Bool). if b then record { short = handles.short ++ handle ∷ []; long = handles.long } else record { short = handles.short; long = handles.long ++ handle ∷ [] }) kind in
+      ap (λ (h : Handles). stored h (take (length handles.short) short) long other) now ∙ go (true_or_false (is_short other)) where
+        more : Handles
+        more = record { short = handles.short ++ handle ∷ []; long = handles.long }
+
+        go : (is_short other ≡ true) ⊎ (is_short other ≡ false) → stored more (take (length handles.short) short) long other ≡ stored handles short long other
+        go (inl s) = short_stored more (take (length handles.short) short) long other s ∙ longer handles.short short handle other ∙ sym (short_stored handles short long other s)
+        go (inr l) = long_stored more (take (length handles.short) short) long other l ∙ sym (long_stored handles short long other l)
+
+  pub long_known : is_short handle ≡ false → Keeps (stored handles short long) (stored after short (take (length handles.long) long))
+  long_known kind other =
+      let now : after ≡ record { short = handles.short; long = handles.long ++ handle ∷ [] } = is ∙ ap (λ (b : Bool). if b then record { short = handles.short ++ handle ∷ []; long = handles.long } else record { short = handles.short; long = handles.long ++ handle ∷ [] }) kind in
+      ap (λ (h : Handles). stored h short (take (length handles.long) long) other) now ∙ go (true_or_false (is_short other)) where
+        more : Handles
+        more = record { short = handles.short; long = handles.long ++ handle ∷ [] }
+
+        go : (is_short other ≡ true) ⊎ (is_short other ≡ false) → stored more short (take (length handles.long) long) other ≡ stored handles short long other
+        go (inl s) = short_stored more short (take (length handles.long) long) other s ∙ sym (short_stored handles short long other s)
+        go (inr l) = long_stored more short (take (length handles.long) long) other l ∙ longer handles.long long handle other ∙ sym (long_stored handles short long other l)
 
 -- and is there itself
 pub taken_place : (handles after : Handles) (handle : List ℕ) (place : ℕ) → place_of handles handle ≡ None → after ≡ with_handle handles handle → place ≡ of_length handle (length handles.short) (length handles.long)

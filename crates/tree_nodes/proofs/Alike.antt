@@ -7,8 +7,8 @@ use Rattle.std.specs.FinMap.Entries as es
 use Rattle.tree_nodes.specs.declared.table.Entry.{Entry}
 use Rattle.tree_nodes.specs.Tree.{Names, Tree}
 use Rattle.tree_nodes.specs.Table.{Table, child, held, placed}
-use Rattle.tree_nodes.specs.Walk.{Steps, Held, Holds, IsTree, seen, walk}
-use Rattle.tree_nodes.specs.Shown.{IsTableOf, Agrees}
+use Rattle.tree_nodes.specs.Walk.{Steps, Held, Holds, IsTree, seen}
+use Rattle.tree_nodes.specs.Shown.{IsTableOf}
 use Rattle.tree_nodes.proofs.Walks.{lies_at}
 use Rattle.tree_nodes.proofs.Methods.{one_tree}
 
@@ -34,12 +34,6 @@ same_said m n e o =
 -- where what is left of two lists says the same, the lists do
 abbrev pub Compared : List (ℕ × Entry) → List (ℕ × Entry) → List (ℕ × Entry) → List (ℕ × Entry) → Type 0
 Compared ours theirs left right = said left ≡ said right → said ours ≡ said theirs
-
-pub compared_none : (ours theirs left : List (ℕ × Entry)) → left ≡ ours → Compared ours theirs left theirs
-compared_none ours theirs left is e = sym (ap said is) ∙ e
-
-pub compared_more : (ours theirs left right : List (ℕ × Entry)) (x y : ℕ × Entry) → Compared ours theirs (x ∷ left) (y ∷ right) → (x.0 ≡ y.0) × (placed x.1 ≡ placed y.1) → Compared ours theirs left right
-compared_more ours theirs left right x y so_far same e = so_far (λ i. (same.0 i, same.1 i) ∷ e i)
 
 -- ---- trees
 

@@ -234,9 +234,6 @@ pub undo_clause : {E : Type 0} (r : Result Undo E) (P : Undo → Type 0) (n : Ta
 undo_clause (Ok x) P n u t agrees ok f = let back = f x ok in subst (λ (z : Tree). TakesBack x z t) (one_tree n back.0 u back.1 agrees) back.2
 undo_clause (Err e) P n u t agrees ok f = ok
 
-pub taken_back : (n : Table) (u t after : Tree) (undo : Undo) → Agrees n u → Agrees n after → TakesBack undo after t → TakesBack undo u t
-taken_back n u t after undo a b back = subst (λ (z : Tree). TakesBack undo z t) (one_tree n after u b a) back
-
 pub on_ok_both : {T E : Type 0} (r : Result T E) (A B X : Type 0) → OnOk r A → OnOk r B → (A → B → X) → OnOk r X
 on_ok_both (Ok x) A B X a b f = f a b
 on_ok_both (Err e) A B X a b f = a

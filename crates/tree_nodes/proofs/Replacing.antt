@@ -1,21 +1,20 @@
 -- an entry that is taken out and put again, changed or as it was
-use Rattle.std.proofs.Common.{◌≡◌, ℕ, ◌+◌, ◌⊎◌, inl, inr, Bool, true, false, cond, List, Option, Some, None, Result, Ok, Err, refl, sym, ap, subst, ◌∙◌}
+use Rattle.std.proofs.Common.{◌≡◌, ℕ, ◌+◌, ◌⊎◌, inl, inr, Bool, true, false, cond, List, Some, None, Result, Ok, Err, refl, sym, ap, subst, ◌∙◌}
 use Rattle.std.specs.Prelude.{IsSome, IfOk, OnOk, OnErr, option_and_then, option_map}
 use Rattle.std.specs.Ordering.{nat_cmp, eq_by_cmp}
 use Rattle.std.specs.Cmp.{nat_cmp_total}
 use Rattle.std.specs.FinMap as map
-use Rattle.tree_stores.specs.Names.{Objects}
 use Rattle.tree_nodes.specs.declared.node.Node.{Node}
 use Rattle.tree_nodes.specs.declared.table.Entry.{Entry}
 use Rattle.tree_nodes.specs.declared.table.Body.{Body}
 use Rattle.tree_nodes.specs.Table.{Table, entry_at, name_in, named, child, placed, held}
 use Rattle.tree_nodes.specs.Walk.{Held}
-use Rattle.tree_nodes.specs.Changes.{Adds, Cuts, Sets, Shifts}
-use Rattle.tree_nodes.specs.TableChanges.{IsSame, HasName, HasTwoNames}
+use Rattle.tree_nodes.specs.Changes.{Adds, Sets, Shifts}
+use Rattle.tree_nodes.specs.TableChanges.{HasName, HasTwoNames}
 use Rattle.tree_stores.proofs.SlotLemmas.{len_one_more, len_one_less}
-use Rattle.tree_nodes.proofs.Chains.{same_some, value_of}
+use Rattle.tree_nodes.proofs.Chains.{same_some}
 use Rattle.tree_nodes.proofs.Beside.{same_number}
-use Rattle.tree_nodes.proofs.Tables.{Updates, same_key, other_key, put_in, taken_out, nothing_held, nameless, steps_but, held_but, held_now, name_put, name_gone, name_set, as_many, node_set_by, with_node, there, entry_held}
+use Rattle.tree_nodes.proofs.Tables.{Updates, same_key, other_key, put_in, taken_out, nothing_held, nameless, steps_but, held_but, held_now, name_put, name_gone, name_set, as_many, node_set_by}
 
 same_table : (m n : Table) → ((q : ℕ) → map.get m q ≡ map.get n q) → m ≡ n
 same_table m n same = map.same_map nat_cmp_total map.nat_cmp-IsAntisymmetric m n same
@@ -42,10 +41,6 @@ put_same m o e was = same_table _ _ (λ q. map.get-insert nat_cmp_total m o e q 
 -- or the same one
 pub put_again : (m : Table) (o : ℕ) (e : Entry) → entry_at m o ≡ Some e → map.insert (map.remove m o) o e ≡ m
 put_again m o e was = put_over m o e ∙ put_same m o e was
-
--- an entry that stands is taken out
-pub stands_here : (m : Table) (o : ℕ) → IsSome (held m o) → IsSome (entry_at m o)
-stands_here m o h = let at = value_of _ h in let e = entry_held m o at.0 at.1 in there _ e.0 e.1
 
 -- ---- taken out, and put with another body
 

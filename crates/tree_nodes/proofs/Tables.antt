@@ -1,5 +1,5 @@
 -- what a change of one entry makes of the table
-use Rattle.std.proofs.Common.{◌≡◌, ℕ, ◌+◌, ◌⊎◌, inl, inr, Bool, true, false, cond, List, [], ◌∷◌, length, Option, Some, None, refl, sym, ap, subst, ◌∙◌, arith}
+use Rattle.std.proofs.Common.{◌≡◌, ℕ, ◌+◌, ◌⊎◌, inl, inr, Bool, true, false, cond, List, [], ◌∷◌, length, Option, Some, None, refl, sym, ap, ◌∙◌, arith}
 use Rattle.std.specs.Prelude.{IsSome, IsTrue, option_and_then, option_map}
 use Rattle.std.proofs.lemmas.Cmp.{tied_itself, nat_list_cmp_total}
 use Rattle.std.specs.declared.cmp.Ordering.{Ordering}
@@ -14,14 +14,12 @@ use Rattle.std.specs.Map.{lookup}
 use Rattle.std.specs.BTreeMap.{is_at}
 use Rattle.tree_nodes.specs.declared.node.Node.{Node}
 use Rattle.tree_nodes.specs.declared.table.Entry.{Entry}
-use Rattle.tree_nodes.specs.declared.table.Body.{Body}
-use Rattle.tree_nodes.specs.declared.node.Content.{Content}
 use Rattle.tree_nodes.specs.declared.node.Content.TheVariants.{Directory}
 use Rattle.tree_nodes.specs.Openings.{IsOpening}
 use Rattle.tree_nodes.specs.Table.{Table, entry_at, name_in, named, child, placed, held}
 use Rattle.tree_nodes.specs.Walk.{Held}
-use Rattle.tree_nodes.specs.Changes.{Adds, Cuts, Sets, Shifts}
-use Rattle.tree_nodes.specs.TableChanges.{IsSame, HasName, HasPlace}
+use Rattle.tree_nodes.specs.Changes.{Cuts, Sets}
+use Rattle.tree_nodes.specs.TableChanges.{HasName}
 use Rattle.tree_stores.proofs.SlotLemmas.{len_stays, len_one_more, len_one_less}
 use Rattle.tree_nodes.proofs.Entries.{find_lookup}
 use Rattle.tree_nodes.proofs.Chains.{isnt, same_some}
@@ -39,15 +37,9 @@ is_equal Greater e = absurd (cc)
 pub tie : (x y : List ℕ) → is_eq (slice_cmp nat_cmp x y) ≡ true → x ≡ y
 tie x y e = map.slice_cmp-IsAntisymmetric map.nat_cmp-IsAntisymmetric x y (is_equal (slice_cmp nat_cmp x y) e)
 
--- an entry with another node, and with other names
+-- an entry with another node
 abbrev pub with_node : Entry → Node → Entry
-with_node e node = record e { body = (record e.body { node = node }) }
-
-abbrev pub with_names : Entry → Body → Objects → Entry
-with_names e body names = record e { body = (record body { names = names }) }
-
-abbrev pub with_content : Entry → Body → Content → Entry
-with_content e body content = record e { body = record body { node = record { object = body.node.object; content = content } } }
+with_node e node = record e { body = record e.body { node = node } }
 
 -- a name has this object, or none, and each other one has what it had
 pub record NameSet (a b : Objects) (x : List ℕ) (w : Option ℕ) : Type 0 where
@@ -131,9 +123,6 @@ module _ (m : Table) (o : ℕ) (e f : Entry) (was : entry_at m o ≡ Some e) whe
   pub as_many : map.len (map.insert m o f) ≡ map.len m
   as_many = len_stays m o f e was
 
-  pub same_table : placed f ≡ placed e → ((x : List ℕ) → named f x ≡ named e x) → IsSame m (map.insert m o f)
-  same_table place names = record { steps = same_steps names; places = same_places place; len = as_many }
-
   pub name_set : placed f ≡ placed e → (x : List ℕ) (w : Option ℕ) → NameSet e.body.names f.body.names x w → HasName o x w m (map.insert m o f)
   name_set same x w names = record {
     here = ap (option_and_then (λ z. named z x)) now.here ∙ names.here;
@@ -146,16 +135,6 @@ module _ (m : Table) (o : ℕ) (e f : Entry) (was : entry_at m o ≡ Some e) whe
         ap (λ z. child n z y) is ∙ ap (option_and_then (λ z. named z y)) now.here ∙ names.others y (ne is)
         ∙ sym (ap (λ z. child m z y) is ∙ ap (option_and_then (λ z. named z y)) was)
     go a y ne (inr apart) = ap (option_and_then (λ z. named z y)) (now.kept a apart)
-
-  pub place_set : f.body.node ≡ e.body.node → f.body.names ≡ e.body.names → HasPlace o f.parent f.body.name m (map.insert m o f)
-  place_set node names = record {
-    steps = same_steps (λ x. ap (λ z. name_in z x) names);
-    place = λ h is.
-        ap (option_map placed) now.here
-        ∙ ap (λ (z : Node). Some (f.parent, f.body.name, z)) (node ∙ ap (λ (z : Held). z.2) (same_some (placed e) h (sym (ap (option_map placed) was) ∙ is)));
-    kept = λ a ne. ap (option_map placed) (now.kept a ne);
-    len = as_many;
-  }
 
 -- what the key has is looked up
 module _ (m n : Table) (o : ℕ) (w : Option Entry) (h : Updates o m n w) where
@@ -187,62 +166,6 @@ entry_held m o h e = go (entry_at m o) refl where
 pub nameless : (e : Entry) (x : List ℕ) → e.body.names ≡ map.empty → named e x ≡ None
 nameless e x empty = ap (λ (z : Objects). map.get z x) empty ∙ map.get-empty name_cmp x
 
-pub added : (m k n : Table) (o : ℕ) (e : Entry) (x : List ℕ) → k ≡ map.insert m o e → HasName e.parent x (Some o) k n → x ≡ e.body.name
-    → e.body.names ≡ map.empty → held m o ≡ None → Adds e.parent e.body.name o e.body.node (child m) (child n) (held m) (held n)
-added m k n o e x put name is empty new = record {
-  here = ap (child n e.parent) (sym is) ∙ name.here;
-  others = λ a y ne. name.others a y (λ s t. ne s (t ∙ is)) ∙ steps a y;
-  place = name.places o ∙ held_now m k o (Some e) h;
-  kept = λ a ne. name.places a ∙ held_but m k o (Some e) h a ne;
-} where
-  h : Updates o m k (Some e)
-  h = put_in m k o e put
-
-  steps : (a : ℕ) (y : List ℕ) → child k a y ≡ child m a y
-  steps = steps_but m k o (Some e) h (λ y. nameless e y empty ∙ sym (ap (option_and_then (λ z. named z y)) (nothing_held m o new)))
-
-pub one_more : (m k n : Table) (o : ℕ) (e : Entry) → k ≡ map.insert m o e → held m o ≡ None → map.len n ≡ map.len k → map.len n ≡ map.len m + 1
-one_more m k n o e put new len = len ∙ ap map.len put ∙ len_one_more m o e (nothing_held m o new)
-
--- what stood still does behind an object that was put
-pub stands_still : (m k : Table) (o a : ℕ) (e : Entry) → k ≡ map.insert m o e → IsSome (held m a) → IsSome (held k a)
-stands_still m k o a e put there = go (same_number a o) where
-  h : Updates o m k (Some e)
-  h = put_in m k o e put
-
-  go : (a ≡ o) ⊎ (a ≡ o → ⊥) → IsSome (held k a)
-  go (inl is) = subst IsSome (sym (ap (held k) is ∙ held_now m k o (Some e) h)) refl
-  go (inr ne) = subst IsSome (sym (held_but m k o (Some e) h a ne)) there
-
--- an object that was put and taken out again
-pub taken_again : (m k l n : Table) (o : ℕ) (e : Entry) → k ≡ map.insert m o e → IsSame k l → n ≡ map.remove l o → e.body.names ≡ map.empty → held m o ≡ None → IsSame m n
-taken_again m k l n o e put same out empty new = record { steps = steps; places = places; len = len } where
-  h : Updates o m k (Some e)
-  h = put_in m k o e put
-
-  g : Updates o l n None
-  g = taken_out l n o out
-
-  none : entry_at m o ≡ None
-  none = nothing_held m o new
-
-  steps : (a : ℕ) (x : List ℕ) → child n a x ≡ child m a x
-  steps a x = go (same_number a o) where
-    go : (a ≡ o) ⊎ (a ≡ o → ⊥) → child n a x ≡ child m a x
-    go (inl is) = ap (λ z. child n z x) is ∙ ap (option_and_then (λ z. named z x)) g.here ∙ sym (ap (λ z. child m z x) is ∙ ap (option_and_then (λ z. named z x)) none)
-    go (inr ne) = ap (option_and_then (λ z. named z x)) (g.kept a ne) ∙ same.steps a x ∙ ap (option_and_then (λ z. named z x)) (h.kept a ne)
-
-  places : (a : ℕ) → held n a ≡ held m a
-  places a = go (same_number a o) where
-    go : (a ≡ o) ⊎ (a ≡ o → ⊥) → held n a ≡ held m a
-    go (inl is) = ap (held n) is ∙ ap (option_map placed) g.here ∙ sym (ap (held m) is ∙ new)
-    go (inr ne) = ap (option_map placed) (g.kept a ne) ∙ same.places a ∙ ap (option_map placed) (h.kept a ne)
-
-  len : map.len n ≡ map.len m
-  len =
-      let there = entry_held l o (placed e) (same.places o ∙ ap (option_map placed) h.here) in
-      omega (arith, ap map.len put, len_one_more m o e none, same.len, ap (λ (z : Table). map.len z + 1) out, len_one_less l o there.0 there.1)
-
 pub was_cut : (m k n : Table) (o : ℕ) (e : Entry) (x : List ℕ) → k ≡ map.remove m o → HasName e.parent x None k n → x ≡ e.body.name
     → ((y : List ℕ) → child m o y ≡ None) → Cuts e.parent e.body.name o (child m) (child n) (held m) (held n)
 was_cut m k n o e x out name is bare = record {
@@ -259,13 +182,6 @@ was_cut m k n o e x out name is bare = record {
 
 pub one_less : (m k n : Table) (o : ℕ) (e : Entry) → k ≡ map.remove m o → entry_at m o ≡ Some e → map.len n ≡ map.len k → map.len n + 1 ≡ map.len m
 one_less m k n o e out was len = ap (λ z. z + 1) (len ∙ ap map.len out) ∙ len_one_less m o e was
-
--- the directory that a removed object lay in stands
-pub stands_above : (m k : Table) (o : ℕ) (e : Entry) → k ≡ map.remove m o → entry_at m o ≡ Some e → (h : Held) × (held m o ≡ Some h) × (h.0 ≡ o → ⊥) × IsSome (held m h.0) → IsSome (held k e.parent)
-stands_above m k o e out was stands =
-    let same : placed e ≡ stands.0 = same_some (placed e) stands.0 (sym (ap (option_map placed) was) ∙ stands.1) in
-    let up : e.parent ≡ stands.0.0 = ap (λ (z : Held). z.0) same in
-    subst IsSome (sym (held_but m k o None (taken_out m k o out) e.parent (λ s. stands.2 (sym up ∙ s)) ∙ ap (held m) up)) stands.3
 
 -- the first object
 pub opening_alone : (m n : Table) (e : Entry) → m ≡ map.empty → n ≡ map.insert m 0 e → placed e ≡ (0, [], record { object = 0; content = Directory }) → e.body.names ≡ map.empty → IsOpening n
@@ -288,16 +204,6 @@ opening_alone m n e empty put place nameless_root = record { root = root; others
   len : map.len n ≡ 1
   len = omega (arith, ap map.len put, len_one_more m 0 e (none 0), ap map.len empty, map.len-empty nat_cmp Entry)
 
-pub shifted : (m k l n : Table) (o b a : ℕ) (x y z : List ℕ) → HasName a z (Some o) m k → HasPlace o a y k l → HasName b x None l n → z ≡ y
-    → (a ≡ b → y ≡ x → ⊥) → Shifts o b x a y (child m) (child n) (held m) (held n)
-shifted m k l n o b a x y z set place drops is apart = record {
-  left = drops.here;
-  here = drops.others a y apart ∙ place.steps a y ∙ ap (child k a) (sym is) ∙ set.here;
-  others = λ e f off on. drops.others e f off ∙ place.steps e f ∙ set.others e f (λ s t. on s (t ∙ is));
-  place = λ h held. drops.places o ∙ place.place h (set.places o ∙ held);
-  kept = λ e ne. drops.places e ∙ place.kept e ne ∙ set.places e;
-}
-
 -- an entry with another node
 pub node_set_by : (m n : Table) (o : ℕ) (e : Entry) (node : Node) → entry_at m o ≡ Some e → n ≡ map.insert m o (with_node e node) → Sets o node (child m) (child n) (held m) (held n)
 node_set_by m n o e node was is = record {
@@ -307,14 +213,6 @@ node_set_by m n o e node was is = record {
 } where
   h : Updates o m n (Some (with_node e node))
   h = put_in m n o (with_node e node) is
-
-pub node_set : (m : Table) (o : ℕ) (e : Entry) (node : Node) → entry_at m o ≡ Some e
-    → Sets o node (child m) (child (map.insert m o (with_node e node))) (held m) (held (map.insert m o (with_node e node)))
-node_set m o e node was = node_set_by m (map.insert m o (with_node e node)) o e node was refl
-
--- an entry with the node that it had
-pub node_same : (m : Table) (o : ℕ) (e : Entry) (node : Node) → entry_at m o ≡ Some e → node ≡ e.body.node → IsSame m (map.insert m o (with_node e node))
-node_same m o e node was same = same_table m o e (with_node e node) was (ap (λ (z : Node). placed (with_node e z)) same) (λ x. refl)
 
 -- where there are names, one of them leads on
 first_name : (xs : List (List ℕ × ℕ)) → (length xs ≡ 0 → ⊥) → (x : List ℕ) × (k : ℕ) × (es.find name_cmp x xs ≡ Some k)
@@ -332,31 +230,3 @@ leads_nowhere m o e was none x = ap (option_and_then (λ z. named z x)) was ∙ 
 pub isnt_true : (b : Bool) → b ≡ false → IsTrue b → ⊥
 isnt_true true e h = absurd (cc)
 isnt_true false e h = absurd (cc)
-
--- the body of an entry, lent with what it is, has other content
-module _ (m : Table) (o : ℕ) (e : Entry) (body : Body) (was : entry_at m o ≡ Some e) (lent : body ≡ e.body) where
-  pub content_set : (content : Content) (node : Node) → record { object = e.body.node.object; content = content } ≡ node
-      → Sets o node (child m) (child (map.insert m o (with_content e body content))) (held m) (held (map.insert m o (with_content e body content)))
-  content_set content node is =
-      subst (λ (z : Body). Sets o node (child m) (child (map.insert m o (with_content e z content))) (held m) (held (map.insert m o (with_content e z content)))) (sym lent)
-      (subst (λ (z : Node). Sets o z (child m) (child (map.insert m o (with_content e e.body content))) (held m) (held (map.insert m o (with_content e e.body content)))) is
-      (node_set m o e (record { object = e.body.node.object; content = content }) was))
-
-  pub content_len : (content : Content) → map.len (map.insert m o (with_content e body content)) ≡ map.len m
-  content_len content = as_many m o e (with_content e body content) was
-
-  pub content_same : (content : Content) → content ≡ body.node.content → IsSame m (map.insert m o (with_content e body content))
-  content_same content same = same_table m o e (with_content e body content) was
-      (ap (λ (z : Content). placed (with_content e body z)) same ∙ ap (λ (z : Body). (e.parent, z.name, z.node)) lent)
-      (λ x. ap (λ (z : Body). name_in z.names x) lent)
-
-  pub names_same : (names : Objects) → names ≡ body.names → IsSame m (map.insert m o (with_names e body names))
-  names_same names same = same_table m o e (with_names e body names) was (ap (λ (z : Body). (e.parent, z.name, z.node)) lent) (λ x. ap (λ (z : Objects). name_in z x) same ∙ ap (λ (z : Body). name_in z.names x) lent)
-
-  pub names_put : (names : Objects) (x : List ℕ) (k : ℕ) → names ≡ map.insert body.names x k → HasName o x (Some k) m (map.insert m o (with_names e body names))
-  names_put names x k is = name_set m o e (with_names e body names) was (ap (λ (z : Body). (e.parent, z.name, z.node)) lent) x (Some k)
-      (name_put e.body.names names x k (is ∙ ap (λ (z : Body). map.insert z.names x k) lent))
-
-  pub names_gone : (names : Objects) (x : List ℕ) → names ≡ map.remove body.names x → HasName o x None m (map.insert m o (with_names e body names))
-  names_gone names x is = name_set m o e (with_names e body names) was (ap (λ (z : Body). (e.parent, z.name, z.node)) lent) x None
-      (name_gone e.body.names names x (is ∙ ap (λ (z : Body). map.remove z.names x) lent))

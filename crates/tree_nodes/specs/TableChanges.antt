@@ -5,7 +5,7 @@ use Rattle.std.specs.FinMap as map
 use Rattle.tree_nodes.specs.declared.table.Entry.{Entry}
 use Rattle.tree_nodes.specs.declared.table.Place.{Place}
 use Rattle.tree_nodes.specs.Walk.{Held}
-use Rattle.tree_nodes.specs.Changes.{SameBut, HeldBut, Shifts}
+use Rattle.tree_nodes.specs.Changes.{SameBut, Shifts}
 use Rattle.tree_nodes.specs.Table.{Table, child, held}
 
 -- each name leads where it led, and each object lies where it lay
@@ -19,13 +19,6 @@ pub record HasName (directory : ℕ) (name : List ℕ) (object : Option ℕ) (be
   pub here : child after directory name ≡ object
   pub others : SameBut directory name (child before) (child after)
   pub places : (other : ℕ) → held after other ≡ held before other
-  pub len : map.len after ≡ map.len before
-
--- an object that stood is said to lie elsewhere
-pub record HasPlace (object directory : ℕ) (name : List ℕ) (before after : Table) : Type 0 where
-  pub steps : (other : ℕ) (any : List ℕ) → child after other any ≡ child before other any
-  pub place : (h : Held) → held before object ≡ Some h → held after object ≡ Some (directory, name, h.2)
-  pub kept : HeldBut object (held before) (held after)
   pub len : map.len after ≡ map.len before
 
 -- a name in one directory leads to this object, and one in another directory, or in the same, to none

@@ -1,6 +1,6 @@
 //! The nodes of a tree, by the numbers of their objects.
 
-ghost use Rattle.std.specs.Prelude.{List, ◌≡◌, ◌≢◌, ◌↔◌, ◌<◌, ◌≤◌, ◌+◌, ◌^◌, ℕ, false, true, [], ◌∷◌, ◌++◌, IsTrue, IfOk, OnOk, OnErr, Some, None, IsSome, IfSome, All, length, option_and_then};
+ghost use Rattle.std.specs.Prelude.{List, ◌≡◌, ◌↔◌, ◌<◌, ◌≤◌, ◌+◌, ◌^◌, ℕ, false, true, [], ◌∷◌, ◌++◌, IsTrue, IfOk, OnOk, OnErr, Some, None, IsSome, IfSome, All, length, option_and_then};
 ghost use Rattle.std.specs.Option.{option_copied, option_map};
 ghost use Rattle.std.specs.FinMap as map;
 ghost use Rattle.tree_stores.specs.nfs3_types_specs.Limits.{file_limit};

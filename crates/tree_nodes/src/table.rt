@@ -1,21 +1,14 @@
 //! The table of a tree's objects.
 
-ghost use Rattle.std.specs.Prelude.{true, false, option_and_then, ◌≡◌, ◌+◌, ◌<◌, ◌^◌, ℕ, List, length, IsSome, IfSome, IfOk, OnOk, OnErr, Some, None};
+ghost use Rattle.std.specs.Prelude.{true, false, option_and_then, ◌≡◌, ◌<◌, ℕ, List, IsSome, IfSome, IfOk, Some, None};
 ghost use Rattle.std.specs.Ordering.{nat_cmp};
 ghost use Rattle.std.specs.FinMap as map;
-ghost use Rattle.tree_nodes.specs.declared.node.File.{File};
-ghost use Rattle.tree_nodes.specs.declared.node.Content.TheVariants as contents;
-ghost use Rattle.tree_nodes.specs.Files.{file_node};
-ghost use Rattle.tree_nodes.specs.Edits.{edited, IsWithin};
-ghost use Rattle.tree_stores.specs.Undo.{Restores};
-ghost use Rattle.tree_nodes.specs.Changes.{Adds, Cuts, Sets, Shifts};
 ghost use Rattle.std.specs.Option.{option_copied, option_map};
 ghost use Rattle.std.specs.Cmp.Lexicographic.{slice_cmp};
 ghost use Rattle.std.specs.BTreeSet.{contains};
 ghost use Rattle.tree_nodes.specs.Walk.{Held, node_of, IsTree, IsBeyond};
 ghost use Rattle.tree_nodes.specs.Openings.{IsOpening};
-ghost use Rattle.tree_nodes.specs.Table.{name_in, names_in, child, placed, held};
-ghost use Rattle.tree_nodes.specs.TableChanges.{IsSame, HasName, HasPlace};
+ghost use Rattle.tree_nodes.specs.Table.{name_in, names_in, child, held};
 
 use crate::bytes::Bytes;
 use crate::node::{Content, Node};

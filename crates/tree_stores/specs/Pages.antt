@@ -1,11 +1,8 @@
 -- For the prover.
 -- slots by pages
-use Rattle.std.specs.Prelude.{◌≡◌, ◌≤◌, ◌^◌, ◌/◌, ℕ, zero, suc, Bool, false, List, [], ◌∷◌, ◌++◌, length, Option, Some, None, is_some}
-use Rattle.std.specs.Ordering.{nat_cmp}
-use Rattle.std.specs.FinMap as map
+use Rattle.std.specs.Prelude.{◌≡◌, ℕ, zero, suc, Bool, false, List, [], ◌∷◌, ◌++◌, length, Option, Some, None, is_some}
 use Rattle.tree_stores.specs.declared.slots.slot.Slot.{Slot}
 use Rattle.tree_stores.specs.declared.slots.page.Page.{Page}
-use Rattle.tree_stores.specs.Slots.{map_of}
 
 -- whether there is a `true` at an index
 abbrev pub is_set : List Bool → ℕ → Bool

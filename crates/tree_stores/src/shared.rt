@@ -15,10 +15,16 @@ pub trait Copied: Drop {
 }
 
 /// A value that copies share until one of them changes. A contract sees the value.
-#[derive(Drop)]
 pub struct Shared<T> {
     alloc: Global,
     value: Arc<T, Global>,
+}
+
+impl<T: Drop> Drop for Shared<T> {
+    fn drop(self) {
+        let Shared { alloc: _, value } = self;
+        drop(value);
+    }
 }
 
 impl<T> Model for Shared<T> {

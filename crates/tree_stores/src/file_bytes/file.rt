@@ -197,6 +197,6 @@ impl FileBytes {
     pub fn is_same(&self, other: &FileBytes) -> bool
         ensures { IsTrue result → self.now ≡ other.now }
     {
-        self.size == other.size && self.pages.is_same(&other.pages)
+        other.size == self.size && self.pages.is_same(&other.pages)
     }
 }

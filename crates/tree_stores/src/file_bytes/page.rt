@@ -14,9 +14,6 @@ pub(crate) const PAGE: u64 = 512;
 /// A page takes memory in steps of so many bytes: what one leaves is mostly as large as what the next one needs.
 const ROOM: usize = 128;
 
-/// What mixes the bits of eight bytes.
-const MIX: u64 = 0x9e37_79b9_7f4a_7c15;
-
 /// What the first eight bytes of a page count with.
 const FACTOR: u64 = 0x81da_def4_bc2d_d44d;
 
@@ -152,10 +149,9 @@ fn sum_of(bytes: &[u8]) -> u64 {
     sum.wrapping_add(mixed(last).wrapping_mul(factor))
 }
 
-/// A number each bit of which counts for others; zero stays.
+/// A number whose high bits count for low ones too; zero stays.
 fn mixed(word: u64) -> u64 {
-    let word = word.wrapping_mul(MIX);
-    word ^ (word >> 32)
+    word ^ (word >> 29)
 }
 
 /// Whether two pages show the same bytes.

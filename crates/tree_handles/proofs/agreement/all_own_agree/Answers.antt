@@ -9,4 +9,4 @@ loop-number-preserved c =
     let binds = c.args.binds.now in
     let other = c.args.other.now in
     below_more (λ k. get_or c.args.taken.now k false ≡ true → agrees binds other (to_be_bytes w64 k) ≡ true) c.loop-number.number c.loop-number.invariant
-    (λ has. subst (λ (h : List ℕ). agrees binds other h ≡ true) (c.as_slice.ensures ∙ c.to_be_bytes-handle.ensures) (c.agrees_if_bound.ensures c.if-not-agrees_if_bound.false has))
+    (λ has. subst (λ (h : List ℕ). agrees binds other h ≡ true) (c.as_slice.ensures ∙ c.to_be_bytes-handle.ensures) (c.agrees_if_taken.ensures c.if-not-agrees_if_taken.false has))

@@ -1,10 +1,7 @@
-use Rattle.std.proofs.Common.{◌≡◌, ℕ, List, sym, ap, subst, ◌∙◌}
+use Rattle.std.proofs.Common.{ℕ, List, sym, ap, subst, ◌∙◌}
 use Rattle.std.specs.FinMap as map
 use Rattle.std.proofs.lemmas.Result.{on_ok_weaker, on_err_weaker}
-use Rattle.tree_nodes.specs.declared.table.Entry.{Entry}
-use Rattle.tree_nodes.specs.declared.table.Body.{Body}
-use Rattle.tree_nodes.specs.Table.{Table}
-use Rattle.tree_nodes.specs.TableChanges.{HasName, HasTwoNames}
+use Rattle.tree_nodes.specs.TableChanges.{HasTwoNames}
 use Rattle.tree_nodes.proofs.Replacing.{body_same, names_swapped, names_traded, put_again, stands_beside, both_oks, both_errs}
 use Rattle.tree_nodes.proofs.changes.move_name.Goals as goal
 

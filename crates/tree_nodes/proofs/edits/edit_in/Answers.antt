@@ -1,8 +1,6 @@
 use Rattle.std.proofs.Common.{◌≡◌, sym, ap, subst, ◌∙◌}
 use Rattle.std.specs.Prelude.{option_map}
 use Rattle.std.proofs.lemmas.Result.{IfOk-weaker, on_ok_weaker, on_err_weaker}
-use Rattle.tree_nodes.specs.declared.node.Node.{Node}
-use Rattle.tree_nodes.specs.declared.table.Body.{Body}
 use Rattle.tree_nodes.specs.Walk.{Held}
 use Rattle.tree_nodes.specs.Changes.{Sets}
 use Rattle.tree_nodes.specs.Edits.{edited}

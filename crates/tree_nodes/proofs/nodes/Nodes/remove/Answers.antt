@@ -1,9 +1,6 @@
-use Rattle.std.proofs.Common.{ℕ, sym, subst}
 use Rattle.std.proofs.lemmas.Result.{on_err_weaker}
 use Rattle.std.specs.FinMap as map
-use Rattle.tree_nodes.specs.declared.undo.Undo.{Undo}
 use Rattle.tree_nodes.specs.Shown.{Shown}
-use Rattle.tree_nodes.specs.Undo.{TakesBack}
 use Rattle.tree_nodes.specs.Table.{child, held}
 use Rattle.tree_nodes.specs.TableChanges.{IsSame}
 use Rattle.tree_nodes.specs.Results.{IsRemoved}

@@ -1,4 +1,4 @@
-use Rattle.std.proofs.Common.{◌≡◌, ◌<◌, ◌^◌, ◌∷◌, [], ◌++◌, length, ap, subst, sym, ◌∙◌, List, ℕ, true, arith}
+use Rattle.std.proofs.Common.{◌≡◌, ◌<◌, ◌^◌, length, subst, sym, ◌∙◌, List, ℕ, true, arith}
 use Rattle.tree_stores.specs.declared.slots.page.Page.{Page}
 use Rattle.tree_stores.specs.Pages.{is_own_at}
 use Rattle.tree_stores.specs.Books.{values_of, AreBound}

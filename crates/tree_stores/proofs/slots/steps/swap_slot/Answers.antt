@@ -1,4 +1,4 @@
-use Rattle.std.proofs.Common.{◌≡◌, ◌<◌, ◌/◌, length, arith}
+use Rattle.std.proofs.Common.{◌/◌, arith}
 use Rattle.tree_stores.proofs.PageLemmas.{own_within, own_read, own_kept, in_page, in_all, read_page, put_page, bound_put}
 use Rattle.tree_stores.proofs.slots.steps.swap_slot.Goals as goal
 

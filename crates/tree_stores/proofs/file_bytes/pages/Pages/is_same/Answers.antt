@@ -1,5 +1,3 @@
-use Rattle.std.proofs.Common.{ℕ, List, ◌≡◌, subst}
-use Rattle.std.specs.Prelude.{slice_index}
 use Rattle.tree_stores.proofs.Alike.{same_bytes}
 use Rattle.tree_stores.proofs.file_bytes.pages.Pages.is_same.Goals as goal
 

@@ -1,5 +1,4 @@
-use Rattle.std.proofs.Common.{sym, ap, ◌∙◌, arith}
-use Rattle.tree_stores.specs.Books.{AreCounted, values_of}
+use Rattle.std.proofs.Common.{arith}
 use Rattle.tree_stores.proofs.SlotLemmas.{map_of_none, len_of_none}
 use Rattle.tree_stores.proofs.slots.pages.Pages.new.Goals as goal
 

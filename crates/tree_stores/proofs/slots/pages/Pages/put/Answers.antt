@@ -1,10 +1,10 @@
-use Rattle.std.proofs.Common.{◌≡◌, ◌+◌, ◌-◌, true, false, is_some, refl, sym, ap, ◌∙◌, arith}
+use Rattle.std.proofs.Common.{◌≡◌, ◌+◌, true, false, is_some, refl, sym, ap, ◌∙◌, arith}
 use Rattle.std.specs.Prelude.{not}
 use Rattle.std.specs.FinMap as map
 use Rattle.tree_stores.specs.declared.slots.slot.Slot.TheVariants.{Filled}
 use Rattle.tree_stores.specs.Slots.{value_of, map_of}
 use Rattle.tree_stores.specs.Pages.{all_slots}
-use Rattle.tree_stores.specs.Books.{Book, values_of}
+use Rattle.tree_stores.specs.Books.{Book}
 use Rattle.tree_stores.proofs.SlotLemmas.{get_within, filled_slot, len_within, len_filled, len_replaced}
 use Rattle.tree_stores.proofs.PageLemmas.{bound_all}
 use Rattle.tree_stores.proofs.slots.pages.Pages.put.Goals as goal

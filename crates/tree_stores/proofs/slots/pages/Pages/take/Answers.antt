@@ -1,10 +1,8 @@
-use Rattle.std.proofs.Common.{◌≡◌, ◌+◌, ◌-◌, true, false, is_some, refl, sym, ap, ◌∙◌, arith}
-use Rattle.std.specs.Prelude.{not}
+use Rattle.std.proofs.Common.{◌≡◌, true, false, is_some, sym, ap, ◌∙◌, arith}
 use Rattle.std.specs.FinMap as map
-use Rattle.tree_stores.specs.declared.slots.slot.Slot.TheVariants.{Empty}
 use Rattle.tree_stores.specs.Slots.{value_of, map_of}
 use Rattle.tree_stores.specs.Pages.{all_slots}
-use Rattle.tree_stores.specs.Books.{Book, values_of}
+use Rattle.tree_stores.specs.Books.{Book}
 use Rattle.tree_stores.proofs.SlotLemmas.{get_within, emptied_slot, len_emptied, len_kept}
 use Rattle.tree_stores.proofs.slots.pages.Pages.take.Goals as goal
 

@@ -1,0 +1,9 @@
+pub mod Parts
+pub mod Changes
+pub mod Seen
+pub mod Causes
+pub mod Made
+pub mod Going
+pub mod WritesSame
+pub mod WritesPut
+pub mod WritesOpen
