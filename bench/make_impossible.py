@@ -261,12 +261,36 @@ def write_read_in_part(length):
     it = History()
     it.exchange(create(ROOT, b"a"), made(FILE))
     it.call(write(FILE, b"w" * length))
-    it.exchange(read(FILE, 100), bytes_read(b"w" * (length // 2)))
+    it.exchange(read(FILE, max(100, length)), bytes_read(b"w" * (length // 2)))
     return it
 
 
-RIGHT = {"write_of_64_read_in_part": write_read_in_part(64), "write_of_65_read_in_part": write_read_in_part(65)}
-MADE = [torn_read, stale_size, found_after_a_removal, synced_write_lost, committed_write_lost, range_committed_write_lost, data_synced_write_lost,
+def over_a_crash(before, after):
+    """A WRITE is never answered, a READ gives so many of its bytes, and after a crash a READ gives so many: with its number, if it fits."""
+    it = History()
+    it.exchange(create(ROOT, b"a"), made(FILE))
+    it.call(write(FILE, b"w" * 100))
+    it.exchange(read(FILE, 100), bytes_read(b"w" * before))
+    it.crash()
+    it.exchange(lookup(ROOT, b"a"), found(FILE))
+    asked = it.exchange(read(FILE, 100), bytes_read(b"w" * after))
+    return it, asked
+
+
+def open_write_of_two_counts():
+    """A WRITE that got no reply wrote 40 bytes before a crash, and 60 after it: event 10."""
+    history, asked = over_a_crash(40, 60)
+    return history, 10, asked
+
+
+RIGHT = {
+    "write_of_64_read_in_part": write_read_in_part(64),
+    "write_of_65_read_in_part": write_read_in_part(65),
+    "write_of_4096_read_in_part": write_read_in_part(4096),
+    "open_write_kept_over_a_crash": over_a_crash(40, 40)[0],
+    "open_write_lost_in_a_crash": over_a_crash(40, 0)[0],
+}
+MADE = [open_write_of_two_counts, torn_read, stale_size, found_after_a_removal, synced_write_lost, committed_write_lost, range_committed_write_lost, data_synced_write_lost,
         two_verifiers_behind_a_crash, verifier_kept_over_a_loss, two_makers, directory_below_itself, listed_twice]
 
 

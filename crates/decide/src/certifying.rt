@@ -31,15 +31,39 @@ fn era_of(places: Vec<Place>, cut: Option<u64>) -> EraPlan {
     }
 }
 
+/// How many bytes each WRITE without a reply wrote, by what happened.
+fn counts_of(alloc: Global, deeds: &[Deed]) -> Result<BTreeMap<u64, u32>, AllocError> {
+    let mut counts = BTreeMap::new(alloc);
+    for deed in deeds {
+        if let Deed::Counted(call, count) = deed {
+            counts.insert(*call, *count)?;
+        }
+    }
+    Ok(counts)
+}
+
+/// A place, with the bytes that its WRITE wrote.
+fn counted(place: Place, counts: &BTreeMap<u64, u32>) -> Place {
+    match place {
+        Place::Taken(call, Some(_)) => match counts.get(&call) {
+            Some(count) => Place::Taken(call, Some(*count)),
+            None => place,
+        },
+        other => other,
+    }
+}
+
 /// The plans of the eras, the last of which has no cut.
 fn eras_of(alloc: Global, deeds: &[Deed], count: u64) -> Result<ItemList<EraPlan>, AllocError> {
     let mut eras = Vec::new(alloc);
     let mut places = Vec::new(alloc);
     let mut kept = None;
     let mut left = count;
+    let counts = counts_of(alloc, deeds)?;
     for deed in deeds {
         match deed {
-            Deed::Placed(place) => places.push(*place)?,
+            Deed::Placed(place) => places.push(counted(*place, &counts))?,
+            Deed::Counted(..) => {}
             Deed::Cut => kept = Some(places.len() as u64),
             Deed::Ended => {
                 left = left.saturating_sub(1);

@@ -14,7 +14,10 @@ use std::time::{Clock, Instant};
 use witness_check::{Verdict, check_calls};
 
 /// In how many parts the time is taken, of which the first walk gets one.
-const PARTS: u32 = 60;
+const PARTS: u32 = 120;
+
+/// In how many parts the time is taken, of which the walk and the sweeps get one together.
+const SWEPT_PARTS: u32 = 4;
 
 /// How many sweeps are made at most.
 const SWEEPS: u64 = 16;
@@ -73,7 +76,7 @@ impl<'r, R: Clock> SweepWatch for PartOfTime<'r, R> {
     }
 }
 
-/// The certificate that sweeps come to within half the time, if it is a witness.
+/// The certificate that sweeps come to within their part of the time, if it is a witness.
 fn swept<R: Clock + AllocGlobal>(
     rt: &R,
     history: &History,
@@ -84,7 +87,8 @@ fn swept<R: Clock + AllocGlobal>(
     let alloc = rt.alloc();
     let known = history.lend_calls(alloc)?;
     let problem = Problem::new(alloc, &known)?;
-    let mut watch = PartOfTime { rt, term, parts: 2 };
+    let parts = SWEPT_PARTS;
+    let mut watch = PartOfTime { rt, term, parts };
     let Some(plan) = plan_of(alloc, &problem, SWEEPS, &mut watch)? else {
         return Ok(None);
     };

@@ -1,6 +1,6 @@
 //! The walk over the events of a history.
 
-ghost use Rattle.std.specs.Prelude.{◌≡◌, ◌++◌, ◌∷◌, ℕ, List, [], None, IfOk, IfSome};
+ghost use Rattle.std.specs.Prelude.{◌≡◌, ◌++◌, ◌∷◌, ℕ, List, [], None, Contains, IfOk, IfSome};
 ghost use Rattle.decision_core.specs.Times.{Times};
 ghost use Rattle.decision_core.specs.Decide.{IsWitness};
 ghost use Rattle.decision_core.specs.Events.{Tells, IsAdded, IsWithout, IsAnswerStep, IsEventStep, IsAnswer, HasStateBehind};
@@ -72,6 +72,15 @@ fn and_call<R: Drop>(alloc: Global, calls: &[u64], n: u64) -> Result<Vec<u64>, S
     Ok(more)
 }
 
+/// The states from the last to the first. The last have more calls placed, so they may stand for the first ones too.
+fn later_first<S>(states: Vec<S>) -> Vec<S>
+    ensures { (state : S) → Contains states.items state → Contains result.items state }
+{
+    let mut states = states;
+    states.reverse();
+    states
+}
+
 /// What the answer of a call makes of the states and of the open calls.
 fn take_answer<M: Machine, W: Watch>(
     alloc: Global,
@@ -87,7 +96,7 @@ fn take_answer<M: Machine, W: Watch>(
     let left = others(alloc, waiting.as_slice(), n)?;
     let calls = and_call(alloc, left.as_slice(), n)?;
     let extended = extend(alloc, machine, states, calls.as_slice(), n, most, watch)?;
-    let after = forget_in_all(alloc, machine, extended, n, most)?;
+    let after = forget_in_all(alloc, machine, later_first(extended), n, most)?;
     Ok((after, left))
 }
 

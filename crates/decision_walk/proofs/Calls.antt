@@ -28,14 +28,14 @@ module _ (known : KnownCalls) where
 
   module _ (marks : List Bool) where
     -- a call that has no place leads to nothing
-    pub all_of_steps : (states : List WalkView) (state : WalkView) (n : ℕ) (recorded : RecordedCall) → 0 < state.era → n ≤ length known.calls → call_at known.calls n ≡ Some recorded
+    pub all_of_steps : (states : List WalkView) (state : WalkView) (n : ℕ) (recorded : RecordedCall) → 0 < state.era → state.era ≤ known.eras → n ≤ length known.calls → call_at known.calls n ≡ Some recorded
         → HasAllOf known marks states state n recorded → HasStepOf known marks states n state
-    all_of_steps states state n recorded late inside stands has plan gone point after at kept unplaced (inl real) =
+    all_of_steps states state n recorded late early inside stands has plan gone point after at kept unplaced (inl real) =
         let changes = real.2.1 in
         let same : changes.recorded ≡ recorded = some_is changes.recorded recorded (sym changes.stands ∙ stands) in
         let here : HasAllOf known marks states state n changes.recorded = subst (HasAllOf known marks states state n) (sym same) has in
-        here changes.call changes.outcome changes.judged changes.came_out plan gone point after at kept (record { era = real.1; tree = real.2.0; goes = changes.leads; cut = real.2.2 })
-    all_of_steps states state n recorded late inside stands has plan gone point after at kept unplaced (inr crash) = absurd (omega (arith, crash.0, at.era, late, inside))
+        here changes.call changes.outcome changes.judged changes.came_out plan gone point after at (subst (λ e. e ≤ known.eras) at.era early) kept (record { era = real.1; tree = real.2.0; goes = changes.leads; cut = real.2.2 })
+    all_of_steps states state n recorded late early inside stands has plan gone point after at kept unplaced (inr crash) = absurd (omega (arith, crash.0, at.era, late, inside))
 
     -- of a number that is no call's, or of a call that is of another era, nothing comes
     pub no_call_steps : (states : List WalkView) (state : WalkView) (n : ℕ) → 0 < state.era → n ≤ length known.calls → call_at known.calls n ≡ None → HasStepOf known marks states n state

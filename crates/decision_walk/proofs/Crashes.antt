@@ -1,5 +1,5 @@
 -- a crash goes back to what it keeps
-use Rattle.std.proofs.Common.{◌≡◌, inl, inr, ℕ, ◌+◌, ◌-◌, ◌<◌, leb, Bool, true, List, length, sym, ap, ◌∙◌, arith}
+use Rattle.std.proofs.Common.{◌≡◌, inl, inr, ℕ, ◌+◌, ◌-◌, ◌<◌, leb, Bool, true, List, length, Option, Some, None, sym, ap, ◌∙◌, subst, arith}
 use Rattle.std.specs.Prelude.{◌==◌, unwrap_or, Contains}
 use Rattle.std.specs.List.{list_any}
 use Rattle.std.proofs.lemmas.Bool.{leb-true}
@@ -8,10 +8,22 @@ use Rattle.certificate.specs.declared.plan.Certificate.{Certificate}
 use Rattle.decision_core.specs.Eras.{IsCrash}
 use Rattle.decision_law.specs.Laws.{binds_of}
 use Rattle.decision_law.specs.Machine.{Point, Changes}
-use Rattle.decision_walk.specs.View.{WalkView}
+use Rattle.tree_nodes.specs.Tree.{Tree}
+use Rattle.tree_handles.specs.Binding.{Bindings}
+use Rattle.decision_walk.specs.View.{KeptView, WalkView}
+use Rattle.decision_walk.specs.Opening.{HasWritten, HasWrittenBase}
 use Rattle.decision_walk.specs.Standing.{numbers_of, IsAt}
-use Rattle.decision_walk.specs.Placings.{crashed, HasStepOf}
+use Rattle.decision_walk.specs.Placings.{kept_of, crashed, HasStepOf}
 use Rattle.decision_walk.proofs.PlacedLaws.{told_more}
+
+module _ (known : KnownCalls) (binds : Bindings) (counts : ℕ → ℕ) (here : KeptView) (tree : Tree) (stands : HasWritten known binds counts here.writes here.tree tree) where
+  -- what the crash goes back to
+  back : (base : Option KeptView) (other : Option Tree) → HasWrittenBase known binds counts base other
+      → HasWritten known binds counts (unwrap_or base here).writes (unwrap_or base here).tree (unwrap_or other tree)
+  back None None has = stands
+  back None (Some other) has = absurd has
+  back (Some kept) None has = absurd has
+  back (Some kept) (Some other) has = has
 
 module _ (known : KnownCalls) (marks : List Bool) where
   crashed_at : (plan : Certificate) (gone : ℕ → Bool) (point after : Point known) (state : WalkView) (n : ℕ) → IsAt known marks plan gone point state
@@ -19,11 +31,13 @@ module _ (known : KnownCalls) (marks : List Bool) where
   crashed_at plan gone point after state n at crash =
       let era : after.era ≡ point.era + 1 = ap (λ p. p.era) crash.1 in
       record {
+        counts = at.counts;
         binds = at.binds;
         era = ap (λ e. e + 1) at.era ∙ sym era;
         past = (let within = at.past in omega (arith, within));
-        tree = λ inside. ap (λ b. unwrap_or b state.tree) (at.base (omega (arith, inside, era))) ∙ ap (unwrap_or point.base) (at.tree (omega (arith, inside, era))) ∙ sym (ap (λ p. p.tree) crash.1);
-        base = λ inside. sym (ap (λ p. p.base) crash.1);
+        tree = λ inside. subst (HasWritten known (binds_of known plan) at.counts (unwrap_or state.base (kept_of state)).writes (unwrap_or state.base (kept_of state)).tree) (sym (ap (λ p. p.tree) crash.1))
+            (back known (binds_of known plan) at.counts (kept_of state) point.tree (at.tree (omega (arith, inside, era))) state.base point.base (at.base (omega (arith, inside, era))));
+        base = λ inside. subst (HasWrittenBase known (binds_of known plan) at.counts None) (sym (ap (λ p. p.base) crash.1)) tt;
         answered = at.answered;
         placed = λ m kept. told_more known state.past state.placed point.calls n m (at.placed m kept) ∙ ap (λ p. list_any (λ k. k == m) p.calls) (sym crash.1);
       }

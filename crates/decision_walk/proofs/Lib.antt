@@ -1,5 +1,8 @@
 mod Looks
 mod Attempts
+mod Filling
+mod Resolutions
+mod CountingLaws
 mod MachineLaws
 mod SameCalls
 mod PlacedLaws

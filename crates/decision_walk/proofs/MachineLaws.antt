@@ -12,17 +12,21 @@ use Rattle.decision_law.specs.Laws.{binds_of}
 use Rattle.decision_law.specs.Machine.{Point, first_point}
 use Rattle.decision_law.specs.Times.{era_of_number}
 use Rattle.decision_walk.specs.View.{WalkView}
+use Rattle.decision_walk.specs.Opening.{HasWritten, HasWrittenBase}
 use Rattle.decision_walk.specs.Standing.{has_call, is_of_earlier, EndsBy, IsAt}
+use Rattle.decision_walk.proofs.Resolutions.{none_written}
 
 module _ (known : KnownCalls) (marks : List Bool) where
-  pub opens : (state : WalkView) → state.tree ≡ base_of known → state.base ≡ None → state.era ≡ 1 → state.past ≡ 0 → state.placed ≡ [] → (plan : Certificate)
+  pub opens : (state : WalkView) → state.tree ≡ base_of known → state.writes ≡ [] → state.base ≡ None → state.era ≡ 1 → state.past ≡ 0 → state.placed ≡ [] → (plan : Certificate)
       → AgreesWith state.binds (binds_of known plan) → IsAt known marks plan (λ _. false) (first_point known) state
-  opens state tree base era past placed plan agrees = record {
+  opens state tree writes base era past placed plan agrees = record {
+    counts = λ _. 0;
     binds = agrees;
     era = era;
     past = omega (arith, past);
-    tree = λ inside. tree;
-    base = λ inside. base;
+    tree = λ inside. subst (λ ws. HasWritten known (binds_of known plan) (λ _. 0) ws state.tree (base_of known)) (sym writes)
+        (subst (λ t. HasWritten known (binds_of known plan) (λ _. 0) [] t (base_of known)) (sym tree) (none_written known (binds_of known plan) (λ _. 0) (base_of known)));
+    base = λ inside. subst (λ b. HasWrittenBase known (binds_of known plan) (λ _. 0) b None) (sym base) tt;
     placed = λ n kept. ap (λ p. is_of_earlier known p n || has_call state.placed n) past ∙ ap (λ b. b || has_call state.placed n) (le-ltb (era_of_number known n) 0 (omega arith)) ∙ ap (λ l. has_call l n) placed;
     answered = λ n kept. absurd (true≢false (sym kept));
   }
@@ -39,6 +43,7 @@ module _ (known : KnownCalls) (marks : List Bool) where
   pub forgets : (plan : Certificate) (gone : ℕ → Bool) (point : Point known) (state : WalkView) (n answered_to : ℕ) → state.answered_to ≤ answered_to → EndsBy known n answered_to
       → IsAt known marks plan gone point state → IsAt known marks plan (also gone n) point (record state { placed = filter (λ m. not (m == n)) state.placed; answered_to = answered_to })
   forgets plan gone point state n answered_to later ends at = record {
+    counts = at.counts;
     binds = at.binds;
     era = at.era;
     past = at.past;

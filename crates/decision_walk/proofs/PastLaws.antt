@@ -119,6 +119,7 @@ module _ (known : KnownCalls) where
     at_past : (plan : Certificate) (gone : ℕ → Bool) (point : Point known) (state : WalkView) → IsAt known marks plan gone point state
         → IsAt known marks plan gone (with_calls point (all_past point)) (past_done known state)
     at_past plan gone point state at = record {
+      counts = at.counts;
       binds = at.binds;
       era = at.era;
       past = omega arith;

@@ -64,6 +64,7 @@ module _ (known : KnownCalls) where
     at_settled : (plan : Certificate) (gone : ℕ → Bool) (point : Point known) (state : WalkView) (n : ℕ) → IsAt known marks plan gone point state
         → IsAt known marks plan gone (beside point n) (settled state n)
     at_settled plan gone point state n at = record {
+      counts = at.counts;
       binds = at.binds;
       era = at.era;
       past = at.past;

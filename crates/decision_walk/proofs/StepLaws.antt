@@ -1,5 +1,5 @@
 -- the parts of a step put together
-use Rattle.std.proofs.Common.{◌≡◌, inl, inr, ℕ, ◌+◌, ◌≤◌, Bool, true, List, [], ◌∷◌, length, Option, Some, None, Result, Ok, Err, IfOk, ◌++◌, refl, sym, ◌∙◌, subst, arith}
+use Rattle.std.proofs.Common.{◌≡◌, inl, inr, ℕ, ◌+◌, ◌≤◌, Bool, true, List, [], ◌∷◌, Option, Some, None, Result, Ok, Err, IfOk, ◌++◌, refl, sym, ◌∙◌, subst, arith}
 use Rattle.std.specs.Prelude.{Contains}
 use Rattle.std.proofs.lemmas.Bool.{cases_order}
 use Rattle.std.proofs.lemmas.List.Elements.{Contains-append_left, Contains-append_right}
@@ -11,12 +11,11 @@ use Rattle.nfs_history.specs.declared.recorded.RecordedCall.{RecordedCall}
 use Rattle.nfs_history.specs.declared.knowing.KnownCalls.{KnownCalls}
 use Rattle.order_check.specs.Places.{may_take}
 use Rattle.decision_core.specs.Layers.{Grows}
-use Rattle.file_tree.specs.Setting.{next_in}
-use Rattle.decision_law.specs.Laws.{binds_of}
 use Rattle.decision_law.specs.Machine.{MayComeOut}
 use Rattle.decision_steps.specs.Standing.{Standing}
+use Rattle.decision_walk.specs.declared.open_writes.OpenWrite.{OpenWrite}
 use Rattle.decision_walk.specs.View.{WalkView}
-use Rattle.decision_walk.specs.Placings.{child_of, CoversPlans, HasChildren, HasPlaced, HasCounts, HasTaken, HasAllOf, MayNotLose}
+use Rattle.decision_walk.specs.Placings.{kept_of, child_of, CoversPoints, HasChildren, HasPlaced, HasCounts, HasTaken, HasAllOf, MayNotLose}
 
 pub grows_self : (states : List WalkView) → Grows states states
 grows_self states s there = there
@@ -39,31 +38,29 @@ module _ (known : KnownCalls) where
   module _ (marks : List Bool) where
     pub placed_kept : (old new : List WalkView) (state : WalkView) (n : ℕ) (call : NfsCall) (outcome : Outcome) → Grows old new → HasPlaced known marks old state n call outcome
         → HasPlaced known marks new state n call outcome
-    placed_kept old new state n call outcome grows has plan gone point after at kept comes = let found = has plan gone point after at kept comes in (found.0, grows found.0 found.1, found.2)
+    placed_kept old new state n call outcome grows has plan gone point after at inside kept comes = let found = has plan gone point after at inside kept comes in (found.0, grows found.0 found.1, found.2)
 
-    pub none_placed : (states : List WalkView) (state : WalkView) (n : ℕ) (call : NfsCall) (outcome : Outcome) → state.era ≤ known.eras → CoversPlans known state n call outcome None
+    pub none_placed : (states : List WalkView) (state : WalkView) (n : ℕ) (call : NfsCall) (outcome : Outcome) → CoversPoints known marks state n call outcome None
         → HasPlaced known marks states state n call outcome
-    none_placed states state n call outcome inside none plan gone point after at kept comes =
-        absurd (none plan comes.tree at.binds (subst (λ t. next_in known.head.profile (length known.head.start) (binds_of known plan) t n call outcome ≡ Some comes.tree)
-        (sym (at.tree (subst (λ e. e ≤ known.eras) at.era inside))) comes.goes))
+    none_placed states state n call outcome none plan gone point after at inside kept comes = absurd (none plan gone point at inside comes.tree comes.goes)
 
     -- ---- the children
 
-    pub with_base : (states : List WalkView) (state : WalkView) (n : ℕ) (next : Standing) → (state.base ≡ None → ⊥) → Contains states (child_of state next state.base n)
-        → HasChildren known marks states state n next
-    with_base states state n next some child = (child, λ none early. absurd (some none))
+    pub with_base : (states : List WalkView) (state : WalkView) (n : ℕ) (next : Standing) (writes : List OpenWrite) → (state.base ≡ None → ⊥) → Contains states (child_of state next writes state.base n)
+        → HasChildren known marks states state n next writes
+    with_base states state n next writes some child = (child, λ none early. absurd (some none))
 
-    pub in_last_era : (states : List WalkView) (state : WalkView) (n : ℕ) (next : Standing) → known.eras ≤ state.era → Contains states (child_of state next state.base n)
-        → HasChildren known marks states state n next
-    in_last_era states state n next last child = (child, λ none early. absurd (omega (arith, last, early)))
+    pub in_last_era : (states : List WalkView) (state : WalkView) (n : ℕ) (next : Standing) (writes : List OpenWrite) → known.eras ≤ state.era
+        → Contains states (child_of state next writes state.base n) → HasChildren known marks states state n next writes
+    in_last_era states state n next writes last child = (child, λ none early. absurd (omega (arith, last, early)))
 
-    pub never_lost : (states : List WalkView) (state : WalkView) (n : ℕ) (next : Standing) → MayNotLose known marks state n
-        → Contains states (child_of state next state.base n) → HasChildren known marks states state n next
-    never_lost states state n next stays child = (child, λ none early. inl stays)
+    pub never_lost : (states : List WalkView) (state : WalkView) (n : ℕ) (next : Standing) (writes : List OpenWrite) → MayNotLose known marks state n
+        → Contains states (child_of state next writes state.base n) → HasChildren known marks states state n next writes
+    never_lost states state n next writes stays child = (child, λ none early. inl stays)
 
-    pub as_first_lost : (old new : List WalkView) (state : WalkView) (n : ℕ) (next : Standing) → Grows old new → Contains old (child_of state next state.base n)
-        → Contains new (child_of state next (Some state.tree) n) → HasChildren known marks new state n next
-    as_first_lost old new state n next grows child lost = (grows (child_of state next state.base n) child, λ none early. inr lost)
+    pub as_first_lost : (old new : List WalkView) (state : WalkView) (n : ℕ) (next : Standing) (writes : List OpenWrite) → Grows old new → Contains old (child_of state next writes state.base n)
+        → Contains new (child_of state next writes (Some (kept_of state)) n) → HasChildren known marks new state n next writes
+    as_first_lost old new state n next writes grows child lost = (grows (child_of state next writes state.base n) child, λ none early. inr lost)
 
     -- ---- calls that are taken
 

@@ -13,6 +13,7 @@ use Rattle.decision_law.specs.Machine.{Point}
 use Rattle.decision_law.specs.NeverLost.{Hints}
 use Rattle.decision_law.specs.Times.{numbering_of, era_of_number}
 use Rattle.decision_walk.specs.View.{WalkView}
+use Rattle.decision_walk.specs.Opening.{HasWritten, HasWrittenBase}
 
 -- whether call n is one of those that are marked
 abbrev pub is_marked : List Bool → ℕ → Bool
@@ -50,13 +51,15 @@ pub record EndsAfter (known : KnownCalls) (n event : ℕ) : Type 0 where
   pub ended : recorded.«end» ≡ Some at
   pub later : event < at
 
--- the state stands for the plan's point, where it may have forgotten of these calls whether they are placed. In the last era no cut is
--- asked for, since no call comes after the crash that ends it; after the last one no tree
+-- the state stands for the plan's point, where it may have forgotten of these calls whether they are placed: the open WRITEs have counts with
+-- which its trees are the point's. In the last era no cut is asked for, since no call comes after the crash that ends it; after the last one no
+-- tree
 pub record IsAt (known : KnownCalls) (marks : List Bool) (plan : Certificate) (gone : ℕ → Bool) (point : Point known) (state : WalkView) : Type 0 where
+  pub counts : ℕ → ℕ
   pub binds : AgreesWith state.binds (binds_of known plan)
   pub era : state.era ≡ point.era
   pub past : state.past ≤ state.era
-  pub tree : point.era ≤ known.eras → state.tree ≡ point.tree
-  pub base : point.era < known.eras → state.base ≡ point.base
+  pub tree : point.era ≤ known.eras → HasWritten known (binds_of known plan) counts state.writes state.tree point.tree
+  pub base : point.era < known.eras → HasWrittenBase known (binds_of known plan) counts state.base point.base
   pub placed : (n : ℕ) → gone n ≡ false → is_told known state n ≡ is_placed point n
   pub answered : (n : ℕ) → gone n ≡ true → EndsBy known n state.answered_to

@@ -5,13 +5,21 @@ use Rattle.std.specs.Coded.{Coded, code_by, coded×, coded_list, coded_option, c
 use Rattle.tree_nodes.specs.Tree.{Tree}
 use Rattle.tree_handles.specs.Binding.{Bindings}
 use Rattle.decision_steps.specs.Standing.{tree_code, bindings_code}
+use Rattle.decision_walk.specs.declared.open_writes.OpenWrite.{OpenWrite}
 
--- the tree, the handles that are bound, the tree to which the era's crash goes back once a call is lost, the era, from which era on the
--- calls are listed that are placed (earlier ones count as placed), these calls, and by which event each forgotten call was answered
+-- a tree, and the WRITEs of which it is open how many bytes they wrote: the tree is that without them
+pub record KeptView : Type 0 where
+  pub tree : Tree
+  pub writes : List OpenWrite
+
+-- the tree, the WRITEs that are open in it, the handles that are bound, what the era's crash goes back to once a call is lost, the era,
+-- from which era on the calls are listed that are placed (earlier ones count as placed), these calls, and by which event each forgotten
+-- call was answered
 pub record WalkView : Type 0 where
   pub tree : Tree
+  pub writes : List OpenWrite
   pub binds : Bindings
-  pub base : Option Tree
+  pub base : Option KeptView
   pub era : ℕ
   pub past : ℕ
   pub placed : List ℕ
@@ -19,8 +27,15 @@ pub record WalkView : Type 0 where
 
 -- ---- for the prover: how these are told apart
 
+abbrev pub write_code : Coded OpenWrite
+write_code = code_by (ℕ × (ℕ × (ℕ × ℕ))) (coded× coded_ℕ (coded× coded_ℕ (coded× coded_ℕ coded_ℕ))) (λ (w : OpenWrite). (w.call, (w.object, (w.least, w.most))))
+    (λ p. record { call = p.0; object = p.1.0; least = p.1.1.0; most = p.1.1.1 }) (λ _. refl)
+
+abbrev pub kept_code : Coded KeptView
+kept_code = code_by (Tree × List OpenWrite) (coded× tree_code (coded_list write_code)) (λ k. (k.tree, k.writes)) (λ p. record { tree = p.0; writes = p.1 }) (λ _. refl)
+
 abbrev pub view_code : Coded WalkView
-view_code = code_by (Tree × (Bindings × (Option Tree × (ℕ × (ℕ × (List ℕ × ℕ))))))
-    (coded× tree_code (coded× bindings_code (coded× (coded_option tree_code) (coded× coded_ℕ (coded× coded_ℕ (coded× (coded_list coded_ℕ) coded_ℕ))))))
-    (λ v. (v.tree, (v.binds, (v.base, (v.era, (v.past, (v.placed, v.answered_to)))))))
-    (λ p. record { tree = p.0; binds = p.1.0; base = p.1.1.0; era = p.1.1.1.0; past = p.1.1.1.1.0; placed = p.1.1.1.1.1.0; answered_to = p.1.1.1.1.1.1 }) (λ _. refl)
+view_code = code_by (Tree × (List OpenWrite × (Bindings × (Option KeptView × (ℕ × (ℕ × (List ℕ × ℕ)))))))
+    (coded× tree_code (coded× (coded_list write_code) (coded× bindings_code (coded× (coded_option kept_code) (coded× coded_ℕ (coded× coded_ℕ (coded× (coded_list coded_ℕ) coded_ℕ)))))))
+    (λ v. (v.tree, (v.writes, (v.binds, (v.base, (v.era, (v.past, (v.placed, v.answered_to))))))))
+    (λ p. record { tree = p.0; writes = p.1.0; binds = p.1.1.0; base = p.1.1.1.0; era = p.1.1.1.1.0; past = p.1.1.1.1.1.0; placed = p.1.1.1.1.1.1.0; answered_to = p.1.1.1.1.1.1.1 }) (λ _. refl)

@@ -1,13 +1,16 @@
 //! The states that come of placing a call.
 
-ghost use Rattle.std.specs.Prelude.{◌≡◌, ◌≤◌, false, option_map, Contains, IfOk, IsTrue};
+ghost use Rattle.std.specs.Prelude.{◌≡◌, false, Contains, IfOk, IsTrue};
 ghost use Rattle.certificate.specs.Plan.{call_of};
 ghost use Rattle.decision_core.specs.Layers.{Grows};
-ghost use Rattle.decision_steps.specs.Standing.{Standing};
-ghost use Rattle.decision_walk.specs.Placings.{child_of, HasChildren, HasPlaced, IsMissing, MayNotLose};
+ghost use Rattle.decision_walk.specs.Placings.{child_of, CoversPoints, HasChildren, HasPlaced, IsMissing, MayNotLose, MakesNoneOpen};
 
 use crate::call_lists::{has_call, is_marked};
+use crate::eras::way_lost;
+use crate::kept_tree::KeptTree;
 use crate::machine::HistoryMachine;
+use crate::open_writes::{OpenWrite, open_at};
+use crate::settling::may_change;
 use crate::walk_state::WalkState;
 use crate::why::Why;
 use certificate::Place;
@@ -21,12 +24,13 @@ fn put_child(
     state: &WalkState,
     place: Place,
     next: &State,
-    base: Option<State>,
+    writes: &[OpenWrite],
+    base: Option<KeptTree>,
 ) -> Result<(), Stop<Why>>
     ensures { IfOk result (λ _. Grows states.old.items states.new.items
-        × Contains states.new.items (child_of state.now next.now (option_map (λ (b : Standing). b.tree) base) (call_of place))) }
+        × Contains states.new.items (child_of state.now next.now writes.now base (call_of place))) }
 {
-    let child = state.child(place, next, base)?;
+    let child = state.child(place, next, writes, base)?;
     if states.push(child).is_err() {
         return Err(Stop::NoMemory);
     }
@@ -78,16 +82,17 @@ impl<'h> HistoryMachine<'h> {
     }
 
     /// Puts the states there in which the call is placed: as it stands to the cut, and as the first that is lost, where it may be.
-    fn put_children(
+    pub(crate) fn put_children(
         &self,
         states: &mut Vec<WalkState>,
         state: &WalkState,
         place: Place,
         next: &State,
+        writes: &[OpenWrite],
     ) -> Result<(), Stop<Why>>
-        ensures { IfOk result (λ _. Grows states.old.items states.new.items × HasChildren self.now.history.now.known self.now.marks.items states.new.items state.now (call_of place) next.now) }
+        ensures { IfOk result (λ _. Grows states.old.items states.new.items × HasChildren self.now.history.now.known self.now.marks.items states.new.items state.now (call_of place) next.now writes.now) }
     {
-        put_child(states, state, place, next, state.copy_base()?)?;
+        put_child(states, state, place, next, writes, state.copy_base()?)?;
         if state.base.is_some() {
             return Ok(());
         }
@@ -97,7 +102,52 @@ impl<'h> HistoryMachine<'h> {
         if !self.may_lose(state, place.number()) {
             return Ok(());
         }
-        put_child(states, state, place, next, Some(state.stands.copy()?))
+        put_child(states, state, place, next, writes, Some(state.kept()?))
+    }
+
+    /// Tries a call, which came out so and comes to the file of no open WRITE, in a state. Nothing is found where no plan lets it come out so
+    /// there.
+    pub(crate) fn try_apart(
+        &self,
+        state: &WalkState,
+        place: Place,
+        call: &NfsCall,
+        outcome: &Outcome,
+    ) -> Result<Option<State>, Stop<Why>>
+        ensures { IfOk result (λ found. CoversPoints self.now.history.now.known self.now.marks.items state.now (call_of place) call.now outcome.now found) }
+    {
+        let n = place.number();
+        if self.write_touched(state, n, call, outcome)?.is_some() || self.makes_open(state, n) {
+            return Err(way_lost());
+        }
+        self.try_call(state, place, call, outcome)
+    }
+
+    /// Whether the object that a call makes, if it makes one, is that of an open WRITE's file.
+    pub(crate) fn makes_open(&self, state: &WalkState, n: u64) -> bool
+        ensures { result ≡ false → MakesNoneOpen self.now.history.now.known state.now n }
+    {
+        match self.object_made(n) {
+            Some(object) => open_at(state.writes.as_slice(), object).is_some(),
+            None => true,
+        }
+    }
+
+    /// Puts all states there to which placing the call, which came out so, may lead, where it comes to the file of no open WRITE.
+    pub(crate) fn place_apart(
+        &self,
+        states: &mut Vec<WalkState>,
+        state: &WalkState,
+        place: Place,
+        call: &NfsCall,
+        outcome: &Outcome,
+    ) -> Result<(), Stop<Why>>
+        ensures { IfOk result (λ _. Grows states.old.items states.new.items × HasPlaced self.now.history.now.known self.now.marks.items states.new.items state.now (call_of place) call.now outcome.now) }
+    {
+        match self.try_apart(state, place, call, outcome)? {
+            Some(next) => self.put_children(states, state, place, &next, state.writes.as_slice()),
+            None => Ok(()),
+        }
     }
 
     /// Puts all states there to which placing the call, which came out so, may lead.
@@ -109,12 +159,16 @@ impl<'h> HistoryMachine<'h> {
         call: &NfsCall,
         outcome: &Outcome,
     ) -> Result<(), Stop<Why>>
-        requires { state.now.era ≤ self.now.history.now.known.eras }
         ensures { IfOk result (λ _. Grows states.old.items states.new.items × HasPlaced self.now.history.now.known self.now.marks.items states.new.items state.now (call_of place) call.now outcome.now) }
     {
-        match self.try_call(state, place, call, outcome)? {
-            Some(next) => self.put_children(states, state, place, &next),
-            None => Ok(()),
+        let n = place.number();
+        let Some(one) = self.write_touched(state, n, call, outcome)? else {
+            return self.place_apart(states, state, place, call, outcome);
+        };
+        if may_change(call) {
+            self.place_changing(states, state, one, place, call, outcome)
+        } else {
+            self.place_looking(states, state, one, place, call, outcome)
         }
     }
 }

@@ -13,13 +13,15 @@ const MOST_OWN: usize = 64;
 pub enum Deed {
     /// A call was placed.
     Placed(Place),
-    /// What comes behind it in its era is lost.
+    /// A WRITE that is placed, and has no reply, wrote so many bytes, whatever its place says.
+    Counted(u64, u32),
+    /// What comes after it in its era is lost.
     Cut,
     /// The era ended.
     Ended,
 }
 
-/// Deeds, one behind the other.
+/// Deeds, one after the other.
 #[derive(Drop)]
 pub(crate) struct Deeds {
     alloc: Global,
@@ -51,7 +53,7 @@ impl Deeds {
         })
     }
 
-    /// Puts one behind the others.
+    /// Puts one after the others.
     pub(crate) fn push(&mut self, deed: Deed) -> Result<(), AllocError> {
         if self.own.len() >= MOST_OWN {
             let full = mem::replace(&mut self.own, Vec::new(self.alloc));

@@ -1,7 +1,8 @@
 //! Steps of a walk that goes on where it isn't decided what a call may lead to: only to find where a certificate may be.
 
-ghost use Rattle.std.specs.Prelude.{◌≡◌, None, IfSome};
+ghost use Rattle.std.specs.Prelude.{◌≡◌, None, IfSome, option_copied};
 ghost use Rattle.tree_handles.specs.Binding.{object_of};
+ghost use Rattle.decision_walk.specs.Opening.{call_of_history};
 
 use crate::machine::HistoryMachine;
 use crate::stepping::bytes_brought;
@@ -15,7 +16,9 @@ use tree_answers::{first_handle, second_handle};
 
 impl<'h> HistoryMachine<'h> {
     /// The judged call of this number.
-    fn judged(&self, n: u64) -> Option<&NfsCall> {
+    pub(crate) fn judged(&self, n: u64) -> Option<&NfsCall>
+        ensures { option_copied result ≡ call_of_history self.now.history.now.known n }
+    {
         let recorded = self.history.find_call(n)?;
         match &recorded.meaning {
             Meaning::Judged(call) => Some(call),

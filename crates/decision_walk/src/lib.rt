@@ -4,14 +4,18 @@
 mod attempt;
 mod call_lists;
 mod children;
+mod counting;
 mod deeds;
 mod eras;
 mod guessing;
 mod handles;
+mod kept_tree;
 mod machine;
+mod open_writes;
 mod same;
 mod settling;
 mod stepping;
+mod touching;
 mod walk_state;
 mod why;
 

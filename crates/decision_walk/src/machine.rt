@@ -9,7 +9,6 @@ ghost use Rattle.decision_law.specs.Laws.{binds_of};
 ghost use Rattle.decision_law.specs.Machine.{Changes, Next, first_point};
 ghost use Rattle.decision_walk.specs.Standing.{IsAt, hints_of, numbers_of};
 
-use crate::same::is_same_state;
 use crate::walk_state::WalkState;
 use crate::why::Why;
 use decision_core::{Machine, Stop};
@@ -94,7 +93,7 @@ impl<'h> Machine for HistoryMachine<'h> {
     }
 
     fn is_same(&self, state: &WalkState, other: &WalkState) -> bool {
-        is_same_state(state, other)
+        self.is_covered(state, other)
     }
 
     fn hash(&self, state: &WalkState) -> u64 {

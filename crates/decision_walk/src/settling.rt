@@ -78,6 +78,9 @@ impl<'h> HistoryMachine<'h> {
         let Some(object) = self.object_made(n) else {
             return Ok(false);
         };
+        if self.is_touched(state, n, call, outcome) {
+            return Ok(false);
+        }
         let profile = self.history.profile();
         Ok(
             state

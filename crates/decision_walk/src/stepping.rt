@@ -4,6 +4,7 @@ ghost use Rattle.std.specs.Prelude.{◌≡◌, ◌<◌, ◌≤◌, IfOk, Some, l
 ghost use Rattle.nfs_history.specs.Precedence.{call_at};
 ghost use Rattle.nfs3_types.specs.declared.replies.Outcome.{Outcome};
 ghost use Rattle.decision_core.specs.Layers.{Grows};
+ghost use Rattle.decision_walk.specs.Opening.{call_of_history};
 ghost use Rattle.decision_walk.specs.Placings.{bytes_brought, HasPlaced, HasCounts, HasTaken, HasAllOf, HasStepOf, HasStepsOf};
 
 use crate::eras::way_lost;
@@ -39,7 +40,6 @@ impl<'h> HistoryMachine<'h> {
         call: &NfsCall,
         counts: u32,
     ) -> Result<(), Stop<Why>>
-        requires { state.now.era ≤ self.now.history.now.known.eras }
         ensures { IfOk result (λ _. Grows states.old.items states.new.items × HasCounts self.now.history.now.known self.now.marks.items states.new.items state.now n call.now counts) }
     {
         for count in 0..counts {
@@ -58,7 +58,7 @@ impl<'h> HistoryMachine<'h> {
         n: u64,
         call: &NfsCall,
     ) -> Result<(), Stop<Why>>
-        requires { state.now.era ≤ self.now.history.now.known.eras }
+        requires { call_of_history self.now.history.now.known n ≡ Some call.now }
         ensures { IfOk result (λ _. Grows states.old.items states.new.items × HasTaken self.now.history.now.known self.now.marks.items states.new.items state.now n call.now) }
     {
         if !may_change(call) {
@@ -66,6 +66,12 @@ impl<'h> HistoryMachine<'h> {
         }
         match bytes_brought(call) {
             Some(brought) => {
+                if self.place_open(states, state, n, call)? {
+                    return Ok(());
+                }
+                if self.writes_nowhere(state, n, call) {
+                    return Ok(());
+                }
                 if brought > MOST_BYTES {
                     return Err(Stop::NotCovered(Why::LongWrite(n)));
                 }
@@ -88,7 +94,6 @@ impl<'h> HistoryMachine<'h> {
         recorded: &RecordedCall,
         call: &NfsCall,
     ) -> Result<(), Stop<Why>>
-        requires { state.now.era ≤ self.now.history.now.known.eras }
         ensures { IfOk result (λ _. Grows states.old.items states.new.items
             × ((outcome : Outcome) → recorded.now.outcome ≡ Some outcome → HasPlaced self.now.history.now.known self.now.marks.items states.new.items state.now n call.now outcome)) }
     {
@@ -109,7 +114,7 @@ impl<'h> HistoryMachine<'h> {
         n: u64,
         recorded: &RecordedCall,
     ) -> Result<(), Stop<Why>>
-        requires { state.now.era ≤ self.now.history.now.known.eras }
+        requires { call_at self.now.history.now.known.calls n ≡ Some recorded.now }
         ensures { IfOk result (λ _. Grows states.old.items states.new.items × HasAllOf self.now.history.now.known self.now.marks.items states.new.items state.now n recorded.now) }
     {
         let Meaning::Judged(call) = &recorded.meaning else {

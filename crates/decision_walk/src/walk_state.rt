@@ -1,14 +1,15 @@
 //! A state of a walk: the tree that the calls have led to, and the handles that are bound.
 
-ghost use Rattle.std.specs.Prelude.{◌≡◌, ◌==◌, ◌+◌, ◌++◌, [], ◌∷◌, None, not, filter, option_map, unwrap_or, IfOk};
+ghost use Rattle.std.specs.Prelude.{◌≡◌, ◌==◌, ◌+◌, ◌++◌, [], ◌∷◌, None, not, filter, IfOk};
 ghost use Rattle.certificate.specs.Plan.{call_of};
 ghost use Rattle.tree_handles.specs.Binding.{object_of};
-ghost use Rattle.decision_steps.specs.Standing.{Standing};
-ghost use Rattle.decision_walk.specs.Placings.{child_of, crashed};
+ghost use Rattle.decision_walk.specs.Placings.{kept_of, child_of, crashed, with_trees, narrowed, narrowed_kept};
 ghost use Rattle.decision_walk.specs.Settling.{settled, past_done};
 
 use crate::deeds::{Deed, Deeds};
+use crate::kept_tree::KeptTree;
 use crate::machine::HistoryMachine;
+use crate::open_writes::{OpenWrite, is_open, narrowed_writes};
 use certificate::Place;
 use decision_steps::State;
 use nfs3_types::FileHandle;
@@ -17,9 +18,12 @@ use std::marker::Model;
 
 /// A state: the tree with the handles that are bound, and the tree to which a crash would go back.
 pub struct WalkState {
+    pub(crate) alloc: Global,
     pub(crate) stands: State,
-    /// What the era's crash goes back to, where a call is lost: its tree.
-    pub(crate) base: Option<State>,
+    /// The WRITEs of which it is open how many bytes they wrote, by their numbers: the tree is that without them.
+    pub(crate) writes: Vec<OpenWrite>,
+    /// What the era's crash goes back to, if a call is lost.
+    pub(crate) base: Option<KeptTree>,
     /// The era, from 1 on.
     pub(crate) era: u64,
     /// Calls of earlier eras count as placed, and aren't listed.
@@ -35,7 +39,9 @@ pub struct WalkState {
 impl Drop for WalkState {
     fn drop(self) {
         let WalkState {
+            alloc: _,
             stands,
+            writes,
             base,
             era: _,
             past: _,
@@ -44,6 +50,7 @@ impl Drop for WalkState {
             deeds,
         } = self;
         drop(stands);
+        drop(writes);
         drop(base);
         drop(placed);
         drop(deeds);
@@ -51,8 +58,6 @@ impl Drop for WalkState {
 }
 
 impl Model for WalkState {
-    ghost use Rattle.std.specs.Prelude.{option_map};
-    ghost use Rattle.decision_steps.specs.Standing.{Standing};
     ghost use Rattle.decision_walk.specs.View.{WalkView, view_code};
 
     ghost Value = { WalkView };
@@ -61,8 +66,9 @@ impl Model for WalkState {
 
     ghost view = { λ s. record {
       tree = s.stands.tree;
+      writes = s.writes.items;
       binds = s.stands.binds;
-      base = option_map (λ (b : Standing). b.tree) s.base;
+      base = s.base;
       era = s.era;
       past = s.past;
       placed = s.placed.items;
@@ -71,12 +77,16 @@ impl Model for WalkState {
 }
 
 impl WalkState {
+    ghost use Rattle.std.specs.Prelude.{option_map, unwrap_or};
+
     /// The state before any call.
     pub(crate) fn opening(alloc: Global, stands: State) -> WalkState
-        ensures { result ≡ record { tree = stands.tree; binds = stands.binds; base = None; era = 1; past = 0; placed = []; answered_to = 0 } }
+        ensures { result ≡ record { tree = stands.tree; writes = []; binds = stands.binds; base = None; era = 1; past = 0; placed = []; answered_to = 0 } }
     {
         WalkState {
+            alloc,
             stands,
+            writes: Vec::new(alloc),
             base: None,
             era: 1,
             past: 0,
@@ -86,9 +96,13 @@ impl WalkState {
         }
     }
 
-    /// All that happened.
+    /// All that happened. A WRITE of which it is open how many bytes it wrote has as few as it may have.
     pub fn deeds(&self) -> Result<Vec<Deed>, AllocError> {
-        self.deeds.list()
+        let mut deeds = self.deeds.list()?;
+        for one in &self.writes {
+            deeds.push(Deed::Counted(one.call, one.least))?;
+        }
+        Ok(deeds)
     }
 
     /// The handles that are bound, with their objects, but for the root's.
@@ -97,13 +111,31 @@ impl WalkState {
     }
 
     /// The base, for another state.
-    pub(crate) fn copy_base(&self) -> Result<Option<State>, AllocError>
-        ensures { IfOk result (λ base. option_map (λ (b : Standing). b.tree) base ≡ self.now.base) }
+    pub(crate) fn copy_base(&self) -> Result<Option<KeptTree>, AllocError>
+        ensures { IfOk result (λ base. base ≡ self.now.base) }
     {
         match &self.base {
             Some(base) => Ok(Some(base.copy()?)),
             None => Ok(None),
         }
+    }
+
+    /// The open WRITEs, for another state.
+    fn copy_writes(&self) -> Result<Vec<OpenWrite>, AllocError>
+        ensures { IfOk result (λ writes. writes.items ≡ self.now.writes) }
+    {
+        Vec::from_slice(self.alloc, self.writes.as_slice())
+    }
+
+    /// The tree with its open WRITEs, for another state.
+    pub(crate) fn kept(&self) -> Result<KeptTree, AllocError>
+        ensures { IfOk result (λ kept. kept ≡ kept_of self.now) }
+    {
+        Ok(KeptTree {
+            alloc: self.alloc,
+            stands: self.stands.copy()?,
+            writes: self.copy_writes()?,
+        })
     }
 
     /// The calls that are placed, with one more.
@@ -126,24 +158,99 @@ impl WalkState {
         Ok(deeds)
     }
 
-    /// The state in which a call is placed, which led to this tree and these handles, with this base.
+    /// What happened, with the era's end: an open WRITE that its crash takes away has as few bytes as it may have.
+    fn deeds_and_end(&self) -> Result<Deeds, AllocError> {
+        let mut deeds = self.deeds.copy()?;
+        if let Some(base) = &self.base {
+            for one in &self.writes {
+                if !is_open(base.writes.as_slice(), one.call) {
+                    deeds.push(Deed::Counted(one.call, one.least))?;
+                }
+            }
+        }
+        deeds.push(Deed::Ended)?;
+        Ok(deeds)
+    }
+
+    /// The state in which a call is placed, which led to this tree, with these open WRITEs, and these handles, with this base.
     pub(crate) fn child(
         &self,
         place: Place,
         next: &State,
-        base: Option<State>,
+        writes: &[OpenWrite],
+        base: Option<KeptTree>,
     ) -> Result<WalkState, AllocError>
-        ensures { IfOk result (λ child. child ≡ child_of self.now next.now (option_map (λ (b : Standing). b.tree) base) (call_of place)) }
+        ensures { IfOk result (λ child. child ≡ child_of self.now next.now writes.now base (call_of place)) }
     {
         let deeds = self.deeds_and(place, base.is_some())?;
         Ok(WalkState {
+            alloc: self.alloc,
             stands: next.copy()?,
+            writes: Vec::from_slice(self.alloc, writes)?,
             base,
             era: self.era,
             past: self.past,
             placed: self.placed_and(place.number())?,
             answered_to: self.answered_to,
             deeds,
+        })
+    }
+
+    /// The state with other trees, once this open WRITE wrote so many bytes.
+    pub(crate) fn with_trees(
+        &self,
+        kept: KeptTree,
+        base: Option<KeptTree>,
+        call: u64,
+        count: u32,
+    ) -> Result<WalkState, AllocError>
+        ensures { IfOk result (λ after. after ≡ with_trees self.now kept base) }
+    {
+        let mut deeds = self.deeds.copy()?;
+        deeds.push(Deed::Counted(call, count))?;
+        let stands = self.stands.with_tree_of(&kept.stands)?;
+        Ok(WalkState {
+            alloc: self.alloc,
+            stands,
+            writes: Vec::from_slice(self.alloc, kept.writes.as_slice())?,
+            base,
+            era: self.era,
+            past: self.past,
+            placed: self.placed.clone()?,
+            answered_to: self.answered_to,
+            deeds,
+        })
+    }
+
+    /// The base, where this call wrote no fewer and no more bytes than these.
+    fn narrowed_base(
+        &self,
+        call: u64,
+        least: u32,
+        most: u32,
+    ) -> Result<Option<KeptTree>, AllocError>
+        ensures { IfOk result (λ base. base ≡ option_map (narrowed_kept call least most) self.now.base) }
+    {
+        match &self.base {
+            Some(base) => Ok(Some(base.narrowed(call, least, most)?)),
+            None => Ok(None),
+        }
+    }
+
+    /// The state, where this call wrote no fewer and no more bytes than these.
+    pub(crate) fn narrowed(&self, call: u64, least: u32, most: u32) -> Result<WalkState, AllocError>
+        ensures { IfOk result (λ after. after ≡ narrowed self.now call least most) }
+    {
+        Ok(WalkState {
+            alloc: self.alloc,
+            stands: self.stands.copy()?,
+            writes: narrowed_writes(self.alloc, self.writes.as_slice(), call, least, most)?,
+            base: self.narrowed_base(call, least, most)?,
+            era: self.era,
+            past: self.past,
+            placed: self.placed.clone()?,
+            answered_to: self.answered_to,
+            deeds: self.deeds.copy()?,
         })
     }
 
@@ -157,7 +264,9 @@ impl WalkState {
         requires { object_of self.now.binds handle.now ≡ None }
     {
         Ok(WalkState {
+            alloc: self.alloc,
             stands: self.stands.guess(alloc, handle, object)?,
+            writes: self.copy_writes()?,
             base: self.copy_base()?,
             era: self.era,
             past: self.past,
@@ -167,13 +276,13 @@ impl WalkState {
         })
     }
 
-    /// What the era's crash goes back to, with the handles that are bound now.
-    fn gone_back(&self) -> Result<State, AllocError>
-        ensures { IfOk result (λ back. back ≡ record { tree = unwrap_or self.now.base self.now.tree; binds = self.now.binds }) }
+    /// What the era's crash goes back to.
+    fn gone_back(&self) -> Result<KeptTree, AllocError>
+        ensures { IfOk result (λ back. back ≡ unwrap_or self.now.base (kept_of self.now)) }
     {
         match &self.base {
-            Some(base) => self.stands.with_tree_of(base),
-            None => self.stands.copy(),
+            Some(base) => base.copy(),
+            None => self.kept(),
         }
     }
 
@@ -182,10 +291,12 @@ impl WalkState {
         requires { era ≡ self.now.era + 1 }
         ensures { IfOk result (λ after. after ≡ crashed self.now n) }
     {
-        let mut deeds = self.deeds.copy()?;
-        deeds.push(Deed::Ended)?;
+        let deeds = self.deeds_and_end()?;
+        let back = self.gone_back()?;
         Ok(WalkState {
-            stands: self.gone_back()?,
+            alloc: self.alloc,
+            stands: self.stands.with_tree_of(&back.stands)?,
+            writes: Vec::from_slice(self.alloc, back.writes.as_slice())?,
             base: None,
             era,
             past: self.past,
@@ -200,7 +311,9 @@ impl WalkState {
         ensures { result ≡ record self { placed = filter (λ m. not (m == n)) self.placed; answered_to = answered_to } }
     {
         let WalkState {
+            alloc,
             stands,
+            writes,
             base,
             era,
             past,
@@ -209,7 +322,9 @@ impl WalkState {
             deeds,
         } = self;
         WalkState {
+            alloc,
             stands,
+            writes,
             base,
             era,
             past,
@@ -224,7 +339,9 @@ impl WalkState {
         ensures { IfOk result (λ after. after ≡ settled self n) }
     {
         let WalkState {
+            alloc,
             stands,
+            writes,
             base,
             era,
             past,
@@ -238,7 +355,9 @@ impl WalkState {
             deeds.push(Deed::Placed(Place::Answered(n)))?;
         }
         Ok(WalkState {
+            alloc,
             stands,
+            writes,
             base,
             era,
             past,
@@ -253,7 +372,9 @@ impl WalkState {
         ensures { result ≡ past_done machine.now.history.now.known self }
     {
         let WalkState {
+            alloc,
             stands,
+            writes,
             base,
             era,
             past: _,
@@ -262,7 +383,9 @@ impl WalkState {
             deeds,
         } = self;
         WalkState {
+            alloc,
             stands,
+            writes,
             base,
             era,
             past: era,
@@ -272,14 +395,20 @@ impl WalkState {
         }
     }
 
-    /// A number that is the same of states that are the same.
+    /// A number that is the same of states that are the same, also where some open WRITEs that may have written nothing are of one alone.
     pub(crate) fn digest(&self) -> u64 {
         let mut digest = self.era.wrapping_add(self.stands.number());
         for call in &self.placed {
             digest = digest.wrapping_add(spread(call.wrapping_mul(2)));
         }
         if let Some(base) = &self.base {
-            digest = digest.wrapping_add(spread(base.number()).wrapping_add(1));
+            digest = digest.wrapping_add(spread(base.stands.number()).wrapping_add(1));
+        }
+        for one in &self.writes {
+            if one.least > 0 {
+                let counts = u64::from(one.least) << 32 | u64::from(one.most);
+                digest = digest.wrapping_add(spread(spread(one.call).wrapping_add(counts)));
+            }
         }
         digest
     }

@@ -11,12 +11,13 @@ returns-then-not-may_lose c =
     let known = c.args.self.now.history.now.known in
     let marks = c.args.self.now.marks.items in
     let state = c.args.state.now in
+    let writes = c.args.writes.now in
     let n = call_of c.args.place in
     let new = c.put_child.new.states.items in
     let not : c.may_lose.result ≡ false = search rules in
     let stays : MayNotLose known marks state n = subst (λ k. MayNotLose known marks state k) c.number.ensures (c.may_lose.ensures not) in
-    let there = subst (λ b. Contains new (child_of state c.args.next.now b n)) c.in_ok-copy_base.ensures c.in_ok-put_child.ensures.1 in
-    (c.in_ok-put_child.ensures.0, never_lost known marks new state n c.args.next.now stays there)
+    let there = subst (λ b. Contains new (child_of state c.args.next.now writes b n)) c.in_ok-copy_base.ensures c.in_ok-put_child.ensures.1 in
+    (c.in_ok-put_child.ensures.0, never_lost known marks new state n c.args.next.now writes stays there)
 
 pub returns : goal.returns
 returns c =
@@ -27,13 +28,13 @@ returns c =
     let new = c.put_child-2.new.states.items in
     let state = c.args.state.now in
     let next = c.args.next.now in
+    let writes = c.args.writes.now in
     let n = call_of c.args.place in
-    let there = subst (λ b. Contains middle (child_of state next b n)) c.in_ok-copy_base.ensures c.in_ok-put_child.ensures.1 in
-    let tree : c.in_ok-copy.field-0.tree ≡ state.tree = search rules in
-    if_ok c.put_child-2.result (λ _. Grows middle new × Contains new (child_of state next (Some c.in_ok-copy.field-0.tree) n))
-    (λ _. Grows old new × HasChildren known marks new state n next)
+    let there = subst (λ b. Contains middle (child_of state next writes b n)) c.in_ok-copy_base.ensures c.in_ok-put_child.ensures.1 in
+    if_ok c.put_child-2.result (λ _. Grows middle new × Contains new (child_of state next writes (Some c.in_ok-kept.field-0) n))
+    (λ _. Grows old new × HasChildren known marks new state n next writes)
     (λ _ found. (
       grows_on old middle new c.in_ok-put_child.ensures.0 found.0,
-      as_first_lost known marks middle new state n next found.0 there (subst (λ t. Contains new (child_of state next (Some t) n)) tree found.1),
+      as_first_lost known marks middle new state n next writes found.0 there (subst (λ t. Contains new (child_of state next writes (Some t) n)) c.in_ok-kept.ensures found.1),
     ))
     c.put_child-2.ensures

@@ -14,4 +14,4 @@ returns c =
     let new = c.place_recorded.new.states.items in
     let stands : call_at known.calls c.args.n ≡ Some c.in-Some.recorded.now = search rules in
     if_ok c.place_recorded.result (λ _. Grows old new × HasAllOf known marks new c.args.state.now c.args.n c.in-Some.recorded.now) (λ _. Grows old new × HasStepOf known marks new c.args.n c.args.state.now)
-    (λ _ found. (found.0, all_of_steps known marks new c.args.state.now c.args.n c.in-Some.recorded.now c.requires.late c.requires.call stands found.1)) c.place_recorded.ensures
+    (λ _ found. (found.0, all_of_steps known marks new c.args.state.now c.args.n c.in-Some.recorded.now c.requires.late c.requires.inside c.requires.call stands found.1)) c.place_recorded.ensures
