@@ -53,6 +53,14 @@ fn counted(place: Place, counts: &BTreeMap<u64, u32>) -> Place {
     }
 }
 
+/// Puts a place there, but for a WRITE without a reply that wrote nothing: it needs none.
+fn put_place(places: &mut Vec<Place>, place: Place) -> Result<(), AllocError> {
+    if !matches!(place, Place::Taken(_, Some(0))) {
+        places.push(place)?;
+    }
+    Ok(())
+}
+
 /// The plans of the eras, the last of which has no cut.
 fn eras_of(alloc: Global, deeds: &[Deed], count: u64) -> Result<ItemList<EraPlan>, AllocError> {
     let mut eras = Vec::new(alloc);
@@ -62,7 +70,7 @@ fn eras_of(alloc: Global, deeds: &[Deed], count: u64) -> Result<ItemList<EraPlan
     let counts = counts_of(alloc, deeds)?;
     for deed in deeds {
         match deed {
-            Deed::Placed(place) => places.push(counted(*place, &counts))?,
+            Deed::Placed(place) => put_place(&mut places, counted(*place, &counts))?,
             Deed::Counted(..) => {}
             Deed::Cut => kept = Some(places.len() as u64),
             Deed::Ended => {

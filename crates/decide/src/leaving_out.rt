@@ -1,4 +1,4 @@
-//! A walk that leaves out what isn't decided. It claims nothing: what is left of it is where to look for a certificate.
+//! A quick walk, which leaves out what isn't decided. It claims nothing: what is left of it is where to look for a certificate.
 
 ghost use Rattle.std.specs.Prelude.{false, refl};
 
@@ -6,8 +6,8 @@ use decision_core::{Machine, Stop};
 use decision_walk::{HistoryMachine, WalkState, Why};
 use std::alloc::Global;
 
-/// The machine of a history, in which a step that isn't decided leads nowhere, and a long WRITE without a reply may have written all
-/// its bytes.
+/// The machine of a history, in which states of one number are taken for the same, a step that isn't decided leads nowhere, and a long WRITE without a reply
+/// may have written all its bytes.
 #[derive(Clone, Copy)]
 pub(crate) struct LeavingOut<'m, 'h> {
     alloc: Global,
@@ -88,7 +88,7 @@ impl<'m, 'h> Machine for LeavingOut<'m, 'h> {
     }
 
     fn is_same(&self, state: &WalkState, other: &WalkState) -> bool {
-        self.machine.is_same(state, other)
+        self.machine.hash(state) == self.machine.hash(other)
     }
 
     fn hash(&self, state: &WalkState) -> u64 {

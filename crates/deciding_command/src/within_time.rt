@@ -1,11 +1,11 @@
-//! A decision within so many seconds: a short walk, and where that isn't done, sweeps for a certificate and a walk to the end of the time.
+//! A decision within so many seconds: a short walk, and where that isn't done, sweeps for a certificate, a quick walk for one, and a walk to the end of the time.
 
 ghost use Rattle.std.specs.Prelude.{IfOk, IfSome};
 ghost use Rattle.witness_check.specs.Witness.{IsWitness};
 ghost use Rattle.decide.specs.Decision.{Says};
 
 use certificate::Certificate;
-use decide::{Decision, Undecided, Watch, decide};
+use decide::{Decision, Undecided, Watch, decide, find_witness};
 use nfs_history::History;
 use search_problem::Problem;
 use search_sweeps::{SweepWatch, plan_of};
@@ -16,8 +16,11 @@ use witness_check::{Verdict, check_calls};
 /// In how many parts the time is taken, of which the first walk gets one.
 const PARTS: u32 = 120;
 
-/// In how many parts the time is taken, of which the walk and the sweeps get one together.
-const SWEPT_PARTS: u32 = 4;
+/// In how many parts the time is taken, of which that walk and the sweeps get one together.
+const SWEPT_PARTS: u32 = 8;
+
+/// In how many parts the time is taken, of which all gets one that comes before the last walk.
+const QUICK_PARTS: u32 = 2;
 
 /// How many sweeps are made at most.
 const SWEEPS: u64 = 16;
@@ -98,6 +101,35 @@ fn swept<R: Clock + AllocGlobal>(
     }
 }
 
+/// The certificate that a quick walk comes to within its part of the time, if it is a witness.
+fn walked_quickly<R: Clock + AllocGlobal>(
+    rt: &R,
+    history: &History,
+    effort: Effort,
+    term: Term,
+) -> Result<Option<Certificate>, AllocError>
+    ensures { IfOk result (λ found. IfSome found (IsWitness history.now.known)) }
+{
+    let parts = QUICK_PARTS;
+    let mut watch = PartOfTime { rt, term, parts };
+    find_witness(rt.alloc(), history, effort.states as usize, &mut watch)
+}
+
+/// A certificate that is a witness, by sweeps or by a quick walk.
+fn found<R: Clock + AllocGlobal>(
+    rt: &R,
+    history: &History,
+    effort: Effort,
+    term: Term,
+) -> Result<Option<Certificate>, AllocError>
+    ensures { IfOk result (λ found. IfSome found (IsWitness history.now.known)) }
+{
+    match swept(rt, history, term)? {
+        Some(certificate) => Ok(Some(certificate)),
+        None => walked_quickly(rt, history, effort, term),
+    }
+}
+
 /// What a walk decides that ends when a part of the time is over, of which there are so many.
 fn decide_in_part<R: Clock + AllocGlobal>(
     rt: &R,
@@ -128,7 +160,7 @@ pub(crate) fn decide_within<R: Clock + AllocGlobal>(
     if !matches!(&first, Decision::Undecided(_)) {
         return first;
     }
-    match swept(rt, history, term) {
+    match found(rt, history, effort, term) {
         Ok(Some(certificate)) => Decision::Yes(certificate),
         Ok(None) => {
             if matches!(&first, Decision::Undecided(Undecided::Ended)) {
