@@ -1,5 +1,6 @@
 pub mod SlotLemmas
-pub mod PageLemmas
+pub mod Rows
+pub mod Blocks
 pub mod Orders
 pub mod FewLemmas
 pub mod ManyLemmas

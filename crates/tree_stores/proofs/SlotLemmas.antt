@@ -1,6 +1,6 @@
 -- slots as a map
-use Rattle.std.proofs.Common.{◌≡◌, ◌⊎◌, inl, inr, ℕ, zero, suc, ◌+◌, ◌-◌, ◌<◌, ◌≤◌, Bool, true, false, cond, T, List, [], ◌∷◌, ◌++◌, length, get_or, set, Option, Some, None, is_some, refl, sym, ap, subst, ◌∙◌, zero-add, arith}
-use Rattle.std.specs.Prelude.{◌&&◌, IsSome}
+use Rattle.std.proofs.Common.{◌≡◌, ◌⊎◌, inl, inr, ℕ, zero, suc, ◌+◌, ◌-◌, ◌<◌, ◌≤◌, Bool, true, false, cond, T, List, [], ◌∷◌, length, get_or, set, Option, Some, None, is_some, refl, sym, ap, subst, ◌∙◌, zero-add, arith}
+use Rattle.std.specs.Prelude.{◌&&◌}
 use Rattle.std.specs.declared.cmp.Ordering.{Ordering}
 use Rattle.std.specs.declared.cmp.Ordering.TheVariants.{Less}
 use Rattle.std.specs.Ordering.{nat_cmp, eq_by_cmp, is_lt}
@@ -8,10 +8,10 @@ use Rattle.std.specs.Cmp.{nat_cmp_total, nat_cmp_is, unsigned_tied}
 use Rattle.std.specs.FinMap as map
 use Rattle.std.specs.FinMap.Entries as es
 use Rattle.std.proofs.lemmas.Bool.{cases_eq, cases_lt, eq-eqb, ne_eqb}
-use Rattle.std.proofs.lemmas.List.{get_or-set_same, get_or-set_other, get_or_past, get_or_read}
+use Rattle.std.proofs.lemmas.List.{get_or-set_same, get_or-set_other, get_or_read}
 use Rattle.tree_stores.specs.declared.slots.slot.Slot.{Slot}
 use Rattle.tree_stores.specs.declared.slots.slot.Slot.TheVariants.{Empty, Filled}
-use Rattle.tree_stores.specs.Slots.{value_of, rewritten, entries_from, map_of}
+use Rattle.tree_stores.specs.Slots.{value_of, entries_from, map_of}
 
 same : (m n : ℕ) → m ≡ n → eq_by_cmp nat_cmp m n ≡ true
 same m n e = unsigned_tied m n ∙ eq-eqb m n e
@@ -97,22 +97,13 @@ module _ {V : Type 0} where
   pub map_of_none : map_of {V = V} [] ≡ map.empty
   map_of_none = map.same_map nat_cmp_total map.nat_cmp-IsAntisymmetric _ _ (λ q. map.get-from_sorted nat_cmp [] q tt ∙ sym (map.get-empty nat_cmp q))
 
-  get-map_of : (xs : List (Slot V)) (k : ℕ) → map.get (map_of xs) k ≡ value_of (get_or xs k Empty)
+  pub get-map_of : (xs : List (Slot V)) (k : ℕ) → map.get (map_of xs) k ≡ value_of (get_or xs k Empty)
   get-map_of xs k =
       map.get-from_sorted nat_cmp (entries_from 0 xs) k (rises 0 xs) ∙ ap (λ q. es.find nat_cmp q (entries_from 0 xs)) (sym (zero-add k)) ∙ find_from 0 k xs
 
   -- what a look-up in the slots gives
   pub get_within : (xs : List (Slot V)) (k : ℕ) (s : Slot V) → k < length xs → s ≡ get_or xs k s → map.get (map_of xs) k ≡ value_of s
   get_within xs k s lt e = get-map_of xs k ∙ ap value_of (sym (get_or_read xs k s lt e Empty))
-
-  pub get_past : (xs : List (Slot V)) (k : ℕ) → length xs ≤ k → map.get (map_of xs) k ≡ None
-  get_past xs k le = get-map_of xs k ∙ ap value_of (get_or_past xs k Empty le)
-
-  pub within : (xs : List (Slot V)) (k : ℕ) → IsSome (map.get (map_of xs) k) → k < length xs
-  within xs k there = go (cases_lt k (length xs)) where
-    go : (k < length xs) ⊎ (length xs ≤ k) → k < length xs
-    go (inl lt) = lt
-    go (inr le) = absurd (cc (subst IsSome (get_past xs k le) there))
 
   -- ---- another slot
 
@@ -133,19 +124,6 @@ module _ {V : Type 0} where
   pub emptied_slot : (xs : List (Slot V)) (k : ℕ) → k < length xs → map_of (set xs k Empty) ≡ map.remove (map_of xs) k
   emptied_slot xs k lt = map.same_map nat_cmp_total map.nat_cmp-IsAntisymmetric _ _ (λ q. changed xs k Empty lt q ∙ sym (map.get-remove nat_cmp_total (map_of xs) k q))
 
-  pub value_of-rewritten : (s : Slot V) (v : V) → IsSome (value_of s) → value_of (rewritten s v) ≡ Some v
-  value_of-rewritten Empty v there = absurd (cc)
-  value_of-rewritten (Filled b) v there = refl
-
-  -- one more slot, an empty one
-  entries_from-push : (n : ℕ) (xs : List (Slot V)) → entries_from n (xs ++ Empty ∷ []) ≡ entries_from n xs
-  entries_from-push n [] = refl
-  entries_from-push n (Empty ∷ xs) = entries_from-push (n + 1) xs
-  entries_from-push n (Filled b ∷ xs) = ap (λ z. (n, b) ∷ z) (entries_from-push (n + 1) xs)
-
-  pub map_of-push : (xs : List (Slot V)) → map_of (xs ++ Empty ∷ []) ≡ map_of xs
-  map_of-push xs = ap map.from_sorted (entries_from-push 0 xs)
-
   -- ---- how many
 
   shorter : (n : ℕ) (xs : List (Slot V)) → length (entries_from n xs) ≤ length xs
@@ -159,12 +137,6 @@ module _ {V : Type 0} where
   -- ---- a slot that is written
 
   module _ (xs : List (Slot V)) (k : ℕ) (s : Slot V) (lt : k < length xs) (e : s ≡ get_or xs k s) where
-    pub lent : (v w : V) → value_of s ≡ Some v → map_of (set xs k (rewritten s w)) ≡ map.insert (map_of xs) k w
-    lent v w is = filled_slot xs k (rewritten s w) w lt (value_of-rewritten s w (subst IsSome (sym is) refl))
-
-    pub len_lent : (v w : V) → value_of s ≡ Some v → map.len (map_of (set xs k (rewritten s w))) ≡ map.len (map_of xs)
-    len_lent v w is = ap map.len (lent v w is) ∙ len_stays (map_of xs) k w v (get_within xs k s lt e ∙ is)
-
     pub len_filled : (new : Slot V) (v : V) → value_of new ≡ Some v → is_some (value_of s) ≡ false → map.len (map_of (set xs k new)) ≡ map.len (map_of xs) + 1
     len_filled new v is none = ap map.len (filled_slot xs k new v lt is) ∙ len_one_more (map_of xs) k v (get_within xs k s lt e ∙ none_is (value_of s) none)
 
@@ -180,6 +152,3 @@ module _ {V : Type 0} where
 
     pub len_kept : is_some (value_of s) ≡ false → map.len (map_of (set xs k Empty)) ≡ map.len (map_of xs)
     len_kept none = ap map.len (emptied_slot xs k lt ∙ removed_none (map_of xs) k (get_within xs k s lt e ∙ none_is (value_of s) none))
-
-pub len_of_none : (V : Type 0) → 0 ≡ map.len (map_of {V = V} [])
-len_of_none V = sym (ap map.len (map_of_none {V = V}) ∙ map.len-empty nat_cmp V)

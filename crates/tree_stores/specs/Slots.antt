@@ -12,11 +12,6 @@ module _ {V : Type 0} where
   value_of Empty = None
   value_of (Filled value) = Some value
 
-  -- the slot with another value, where it has one
-  abbrev pub rewritten : Slot V → V → Slot V
-  rewritten Empty value = Empty
-  rewritten (Filled old) value = Filled value
-
   -- the values of slots with their numbers, where the first slot has this number
   abbrev pub entries_from : ℕ → List (Slot V) → List (ℕ × V)
   entries_from number [] = []

@@ -4,9 +4,11 @@ ghost use Rattle.std.specs.Prelude.{◌≡◌, IfOk, OnOk, OnErr, option_copied}
 ghost use Rattle.std.specs.Borrow.{Lends, sem};
 ghost use Rattle.std.specs.FinMap as map;
 
+mod block;
+mod held;
 mod iter;
-mod page;
 mod pages;
+mod row;
 pub(crate) mod slot;
 mod steps;
 
@@ -16,9 +18,10 @@ pub use pages::Pages;
 use std::alloc::{AllocError, Global};
 use std::marker::Model;
 
-/// Values by their numbers, 64 to a page: a look-up costs the same however many there are. Copies share pages, and a change of
-/// one copies the page that it touches, unless nothing else has it. Memory grows with the greatest number, by the room of a value
-/// for each, so a large value belongs behind a pointer. A contract sees the map from numbers to values.
+/// Values by their numbers, 64 to a page and 4,096 to a block: a look-up costs the same however many there are. Copies share blocks.
+/// A change of one copies the page that it touches and the list of that block's pages, unless nothing else has them. A page has room
+/// for 64 values, so a large value belongs behind a pointer; a page or a block with no values takes no memory but its place. A
+/// contract sees the map from numbers to values.
 #[derive(Drop)]
 pub struct Slots<V> {
     pages: Pages<V>,
@@ -55,7 +58,7 @@ impl<V> Slots<V> {
         self.pages.len()
     }
 
-    /// The values with their numbers, by rising number.
+    /// The values with their numbers, by rising number. A page or a block with no values is passed in one step.
     pub fn iter(&self) -> Iter<'_, V>
         ensures { result ≡ map.entries self.now }
     {
@@ -103,7 +106,7 @@ impl<V: Copied> Slots<V> {
         Ok(value)
     }
 
-    /// The same values. It costs a step for each page.
+    /// The same values. It costs a step for each block, of which there is one for each 4,096 numbers up to the greatest.
     pub fn copy(&self) -> Result<Slots<V>, AllocError>
         ensures { IfOk result (λ copy. copy ≡ self.now) }
     {

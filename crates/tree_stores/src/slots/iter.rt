@@ -1,75 +1,164 @@
 //! A walk over the values.
 
-ghost use Rattle.std.specs.Prelude.{◌≡◌, ◌∷◌, [], ◌<◌, ◌^◌, length, MatchOption};
+ghost use Rattle.std.specs.Prelude.{◌≡◌, ◌+◌, ◌*◌, ◌<◌, ◌^◌, ◌∷◌, [], length, MatchOption};
 ghost use Rattle.std.specs.Iterator.{YieldsFirstBy, item_count};
 ghost use Rattle.tree_stores.specs.Slots.{entries_from};
-ghost use Rattle.tree_stores.specs.Pages.{all_slots};
+ghost use Rattle.tree_stores.specs.Pages.{row_in, padded, slots_in, all_slots};
 
-use crate::slots::page::Page;
+use crate::slots::block::{Block, Page, SPAN};
+use crate::slots::row::WIDTH;
 use crate::slots::slot::Slot;
 use std::marker::Model;
 
-/// The slots of one page after the other, seen as the list of those that are left.
+/// The values of a page that are left.
 #[derive(Drop)]
-struct Walk<'a, V> {
+struct InPage<'a, V> {
     slots: &'a [Slot<V>],
-    pages: &'a [Page<V>],
+    /// The number of the first slot that is left.
+    number: u64,
 }
 
-impl<'a, V> Model for Walk<'a, V> {
-    ghost use Rattle.std.specs.Prelude.{List, ◌++◌};
-    ghost use Rattle.tree_stores.specs.declared.slots.slot.Slot.{Slot};
-    ghost use Rattle.tree_stores.specs.Pages.{all_slots};
+impl<'a, V> Model for InPage<'a, V> {
+    ghost use Rattle.std.specs.Prelude.{ℕ, List, length, ◌+◌, ◌<◌, ◌^◌};
 
-    ghost Value = { List (Slot V) };
+    ghost Value = { List (ℕ × V) };
 
-    ghost view = { λ w. w.slots.now ++ all_slots w.pages.now };
+    ghost use Rattle.tree_stores.specs.Slots.{entries_from};
+
+    ghost view = { λ it. entries_from it.number it.slots.now };
+
+    ghost invariant = { λ it. it.number + length it.slots.now < 2 ^ 64 };
 }
 
-impl<'a, V> Walk<'a, V> {
-    /// The next slot.
-    fn step(&mut self) -> Option<&'a Slot<V>>
-        ensures { MatchOption result ((self.old ≡ []) × (self.new ≡ [])) (λ slot. self.old ≡ slot.now ∷ self.new) }
+impl<'a, V> InPage<'a, V> {
+    /// No values.
+    fn none() -> InPage<'a, V>
+        ensures { result ≡ [] }
     {
-        while self.slots.is_empty() {
-            let (page, rest) = self.pages.split_first()?;
-            self.slots = page.as_slice();
-            self.pages = rest;
+        InPage {
+            slots: &[],
+            number: 0,
         }
-        let (slot, rest) = self.slots.split_first()?;
-        self.slots = rest;
-        Some(slot)
+    }
+
+    /// The values of a page whose first slot has this number.
+    fn new(page: &'a Page<V>, number: u64) -> InPage<'a, V>
+        requires { number + 64 < 2 ^ 64 }
+        ensures { result ≡ entries_from number (padded 64 (row_in page.now)) }
+    {
+        InPage {
+            slots: page.row(),
+            number,
+        }
+    }
+
+    /// The next value with its number.
+    fn step(&mut self) -> Option<(u64, &'a V)>
+        ensures { MatchOption result ((self.old ≡ []) × (self.new ≡ [])) (λ item. self.old ≡ (item.0, item.1.now) ∷ self.new) }
+    {
+        while let Some((slot, rest)) = self.slots.split_first() {
+            let number = self.number;
+            self.slots = rest;
+            self.number += 1;
+            if let Some(value) = slot.value() {
+                return Some((number, value));
+            }
+        }
+        None
+    }
+}
+
+/// The values of a block that are left.
+#[derive(Drop)]
+struct InBlock<'a, V> {
+    page: InPage<'a, V>,
+    pages: &'a [Page<V>],
+    /// The number of the first slot of the first page that is left.
+    number: u64,
+}
+
+impl<'a, V> Model for InBlock<'a, V> {
+    ghost use Rattle.std.specs.Prelude.{ℕ, List, length, ◌++◌, ◌+◌, ◌*◌, ◌<◌, ◌^◌};
+
+    ghost Value = { List (ℕ × V) };
+
+    ghost use Rattle.tree_stores.specs.Pages.{page_entries};
+
+    ghost view = { λ it. it.page ++ page_entries it.number it.pages.now };
+
+    ghost invariant = { λ it. it.number + 64 * length it.pages.now < 2 ^ 64 };
+}
+
+impl<'a, V> InBlock<'a, V> {
+    /// No values.
+    fn none() -> InBlock<'a, V>
+        ensures { result ≡ [] }
+    {
+        InBlock {
+            page: InPage::none(),
+            pages: &[],
+            number: 0,
+        }
+    }
+
+    /// The values of a block whose first slot has this number.
+    fn new(block: &'a Block<V>, number: u64) -> InBlock<'a, V>
+        requires { number + 4096 < 2 ^ 64 }
+        ensures { result ≡ entries_from number (padded 4096 (slots_in block.now)) }
+    {
+        InBlock {
+            page: InPage::none(),
+            pages: block.row(),
+            number,
+        }
+    }
+
+    /// The next value with its number. A page with no values is passed in one step.
+    fn step(&mut self) -> Option<(u64, &'a V)>
+        ensures { MatchOption result ((self.old ≡ []) × (self.new ≡ [])) (λ item. self.old ≡ (item.0, item.1.now) ∷ self.new) }
+    {
+        loop {
+            if let Some(item) = self.page.step() {
+                return Some(item);
+            }
+            let (page, rest) = self.pages.split_first()?;
+            self.page = InPage::new(page, self.number);
+            self.pages = rest;
+            self.number += WIDTH as u64;
+        }
     }
 }
 
 /// The values with their numbers, by rising number, seen as the list of those that are left.
 #[derive(Drop)]
 pub struct Iter<'a, V> {
-    walk: Walk<'a, V>,
-    /// The number of the first slot that is left.
+    block: InBlock<'a, V>,
+    blocks: &'a [Block<V>],
+    /// The number of the first slot of the first block that is left.
     number: u64,
 }
 
 impl<'a, V> Model for Iter<'a, V> {
-    ghost use Rattle.std.specs.Prelude.{ℕ, ◌+◌, ◌^◌, ◌<◌, List, length};
+    ghost use Rattle.std.specs.Prelude.{ℕ, List, length, ◌++◌, ◌+◌, ◌*◌, ◌<◌, ◌^◌};
 
     ghost Value = { List (ℕ × V) };
 
-    ghost use Rattle.tree_stores.specs.Slots.{entries_from};
+    ghost use Rattle.tree_stores.specs.Pages.{block_entries};
 
-    ghost view = { λ it. entries_from it.number it.walk };
+    ghost view = { λ it. it.block ++ block_entries it.number it.blocks.now };
 
-    ghost invariant = { λ it. it.number + length it.walk < 2 ^ 64 };
+    ghost invariant = { λ it. it.number + 4096 * length it.blocks.now < 2 ^ 64 };
 }
 
 impl<'a, V> Iter<'a, V> {
-    /// A walk over the values of pages.
-    pub(crate) fn new(pages: &'a [Page<V>]) -> Iter<'a, V>
-        requires { length (all_slots pages.now) < 2 ^ 64 }
-        ensures { result ≡ entries_from 0 (all_slots pages.now) }
+    /// A walk over the values of blocks.
+    pub(crate) fn new(blocks: &'a [Block<V>]) -> Iter<'a, V>
+        requires { 4096 * length blocks.now < 2 ^ 64 }
+        ensures { result ≡ entries_from 0 (all_slots blocks.now) }
     {
         Iter {
-            walk: Walk { slots: &[], pages },
+            block: InBlock::none(),
+            blocks,
             number: 0,
         }
     }
@@ -83,13 +172,14 @@ impl<'a, V> Iterator for Iter<'a, V> {
     ghost remaining = { item_count (λ rest. rest) };
 
     fn next(&mut self) -> Option<(u64, &'a V)> {
-        while let Some(slot) = self.walk.step() {
-            let number = self.number;
-            self.number += 1;
-            if let Some(value) = slot.value() {
-                return Some((number, value));
+        loop {
+            if let Some(item) = self.block.step() {
+                return Some(item);
             }
+            let (block, rest) = self.blocks.split_first()?;
+            self.block = InBlock::new(block, self.number);
+            self.blocks = rest;
+            self.number += SPAN as u64;
         }
-        None
     }
 }

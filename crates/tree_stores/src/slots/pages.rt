@@ -5,10 +5,10 @@ ghost use Rattle.std.specs.FinMap as map;
 ghost use Rattle.tree_stores.specs.Books.{IsOwn};
 
 use crate::shared::Copied;
+use crate::slots::block::Block;
 use crate::slots::iter::Iter;
-use crate::slots::page::Page;
 use crate::slots::slot::Slot;
-use crate::slots::steps::{copy_pages, own_page, share_page, swap_slot, value_at};
+use crate::slots::steps::{copy_blocks, own_at, share_at, swap_at, value_at};
 use std::alloc::{AllocError, Global};
 use std::marker::Model;
 
@@ -18,7 +18,7 @@ use std::marker::Model;
 #[derive(Drop)]
 pub struct Pages<V> {
     alloc: Global,
-    pages: Vec<Page<V>>,
+    blocks: Vec<Block<V>>,
     /// How many slots have a value.
     filled: usize,
 }
@@ -30,9 +30,9 @@ impl<V> Model for Pages<V> {
 
     ghost coded = { book_code V.code };
 
-    ghost view = { λ s. book_of s.pages.items };
+    ghost view = { λ s. book_of s.blocks.items };
 
-    ghost invariant = { λ s. AreCounted s.pages.items s.filled };
+    ghost invariant = { λ s. AreCounted s.blocks.items s.filled };
 }
 
 impl<V> Pages<V> {
@@ -42,7 +42,7 @@ impl<V> Pages<V> {
     {
         Pages {
             alloc,
-            pages: Vec::new(alloc),
+            blocks: Vec::new(alloc),
             filled: 0,
         }
     }
@@ -58,14 +58,14 @@ impl<V> Pages<V> {
     pub(crate) fn iter(&self) -> Iter<'_, V>
         ensures { result ≡ map.entries self.now.map }
     {
-        Iter::new(self.pages.as_slice())
+        Iter::new(self.blocks.as_slice())
     }
 
     /// The value of a number.
     pub fn get(&self, number: u64) -> Option<&V>
         ensures value { option_copied result ≡ map.get self.now.map number }
     {
-        value_at(self.pages.as_slice(), number)
+        value_at(self.blocks.as_slice(), number)
     }
 
     /// Takes the value of a number out.
@@ -75,7 +75,7 @@ impl<V> Pages<V> {
         ensures updates { self.new.map ≡ map.remove self.old.map number }
         ensures kept { (other : ℕ) → IsOwn self.old other → IsOwn self.new other }
     {
-        let value = swap_slot(&mut self.pages, number, Slot::Empty).into_value();
+        let value = swap_at(&mut self.blocks, number, Slot::Empty).into_value();
         if value.is_some() {
             self.filled -= 1;
         }
@@ -89,7 +89,7 @@ impl<V> Pages<V> {
         ensures updates { self.new.map ≡ map.insert self.old.map number value }
         ensures kept { (other : ℕ) → IsOwn self.old other → IsOwn self.new other }
     {
-        let old = swap_slot(&mut self.pages, number, Slot::Filled(value)).into_value();
+        let old = swap_at(&mut self.blocks, number, Slot::Filled(value)).into_value();
         if old.is_none() {
             self.filled += 1;
         }
@@ -104,24 +104,24 @@ impl<V: Copied> Pages<V> {
         ensures kept { (other : ℕ) → IsOwn self.old other → IsOwn self.new other }
         ensures own { OnOk result (IsOwn self.new number) }
     {
-        own_page(&mut self.pages, self.alloc, number)
+        own_at(&mut self.blocks, self.alloc, number)
     }
 
     /// Ends that: what stands around a number can be shared with copies again.
     pub fn share(&mut self, number: u64)
         ensures { self.new.map ≡ self.old.map }
     {
-        share_page(&mut self.pages, number);
+        share_at(&mut self.blocks, self.alloc, number);
     }
 
     /// The same values.
     pub(crate) fn copy(&self) -> Result<Pages<V>, AllocError>
         ensures { IfOk result (λ copy. copy.map ≡ self.now.map) }
     {
-        let pages = copy_pages(self.pages.as_slice(), self.alloc)?;
+        let blocks = copy_blocks(self.blocks.as_slice(), self.alloc)?;
         Ok(Pages {
             alloc: self.alloc,
-            pages,
+            blocks,
             filled: self.filled,
         })
     }

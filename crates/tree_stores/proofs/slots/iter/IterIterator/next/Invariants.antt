@@ -1,10 +1,12 @@
-use Rattle.std.proofs.Common.{◌≡◌, ◌+◌, ◌^◌, ◌<◌, length}
-use Rattle.tree_stores.specs.Slots.{entries_from}
+use Rattle.std.proofs.Common.{◌≡◌, ◌+◌, ◌*◌, ◌^◌, ◌<◌, ◌++◌, length}
+use Rattle.tree_stores.specs.Pages.{block_entries}
 use Rattle.tree_stores.proofs.slots.iter.IterIterator.next.Given as goal
 
--- only empty slots were passed over
-abbrev pub invariant-loop-slot : goal.invariant-loop-slot
-invariant-loop-slot g l = (l.self-inside.number + length l.self-inside.walk < 2 ^ 64) × (entries_from l.self-inside.number l.self-inside.walk ≡ l.fn.self)
+-- only blocks with no values that are left were passed over
+abbrev pub invariant-loop-item : goal.invariant-loop-item
+invariant-loop-item g l =
+    (l.self-inside.number + 4096 * length l.self-inside.blocks.now < 2 ^ 64)
+    × (l.self-inside.block ++ block_entries l.self-inside.number l.self-inside.blocks.now ≡ l.fn.self)
 
-abbrev pub decreases-loop-slot : goal.decreases-loop-slot
-decreases-loop-slot g l = length l.self-inside.walk
+abbrev pub decreases-loop-item : goal.decreases-loop-item
+decreases-loop-item g l = length l.self-inside.blocks.now
