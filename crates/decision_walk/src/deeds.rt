@@ -1,4 +1,4 @@
-//! What happened on a way, of which only a certificate is made. Nothing is said of it. States that come of one share its older part.
+//! What happened on a way, of which only a certificate is made. Nothing is said of it. States that come of one share its older parts.
 
 use certificate::Place;
 use std::alloc::{AllocError, Global};
@@ -6,7 +6,10 @@ use std::mem;
 use std::rc::Rc;
 
 /// How many deeds a state has for itself, at most.
-const MOST_OWN: usize = 64;
+const MOST_OWN: usize = 32;
+
+/// How many parts it has for itself, at most.
+const MOST_PARTS: usize = 64;
 
 /// What happened on a way, for a certificate.
 #[derive(Clone, Copy)]
@@ -21,11 +24,18 @@ pub enum Deed {
     Ended,
 }
 
-/// Deeds, one after the other.
+/// Deeds that states share.
+type Part = Rc<Vec<Deed>, Global>;
+
+/// Parts that states share.
+type Group = Rc<Vec<Part>, Global>;
+
+/// Deeds, one after the other: those of the groups, those of the parts, and the latest.
 #[derive(Drop)]
 pub(crate) struct Deeds {
     alloc: Global,
-    shared: Vec<Rc<Vec<Deed>, Global>>,
+    groups: Vec<Group>,
+    parts: Vec<Part>,
     own: Vec<Deed>,
 }
 
@@ -34,22 +44,27 @@ impl Deeds {
     pub(crate) fn none(alloc: Global) -> Deeds {
         Deeds {
             alloc,
-            shared: Vec::new(alloc),
+            groups: Vec::new(alloc),
+            parts: Vec::new(alloc),
             own: Vec::new(alloc),
         }
     }
 
     /// The same, for another state.
     pub(crate) fn copy(&self) -> Result<Deeds, AllocError> {
-        let mut shared = Vec::with_capacity(self.alloc, self.shared.len())?;
-        for part in &self.shared {
-            shared.push(part.clone()?)?;
+        let mut groups = Vec::with_capacity(self.alloc, self.groups.len())?;
+        for group in &self.groups {
+            groups.push(group.clone()?)?;
         }
-        let own = Vec::from_slice(self.alloc, self.own.as_slice())?;
+        let mut parts = Vec::with_capacity(self.alloc, self.parts.len())?;
+        for part in &self.parts {
+            parts.push(part.clone()?)?;
+        }
         Ok(Deeds {
             alloc: self.alloc,
-            shared,
-            own,
+            groups,
+            parts,
+            own: Vec::from_slice(self.alloc, self.own.as_slice())?,
         })
     }
 
@@ -57,7 +72,11 @@ impl Deeds {
     pub(crate) fn push(&mut self, deed: Deed) -> Result<(), AllocError> {
         if self.own.len() >= MOST_OWN {
             let full = mem::replace(&mut self.own, Vec::new(self.alloc));
-            self.shared.push(Rc::new(self.alloc, full)?)?;
+            self.parts.push(Rc::new(self.alloc, full)?)?;
+        }
+        if self.parts.len() >= MOST_PARTS {
+            let full = mem::replace(&mut self.parts, Vec::new(self.alloc));
+            self.groups.push(Rc::new(self.alloc, full)?)?;
         }
         self.own.push(deed)?;
         Ok(())
@@ -66,7 +85,12 @@ impl Deeds {
     /// All of them.
     pub(crate) fn list(&self) -> Result<Vec<Deed>, AllocError> {
         let mut all = Vec::new(self.alloc);
-        for part in &self.shared {
+        for group in &self.groups {
+            for part in group.as_slice() {
+                all.extend_from_slice(part.as_slice())?;
+            }
+        }
+        for part in &self.parts {
             all.extend_from_slice(part.as_slice())?;
         }
         all.extend_from_slice(self.own.as_slice())?;
