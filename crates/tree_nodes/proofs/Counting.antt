@@ -1,6 +1,6 @@
--- a table has as many objects as its tree has paths
+-- a table has as many objects as its tree has paths, and lists each
 use Rattle.std.proofs.Common.{◌≡◌, ℕ, ◌≤◌, Bool, true, false, cond, T, List, [], ◌∷◌, length, Option, Some, None, refl, sym, ap, ◌∙◌, subst, arith}
-use Rattle.std.specs.Prelude.{suc, IsSome, is_some, ◌||◌, ◌&&◌, option_map}
+use Rattle.std.specs.Prelude.{suc, IsSome, is_some, ◌||◌, ◌&&◌, option_map, Contains}
 use Rattle.std.specs.declared.cmp.Ordering.{Ordering}
 use Rattle.std.specs.declared.cmp.Ordering.TheVariants.{Less, Equal, Greater}
 use Rattle.std.specs.Ordering.{nat_cmp, eq_by_cmp, is_lt, is_eq}
@@ -12,8 +12,9 @@ use Rattle.std.specs.FinMap.Entries as es
 use Rattle.std.proofs.lemmas.Map.Keys.{IsDistinct-cons, IsDistinct-head, IsDistinct-tail}
 use Rattle.std.proofs.lemmas.Map.Entries.{length-keys_of}
 use Rattle.std.proofs.lemmas.Map.Steps.{length-le_from_keys, list_any_congr}
+use Rattle.std.proofs.lemmas.Map.Views.{Contains-keys_from_lookup}
 use Rattle.tree_nodes.specs.declared.table.Entry.{Entry}
-use Rattle.tree_nodes.specs.Tree.{Names, Tree, path_cmp}
+use Rattle.tree_nodes.specs.Tree.{Names, Tree, path_cmp, entry_of}
 use Rattle.tree_nodes.specs.Walk.{Held, walk, IsTree}
 use Rattle.tree_nodes.specs.Table.{Table, entry_at, child, held, placed}
 use Rattle.tree_nodes.specs.Shown.{Agrees}
@@ -21,7 +22,7 @@ use Rattle.tree_nodes.proofs.Entries.{path_total, path_ties, find_lookup}
 use Rattle.tree_nodes.proofs.Chains.{differ, isnt, same_some, value_of}
 use Rattle.tree_nodes.proofs.Tables.{is_equal, looked_up, entry_held as held_entry}
 use Rattle.tree_nodes.proofs.Walks.{once, one_path, reached_held}
-use Rattle.tree_nodes.proofs.Looking.{shows, stands as node_stands}
+use Rattle.tree_nodes.proofs.Looking.{shows, stands as node_stands, held_of}
 
 either : {A : Type 0} (a b : Bool) → (a || b) ≡ true → (a ≡ true → A) → (b ≡ true → A) → A
 either true b e f g = f refl
@@ -177,3 +178,11 @@ module _ (m : Table) (t : Tree) (tree : IsTree (child m) (held m)) (agrees : Agr
             let h = reached_held (child m) (held m) tree p o is in
             let entry = held_entry m o h.0 h.1 in
             subst IsSome (sym entry.1 ∙ looked_up m o) refl
+
+  -- what stands is among the objects
+  pub listed : (o : ℕ) → IsSome (entry_of t o) → Contains (keys_of (map.entries m)) o
+  listed o is =
+      let e = value_of _ is in
+      let h = held_of t (child m) (held m) tree agrees o e.0 e.1 in
+      let entry = held_entry m o h.0 h.1 in
+      Contains-keys_from_lookup number_ties o (map.entries m) (subst IsSome (sym entry.1 ∙ looked_up m o) refl)

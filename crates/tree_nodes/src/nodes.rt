@@ -1,6 +1,6 @@
 //! The nodes of a tree, by the numbers of their objects.
 
-ghost use Rattle.std.specs.Prelude.{List, ◌≡◌, ◌↔◌, ◌<◌, ◌≤◌, ◌+◌, ◌^◌, ℕ, false, true, [], ◌∷◌, ◌++◌, IsTrue, IfOk, OnOk, OnErr, Some, None, IsSome, IfSome, All, length, option_and_then};
+ghost use Rattle.std.specs.Prelude.{List, ◌≡◌, ◌↔◌, ◌<◌, ◌≤◌, ◌+◌, ◌^◌, ℕ, false, true, [], ◌∷◌, ◌++◌, IsTrue, IfOk, OnOk, OnErr, Some, None, IsSome, IfSome, All, Contains, length, option_and_then};
 ghost use Rattle.std.specs.Option.{option_copied, option_map};
 ghost use Rattle.std.specs.FinMap as map;
 ghost use Rattle.tree_stores.specs.nfs3_types_specs.Limits.{file_limit};
@@ -28,8 +28,8 @@ use crate::print::{put_entry, put_word};
 use crate::ranks::{Ranks, TOP};
 use crate::same::{entry_number, same_entries};
 use crate::table::{
-    Edit, Entry, child, entry_in, is_bare, lists_all, look_below, names_of, node_at, parent_of,
-    place_of, root_alone,
+    Edit, Entry, child, entry_in, is_bare, lists_all, look_below, names_of, node_at, objects_of,
+    parent_of, place_of, root_alone,
 };
 use crate::undo::{Undo, edit, make, remove, rename, take_back};
 use std::alloc::{AllocError, Global};
@@ -92,7 +92,7 @@ impl Nodes {
         })
     }
 
-    /// The same nodes. It costs a step for each 64 numbers of objects: what the trees have in common they share, until one of them
+    /// The same nodes. It costs a step for each 4,096 numbers of objects: what the trees have in common they share, until one of them
     /// changes.
     pub fn copy(&self) -> Result<Nodes, AllocError>
         ensures { IfOk result (λ nodes. nodes ≡ self.now) }
@@ -134,6 +134,13 @@ impl Nodes {
         ensures { option_copied result ≡ option_map (λ e. e.1) (entry_of self.now object) }
     {
         node_at(&self.entries, object)
+    }
+
+    /// The numbers of all objects. It takes a step for each.
+    pub fn objects(&self) -> Result<Vec<u64>, AllocError>
+        ensures { IfOk result (λ objects. (object : ℕ) → IsSome (entry_of self.now object) → Contains objects.items object) }
+    {
+        objects_of(self.alloc, &self.entries)
     }
 
     /// The node of a name in a directory, by the directory's object.

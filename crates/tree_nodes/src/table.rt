@@ -3,6 +3,7 @@
 ghost use Rattle.std.specs.Prelude.{true, false, option_and_then, ◌≡◌, ◌<◌, ℕ, List, IsSome, IfSome, IfOk, Some, None};
 ghost use Rattle.std.specs.Ordering.{nat_cmp};
 ghost use Rattle.std.specs.FinMap as map;
+ghost use Rattle.std.specs.Map.{keys_of};
 ghost use Rattle.std.specs.Option.{option_copied, option_map};
 ghost use Rattle.std.specs.Cmp.Lexicographic.{slice_cmp};
 ghost use Rattle.std.specs.BTreeSet.{contains};
@@ -175,6 +176,17 @@ pub(crate) fn lists_all(entries: &Slots<Entry>, directory: u64, names: &BTreeSet
         return true;
     };
     are_among(entries, &entry.body.get().names, names)
+}
+
+/// The numbers of all objects.
+pub(crate) fn objects_of(alloc: Global, entries: &Slots<Entry>) -> Result<Vec<u64>, AllocError>
+    ensures { IfOk result (λ objects. objects.items ≡ keys_of (map.entries entries.now)) }
+{
+    let mut objects = Vec::new(alloc);
+    for (object, _) in entries.iter() {
+        objects.push(object)?;
+    }
+    Ok(objects)
 }
 
 /// Where an object lies.
