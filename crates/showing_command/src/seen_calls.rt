@@ -10,8 +10,8 @@ use nfs3_types::{
     ReadDirPlusSuccess,
 };
 use rpc_reader::{CallHead, ReplyBody, SEALED_FLAVOR, read_call, read_reply};
-use search_lessons::{handles_of, places_of};
 use std::alloc::{AllocError, Global};
+use tree_answers::{first_place, second_handle, second_place};
 use xdr_records::Reader;
 
 /// A call, as far as it may touch the object.
@@ -76,7 +76,7 @@ fn procedure_of(head: &CallHead<'_>) -> Option<Procedure> {
 }
 
 /// The handle with which arguments begin, if they begin with one.
-fn first_handle(arguments: &[u8]) -> Option<&[u8]> {
+fn leading_handle(arguments: &[u8]) -> Option<&[u8]> {
     match Reader::new(arguments).opaque(HANDLE_LIMIT as u32) {
         Ok(handle) => Some(handle),
         Err(_) => None,
@@ -172,7 +172,7 @@ impl<'a> SeenCalls<'a> {
 
     /// Whether arguments begin with the object's handle.
     fn is_first_handle(&self, arguments: &[u8]) -> bool {
-        match first_handle(arguments) {
+        match leading_handle(arguments) {
             Some(handle) => self.is_sought(handle),
             None => false,
         }
@@ -191,14 +191,13 @@ impl<'a> SeenCalls<'a> {
 
     /// A call with these arguments, which is event `event`.
     fn with_arguments(&mut self, event: u64, call: &NfsCall) -> Result<SeenCall, AllocError> {
-        let (handle, new_handle) = handles_of(call);
-        let (place, new_place) = places_of(call);
         Ok(SeenCall {
             event,
             reply: None,
-            has_handle: self.is_sought_there(handle) || self.is_sought_there(new_handle),
-            name: self.number_of(place)?,
-            new_name: self.number_of(new_place)?,
+            has_handle: self.is_sought(tree_answers::first_handle(call).as_slice())
+                || self.is_sought_there(second_handle(call)),
+            name: self.number_of(first_place(call))?,
+            new_name: self.number_of(second_place(call))?,
         })
     }
 
@@ -271,7 +270,7 @@ impl<'a> SeenCalls<'a> {
 
     /// The number of a name in a list of the directory with which arguments begin.
     fn listed_name(&mut self, arguments: &[u8], name: &[u8]) -> Result<Option<usize>, AllocError> {
-        match first_handle(arguments) {
+        match leading_handle(arguments) {
             Some(directory) => Ok(Some(self.names.number_of(directory, name)?)),
             None => Ok(None),
         }

@@ -53,7 +53,7 @@ pub fn first_place(call: &NfsCall) -> Option<&DirectoryName>
 }
 
 /// The second place, of a RENAME.
-pub(crate) fn second_place(call: &NfsCall) -> Option<&DirectoryName>
+pub fn second_place(call: &NfsCall) -> Option<&DirectoryName>
     ensures { option_copied result ≡ second_place call.now }
 {
     match call {

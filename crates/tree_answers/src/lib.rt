@@ -11,7 +11,7 @@ mod name_set;
 mod read;
 mod rename_causes;
 
-pub use asked::{first_handle, first_place, second_handle};
+pub use asked::{first_handle, first_place, second_handle, second_place};
 pub use failure::{Cause, causes, holds, is_caused_by, is_judged_status, is_permitted};
 pub use listing::{readdir_is_legal, readdirplus_is_legal};
 pub use look::{
