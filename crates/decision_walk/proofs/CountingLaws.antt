@@ -91,6 +91,7 @@ module _ (known : KnownCalls) (marks : List Bool) where
     base = λ early. there (binds_of known plan) at.counts point.base is (at.base early);
     placed = at.placed;
     answered = at.answered;
+    barred = at.barred;
   }
 
   module _ (states : List WalkView) (state : WalkView) (n : ℕ) (call : NfsCall) where
@@ -155,6 +156,7 @@ module _ (known : KnownCalls) (marks : List Bool) where
           base = λ early. base_narrowed known (binds_of known plan) at.counts one.call counts.least counts.most it.0 it.1 state.base point.base (at.base early);
           placed = at.placed;
           answered = at.answered;
+          barred = at.barred;
         }
 
         pub looks_cover : may_change call ≡ false → (next : Standing) → next.tree ≡ state.tree → next.binds ≡ state.binds

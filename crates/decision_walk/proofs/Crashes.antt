@@ -39,6 +39,7 @@ module _ (known : KnownCalls) (marks : List Bool) where
             (back known (binds_of known plan) at.counts (kept_of state) point.tree (at.tree (omega (arith, inside, era))) state.base point.base (at.base (omega (arith, inside, era))));
         base = λ inside. subst (HasWrittenBase known (binds_of known plan) at.counts None) (sym (ap (λ p. p.base) crash.1)) tt;
         answered = at.answered;
+        barred = at.barred;
         placed = λ m kept. told_more known state.past state.placed point.calls n m (at.placed m kept) ∙ ap (λ p. list_any (λ k. k == m) p.calls) (sym crash.1);
       }
 

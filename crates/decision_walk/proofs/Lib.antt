@@ -10,6 +10,8 @@ mod Crashes
 mod Calls
 mod Sameness
 mod Taking
+mod Guesses
+mod Barrings
 mod StepLaws
 mod SettleLaws
 mod PastLaws

@@ -12,14 +12,15 @@ use Rattle.decision_law.specs.Laws.{binds_of}
 use Rattle.decision_law.specs.Machine.{Point, first_point}
 use Rattle.decision_law.specs.Times.{era_of_number}
 use Rattle.decision_walk.specs.View.{WalkView}
+use Rattle.decision_walk.specs.Bars.{AreBarred}
 use Rattle.decision_walk.specs.Opening.{HasWritten, HasWrittenBase}
 use Rattle.decision_walk.specs.Standing.{has_call, is_of_earlier, EndsBy, IsAt}
 use Rattle.decision_walk.proofs.Resolutions.{none_written}
 
 module _ (known : KnownCalls) (marks : List Bool) where
-  pub opens : (state : WalkView) → state.tree ≡ base_of known → state.writes ≡ [] → state.base ≡ None → state.era ≡ 1 → state.past ≡ 0 → state.placed ≡ [] → (plan : Certificate)
+  pub opens : (state : WalkView) → state.tree ≡ base_of known → state.writes ≡ [] → state.base ≡ None → state.era ≡ 1 → state.past ≡ 0 → state.placed ≡ [] → state.barred ≡ [] → (plan : Certificate)
       → AgreesWith state.binds (binds_of known plan) → IsAt known marks plan (λ _. false) (first_point known) state
-  opens state tree writes base era past placed plan agrees = record {
+  opens state tree writes base era past placed barred plan agrees = record {
     counts = λ _. 0;
     binds = agrees;
     era = era;
@@ -29,6 +30,7 @@ module _ (known : KnownCalls) (marks : List Bool) where
     base = λ inside. subst (λ b. HasWrittenBase known (binds_of known plan) (λ _. 0) b None) (sym base) tt;
     placed = λ n kept. ap (λ p. is_of_earlier known p n || has_call state.placed n) past ∙ ap (λ b. b || has_call state.placed n) (le-ltb (era_of_number known n) 0 (omega arith)) ∙ ap (λ l. has_call l n) placed;
     answered = λ n kept. absurd (true≢false (sym kept));
+    barred = subst (AreBarred known (binds_of known plan)) (sym barred) tt;
   }
 
   -- a call that is looked for stays, where another one is left out
@@ -50,6 +52,7 @@ module _ (known : KnownCalls) (marks : List Bool) where
     tree = at.tree;
     base = at.base;
     placed = λ m kept. of_kept m kept;
+    barred = at.barred;
     answered = λ m kept. elim (or_cases (gone m) (m == n) kept) [
       | inl earlier ↦ (λ recorded event stands ended. let by = at.answered m earlier recorded event stands ended in omega (arith, by, later))
       | inr now ↦ subst (λ k. EndsBy known k answered_to) (sym (eqb-true m n now)) ends

@@ -126,6 +126,7 @@ module _ (known : KnownCalls) where
       tree = at.tree;
       base = at.base;
       answered = at.answered;
+      barred = at.barred;
       placed = λ m kept. both_same (is_told known (past_done known state) m) (is_placed (with_calls point (all_past point)) m) (there m kept) (back m kept);
     } where
       before : List ℕ

@@ -64,6 +64,7 @@ module _ (known : KnownCalls) (marks : List Bool) where
     tree = λ inside. tree;
     base = is_base;
     answered = at.answered;
+    barred = at.barred;
     placed = λ m kept. told_more known state.past state.placed point.calls n m (at.placed m kept) ∙ ap (list_any (λ k. k == m)) (sym calls);
   }
 

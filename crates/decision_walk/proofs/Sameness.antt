@@ -12,6 +12,7 @@ use Rattle.decision_steps.specs.Known.{AgreesWith}
 use Rattle.decision_law.specs.Laws.{binds_of}
 use Rattle.decision_walk.specs.declared.open_writes.OpenWrite.{OpenWrite}
 use Rattle.decision_walk.specs.View.{KeptView, WalkView}
+use Rattle.decision_walk.specs.Bars.{AreBarred}
 use Rattle.decision_walk.specs.Opening.{write_of, held_with, filled, IsOpen, HasWritten, HasWrittenBase, is_open}
 use Rattle.decision_walk.specs.Resolving.{is_open_base, is_open_in, IsExtra, Covers, HasBaseOver}
 use Rattle.decision_walk.specs.Standing.{has_call, is_of_earlier, EndsBy, IsAt}
@@ -108,8 +109,9 @@ module _ (known : KnownCalls) (binds plan : Bindings) (agrees : AgreesWith binds
 
 pub same_stands : (known : KnownCalls) (marks : List Bool) (state other : WalkView) → state.era ≡ other.era → state.past ≡ other.past → state.answered_to ≡ other.answered_to
     → ((n : ℕ) → has_call state.placed n ≡ has_call other.placed n) → Covers known other.binds state state.writes other.writes → HasBaseOver known other.binds state state.base other.base
-    → AgreesWith other.binds state.binds → state.tree ≡ other.tree → Replaces (IsAt known marks) state other
-same_stands known marks state other era past answered calls writes base binds tree plan gone point at = record {
+    → AgreesWith other.binds state.binds → state.tree ≡ other.tree → ((known : KnownCalls) (binds : Bindings) → AreBarred known binds state.barred → AreBarred known binds other.barred)
+    → Replaces (IsAt known marks) state other
+same_stands known marks state other era past answered calls writes base binds tree bars plan gone point at = record {
   counts = counts_here known other.binds (binds_of known plan) agrees state at.counts;
   binds = agrees;
   era = sym era ∙ at.era;
@@ -118,6 +120,7 @@ same_stands known marks state other era past answered calls writes base binds tr
       (covers_written known other.binds (binds_of known plan) agrees state at.counts state.writes other.writes state.tree point.tree (all_here state.writes (all_open state.writes state.writes (λ w is. is))) writes (at.tree inside));
   base = λ inside. base_here known other.binds (binds_of known plan) agrees state at.counts state.base (λ n is. or_right (is_open state.writes n) (is_open_base state.base n) is) other.base point.base base (at.base inside);
   answered = λ n kept. subst (EndsBy known n) answered (at.answered n kept);
+  barred = bars known (binds_of known plan) at.barred;
   placed = λ n kept. ap (λ p. is_of_earlier known p n || has_call other.placed n) (sym past) ∙ ap (λ b. is_of_earlier known state.past n || b) (sym (calls n)) ∙ at.placed n kept;
 } where
   agrees : AgreesWith other.binds (binds_of known plan)

@@ -71,6 +71,7 @@ module _ (known : KnownCalls) where
       tree = at.tree;
       base = at.base;
       answered = at.answered;
+      barred = at.barred;
       placed = λ m kept. told_more known state.past state.placed point.calls n m (at.placed m kept);
     }
 

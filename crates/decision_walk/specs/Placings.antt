@@ -48,6 +48,7 @@ child_of state next writes base n = record {
   past = state.past;
   placed = state.placed ++ n ∷ [];
   answered_to = state.answered_to;
+  barred = state.barred;
 }
 
 -- the state in which a crash came with this number
@@ -61,6 +62,7 @@ crashed state n = record {
   past = state.past;
   placed = state.placed ++ n ∷ [];
   answered_to = state.answered_to;
+  barred = state.barred;
 }
 
 -- the state with other trees, and other WRITEs that are open in them

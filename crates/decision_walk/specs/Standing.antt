@@ -14,6 +14,7 @@ use Rattle.decision_law.specs.NeverLost.{Hints}
 use Rattle.decision_law.specs.Times.{numbering_of, era_of_number}
 use Rattle.decision_walk.specs.View.{WalkView}
 use Rattle.decision_walk.specs.Opening.{HasWritten, HasWrittenBase}
+use Rattle.decision_walk.specs.Bars.{AreBarred}
 
 -- whether call n is one of those that are marked
 abbrev pub is_marked : List Bool → ℕ → Bool
@@ -63,3 +64,4 @@ pub record IsAt (known : KnownCalls) (marks : List Bool) (plan : Certificate) (g
   pub base : point.era < known.eras → HasWrittenBase known (binds_of known plan) counts state.base point.base
   pub placed : (n : ℕ) → gone n ≡ false → is_told known state n ≡ is_placed point n
   pub answered : (n : ℕ) → gone n ≡ true → EndsBy known n state.answered_to
+  pub barred : AreBarred known (binds_of known plan) state.barred

@@ -1,10 +1,11 @@
 -- For the prover, and for callers.
 -- What a contract sees of a state of the walk (a form of this project's own).
-use Rattle.std.specs.Prelude.{ℕ, List, Option, refl}
-use Rattle.std.specs.Coded.{Coded, code_by, coded×, coded_list, coded_option, coded_ℕ}
+use Rattle.std.specs.Prelude.{ℕ, Bool, List, Option, refl}
+use Rattle.std.specs.Coded.{Coded, code_by, coded×, coded_list, coded_option, coded_bool, coded_ℕ}
 use Rattle.tree_nodes.specs.Tree.{Tree}
 use Rattle.tree_handles.specs.Binding.{Bindings}
 use Rattle.decision_steps.specs.Standing.{tree_code, bindings_code}
+use Rattle.decision_walk.specs.declared.bars.Bar.{Bar}
 use Rattle.decision_walk.specs.declared.open_writes.OpenWrite.{OpenWrite}
 
 -- a tree, and the WRITEs of which it is open how many bytes they wrote: the tree is that without them
@@ -13,8 +14,8 @@ pub record KeptView : Type 0 where
   pub writes : List OpenWrite
 
 -- the tree, the WRITEs that are open in it, the handles that are bound, what the era's crash goes back to once a call is lost, the era,
--- from which era on the calls are listed that are placed (earlier ones count as placed), these calls, and by which event each forgotten
--- call was answered
+-- from which era on the calls are listed that are placed (earlier ones count as placed), these calls, by which event each forgotten
+-- call was answered, and which objects handles that aren't bound don't name
 pub record WalkView : Type 0 where
   pub tree : Tree
   pub writes : List OpenWrite
@@ -24,6 +25,7 @@ pub record WalkView : Type 0 where
   pub past : ℕ
   pub placed : List ℕ
   pub answered_to : ℕ
+  pub barred : List Bar
 
 -- ---- for the prover: how these are told apart
 
@@ -31,11 +33,14 @@ abbrev pub write_code : Coded OpenWrite
 write_code = code_by (ℕ × (ℕ × (ℕ × ℕ))) (coded× coded_ℕ (coded× coded_ℕ (coded× coded_ℕ coded_ℕ))) (λ (w : OpenWrite). (w.call, (w.object, (w.least, w.most))))
     (λ p. record { call = p.0; object = p.1.0; least = p.1.1.0; most = p.1.1.1 }) (λ _. refl)
 
+abbrev pub bar_code : Coded Bar
+bar_code = code_by (ℕ × (Bool × ℕ)) (coded× coded_ℕ (coded× coded_bool coded_ℕ)) (λ (b : Bar). (b.call, (b.is_second, b.object))) (λ p. record { call = p.0; is_second = p.1.0; object = p.1.1 }) (λ _. refl)
+
 abbrev pub kept_code : Coded KeptView
 kept_code = code_by (Tree × List OpenWrite) (coded× tree_code (coded_list write_code)) (λ k. (k.tree, k.writes)) (λ p. record { tree = p.0; writes = p.1 }) (λ _. refl)
 
 abbrev pub view_code : Coded WalkView
-view_code = code_by (Tree × (List OpenWrite × (Bindings × (Option KeptView × (ℕ × (ℕ × (List ℕ × ℕ)))))))
-    (coded× tree_code (coded× (coded_list write_code) (coded× bindings_code (coded× (coded_option kept_code) (coded× coded_ℕ (coded× coded_ℕ (coded× (coded_list coded_ℕ) coded_ℕ)))))))
-    (λ v. (v.tree, (v.writes, (v.binds, (v.base, (v.era, (v.past, (v.placed, v.answered_to))))))))
-    (λ p. record { tree = p.0; writes = p.1.0; binds = p.1.1.0; base = p.1.1.1.0; era = p.1.1.1.1.0; past = p.1.1.1.1.1.0; placed = p.1.1.1.1.1.1.0; answered_to = p.1.1.1.1.1.1.1 }) (λ _. refl)
+view_code = code_by (Tree × (List OpenWrite × (Bindings × (Option KeptView × (ℕ × (ℕ × (List ℕ × (ℕ × List Bar))))))))
+    (coded× tree_code (coded× (coded_list write_code) (coded× bindings_code (coded× (coded_option kept_code) (coded× coded_ℕ (coded× coded_ℕ (coded× (coded_list coded_ℕ) (coded× coded_ℕ (coded_list bar_code)))))))))
+    (λ v. (v.tree, (v.writes, (v.binds, (v.base, (v.era, (v.past, (v.placed, (v.answered_to, v.barred)))))))))
+    (λ p. record { tree = p.0; writes = p.1.0; binds = p.1.1.0; base = p.1.1.1.0; era = p.1.1.1.1.0; past = p.1.1.1.1.1.0; placed = p.1.1.1.1.1.1.0; answered_to = p.1.1.1.1.1.1.1.0; barred = p.1.1.1.1.1.1.1.1 }) (λ _. refl)

@@ -18,6 +18,16 @@ use decision_core::Stop;
 use decision_steps::State;
 use nfs3_types::{NfsCall, Outcome};
 
+/// Puts a state there.
+pub(crate) fn put_state(states: &mut Vec<WalkState>, state: WalkState) -> Result<(), Stop<Why>>
+    ensures { IfOk result (λ _. Grows states.old.items states.new.items × Contains states.new.items state) }
+{
+    if states.push(state).is_err() {
+        return Err(Stop::NoMemory);
+    }
+    Ok(())
+}
+
 /// Puts the state there in which a call is placed, with this base.
 fn put_child(
     states: &mut Vec<WalkState>,
@@ -30,16 +40,12 @@ fn put_child(
     ensures { IfOk result (λ _. Grows states.old.items states.new.items
         × Contains states.new.items (child_of state.now next.now writes.now base (call_of place))) }
 {
-    let child = state.child(place, next, writes, base)?;
-    if states.push(child).is_err() {
-        return Err(Stop::NoMemory);
-    }
-    Ok(())
+    put_state(states, state.child(place, next, writes, base)?)
 }
 
 impl<'h> HistoryMachine<'h> {
     /// Whether a call is marked, one of this era, not placed, and not forgotten.
-    fn is_missing(&self, state: &WalkState, n: u64) -> bool
+    pub(crate) fn is_missing(&self, state: &WalkState, n: u64) -> bool
         ensures { IsTrue result → IsMissing self.now.history.now.known self.now.marks.items state.now }
     {
         if !is_marked(self.marks.as_slice(), n) {

@@ -2,6 +2,7 @@
 #![tactic(auto)]
 
 mod attempt;
+mod bars;
 mod call_lists;
 mod children;
 mod counting;
@@ -11,11 +12,13 @@ mod guessing;
 mod handles;
 mod kept_tree;
 mod machine;
+mod mattering;
 mod open_writes;
 mod same;
 mod settling;
 mod stepping;
 mod touching;
+mod unbound;
 mod walk_state;
 mod why;
 

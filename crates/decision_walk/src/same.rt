@@ -7,6 +7,7 @@ ghost use Rattle.decision_walk.specs.declared.open_writes.OpenWrite.{OpenWrite};
 ghost use Rattle.decision_walk.specs.Standing.{IsAt};
 ghost use Rattle.decision_walk.specs.Resolving.{MayBeEmpty, Covers, HasBaseOf};
 
+use crate::bars::has_bars;
 use crate::call_lists::same_calls;
 use crate::counting::names;
 use crate::machine::HistoryMachine;
@@ -105,6 +106,9 @@ impl<'h> HistoryMachine<'h> {
             return false;
         }
         if !same_calls(state.placed.as_slice(), other.placed.as_slice()) {
+            return false;
+        }
+        if !has_bars(state.barred.as_slice(), other.barred.as_slice()) {
             return false;
         }
         if !self.covers(

@@ -5,6 +5,7 @@ ghost use Rattle.decision_walk.specs.Settling.{may_change, sets_no_size, LeavesT
 ghost use Rattle.decision_walk.specs.Standing.{is_of_earlier};
 
 use crate::machine::HistoryMachine;
+use crate::unbound::is_guessed;
 use crate::walk_state::WalkState;
 use crate::why::Why;
 use decision_core::Stop;
@@ -65,7 +66,8 @@ impl<'h> HistoryMachine<'h> {
         }
     }
 
-    /// Whether such a call comes out so in a state, and gives no handle that isn't bound there. One without a reply may.
+    /// Whether such a call comes out so in a state, and gives no handle that isn't bound there, nor names one of which it would be told apart what it names.
+    /// One without a reply may.
     fn fits_now(
         &self,
         state: &WalkState,
@@ -78,7 +80,7 @@ impl<'h> HistoryMachine<'h> {
         let Some(object) = self.object_made(n) else {
             return Ok(false);
         };
-        if self.is_touched(state, n, call, outcome) {
+        if self.is_touched(state, n, call, outcome) || is_guessed(state, call) {
             return Ok(false);
         }
         let profile = self.history.profile();

@@ -50,6 +50,31 @@ impl<'h> HistoryMachine<'h> {
         Ok(())
     }
 
+    /// Puts the states there to which a WRITE may lead that is taken without a reply, and brought so many bytes.
+    pub(crate) fn take_write(
+        &self,
+        states: &mut Vec<WalkState>,
+        state: &WalkState,
+        n: u64,
+        call: &NfsCall,
+        brought: usize,
+    ) -> Result<(), Stop<Why>>
+        requires history { call_of_history self.now.history.now.known n ≡ Some call.now }
+        requires brought { bytes_brought call.now ≡ Some brought }
+        ensures { IfOk result (λ _. Grows states.old.items states.new.items × HasTaken self.now.history.now.known self.now.marks.items states.new.items state.now n call.now) }
+    {
+        if self.place_open(states, state, n, call)? {
+            return Ok(());
+        }
+        if self.writes_nowhere(state, n, call) {
+            return Ok(());
+        }
+        if brought > MOST_BYTES {
+            return Err(Stop::NotCovered(Why::LongWrite(n)));
+        }
+        self.place_counts(states, state, n, call, brought as u32 + 1)
+    }
+
     /// Puts the states there to which a call may lead that is taken without a reply.
     fn place_taken(
         &self,
@@ -65,22 +90,11 @@ impl<'h> HistoryMachine<'h> {
             return Ok(());
         }
         match bytes_brought(call) {
-            Some(brought) => {
-                if self.place_open(states, state, n, call)? {
-                    return Ok(());
-                }
-                if self.writes_nowhere(state, n, call) {
-                    return Ok(());
-                }
-                if brought > MOST_BYTES {
-                    return Err(Stop::NotCovered(Why::LongWrite(n)));
-                }
-                self.place_counts(states, state, n, call, brought as u32 + 1)
-            }
+            Some(brought) => self.take_any_write(states, state, n, call, brought),
             None => {
                 let outcome = Outcome::Taken(None);
                 let place = Place::Taken(n, None);
-                self.place_as(states, state, place, call, &outcome)
+                self.place_any(states, state, place, call, &outcome)
             }
         }
     }
@@ -94,13 +108,14 @@ impl<'h> HistoryMachine<'h> {
         recorded: &RecordedCall,
         call: &NfsCall,
     ) -> Result<(), Stop<Why>>
+        requires { call_of_history self.now.history.now.known n ≡ Some call.now }
         ensures { IfOk result (λ _. Grows states.old.items states.new.items
             × ((outcome : Outcome) → recorded.now.outcome ≡ Some outcome → HasPlaced self.now.history.now.known self.now.marks.items states.new.items state.now n call.now outcome)) }
     {
         match &recorded.outcome {
             Some(outcome) => {
                 let place = Place::Answered(n);
-                self.place_as(states, state, place, call, outcome)
+                self.place_any(states, state, place, call, outcome)
             }
             None => Ok(()),
         }

@@ -1,11 +1,13 @@
 //! A state of a walk: the tree that the calls have led to, and the handles that are bound.
 
-ghost use Rattle.std.specs.Prelude.{◌≡◌, ◌==◌, ◌+◌, ◌++◌, [], ◌∷◌, None, not, filter, IfOk};
+ghost use Rattle.std.specs.Prelude.{◌≡◌, ◌==◌, ◌+◌, ◌++◌, [], ◌∷◌, None, not, filter, Some, IfOk};
 ghost use Rattle.certificate.specs.Plan.{call_of};
-ghost use Rattle.tree_handles.specs.Binding.{object_of};
+ghost use Rattle.tree_handles.specs.Binding.{Bindings, object_of};
 ghost use Rattle.decision_walk.specs.Placings.{kept_of, child_of, crashed, with_trees, narrowed, narrowed_kept};
 ghost use Rattle.decision_walk.specs.Settling.{settled, past_done};
+ghost use Rattle.decision_steps.specs.Known.{AgreesWith};
 
+use crate::bars::Bar;
 use crate::deeds::{Deed, Deeds};
 use crate::kept_tree::KeptTree;
 use crate::machine::HistoryMachine;
@@ -32,6 +34,8 @@ pub struct WalkState {
     pub(crate) placed: Vec<u64>,
     /// The latest reply by which a call was forgotten: by its event. Each call that was is placed.
     pub(crate) answered_to: u64,
+    /// What handles that aren't bound don't name.
+    pub(crate) barred: Vec<Bar>,
     /// All that happened, which only a certificate is made of.
     pub(crate) deeds: Deeds,
 }
@@ -47,12 +51,14 @@ impl Drop for WalkState {
             past: _,
             placed,
             answered_to: _,
+            barred,
             deeds,
         } = self;
         drop(stands);
         drop(writes);
         drop(base);
         drop(placed);
+        drop(barred);
         drop(deeds);
     }
 }
@@ -73,6 +79,7 @@ impl Model for WalkState {
       past = s.past;
       placed = s.placed.items;
       answered_to = s.answered_to;
+      barred = s.barred.items;
     } };
 }
 
@@ -81,7 +88,7 @@ impl WalkState {
 
     /// The state before any call.
     pub(crate) fn opening(alloc: Global, stands: State) -> WalkState
-        ensures { result ≡ record { tree = stands.tree; writes = []; binds = stands.binds; base = None; era = 1; past = 0; placed = []; answered_to = 0 } }
+        ensures { result ≡ record { tree = stands.tree; writes = []; binds = stands.binds; base = None; era = 1; past = 0; placed = []; answered_to = 0; barred = [] } }
     {
         WalkState {
             alloc,
@@ -92,6 +99,7 @@ impl WalkState {
             past: 0,
             placed: Vec::new(alloc),
             answered_to: 0,
+            barred: Vec::new(alloc),
             deeds: Deeds::none(alloc),
         }
     }
@@ -125,6 +133,13 @@ impl WalkState {
         ensures { IfOk result (λ writes. writes.items ≡ self.now.writes) }
     {
         Vec::from_slice(self.alloc, self.writes.as_slice())
+    }
+
+    /// The bars, for another state.
+    fn copy_bars(&self) -> Result<Vec<Bar>, AllocError>
+        ensures { IfOk result (λ bars. bars.items ≡ self.now.barred) }
+    {
+        Vec::from_slice(self.alloc, self.barred.as_slice())
     }
 
     /// The tree with its open WRITEs, for another state.
@@ -192,6 +207,7 @@ impl WalkState {
             past: self.past,
             placed: self.placed_and(place.number())?,
             answered_to: self.answered_to,
+            barred: self.copy_bars()?,
             deeds,
         })
     }
@@ -218,6 +234,7 @@ impl WalkState {
             past: self.past,
             placed: self.placed.clone()?,
             answered_to: self.answered_to,
+            barred: self.copy_bars()?,
             deeds,
         })
     }
@@ -250,6 +267,7 @@ impl WalkState {
             past: self.past,
             placed: self.placed.clone()?,
             answered_to: self.answered_to,
+            barred: self.copy_bars()?,
             deeds: self.deeds.copy()?,
         })
     }
@@ -262,6 +280,8 @@ impl WalkState {
         object: u64,
     ) -> Result<WalkState, AllocError>
         requires { object_of self.now.binds handle.now ≡ None }
+        ensures rest { IfOk result (λ after. after ≡ record self.now { binds = after.binds }) }
+        ensures covers { IfOk result (λ after. (plan : Bindings) → AgreesWith self.now.binds plan → object_of plan handle.now ≡ Some object → AgreesWith after.binds plan) }
     {
         Ok(WalkState {
             alloc: self.alloc,
@@ -272,6 +292,25 @@ impl WalkState {
             past: self.past,
             placed: self.placed.clone()?,
             answered_to: self.answered_to,
+            barred: self.copy_bars()?,
+            deeds: self.deeds.copy()?,
+        })
+    }
+
+    /// The state with other bars.
+    pub(crate) fn with_bars(&self, barred: Vec<Bar>) -> Result<WalkState, AllocError>
+        ensures { IfOk result (λ after. after ≡ record self.now { barred = barred.items }) }
+    {
+        Ok(WalkState {
+            alloc: self.alloc,
+            stands: self.stands.copy()?,
+            writes: self.copy_writes()?,
+            base: self.copy_base()?,
+            era: self.era,
+            past: self.past,
+            placed: self.placed.clone()?,
+            answered_to: self.answered_to,
+            barred,
             deeds: self.deeds.copy()?,
         })
     }
@@ -302,6 +341,7 @@ impl WalkState {
             past: self.past,
             placed: self.placed_and(n)?,
             answered_to: self.answered_to,
+            barred: self.copy_bars()?,
             deeds,
         })
     }
@@ -319,6 +359,7 @@ impl WalkState {
             past,
             placed,
             answered_to: _,
+            barred,
             deeds,
         } = self;
         WalkState {
@@ -330,6 +371,7 @@ impl WalkState {
             past,
             placed: without(placed, n),
             answered_to,
+            barred,
             deeds,
         }
     }
@@ -347,6 +389,7 @@ impl WalkState {
             past,
             mut placed,
             answered_to,
+            barred,
             mut deeds,
         } = self;
         placed.reserve(1)?;
@@ -363,6 +406,7 @@ impl WalkState {
             past,
             placed,
             answered_to,
+            barred,
             deeds,
         })
     }
@@ -380,6 +424,7 @@ impl WalkState {
             past: _,
             placed,
             answered_to,
+            barred,
             deeds,
         } = self;
         WalkState {
@@ -391,6 +436,7 @@ impl WalkState {
             past: era,
             placed: machine.without_earlier(placed, era),
             answered_to,
+            barred,
             deeds,
         }
     }
@@ -404,6 +450,9 @@ impl WalkState {
         if let Some(base) = &self.base {
             digest = digest.wrapping_add(spread(base.stands.number()).wrapping_add(1));
         }
+        for bar in &self.barred {
+            digest = digest.wrapping_add(spread(spread(bar.call).wrapping_add(bar.object)));
+        }
         for one in &self.writes {
             if one.least > 0 {
                 let counts = u64::from(one.least) << 32 | u64::from(one.most);
@@ -415,7 +464,7 @@ impl WalkState {
 }
 
 /// Spreads a number's bits.
-fn spread(number: u64) -> u64 {
+pub(crate) fn spread(number: u64) -> u64 {
     let number = (number ^ (number >> 31)).wrapping_mul(0x7fb5_d329_728e_a185);
     (number ^ (number >> 27)).wrapping_mul(0x81da_def4_bc2d_d44d)
 }

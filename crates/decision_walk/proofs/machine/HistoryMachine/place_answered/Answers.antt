@@ -10,10 +10,10 @@ returns-in-Some c =
     let known = c.args.self.now.history.now.known in
     let marks = c.args.self.now.marks.items in
     let old = c.args.states.now.items in
-    let new = c.place_as.new.states.items in
+    let new = c.place_any.new.states.items in
     let state = c.args.state.now in
     let answer : c.args.recorded.now.outcome ≡ Some c.in-Some.outcome = search rules in
-    if_ok c.place_as.result (λ _. Grows old new × HasPlaced known marks new state c.args.n c.args.call.now c.in-Some.outcome)
+    if_ok c.place_any.result (λ _. Grows old new × HasPlaced known marks new state c.args.n c.args.call.now c.in-Some.outcome)
     (λ _. Grows old new × ((outcome : Outcome) → c.args.recorded.now.outcome ≡ Some outcome → HasPlaced known marks new state c.args.n c.args.call.now outcome))
     (λ _ found. (found.0, by_reply known marks new state c.args.n c.args.call.now c.args.recorded.now.outcome c.in-Some.outcome answer found.1))
-    c.place_as.ensures
+    c.place_any.ensures

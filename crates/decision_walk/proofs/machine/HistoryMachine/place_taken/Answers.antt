@@ -7,34 +7,17 @@ use Rattle.decision_walk.proofs.StepLaws.{grows_self, grows_on, if_ok}
 use Rattle.decision_walk.proofs.Taking.{none_taken, whole_taken, counts_taken}
 use Rattle.decision_walk.proofs.machine.HistoryMachine.place_taken.Goals as goal
 
-pub returns-then-branch : goal.returns-then-branch
-returns-then-branch c = (c.in_ok-place_open-in-Some.ensures.0, c.in_ok-place_open-in-Some.ensures.1 (search rules))
-
-pub returns-else-brought-gt-MOST_BYTES : goal.returns-else-brought-gt-MOST_BYTES
-returns-else-brought-gt-MOST_BYTES c =
-    let known = c.args.self.now.history.now.known in
-    let marks = c.args.self.now.marks.items in
-    let old = c.args.states.now.items in
-    let middle = c.place_open.new.states.items in
-    let new = c.place_counts.new.states.items in
-    let state = c.args.state.now in
-    let is : bytes_brought c.args.call.now ≡ Some c.in-Some.brought = search rules in
-    let counted : IfOk c.place_counts.result (λ _. Grows middle new × HasCounts known marks new state c.args.n c.args.call.now (c.in-Some.brought + 1)) = c.place_counts.ensures in
-    if_ok c.place_counts.result (λ _. Grows middle new × HasCounts known marks new state c.args.n c.args.call.now (c.in-Some.brought + 1))
-    (λ _. Grows old new × HasTaken known marks new state c.args.n c.args.call.now)
-    (λ _ found. (grows_on old middle new c.in_ok-place_open-in-Some.ensures.0 found.0, counts_taken known marks new state c.args.n c.args.call.now c.in-Some.brought is found.1)) counted
-
 pub returns-in-None : goal.returns-in-None
 returns-in-None c =
     let known = c.args.self.now.history.now.known in
     let marks = c.args.self.now.marks.items in
     let old = c.args.states.now.items in
-    let new = c.place_as.new.states.items in
+    let new = c.place_any.new.states.items in
     let state = c.args.state.now in
     let is : bytes_brought c.args.call.now ≡ None = search rules in
-    if_ok c.place_as.result (λ _. Grows old new × HasPlaced known marks new state c.args.n c.args.call.now (Taken None))
+    if_ok c.place_any.result (λ _. Grows old new × HasPlaced known marks new state c.args.n c.args.call.now (Taken None))
     (λ _. Grows old new × HasTaken known marks new state c.args.n c.args.call.now)
-    (λ _ found. (found.0, whole_taken known marks new state c.args.n c.args.call.now is found.1)) c.place_as.ensures
+    (λ _ found. (found.0, whole_taken known marks new state c.args.n c.args.call.now is found.1)) c.place_any.ensures
 
 pub returns-then-not-may_change : goal.returns-then-not-may_change
 returns-then-not-may_change c =

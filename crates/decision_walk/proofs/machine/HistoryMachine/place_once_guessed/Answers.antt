@@ -1,0 +1,27 @@
+use Rattle.std.proofs.Common.{IfOk, List, rules, subst, ◌≡◌}
+use Rattle.std.specs.List.{AllByRecursion}
+use Rattle.certificate.specs.Plan.{call_of}
+use Rattle.decision_core.specs.Layers.{Grows}
+use Rattle.decision_walk.specs.View.{WalkView}
+use Rattle.decision_walk.specs.Placings.{HasPlaced}
+use Rattle.decision_walk.specs.Guessing.{HasNamesMore, HasGuesses}
+use Rattle.decision_walk.proofs.Guesses.{placed_in_guesses}
+use Rattle.decision_walk.proofs.StepLaws.{if_ok}
+use Rattle.decision_walk.proofs.machine.HistoryMachine.place_once_guessed.Goals as goal
+
+pub returns : goal.returns
+returns c =
+    let known = c.args.self.now.history.now.known in
+    let marks = c.args.self.now.marks.items in
+    let state = c.args.state.now in
+    let n = call_of c.args.place in
+    let call = c.args.call.now in
+    let outcome = c.args.outcome.now in
+    let old = c.args.states.now.items in
+    let new = c.place_in_guesses.new.states.items in
+    let guesses = c.as_slice.result.now in
+    let same : c.in_ok-guesses.guesses.items ≡ guesses = search rules in
+    let number : c.number-n.result ≡ n = c.number-n.ensures in
+    let more : HasNamesMore known marks state n call outcome = subst (λ k. HasNamesMore known marks state k call outcome) number (c.in_ok-asks_for_handle.ensures (search rules)) in
+    if_ok c.place_in_guesses.result (λ _. Grows old new × AllByRecursion (λ guess. HasPlaced known marks new guess n call outcome) guesses) (λ _. Grows old new × HasPlaced known marks new state n call outcome)
+    (λ _ found. (found.0, placed_in_guesses known marks new guesses state n call outcome more (subst (λ (list : List WalkView). HasGuesses known marks list state call) same c.in_ok-guesses.ensures) found.1)) c.place_in_guesses.ensures
