@@ -3,7 +3,7 @@
 
 Each is named after its fault; the comment beside it says which event is the first that no order explains, and why. A file NAME.history is written for
 each, and `expected` with a line for each: NAME, the event, the number of its call. `nfsbench decide FOLDER/NAME.history` has to say `no witness: event E call N`.
-Two further histories are right: parts of WRITEs that were never answered are read.
+Further histories are right: parts of WRITEs that were never answered are read, and handles that no reply gave name files.
 """
 import pathlib
 import sys
@@ -12,7 +12,7 @@ from try_decisions import hyper, opaque, word
 
 ROOT = b"\0"
 FILE, OTHER = b"\x0a", b"\x0b"
-OK, NOENT = 0, 2
+OK, NOENT, STALE = 0, 2, 70
 UNSTABLE, DATA_SYNC, FILE_SYNC = 0, 1, 2
 FIRST, SECOND = bytes(7) + b"\1", bytes(7) + b"\2"
 
@@ -67,6 +67,11 @@ def get_attributes(file):
 
 def made(handle):
     return word(OK) + word(1) + opaque(handle) + NO_ATTRIBUTES + NO_WCC
+
+
+def made_unnamed():
+    """No handle is given."""
+    return word(OK) + word(0) + NO_ATTRIBUTES + NO_WCC
 
 
 def found(handle):
@@ -283,14 +288,64 @@ def open_write_of_two_counts():
     return history, 10, asked
 
 
+def unmade_handle_written():
+    """A WRITE succeeds by a handle that no reply gave, and the root is all that exists: event 2."""
+    it = History()
+    asked = it.exchange(write(FILE, b"x"), written(1))
+    return it, 2, asked
+
+
+def handle_after(*between):
+    """A CREATE that gives no handle, and calls after it on one that no reply gave; the last has a reply that fits or doesn't."""
+    it = History()
+    it.exchange(create(ROOT, b"a"), made_unnamed())
+    asked = [it.exchange(call, result) for call, result in between]
+    return it, 2 * it.calls, asked[-1]
+
+
+def handle_that_was_stale():
+    """A handle that no reply gave is stale while the one file exists, and names a file later, though none was made: event 6."""
+    return handle_after((get_attributes(FILE), word(STALE)), (read(FILE), bytes_read(b"")))
+
+
+def handle_of_two_files():
+    """A handle that no reply gave has the one file's bytes, and others though nothing wrote: event 6."""
+    return handle_after((read(FILE), bytes_read(b"")), (read(FILE), bytes_read(b"x")))
+
+
+def removed_file_brought_back():
+    """A REMOVE is never answered. The file's handle, which no reply gave, is stale, and after a crash that lost the REMOVE it names the file again."""
+    it = History()
+    it.exchange(create(ROOT, b"a"), made_unnamed())
+    it.call(remove(ROOT, b"a"))
+    it.exchange(get_attributes(FILE), word(STALE))
+    it.crash()
+    it.exchange(read(FILE), bytes_read(b""))
+    return it
+
+
+def one_of_many(count, data=b""):
+    """A READ succeeds by a handle that no reply gave, and any of so many empty files may be what it names."""
+    it = History()
+    for number in range(count):
+        it.exchange(create(ROOT, b"f%d" % number), made_unnamed())
+    it.exchange(read(FILE), bytes_read(data))
+    return it
+
+
 RIGHT = {
+    "removed_file_brought_back": removed_file_brought_back(),
+    "one_of_sixty_files": one_of_many(60),
+    "one_of_seventy_files": one_of_many(70),
+    # That none of them has these bytes isn't decided.
+    "none_of_seventy_files": one_of_many(70, b"x"),
     "write_of_64_read_in_part": write_read_in_part(64),
     "write_of_65_read_in_part": write_read_in_part(65),
     "write_of_4096_read_in_part": write_read_in_part(4096),
     "open_write_kept_over_a_crash": over_a_crash(40, 40)[0],
     "open_write_lost_in_a_crash": over_a_crash(40, 0)[0],
 }
-MADE = [open_write_of_two_counts, torn_read, stale_size, found_after_a_removal, synced_write_lost, committed_write_lost, range_committed_write_lost, data_synced_write_lost,
+MADE = [unmade_handle_written, handle_that_was_stale, handle_of_two_files, open_write_of_two_counts, torn_read, stale_size, found_after_a_removal, synced_write_lost, committed_write_lost, range_committed_write_lost, data_synced_write_lost,
         two_verifiers_behind_a_crash, verifier_kept_over_a_loss, two_makers, directory_below_itself, listed_twice]
 
 

@@ -46,6 +46,20 @@ fn events_of(alloc: Global, history: &History) -> Result<Option<Vec<Event>>, All
     timeline(alloc, spans.as_slice(), history.events().len() + 1)
 }
 
+/// A certificate, if it is a witness.
+fn if_witness(
+    alloc: Global,
+    history: &History,
+    certificate: Certificate,
+) -> Result<Option<Certificate>, AllocError>
+    ensures { IfOk result (λ found. IfSome found (IsWitness history.now.known)) }
+{
+    match check(alloc, history, &certificate)? {
+        Verdict::Yes => Ok(Some(certificate)),
+        Verdict::No(_fault) => Ok(None),
+    }
+}
+
 /// The certificate of a state, if it is a witness.
 fn accepted(
     alloc: Global,
@@ -55,21 +69,22 @@ fn accepted(
     ensures { IfOk result (λ found. IfSome found (IsWitness history.now.known)) }
 {
     let certificate = certificate_of(alloc, state, history.eras())?;
-    match check(alloc, history, &certificate)? {
-        Verdict::Yes => Ok(Some(certificate)),
-        Verdict::No(_fault) => Ok(None),
-    }
+    if_witness(alloc, history, certificate)
 }
 
-/// The first witness that a state gives, from the last state to the first: the last has the fewest open calls placed.
-fn first_accepted(
+/// The first witness that a state gives, from the last state to the first: the last has the fewest open calls placed. The watch may end it.
+fn first_accepted<W: Watch>(
     alloc: Global,
     history: &History,
     states: &[WalkState],
+    watch: &mut W,
 ) -> Result<Option<Certificate>, AllocError>
     ensures { IfOk result (λ found. IfSome found (IsWitness history.now.known)) }
 {
     for state in states.iter().rev() {
+        if watch.is_over() {
+            return Ok(None);
+        }
         if let Some(certificate) = accepted(alloc, history, state)? {
             return Ok(Some(certificate));
         }
@@ -77,8 +92,8 @@ fn first_accepted(
     Ok(None)
 }
 
-/// The calls that are open when an event comes.
-fn open_calls(alloc: Global, history: &History, event: u64) -> Result<Vec<u64>, AllocError> {
+/// The calls that are open when an event comes, from 1, by their numbers.
+pub fn open_calls(alloc: Global, history: &History, event: u64) -> Result<Vec<u64>, AllocError> {
     let mut open = Vec::new(alloc);
     let mut number: u64 = 0;
     for recorded in history.recorded_calls() {
@@ -128,7 +143,11 @@ fn walk<W: Watch>(
 }
 
 /// What is decided where states are left and none gives a witness: no, where an era shows two write verifiers.
-fn told_by_verifiers(alloc: Global, history: &History) -> Result<Decision, AllocError>
+fn told_by_verifiers(
+    alloc: Global,
+    history: &History,
+    reason: Undecided,
+) -> Result<Decision, AllocError>
     requires { AreTimed history.now.known (era_start (recording_of history.now).events) }
     ensures { IfOk result (Says history.now.known) }
 {
@@ -138,12 +157,26 @@ fn told_by_verifiers(alloc: Global, history: &History) -> Result<Decision, Alloc
             call: shown.number,
             open: open_calls(alloc, history, shown.at)?,
         })),
-        None => Ok(Decision::Undecided(Undecided::NotAccepted)),
+        None => Ok(Decision::Undecided(reason)),
+    }
+}
+
+/// Why no witness is known where states are left: the watch ended the walk, or none of them gives one.
+fn reason_left<W: Watch>(watch: &mut W) -> Undecided {
+    if watch.is_over() {
+        Undecided::Ended
+    } else {
+        Undecided::NotAccepted
     }
 }
 
 /// What a walk decides.
-fn told(alloc: Global, history: &History, walked: Walked<WalkState>) -> Result<Decision, AllocError>
+fn told<W: Watch>(
+    alloc: Global,
+    history: &History,
+    walked: Walked<WalkState>,
+    watch: &mut W,
+) -> Result<Decision, AllocError>
     requires walks { Walks history.now.known walked }
     requires timed { AreTimed history.now.known (era_start (recording_of history.now).events) }
     ensures { IfOk result (Says history.now.known) }
@@ -152,15 +185,15 @@ fn told(alloc: Global, history: &History, walked: Walked<WalkState>) -> Result<D
         Walked::NoWitness { event, call } => {
             Ok(Decision::No(refusal_of(alloc, history, event, call)?))
         }
-        Walked::Left(states) => match first_accepted(alloc, history, states.as_slice())? {
+        Walked::Left(states) => match first_accepted(alloc, history, states.as_slice(), watch)? {
             Some(certificate) => Ok(Decision::Yes(certificate)),
-            None => told_by_verifiers(alloc, history),
+            None => told_by_verifiers(alloc, history, reason_left(watch)),
         },
     }
 }
 
-/// The first witness that a quick walk comes to, which takes states of one number for the same, and leaves out what isn't decided, or guesses what a handle
-/// names.
+/// The first witness that a quick walk comes to, which takes states of one number for the same, tries a call before a reply only where it may matter to it,
+/// and leaves out what isn't decided; and whether it gave up.
 fn found_quickly<W: Watch>(
     alloc: Global,
     history: &History,
@@ -168,55 +201,56 @@ fn found_quickly<W: Watch>(
     events: &[Event],
     most: usize,
     watch: &mut W,
-) -> Result<Option<Certificate>, AllocError>
-    ensures { IfOk result (λ found. IfSome found (IsWitness history.now.known)) }
+) -> Result<(Option<Certificate>, bool), AllocError>
+    ensures { IfOk result (λ found. IfSome found.0 (IsWitness history.now.known)) }
 {
     let leaving = LeavingOut::new(alloc, machine);
     match decision_core::decide(alloc, &leaving, events, most, watch) {
-        Ok(Walked::Left(states)) => first_accepted(alloc, history, states.as_slice()),
+        Ok(Walked::Left(states)) => {
+            let found = first_accepted(alloc, history, states.as_slice(), watch)?;
+            Ok((found, false))
+        }
+        Ok(Walked::NoWitness { event: _, call: _ }) => Ok((None, false)),
         Err(Stop::NoMemory) => Err(AllocError),
-        Ok(Walked::NoWitness { event: _, call: _ }) | Err(_) => Ok(None),
+        Err(_) => Ok((None, true)),
     }
 }
 
-/// What is decided where a walk came to a step that it doesn't decide: a yes where a quick walk comes to a witness.
-fn decided_by_guesses<W: Watch>(
+/// What the watch brings after a quick walk, if it is a witness.
+fn brought<W: WalksWatch>(
+    alloc: Global,
+    history: &History,
+    watch: &mut W,
+    gave_up: bool,
+) -> Result<Option<Certificate>, AllocError>
+    ensures { IfOk result (λ found. IfSome found (IsWitness history.now.known)) }
+{
+    match watch.next_walk(gave_up)? {
+        Some(certificate) => if_witness(alloc, history, certificate),
+        None => Ok(None),
+    }
+}
+
+/// A witness by a quick walk, or else one that the watch brings.
+fn sought<W: WalksWatch>(
     alloc: Global,
     history: &History,
     machine: &HistoryMachine<'_>,
     events: &[Event],
     most: usize,
     watch: &mut W,
-    why: Why,
-) -> Result<Decision, AllocError>
-    ensures { IfOk result (Says history.now.known) }
-{
-    match found_quickly(alloc, history, machine, events, most, watch)? {
-        Some(certificate) => Ok(Decision::Yes(certificate)),
-        None => Ok(Decision::Undecided(Undecided::NotCovered(why))),
-    }
-}
-
-/// A witness of a history, by a quick walk of so many states at once at most, which a watch may end. It compares numbers of states in place of the states, so
-/// it takes a fraction of the time of `decide`, and says nothing where it finds none.
-pub fn find_witness<W: Watch>(
-    alloc: Global,
-    history: &History,
-    most: usize,
-    watch: &mut W,
 ) -> Result<Option<Certificate>, AllocError>
     ensures { IfOk result (λ found. IfSome found (IsWitness history.now.known)) }
 {
-    let Some(events) = events_of(alloc, history)? else {
-        return Ok(None);
-    };
-    let marks = marks_of(alloc, history)?;
-    let machine = HistoryMachine::new(alloc, history, marks);
-    found_quickly(alloc, history, &machine, events.as_slice(), most, watch)
+    let (found, gave_up) = found_quickly(alloc, history, machine, events, most, watch)?;
+    match found {
+        Some(found) => Ok(Some(found)),
+        None => brought(alloc, history, watch, gave_up),
+    }
 }
 
-/// What is decided, with memory.
-fn decided<W: Watch>(
+/// What is decided, with memory: a quick walk looks for a witness, and a walk over all that may be comes after it.
+fn decided<W: WalksWatch>(
     alloc: Global,
     history: &History,
     most: usize,
@@ -230,18 +264,30 @@ fn decided<W: Watch>(
     let marks = marks_of(alloc, history)?;
     let machine = HistoryMachine::new(alloc, history, marks);
     let events = events.as_slice();
+    if let Some(found) = sought(alloc, history, &machine, events, most, watch)? {
+        return Ok(Decision::Yes(found));
+    }
     match walk(alloc, history, &machine, events, most, watch) {
-        Ok(walked) => told(alloc, history, walked),
-        Err(Stop::NotCovered(why)) => {
-            decided_by_guesses(alloc, history, &machine, events, most, watch, why)
-        }
+        Ok(walked) => told(alloc, history, walked, watch),
         Err(stop) => Ok(decision_of(stop)),
     }
 }
 
-/// Whether a history has any witness, by a walk of so many states at once at most, which a watch may end. A yes has one; where the answer is
+/// Sees how far a decision has come, and may end its walks. Nothing that is said depends on it.
+pub trait WalksWatch: Watch {
+    /// Takes note that the quick walk found nothing, and that the walk over all that may be comes next. Where the quick walk gave up, it may bring a
+    /// certificate that it found otherwise; that one is judged.
+    fn next_walk(&mut self, gave_up: bool) -> Result<Option<Certificate>, AllocError>;
+}
+
+/// Whether a history has any witness, by walks of so many states at once at most, each of which a watch may end. A yes has one; where the answer is
 /// no, no certificate is one.
-pub fn decide<W: Watch>(alloc: Global, history: &History, most: usize, watch: &mut W) -> Decision
+pub fn decide<W: WalksWatch>(
+    alloc: Global,
+    history: &History,
+    most: usize,
+    watch: &mut W,
+) -> Decision
     ensures { Says history.now.known result }
 {
     match decided(alloc, history, most, watch) {

@@ -73,7 +73,8 @@ impl<'m, 'h> Machine for LeavingOut<'m, 'h> {
 
     fn step_each(&self, state: &WalkState, calls: &[u64]) -> Result<Vec<WalkState>, Stop<Why>> {
         let mut states = Vec::new(self.alloc);
-        for call in calls {
+        let mattering = self.machine.mattering(state, calls)?;
+        for call in &mattering {
             states.extend(self.step_one(state, *call)?)?;
         }
         Ok(states)

@@ -10,7 +10,7 @@ mod saving;
 mod spans;
 mod verifiers;
 
-pub use deciding::{decide, find_witness};
+pub use deciding::{WalksWatch, decide, open_calls};
 pub use decision::{Decision, Refusal, Undecided};
 pub use decision_core::Watch;
 pub use decision_walk;

@@ -10,6 +10,7 @@ ghost use Rattle.deciding_command.specs.FileDecision.{IsWithoutWitness, IsWithou
 ghost use Rattle.deciding_command.specs.Told.{IsToldWithHints, line_of_no, no_line, yes_line};
 
 use crate::file_decision::{FileDecision, decide_file};
+use crate::fronts::tell_undecided;
 use crate::hints::{Named, tell_hints};
 use crate::prefixing::is_written;
 use crate::telling::report_of;
@@ -95,7 +96,10 @@ fn tell_all<R: Files + Clock + AllocGlobal + Eprint, O: Output>(
     let status = tell_decision(rt, request, decision, output);
     match named_by(request, decision, status) {
         Some(named) => tell_hints(rt, request, bytes, named, output),
-        None => status,
+        None => {
+            tell_undecided(rt, request, bytes, decision);
+            status
+        }
     }
 }
 
@@ -104,7 +108,8 @@ fn tell_all<R: Files + Clock + AllocGlobal + Eprint, O: Output>(
 ///
 /// The certificate of a yes is written to the file that the request names. It stops where more states would stand at once than the
 /// request allows, and about when its seconds are over. Behind a no it goes on as often as the request says, without the calls that
-/// were named, and tells what it decides then in further lines. These are hints: the status is that of the no.
+/// were named, and tells what it decides then in further lines. These are hints: the status is that of the no. Where it isn't decided, hints of how far it
+/// came go to standard error, and the events that some order explains to a folder, if the request names one.
 pub fn decide_history<R: Files + Clock + AllocGlobal + Eprint, O: Output>(
     rt: &R,
     request: &DecideRequest<'_>,

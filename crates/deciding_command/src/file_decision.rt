@@ -6,11 +6,13 @@ ghost use Rattle.nfs_history.specs.FirstFault.{FirstFault};
 ghost use Rattle.nfs_history.specs.History.{IsHistoryFile};
 ghost use Rattle.deciding_command.specs.FileDecision.{Decides, IsRefused};
 
+use crate::reached::{Reached, Unsettled};
 use crate::within_time::{Effort, decide_within};
 use certificate::{Certificate, write_certificate};
 use decide::{Decision, Undecided};
 use nfs_history::{History, HistoryFault, read_history};
 use std::alloc::{AllocError, Global};
+use std::io::Eprint;
 use std::time::Clock;
 use witness_check::{FileVerdict, check_files};
 
@@ -27,7 +29,7 @@ pub enum FileDecision {
         call: u64,
     },
     /// Nothing is said of them, for this reason.
-    Undecided(Undecided),
+    Undecided(Unsettled),
     /// They are no history file: its first fault.
     BadHistory(HistoryFault),
 }
@@ -37,6 +39,7 @@ fn accepted_text(
     alloc: Global,
     bytes: &[u8],
     certificate: &Certificate,
+    reached: Reached,
 ) -> Result<FileDecision, AllocError>
     ensures { IfOk result (Decides bytes.now) }
 {
@@ -45,12 +48,15 @@ fn accepted_text(
     };
     match check_files(alloc, bytes, text.as_slice())? {
         FileVerdict::Yes => Ok(FileDecision::Yes(text)),
-        _ => Ok(FileDecision::Undecided(Undecided::NotAccepted)),
+        _ => Ok(FileDecision::Undecided(Unsettled {
+            reason: Undecided::NotAccepted,
+            reached,
+        })),
     }
 }
 
 /// What is decided of the history of which these are the bytes.
-fn decide_read<R: Clock + AllocGlobal>(
+fn decide_read<R: Clock + Eprint + AllocGlobal>(
     rt: &R,
     bytes: &[u8],
     history: &History,
@@ -59,13 +65,14 @@ fn decide_read<R: Clock + AllocGlobal>(
     requires { IsHistoryFile bytes.now history.now }
     ensures { IfOk result (Decides bytes.now) }
 {
-    match decide_within(rt, history, effort) {
-        Decision::Yes(certificate) => accepted_text(rt.alloc(), bytes, &certificate),
+    let (decision, reached) = decide_within(rt, history, effort);
+    match decision {
+        Decision::Yes(certificate) => accepted_text(rt.alloc(), bytes, &certificate, reached),
         Decision::No(refusal) => Ok(FileDecision::NoWitness {
             event: refusal.event,
             call: refusal.call,
         }),
-        Decision::Undecided(reason) => Ok(FileDecision::Undecided(reason)),
+        Decision::Undecided(reason) => Ok(FileDecision::Undecided(Unsettled { reason, reached })),
         Decision::NoMemory => Err(AllocError),
     }
 }
@@ -73,7 +80,7 @@ fn decide_read<R: Clock + AllocGlobal>(
 /// Decides whether the bytes of a history file are accepted with any certificate, within so many seconds.
 ///
 /// An `Err` means that memory ran out. It says nothing of the bytes.
-pub fn decide_file<R: Clock + AllocGlobal>(
+pub fn decide_file<R: Clock + Eprint + AllocGlobal>(
     rt: &R,
     bytes: &[u8],
     effort: Effort,

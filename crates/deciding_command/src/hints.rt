@@ -12,6 +12,7 @@ use history_prefix::{calls_without, kept_history, marks_without, number_of};
 use nfs_history::{History, HistoryFault, read_history};
 use program_streams::{Output, tell};
 use std::alloc::{AllocError, Global};
+use std::io::Eprint;
 use std::time::Clock;
 
 /// A reply, or a crash, that no order explains. The numbers are those of the whole history.
@@ -89,7 +90,7 @@ impl Rest {
 }
 
 /// What is decided of a history without these calls.
-fn hint_without<R: Clock + AllocGlobal>(
+fn hint_without<R: Clock + Eprint + AllocGlobal>(
     rt: &R,
     request: &DecideRequest<'_>,
     whole: &History,
@@ -99,7 +100,8 @@ fn hint_without<R: Clock + AllocGlobal>(
         Ok(rest) => rest,
         Err(fault) => return Hint::NoHistory(fault),
     };
-    match decide_within(rt, &rest.history, request.effort) {
+    let (decision, _reached) = decide_within(rt, &rest.history, request.effort);
+    match decision {
         Decision::Yes(_certificate) => Hint::Explained,
         Decision::No(refusal) => rest.refused(refusal.event, refusal.call),
         Decision::Undecided(reason) => rest.undecided(reason),
@@ -119,7 +121,7 @@ fn tell_hint<O: Output>(alloc: Global, output: &mut O, hint: Hint) -> u8
 }
 
 /// Leaves out the calls that are named, one after the other, and tells what is decided of the rest.
-fn tell_rests<R: Clock + AllocGlobal, O: Output>(
+fn tell_rests<R: Clock + Eprint + AllocGlobal, O: Output>(
     rt: &R,
     request: &DecideRequest<'_>,
     whole: &History,
@@ -151,7 +153,7 @@ fn tell_rests<R: Clock + AllocGlobal, O: Output>(
 
 /// Goes on behind a no of a history's file: leaves out the call that was named, decides of the rest, and so on as often as the request
 /// allows. Each answer is a line. The status is that of the no, or 2 where a line can't be written.
-pub(crate) fn tell_hints<R: Clock + AllocGlobal, O: Output>(
+pub(crate) fn tell_hints<R: Clock + Eprint + AllocGlobal, O: Output>(
     rt: &R,
     request: &DecideRequest<'_>,
     bytes: &[u8],

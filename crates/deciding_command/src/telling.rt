@@ -22,7 +22,11 @@ pub fn reason_line(alloc: Global, reason: Undecided) -> Result<String, AllocErro
         Undecided::TooManyStates => line_of(alloc, "undecided: ", &"too many states"),
         Undecided::Ended => line_of(alloc, "undecided: ", &"out of time"),
         Undecided::NotCovered(Why::HandleNotGiven(call)) => {
-            reason_at(alloc, "no reply gave a handle of call", call)
+            reason_at(
+                alloc,
+                "more than 64 objects exist, and no reply gave a handle of call",
+                call,
+            )
         }
         Undecided::NotCovered(Why::LongWrite(call)) => {
             reason_at(alloc, "no reply came to the long WRITE of call", call)
@@ -48,7 +52,9 @@ pub fn report_of(alloc: Global, decision: &FileDecision) -> Result<Report, Alloc
             1,
             format!(in alloc; "no witness: event {event} call {call}\n")?,
         )),
-        FileDecision::Undecided(reason) => Ok(Report::new(2, reason_line(alloc, *reason)?)),
+        FileDecision::Undecided(undecided) => {
+            Ok(Report::new(2, reason_line(alloc, undecided.reason)?))
+        }
         FileDecision::BadHistory(fault) => Ok(Report::new(2, line_of(alloc, "refused: ", fault)?)),
     }
 }

@@ -1,26 +1,25 @@
-//! A decision within so many seconds: a short walk, and where that isn't done, sweeps for a certificate, a quick walk for one, and a walk to the end of the time.
+//! A decision within so many seconds: a quick walk for a certificate for half of them at most, sweeps for one where that gave up, and a walk over all that may be
+//! to their end.
 
-ghost use Rattle.std.specs.Prelude.{IfOk, IfSome};
-ghost use Rattle.witness_check.specs.Witness.{IsWitness};
 ghost use Rattle.decide.specs.Decision.{Says};
 
+use crate::reached::Reached;
 use certificate::Certificate;
-use decide::{Decision, Undecided, Watch, decide, find_witness};
+use decide::{Decision, WalksWatch, Watch, decide};
 use nfs_history::History;
 use search_problem::Problem;
 use search_sweeps::{SweepWatch, plan_of};
 use std::alloc::AllocError;
+use std::fs::File;
+use std::io::{Eprint, IsTerminal};
+use std::rt::Files;
 use std::time::{Clock, Instant};
-use witness_check::{Verdict, check_calls};
 
-/// In how many parts the time is taken, of which the first walk gets one.
-const PARTS: u32 = 120;
-
-/// In how many parts the time is taken, of which that walk and the sweeps get one together.
-const SWEPT_PARTS: u32 = 8;
-
-/// In how many parts the time is taken, of which all gets one that comes before the last walk.
+/// In how many parts the time is taken, of which the quick walk gets one.
 const QUICK_PARTS: u32 = 2;
+
+/// In how many parts, of which sweeps get one.
+const SWEPT_PARTS: u32 = 8;
 
 /// How many sweeps are made at most.
 const SWEEPS: u64 = 16;
@@ -32,143 +31,152 @@ pub struct Effort {
     pub states: u32,
     /// After how many seconds it gives up.
     pub seconds: u32,
+    /// Whether it says on standard error how far it is, once a second.
+    pub is_told: bool,
 }
 
-/// When a decision began, and after how many seconds it gives up.
-#[derive(Clone, Copy)]
-struct Term {
+/// Whether standard error is a terminal.
+pub fn is_watched<R: Files<File = File>>(rt: &R) -> bool {
+    match File::open(rt, "/dev/stderr") {
+        Ok(file) => file.is_terminal(),
+        Err(_) => false,
+    }
+}
+
+/// Ends a walk when a part of the time is over, of which there are so many, and notes how far the walks came.
+#[derive(Drop)]
+struct PartOfTime<'r, R> {
+    rt: &'r R,
+    history: &'r History,
     start: Option<Instant>,
-    seconds: u32,
+    effort: Effort,
+    parts: u32,
+    /// How many events there are.
+    events: usize,
+    /// How many seconds were gone when it was said last how far it is.
+    told: u128,
+    /// How far the walk before this one came.
+    earlier: Reached,
+    reached: Reached,
 }
 
-impl Term {
-    /// Whether a part of the time is over, of which there are so many. Without a clock it is.
-    fn is_over<R: Clock>(&self, rt: &R, parts: u32) -> bool {
-        match (self.start, Instant::now(rt)) {
-            (Some(start), Ok(now)) => {
-                let gone = now.duration_since(start).as_millis();
-                let given = u128::from(self.seconds).saturating_mul(1_000);
-                gone.saturating_mul(u128::from(parts)) >= given
-            }
+impl<'r, R: Clock + Eprint> PartOfTime<'r, R> {
+    /// How many milliseconds are gone, if there is a clock.
+    fn gone(&self) -> Option<u128> {
+        let start = self.start?;
+        match Instant::now(self.rt) {
+            Ok(now) => Some(now.duration_since(start).as_millis()),
+            Err(_) => None,
+        }
+    }
+
+    /// Says how far it is, where a second is gone since it did.
+    fn tell(&mut self, states: usize) {
+        let Some(gone) = self.gone() else {
+            return;
+        };
+        let seconds = gone / 1_000;
+        if seconds <= self.told {
+            return;
+        }
+        self.told = seconds;
+        let (event, events, most) = (self.reached.event, self.events, self.reached.most.states);
+        let _ = eprintln!(self.rt;
+            "nfsbench: {event} of {events} events, orders now {states}, at most {most}"
+        );
+    }
+}
+
+impl<'r, R: Clock + Eprint> Watch for PartOfTime<'r, R> {
+    /// Without a clock it is.
+    fn is_over(&mut self) -> bool {
+        let given = u128::from(self.effort.seconds).saturating_mul(1_000);
+        match self.gone() {
+            Some(gone) => gone.saturating_mul(u128::from(self.parts)) >= given,
+            None => true,
+        }
+    }
+
+    fn see(&mut self, event: usize, states: usize) {
+        // There is one event more, at which nothing happens.
+        let number = (event as u64).saturating_add(1).min(self.events as u64);
+        self.reached = self.reached.with(number, states as u64);
+        if self.effort.is_told {
+            self.tell(states);
+        }
+    }
+}
+
+/// Ends sweeps when so many milliseconds are gone from a moment on.
+#[derive(Drop)]
+struct SweptTime<'r, R> {
+    rt: &'r R,
+    start: Option<Instant>,
+    given: u128,
+}
+
+impl<'r, R: Clock> SweepWatch for SweptTime<'r, R> {
+    fn at(&mut self, _depth: usize) {}
+
+    /// Without a clock they are over.
+    fn is_over(&self) -> bool {
+        match (self.start, Instant::now(self.rt)) {
+            (Some(start), Ok(now)) => now.duration_since(start).as_millis() >= self.given,
             _ => true,
         }
     }
 }
 
-/// Ends a walk, or sweeps, when a part of the time is over, of which there are so many.
-#[derive(Drop)]
-struct PartOfTime<'r, R> {
-    rt: &'r R,
-    term: Term,
-    parts: u32,
-}
-
-impl<'r, R: Clock> Watch for PartOfTime<'r, R> {
-    fn is_over(&mut self) -> bool {
-        self.term.is_over(self.rt, self.parts)
-    }
-
-    fn see(&mut self, _event: usize, _states: usize) {}
-}
-
-impl<'r, R: Clock> SweepWatch for PartOfTime<'r, R> {
-    fn at(&mut self, _depth: usize) {}
-
-    fn is_over(&self) -> bool {
-        self.term.is_over(self.rt, self.parts)
-    }
-}
-
-/// The certificate that sweeps come to within their part of the time, if it is a witness.
+/// The certificate that sweeps over a history come to, within so many milliseconds.
 fn swept<R: Clock + AllocGlobal>(
     rt: &R,
     history: &History,
-    term: Term,
-) -> Result<Option<Certificate>, AllocError>
-    ensures { IfOk result (λ found. IfSome found (IsWitness history.now.known)) }
-{
+    given: u128,
+) -> Result<Option<Certificate>, AllocError> {
     let alloc = rt.alloc();
     let known = history.lend_calls(alloc)?;
     let problem = Problem::new(alloc, &known)?;
-    let parts = SWEPT_PARTS;
-    let mut watch = PartOfTime { rt, term, parts };
-    let Some(plan) = plan_of(alloc, &problem, SWEEPS, &mut watch)? else {
-        return Ok(None);
-    };
-    match check_calls(alloc, &known, &plan)? {
-        Verdict::Yes => Ok(Some(plan)),
-        Verdict::No(_fault) => Ok(None),
-    }
-}
-
-/// The certificate that a quick walk comes to within its part of the time, if it is a witness.
-fn walked_quickly<R: Clock + AllocGlobal>(
-    rt: &R,
-    history: &History,
-    effort: Effort,
-    term: Term,
-) -> Result<Option<Certificate>, AllocError>
-    ensures { IfOk result (λ found. IfSome found (IsWitness history.now.known)) }
-{
-    let parts = QUICK_PARTS;
-    let mut watch = PartOfTime { rt, term, parts };
-    find_witness(rt.alloc(), history, effort.states as usize, &mut watch)
-}
-
-/// A certificate that is a witness, by sweeps or by a quick walk.
-fn found<R: Clock + AllocGlobal>(
-    rt: &R,
-    history: &History,
-    effort: Effort,
-    term: Term,
-) -> Result<Option<Certificate>, AllocError>
-    ensures { IfOk result (λ found. IfSome found (IsWitness history.now.known)) }
-{
-    match swept(rt, history, term)? {
-        Some(certificate) => Ok(Some(certificate)),
-        None => walked_quickly(rt, history, effort, term),
-    }
-}
-
-/// What a walk decides that ends when a part of the time is over, of which there are so many.
-fn decide_in_part<R: Clock + AllocGlobal>(
-    rt: &R,
-    history: &History,
-    effort: Effort,
-    term: Term,
-    parts: u32,
-) -> Decision
-    ensures { Says history.now.known result }
-{
-    let mut watch = PartOfTime { rt, term, parts };
-    decide(rt.alloc(), history, effort.states as usize, &mut watch)
-}
-
-/// Decides of a history.
-pub(crate) fn decide_within<R: Clock + AllocGlobal>(
-    rt: &R,
-    history: &History,
-    effort: Effort,
-) -> Decision
-    ensures { Says history.now.known result }
-{
-    let term = Term {
+    let mut watch = SweptTime {
+        rt,
         start: Instant::now(rt).ok(),
-        seconds: effort.seconds,
+        given,
     };
-    let first = decide_in_part(rt, history, effort, term, PARTS);
-    if !matches!(&first, Decision::Undecided(_)) {
-        return first;
-    }
-    match found(rt, history, effort, term) {
-        Ok(Some(certificate)) => Decision::Yes(certificate),
-        Ok(None) => {
-            if matches!(&first, Decision::Undecided(Undecided::Ended)) {
-                decide_in_part(rt, history, effort, term, 1)
-            } else {
-                first
-            }
+    plan_of(alloc, &problem, SWEEPS, &mut watch)
+}
+
+impl<'r, R: Clock + Eprint + AllocGlobal> WalksWatch for PartOfTime<'r, R> {
+    /// Sweeps are for histories in which more calls are on their way at once than a quick walk has states for.
+    fn next_walk(&mut self, gave_up: bool) -> Result<Option<Certificate>, AllocError> {
+        self.parts = 1;
+        self.earlier = self.reached;
+        self.reached = Reached::none();
+        if !gave_up {
+            return Ok(None);
         }
-        Err(AllocError) => Decision::NoMemory,
+        let given = u128::from(self.effort.seconds).saturating_mul(1_000);
+        swept(self.rt, self.history, given / u128::from(SWEPT_PARTS))
     }
+}
+
+/// Decides of a history, and says how far the walks came.
+pub(crate) fn decide_within<R: Clock + Eprint + AllocGlobal>(
+    rt: &R,
+    history: &History,
+    effort: Effort,
+) -> (Decision, Reached)
+    ensures { Says history.now.known result.0 }
+{
+    let mut watch = PartOfTime {
+        rt,
+        history,
+        start: Instant::now(rt).ok(),
+        effort,
+        parts: QUICK_PARTS,
+        events: history.events().len(),
+        told: 0,
+        earlier: Reached::none(),
+        reached: Reached::none(),
+    };
+    let decision = decide(rt.alloc(), history, effort.states as usize, &mut watch);
+    (decision, watch.reached.or_further(watch.earlier))
 }

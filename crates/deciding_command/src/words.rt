@@ -16,6 +16,8 @@ pub struct DecideRequest<'a> {
     pub effort: Effort,
     /// How often it goes on behind a no, without the calls that were named: at most 1,000 times.
     pub go_on: u32,
+    /// The folder for the events that some order explains, where it isn't decided, if they are wanted.
+    pub front: Option<&'a str>,
 }
 
 /// The most of both bounds.
@@ -40,6 +42,15 @@ fn certificate_option<'a>(alloc: Global) -> Arg<'a> {
         .long("certificate")
         .value_name("FILE")
         .help("Writes the certificate of a yes to this file")
+}
+
+fn front_option<'a>(alloc: Global) -> Arg<'a> {
+    Arg::new(alloc, "front")
+        .long("front")
+        .value_name("FOLDER")
+        .help(
+            "Where it isn't decided, writes the first events that an order explains to FOLDER/history, and the order to FOLDER/certificate",
+        )
 }
 
 /// Bounds the states of a decision.
@@ -74,14 +85,16 @@ pub fn decide_command<'a>(alloc: Global) -> Result<Command<'a>, AllocError> {
         .arg(states_option(alloc))?
         .arg(seconds_option(alloc))?
         .arg(go_on_option(alloc))?
+        .arg(front_option(alloc))?
         .arg(history_path(alloc))
 }
 
-/// What a decision may cost, by these two options.
+/// What a decision may cost, by these two options. It doesn't say how far it is.
 pub fn effort_of(words: &ArgMatches<'_>) -> Effort {
     Effort {
         states: words.get_one("states").unwrap_or(STATES),
         seconds: words.get_one("seconds").unwrap_or(SECONDS),
+        is_told: false,
     }
 }
 
@@ -93,5 +106,6 @@ pub fn decide_request<'a>(decide: &ArgMatches<'a>) -> DecideRequest<'a> {
         certificate: decide.get_str("certificate"),
         effort: effort_of(decide),
         go_on: decide.get_one("go-on").unwrap_or(0),
+        front: decide.get_str("front"),
     }
 }

@@ -7,13 +7,22 @@ ghost use Rattle.deciding_command.specs.FileDecision.{IsWithoutWitness, IsNeverA
 use crate::behind::{Behind, behind_fault};
 use crate::telling::with_behind;
 use crate::unexplained::behind_no;
-use deciding_command::{Effort, FileDecision, decide_file, report_of};
+use deciding_command::{Effort, FileDecision, Reached, decide_file, reached_text, report_of};
 use program_streams::Report;
 use std::alloc::{AllocError, Global};
+use std::io::Eprint;
 use std::time::Clock;
 
+/// How far a decision came that says nothing.
+fn behind_undecided(alloc: Global, history: &[u8], reached: Reached) -> Result<Behind, AllocError> {
+    let text = reached_text(alloc, history, reached)?;
+    let mut behind = Behind::nothing(alloc);
+    behind.lines.extend_from_slice(text.as_bytes())?;
+    Ok(behind)
+}
+
 /// What is known behind a decision.
-fn behind_decision<R: Clock + AllocGlobal>(
+fn behind_decision<R: Clock + Eprint + AllocGlobal>(
     rt: &R,
     history: &[u8],
     decision: &FileDecision,
@@ -22,13 +31,16 @@ fn behind_decision<R: Clock + AllocGlobal>(
     match decision {
         FileDecision::NoWitness { event, call } => behind_no(rt, history, *event, *call, effort),
         FileDecision::BadHistory(fault) => behind_fault(rt.alloc(), history, *fault),
-        _ => Ok(Behind::nothing(rt.alloc())),
+        FileDecision::Undecided(undecided) => {
+            behind_undecided(rt.alloc(), history, undecided.reached)
+        }
+        FileDecision::Yes(_) => Ok(Behind::nothing(rt.alloc())),
     }
 }
 
 /// What is known behind a decision on the bytes of a history file, as lines of printable bytes: of a reply that no order explains the call,
-/// and what the orders come to in which it is placed. None where there is a certificate, or none is known.
-pub fn decision_text<R: Clock + AllocGlobal>(
+/// and what the orders come to in which it is placed; of one that isn't decided how far it came. None where there is a certificate.
+pub fn decision_text<R: Clock + Eprint + AllocGlobal>(
     rt: &R,
     history: &[u8],
     decision: &FileDecision,
@@ -41,7 +53,7 @@ pub fn decision_text<R: Clock + AllocGlobal>(
 /// What `decide` says of the bytes of a history file, and behind a no or a refusal what is known of it; with `is_json` as an object of JSON.
 /// That memory runs out is no answer.
 #[tactic(auto, using(crate::proofs::Told::known_behind))]
-pub fn explain_history<R: Clock + AllocGlobal>(
+pub fn explain_history<R: Clock + Eprint + AllocGlobal>(
     rt: &R,
     history: &[u8],
     effort: Effort,

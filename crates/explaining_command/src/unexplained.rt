@@ -6,6 +6,7 @@ use nfs_history::{HistoryFault, KnownCalls, read_calls};
 use order_words::{events_front, order_text};
 use reason_words::unexplained_text;
 use std::alloc::{AllocError, Global};
+use std::io::Eprint;
 use std::time::Clock;
 
 /// A line of a crash that no order explains.
@@ -61,7 +62,7 @@ fn orders_over(
 }
 
 /// Lines of what the orders come to in which the call is placed.
-fn order_lines<R: Clock + AllocGlobal>(
+fn order_lines<R: Clock + Eprint + AllocGlobal>(
     rt: &R,
     history: &[u8],
     known: &KnownCalls<'_>,
@@ -83,7 +84,7 @@ fn order_lines<R: Clock + AllocGlobal>(
 }
 
 /// Lines of what is known of a reply, or of a crash, of a history that was read.
-fn lines_behind<R: Clock + AllocGlobal>(
+fn lines_behind<R: Clock + Eprint + AllocGlobal>(
     rt: &R,
     history: &[u8],
     known: &KnownCalls<'_>,
@@ -98,7 +99,7 @@ fn lines_behind<R: Clock + AllocGlobal>(
 }
 
 /// What is known of a reply, or of a crash, that no order explains.
-pub(crate) fn behind_no<R: Clock + AllocGlobal>(
+pub(crate) fn behind_no<R: Clock + Eprint + AllocGlobal>(
     rt: &R,
     history: &[u8],
     event: u64,

@@ -47,6 +47,21 @@ const FIVE_MAKERS: &[Happened] = &[
     Answered(5, 1, MakeDirectory(0, b'e', None)),
 ];
 
+/// The same, and a LOOKUP that finds what nobody made.
+const FIVE_MAKERS_AND_A_WRONG_LOOKUP: &[Happened] = &[
+    Asked(1, 1, MakeDirectory(0, b'a', None)),
+    Asked(2, 1, MakeDirectory(0, b'b', None)),
+    Asked(3, 1, MakeDirectory(0, b'c', None)),
+    Asked(4, 1, MakeDirectory(0, b'd', None)),
+    Asked(5, 1, MakeDirectory(0, b'e', None)),
+    Answered(1, 1, MakeDirectory(0, b'a', None)),
+    Answered(2, 1, MakeDirectory(0, b'b', None)),
+    Answered(3, 1, MakeDirectory(0, b'c', None)),
+    Answered(4, 1, MakeDirectory(0, b'd', None)),
+    Answered(5, 1, MakeDirectory(0, b'e', None)),
+    Done(1, 2, Lookup(0, b'f', 0xff)),
+];
+
 /// Histories, how many states there may be at once, and what each is decided as.
 const CASES: &[(&[Happened], usize, Want)] = &[
     // Two WRITEs at once, and a READ that gives the first one.
@@ -106,12 +121,20 @@ const CASES: &[(&[Happened], usize, Want)] = &[
         MANY,
         Want::Yes,
     ),
-    // A WRITE to a handle that no reply gave.
-    (&[Done(1, 1, X)], MANY, Want::Undecided),
-    // States that are the same count once. When the first is answered, any of the other four may have been placed before it: 16 sets of
-    // calls, whatever their order. One state less is too few.
-    (FIVE_MAKERS, 16, Want::Yes),
-    (FIVE_MAKERS, 15, Want::Undecided),
+    // A WRITE to a handle that no reply gave: the root is all that exists, and no file.
+    (&[Done(1, 1, X)], MANY, Want::No(2, 1)),
+    // The same beside a CREATE without a reply, which may have made it.
+    (
+        &[Asked(1, 1, Guarded(b'a', 0xbb)), Done(2, 2, X)],
+        MANY,
+        Want::Yes,
+    ),
+    // None of five MKDIRs of five names matters to another one: a quick walk has one state.
+    (FIVE_MAKERS, 1, Want::Yes),
+    // The walk over all that may be counts states that are the same once. When the first is answered, any of the other four may have been placed
+    // before it: 16 sets of calls, whatever their order. One state less is too few.
+    (FIVE_MAKERS_AND_A_WRONG_LOOKUP, 16, Want::No(12, 6)),
+    (FIVE_MAKERS_AND_A_WRONG_LOOKUP, 15, Want::Undecided),
 ];
 
 /// Whether a history is decided so.

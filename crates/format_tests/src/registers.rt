@@ -1,5 +1,7 @@
 //! Walks over a register: the answers that its calls give by their order alone.
 
+use certificate::Certificate;
+use decide::WalksWatch;
 use decision_core::Event::{Answered, AtOnce, Called, Passed};
 use decision_core::{Event, RegisterMachine, Span, Stop, Walked, Watch, decide, timeline};
 use std::alloc::{AllocError, Global};
@@ -34,6 +36,12 @@ impl Watch for FewSteps {
     }
 
     fn see(&mut self, _event: usize, _states: usize) {}
+}
+
+impl WalksWatch for FewSteps {
+    fn next_walk(&mut self, _gave_up: bool) -> Result<Option<Certificate>, AllocError> {
+        Ok(None)
+    }
 }
 
 /// Whether a walk over these comes to that.

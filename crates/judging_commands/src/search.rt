@@ -14,7 +14,7 @@ use crate::teller::Teller;
 use crate::words::{MOST_WORKERS, SearchRequest};
 use cert_search::{SearchEnd, SearchGate, SearchRuntime, search_calls};
 use certificate::{Certificate, write_certificate};
-use decide::{Decision, Watch, decide};
+use decide::{Decision, WalksWatch, Watch, decide};
 use first_look::look;
 use json_reports::{SearchMiss, found_line, miss_line};
 use nfs_history::{HistoryFault, KnownCalls, read_calls, read_history};
@@ -46,6 +46,13 @@ impl<'g, G: SearchGate> Watch for GateWatch<'g, G> {
     }
 
     fn see(&mut self, _event: usize, _states: usize) {}
+}
+
+impl<'g, G: SearchGate> WalksWatch for GateWatch<'g, G> {
+    /// Sweeps were made before.
+    fn next_walk(&mut self, _gave_up: bool) -> Result<Option<Certificate>, AllocError> {
+        Ok(None)
+    }
 }
 
 /// Why no certificate is printed.

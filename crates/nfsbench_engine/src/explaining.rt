@@ -6,6 +6,7 @@ ghost use Rattle.program_streams.specs.Told.{memory_line};
 
 use crate::files::{explain_paths, read_history_file};
 use crate::runs::tell_known;
+use deciding_command::{Effort, is_watched};
 use night_command::explaining_command::{ExplainRequest, explain_history, explain_unreadable};
 use program_streams::{Output, Report};
 use recording_command::RecordingRuntime;
@@ -18,8 +19,12 @@ fn explain_alone<R: RecordingRuntime>(
 ) -> Result<Report, AllocError>
     ensures { IfOk result (λ report. report.status < 3) }
 {
+    let effort = Effort {
+        is_told: is_watched(rt),
+        ..request.effort
+    };
     match read_history_file(rt, request.history)? {
-        Some(bytes) => explain_history(rt, bytes.as_slice(), request.effort, request.is_json),
+        Some(bytes) => explain_history(rt, bytes.as_slice(), effort, request.is_json),
         None => explain_unreadable(rt.alloc(), request.is_json),
     }
 }

@@ -20,8 +20,8 @@ use crate::runs::{run_path, serve_words, tell_known};
 use clap::error::ErrorKind;
 use clap::{Arg, ArgMatches, Command};
 use deciding_command::{
-    DecideRequest, PrefixRequest, decide_command, decide_history, decide_request, prefix_command,
-    prefix_history, prefix_request,
+    DecideRequest, PrefixRequest, decide_command, decide_history, decide_request, is_watched,
+    prefix_command, prefix_history, prefix_request,
 };
 use drawing_command::{DrawRequest, draw_command, draw_request};
 use import_command::{ImportRequest, import_command, import_request, run_import};
@@ -422,8 +422,10 @@ fn decide_path<R: RecordingRuntime, O: Output>(
         → Appends (O.contents output.old) (O.contents output.new) memory_line }
     ensures known { result < 4 }
 {
+    let mut request = *request;
+    request.effort.is_told = is_watched(rt);
     match read_history_file(rt, request.history) {
-        Ok(Some(bytes)) => decide_history(rt, request, bytes.as_slice(), output),
+        Ok(Some(bytes)) => decide_history(rt, &request, bytes.as_slice(), output),
         Ok(None) => tell(output, b"refused: unreadable history\n", 2),
         Err(AllocError) => tell_want_of_memory(output),
     }

@@ -12,7 +12,7 @@ use crate::refusal::NightRefusal;
 use crate::running::Ran;
 use crate::why::Grounds;
 use crate::words::TestRequest;
-use explaining_command::deciding_command::{Effort, FileDecision};
+use explaining_command::deciding_command::{Effort, FileDecision, is_watched};
 use failure_causes::{CauseCounts, count_causes};
 use history_file::WriteFault;
 use json_reports::refusal_line;
@@ -42,11 +42,12 @@ pub(crate) fn refused_report(
     Ok(Report::new(2, line_of(alloc, "refused: ", &reason.as_str())?))
 }
 
-/// How much it may cost to judge a night.
-fn effort_of(request: &TestRequest<'_>) -> Effort {
+/// How much it may cost to judge a night. At a terminal it says how far it is.
+fn effort_of<R: RecordingRuntime>(rt: &R, request: &TestRequest<'_>) -> Effort {
     Effort {
         states: request.limits.states,
         seconds: request.limits.search_seconds,
+        is_told: is_watched(rt),
     }
 }
 
@@ -172,7 +173,7 @@ fn written_report<'n, R: RecordingRuntime>(
     let grounds = Grounds {
         history,
         decision: &told.judged.decision,
-        effort: effort_of(request),
+        effort: effort_of(rt, request),
     };
     let verdict = told.judged.verdict;
     let is_written = write_files(rt, request.folder, grounds, verdict, &report)?;
@@ -221,7 +222,7 @@ fn judged<R: RecordingRuntime>(
     ensures judged { IfOk result (λ told. IsJudged eras.end troubles.now history.now told.judged.verdict) }
 {
     let facts = facts_of(request, eras, troubles, noted);
-    let judged = judge_night(rt, &facts, history, effort_of(request))?;
+    let judged = judge_night(rt, &facts, history, effort_of(rt, request))?;
     let causes = causes_of(rt.alloc(), history, &judged)?;
     told_of(rt.alloc(), &facts, judged, noted, causes)
 }

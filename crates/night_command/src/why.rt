@@ -61,7 +61,7 @@ fn page_of_calls<'a>(
 /// The same of a history file; none where it is the file of none.
 fn page_around(
     alloc: Global,
-    path: &str,
+    caption: String,
     history: &[u8],
     event: u64,
     call: u64,
@@ -71,21 +71,36 @@ fn page_around(
         Err(HistoryFault::NoMemory) => return Err(AllocError),
         Err(_) => return Ok(None),
     };
-    let caption = format!(in alloc; "{path}/history: no witness: event {event} call {call}")?;
     let page = page_of_calls(alloc, caption.as_str(), history, &known, event, call)?;
     Ok(Some(page))
 }
 
-/// Writes the picture of what no order explains, where there is such an event. Whether it is there now, if it is to be.
+/// The picture of what no order explains, or of the event after the last one up to which some order was found; none where some order explains all.
+fn page_of(alloc: Global, path: &str, grounds: Grounds<'_>) -> Result<Option<Page>, AllocError> {
+    match grounds.decision {
+        FileDecision::NoWitness { event, call } => {
+            let caption = format!(in alloc;
+                "{path}/history: no witness: event {event} call {call}"
+            )?;
+            page_around(alloc, caption, grounds.history, *event, *call)
+        }
+        FileDecision::Undecided(undecided) => {
+            let event = undecided.reached.event;
+            let caption = format!(in alloc; "{path}/history: undecided after event {event}")?;
+            // No call has number 0.
+            page_around(alloc, caption, grounds.history, event.saturating_add(1), 0)
+        }
+        FileDecision::Yes(_) | FileDecision::BadHistory(_) => Ok(None),
+    }
+}
+
+/// Writes such a picture, where there is one. Whether it is there now, if it is to be.
 fn write_picture<R: RecordingRuntime>(
     rt: &R,
     folder: Folder<'_>,
     grounds: Grounds<'_>,
 ) -> Result<bool, AllocError> {
-    let FileDecision::NoWitness { event, call } = grounds.decision else {
-        return Ok(true);
-    };
-    match page_around(rt.alloc(), folder.path, grounds.history, *event, *call)? {
+    match page_of(rt.alloc(), folder.path, grounds)? {
         Some(page) => folder.write(rt, "picture.html", page.as_slice()),
         None => Ok(true),
     }
@@ -101,7 +116,11 @@ fn told<R: RecordingRuntime>(
     let mut bytes = Vec::from_slice(rt.alloc(), told.as_bytes())?;
     let reason = decision_text(rt, grounds.history, grounds.decision, grounds.effort)?;
     if !reason.is_empty() {
-        bytes.extend_from_slice(b"\nWhat no order explains:\n")?;
+        let heading = match grounds.decision {
+            FileDecision::Undecided(_) => "\nHow far some order goes:\n",
+            _ => "\nWhat no order explains:\n",
+        };
+        bytes.extend_from_slice(heading.as_bytes())?;
         bytes.extend_from_slice(reason.as_slice())?;
     }
     Ok(bytes)

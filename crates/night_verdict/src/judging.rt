@@ -18,6 +18,7 @@ use history_report::report_of_calls;
 use nfs_history::{HistoryFault, read_calls};
 use night_answers::{Idleness, idleness_of};
 use std::alloc::{AllocError, Global};
+use std::io::Eprint;
 use std::time::Clock;
 
 /// How many judged calls of a history were answered, and what the answers come to.
@@ -79,7 +80,7 @@ fn answered_in(alloc: Global, history: &[u8]) -> Result<Answered, AllocError>
 
 /// Judges a night by its history: whether the server was in health, whether enough calls were answered, and whether some order explains
 /// what the clients saw. The last may take as much as the effort allows. An `Err` means that memory ran out.
-pub fn judge_night<R: Clock + AllocGlobal>(
+pub fn judge_night<R: Clock + Eprint + AllocGlobal>(
     rt: &R,
     facts: &NightFacts<'_>,
     history: &[u8],

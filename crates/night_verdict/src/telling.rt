@@ -111,8 +111,8 @@ fn decision_words(alloc: Global, decision: &FileDecision) -> Result<String, Allo
         FileDecision::BadHistory(fault) => {
             format!(in alloc; "the recording is no history: {fault}")
         }
-        FileDecision::Undecided(reason) => {
-            let line = reason_line(alloc, *reason)?;
+        FileDecision::Undecided(undecided) => {
+            let line = reason_line(alloc, undecided.reason)?;
             words_in(alloc, line.as_str())
         }
         _ => Ok(String::new(alloc)),
