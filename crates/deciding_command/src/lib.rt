@@ -14,11 +14,9 @@ mod words;
 
 pub use deciding::decide_history;
 pub use file_decision::{FileDecision, decide_file};
-pub use prefix_words::{PrefixRequest, prefix_command, prefix_request};
+pub use prefix_words::{PrefixRequest, prefix_request};
 pub use prefixing::prefix_history;
 pub use reached::{Orders, Reached, Unsettled, reached_text};
 pub use telling::{reason_line, report_of};
 pub use within_time::{Effort, is_watched};
-pub use words::{
-    DecideRequest, decide_command, decide_request, effort_of, seconds_option, states_option,
-};
+pub use words::{DecideRequest, decide_request, effort_of};

@@ -1,8 +1,6 @@
 //! The words that ask for a prefix.
 
-use clap::builder::ValueParser;
-use clap::{Arg, ArgMatches, Command};
-use std::alloc::{AllocError, Global};
+use clap::ArgMatches;
 
 /// Which history's prefix is written, and where to.
 #[derive(Clone, Copy)]
@@ -13,36 +11,6 @@ pub struct PrefixRequest<'a> {
     pub events: u64,
     /// The path that the prefix is written to.
     pub prefix: &'a str,
-}
-
-fn history_path<'a>(alloc: Global) -> Arg<'a> {
-    Arg::new(alloc, "HISTORY")
-        .required(true)
-        .help("What the clients of a server saw")
-}
-
-fn event_count<'a>(alloc: Global) -> Arg<'a> {
-    Arg::new(alloc, "EVENTS")
-        .required(true)
-        .value_parser(ValueParser::unsigned(0, u64::MAX))
-        .help("How many of its first events are kept")
-}
-
-fn prefix_path<'a>(alloc: Global) -> Arg<'a> {
-    Arg::new(alloc, "PREFIX")
-        .required(true)
-        .help("The file to write")
-}
-
-/// The grammar of the words behind `prefix`.
-pub fn prefix_command<'a>(alloc: Global) -> Result<Command<'a>, AllocError> {
-    Command::new(alloc, "prefix")
-        .about(
-            "Writes the first events of a history, with the replies to the calls that are open then",
-        )
-        .arg(history_path(alloc))?
-        .arg(event_count(alloc))?
-        .arg(prefix_path(alloc))
 }
 
 /// What the words behind `prefix` ask for.

@@ -1,9 +1,7 @@
 //! The words that ask for a decision.
 
 use crate::within_time::Effort;
-use clap::builder::ValueParser;
-use clap::{Arg, ArgMatches, Command};
-use std::alloc::{AllocError, Global};
+use clap::ArgMatches;
 
 /// Which history is decided, and how much that may cost.
 #[derive(Clone, Copy)]
@@ -20,74 +18,10 @@ pub struct DecideRequest<'a> {
     pub front: Option<&'a str>,
 }
 
-/// The most of both bounds.
-const MOST: u64 = 1_000_000;
-
-/// The most times that it goes on.
-const MOST_HINTS: u64 = 1_000;
-
 /// The bounds where the words don't say.
 const STATES: u32 = 10_000;
 
 const SECONDS: u32 = 60;
-
-fn history_path<'a>(alloc: Global) -> Arg<'a> {
-    Arg::new(alloc, "HISTORY")
-        .required(true)
-        .help("What the clients of a server saw")
-}
-
-fn certificate_option<'a>(alloc: Global) -> Arg<'a> {
-    Arg::new(alloc, "certificate")
-        .long("certificate")
-        .value_name("FILE")
-        .help("Writes the certificate of a yes to this file")
-}
-
-fn front_option<'a>(alloc: Global) -> Arg<'a> {
-    Arg::new(alloc, "front")
-        .long("front")
-        .value_name("FOLDER")
-        .help(
-            "Where it isn't decided, writes the first events that an order explains to FOLDER/history, and the order to FOLDER/certificate",
-        )
-}
-
-/// Bounds the states of a decision.
-pub fn states_option<'a>(alloc: Global) -> Arg<'a> {
-    Arg::new(alloc, "states")
-        .long("states")
-        .value_parser(ValueParser::unsigned(1, MOST))
-        .help("How many states may stand at once, 10000 if not said")
-}
-
-/// Bounds the time of a decision.
-pub fn seconds_option<'a>(alloc: Global) -> Arg<'a> {
-    Arg::new(alloc, "seconds")
-        .long("seconds")
-        .value_parser(ValueParser::unsigned(1, MOST))
-        .help("After how many seconds it gives up, 60 if not said")
-}
-
-fn go_on_option<'a>(alloc: Global) -> Arg<'a> {
-    Arg::new(alloc, "go-on")
-        .long("go-on")
-        .value_name("N")
-        .value_parser(ValueParser::unsigned(1, MOST_HINTS))
-        .help("Leaves out the call of a no, and decides again, up to N times")
-}
-
-/// The grammar of the words behind `decide`.
-pub fn decide_command<'a>(alloc: Global) -> Result<Command<'a>, AllocError> {
-    Command::new(alloc, "decide")
-        .about("Decides whether a history has any certificate")
-        .arg(certificate_option(alloc))?
-        .arg(states_option(alloc))?
-        .arg(seconds_option(alloc))?
-        .arg(go_on_option(alloc))?
-        .arg(front_option(alloc))?
-        .arg(history_path(alloc))
-}
 
 /// What a decision may cost, by these two options. It doesn't say how far it is.
 pub fn effort_of(words: &ArgMatches<'_>) -> Effort {

@@ -1,8 +1,6 @@
 //! The words that ask for a picture.
 
-use clap::builder::ValueParser;
-use clap::{Arg, ArgMatches, Command};
-use std::alloc::{AllocError, Global};
+use clap::ArgMatches;
 
 /// Which events are drawn.
 #[derive(Clone, Copy)]
@@ -24,42 +22,6 @@ pub struct DrawRequest<'a> {
     pub certificate: Option<&'a str>,
     /// Which events are drawn.
     pub wanted: Wanted,
-}
-
-/// An option with the number of an event or a call.
-fn option<'a>(alloc: Global, name: &'a str, help: &'a str) -> Arg<'a> {
-    Arg::new(alloc, name)
-        .long(name)
-        .value_name("N")
-        .value_parser(ValueParser::unsigned(1, u64::MAX))
-        .help(help)
-}
-
-fn call_option<'a>(alloc: Global) -> Result<Arg<'a>, AllocError> {
-    option(alloc, "call", "The events around this call")
-        .conflicts_with("from")?
-        .conflicts_with("to")
-}
-
-fn history_path<'a>(alloc: Global) -> Arg<'a> {
-    Arg::new(alloc, "HISTORY")
-        .required(true)
-        .help("What the clients of a server saw")
-}
-
-fn certificate_path<'a>(alloc: Global) -> Arg<'a> {
-    Arg::new(alloc, "CERTIFICATE").help("A serial order of their calls, whose fault is drawn")
-}
-
-/// The grammar of the words behind `draw`.
-pub fn draw_command<'a>(alloc: Global) -> Result<Command<'a>, AllocError> {
-    Command::new(alloc, "draw")
-        .about("Prints a page of HTML with a picture of a history")
-        .arg(option(alloc, "from", "The first event that is drawn"))?
-        .arg(option(alloc, "to", "The last event that is drawn"))?
-        .arg(call_option(alloc)?)?
-        .arg(history_path(alloc))?
-        .arg(certificate_path(alloc))
 }
 
 /// Which events the words behind `draw` ask for.

@@ -6,5 +6,5 @@ mod faults;
 mod pages;
 mod telling;
 
-pub use draw_words::{DrawRequest, Wanted, draw_command, draw_request};
+pub use draw_words::{DrawRequest, Wanted, draw_request};
 pub use telling::draw_history;

@@ -12,5 +12,5 @@ mod unexplained;
 
 pub use deciding::{decision_text, explain_history, explain_unreadable};
 pub use deciding_command;
-pub use explain_words::{ExplainRequest, explain_command, explain_request};
+pub use explain_words::{ExplainRequest, explain_request};
 pub use explaining::explain_read;

@@ -5,4 +5,4 @@ mod import;
 mod import_words;
 
 pub use import::run_import;
-pub use import_words::{ImportRequest, import_command, import_request};
+pub use import_words::{ImportRequest, import_request};

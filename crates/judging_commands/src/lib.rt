@@ -16,4 +16,4 @@ pub use objects::{judge_read_as_json, refused_as_json, report_read_as_json};
 pub use report::{judge, judge_files, judge_read, verdict_report};
 pub use reporting::{put_number, report_read};
 pub use search::search_history;
-pub use words::{SearchRequest, json_option, search_command, search_request};
+pub use words::{SearchRequest, search_request};

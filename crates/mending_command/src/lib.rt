@@ -5,4 +5,4 @@ mod mend;
 mod mend_words;
 
 pub use mend::run_mend;
-pub use mend_words::{MendRequest, mend_command, mend_request};
+pub use mend_words::{MendRequest, mend_request};

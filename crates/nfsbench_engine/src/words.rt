@@ -17,29 +17,25 @@ use crate::files::{
     report_paths_as_json,
 };
 use crate::runs::{run_path, serve_words, tell_known};
+use clap::ArgMatches;
 use clap::error::ErrorKind;
-use clap::{Arg, ArgMatches, Command};
+use command_words::program;
 use deciding_command::{
-    DecideRequest, PrefixRequest, decide_command, decide_history, decide_request, is_watched,
-    prefix_command, prefix_history, prefix_request,
+    DecideRequest, PrefixRequest, decide_history, decide_request, is_watched, prefix_history,
+    prefix_request,
 };
-use drawing_command::{DrawRequest, draw_command, draw_request};
-use import_command::{ImportRequest, import_command, import_request, run_import};
-use mending_command::{MendRequest, mend_command, mend_request, run_mend};
-use night_command::explaining_command::{ExplainRequest, explain_command, explain_request};
-use night_command::{TestRequest, run_test, test_command, test_request};
+use drawing_command::{DrawRequest, draw_request};
+use import_command::{ImportRequest, import_request, run_import};
+use mending_command::{MendRequest, mend_request, run_mend};
+use night_command::explaining_command::{ExplainRequest, explain_request};
+use night_command::{TestRequest, run_test, test_request};
 use program_streams::{Input, Output, Report, tell, tell_answer, tell_want_of_memory};
-use recording_command::{RecordingRuntime, TapRequest, run_tap, tap_command, tap_request};
-use serving_commands::{
-    RunRequest, ServeRequest, run_command, run_request, serve_command, serve_request,
-};
+use recording_command::{RecordingRuntime, TapRequest, run_tap, tap_request};
+use serving_commands::{RunRequest, ServeRequest, run_request, serve_request};
 use showing_command::judging_commands::{
-    SearchRequest, json_option, refused_as_json, run_bundle, search_command, search_history,
-    search_request,
+    SearchRequest, refused_as_json, run_bundle, search_history, search_request,
 };
-use showing_command::{
-    LookFault, ShowRequest, look_of, show_bytes, show_command, show_judged, show_request,
-};
+use showing_command::{LookFault, ShowRequest, look_of, show_bytes, show_judged, show_request};
 use std::alloc::{AllocError, Global};
 use std::convert::AsStr;
 use std::rt::Files;
@@ -100,78 +96,6 @@ pub(crate) enum Waiting<'a> {
     Run(RunRequest<'a>),
     Serve(ServeRequest<'a>),
     Test(TestRequest<'a>),
-}
-
-/// A path that has to be said.
-fn path<'a>(alloc: Global, name: &'a str, help: &'a str) -> Arg<'a> {
-    Arg::new(alloc, name).required(true).help(help)
-}
-
-/// A command that takes the paths of a history and a certificate.
-fn of_two_files<'a>(
-    alloc: Global,
-    name: &'a str,
-    about: &'a str,
-) -> Result<Command<'a>, AllocError> {
-    Command::new(alloc, name)
-        .about(about)
-        .arg(json_option(alloc))?
-        .arg(path(alloc, "HISTORY", "What the clients of a server saw"))?
-        .arg(path(alloc, "CERTIFICATE", "A serial order of their calls"))
-}
-
-fn check_command<'a>(alloc: Global) -> Result<Command<'a>, AllocError> {
-    of_two_files(
-        alloc,
-        "check",
-        "Judges the history and the certificate in two files",
-    )
-}
-
-fn report_command<'a>(alloc: Global) -> Result<Command<'a>, AllocError> {
-    of_two_files(
-        alloc,
-        "report",
-        "Counts the calls of a history, and judges it as check does",
-    )
-}
-
-/// The program, of which no command is known yet.
-fn program<'a>(alloc: Global) -> Result<Command<'a>, AllocError> {
-    let program = Command::new(alloc, "nfsbench")
-        .bin_name("nfsbench")?
-        .version("0.1.0")
-        .about(
-            "Judges histories of NFS version 3 servers. Without a command, reads a bundle from standard input.",
-        );
-    Ok(program)
-}
-
-/// The program with one command more.
-fn with<'a>(
-    program: Result<Command<'a>, AllocError>,
-    command: Result<Command<'a>, AllocError>,
-) -> Result<Command<'a>, AllocError> {
-    program?.subcommand(command?)
-}
-
-/// The command line's grammar.
-fn command<'a>(alloc: Global) -> Result<Command<'a>, AllocError> {
-    let command = program(alloc);
-    let command = with(command, check_command(alloc));
-    let command = with(command, report_command(alloc));
-    let command = with(command, show_command(alloc));
-    let command = with(command, draw_command(alloc));
-    let command = with(command, search_command(alloc));
-    let command = with(command, decide_command(alloc));
-    let command = with(command, explain_command(alloc));
-    let command = with(command, prefix_command(alloc));
-    let command = with(command, run_command(alloc));
-    let command = with(command, serve_command(alloc));
-    let command = with(command, tap_command(alloc));
-    let command = with(command, mend_command(alloc));
-    let command = with(command, import_command(alloc));
-    with(command, test_command(alloc))
 }
 
 /// What the words behind `check` or `report` ask for.
@@ -242,13 +166,13 @@ fn request_of<'a>(matches: &ArgMatches<'a>) -> Result<Request<'a>, &'static str>
 
 /// The parser's text of a mistake.
 fn mistake(alloc: Global, message: &str) -> Result<clap::Error, AllocError> {
-    let mut command = command(alloc)?;
-    command.error(ErrorKind::ValueValidation, message)
+    let mut program = program(alloc)?;
+    program.error(ErrorKind::ValueValidation, message)
 }
 
 /// What the words ask for, or the parser's text.
 fn read_words<'a, S: AsStr>(alloc: Global, words: &'a [S]) -> Result<Request<'a>, clap::Error> {
-    let matches = command(alloc)?.try_get_matches_from(words)?;
+    let matches = program(alloc)?.try_get_matches_from(words)?;
     match request_of(&matches) {
         Ok(request) => Ok(request),
         Err(message) => Err(mistake(alloc, message)?),

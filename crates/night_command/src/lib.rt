@@ -15,4 +15,4 @@ mod words;
 
 pub use explaining_command;
 pub use test::run_test;
-pub use words::{TestRequest, test_command, test_request};
+pub use words::{TestRequest, test_request};

@@ -1,11 +1,9 @@
 //! The words that ask for a night.
 
-use clap::builder::ValueParser;
-use clap::{Arg, ArgAction, ArgMatches, Command};
+use clap::ArgMatches;
 use night_calls::Mix;
-use recording_command::{host_address, number_option};
+use recording_command::host_address;
 use rpc_client::Credential;
-use std::alloc::{AllocError, Global};
 use std::net::SocketAddr;
 
 /// What a night is to be.
@@ -77,19 +75,6 @@ pub struct LimitWords {
     pub states: u32,
 }
 
-/// The most of a number of seconds, calls or states.
-const MOST: u64 = 1_000_000;
-
-const MOST_PORT: u64 = 65_535;
-
-const MOST_CLIENTS: u64 = 64;
-
-const MOST_ROUNDS: u64 = 1_000;
-
-const MOST_PAGE: u64 = 65_536;
-
-const MOST_NUMBER: u64 = u32::MAX as u64;
-
 /// What is taken where the words don't say.
 const CLIENTS: u32 = 4;
 
@@ -109,202 +94,6 @@ const STATES: u32 = 10_000;
 
 /// How many calls have to be answered for a yes, where the words don't say.
 const ENOUGH: u64 = 100;
-
-/// A number from 0 on.
-fn any_number<'a>(alloc: Global, name: &'a str, most: u64, help: &'a str) -> Arg<'a> {
-    Arg::new(alloc, name)
-        .long(name)
-        .value_name("N")
-        .value_parser(ValueParser::unsigned(0, most))
-        .help(help)
-}
-
-/// A number from 1 on.
-fn number<'a>(alloc: Global, name: &'a str, most: u64, help: &'a str) -> Arg<'a> {
-    number_option(alloc, name, most).value_name("N").help(help)
-}
-
-/// A text that has to be said.
-fn wanted<'a>(alloc: Global, name: &'a str, value: &'a str, help: &'a str) -> Arg<'a> {
-    Arg::new(alloc, name)
-        .long(name)
-        .required(true)
-        .value_name(value)
-        .help(help)
-}
-
-fn flag<'a>(alloc: Global, name: &'a str, help: &'a str) -> Arg<'a> {
-    Arg::new(alloc, name)
-        .long(name)
-        .action(ArgAction::SetTrue)
-        .help(help)
-}
-
-fn host_option<'a>(alloc: Global) -> Arg<'a> {
-    Arg::new(alloc, "host")
-        .long("host")
-        .value_name("ADDRESS")
-        .help("The server's IP address or localhost, 127.0.0.1 if not said")
-}
-
-/// The values of `--mix`.
-const MIXES: &[&str] = &["private", "shared", "race", "turns"];
-
-fn mix_option<'a>(alloc: Global) -> Arg<'a> {
-    Arg::new(alloc, "mix")
-        .long("mix")
-        .value_name("MIX")
-        .value_parser(MIXES)
-        .help("How the clients share names, turns of the other three if not said")
-}
-
-fn orders_option<'a>(alloc: Global) -> Arg<'a> {
-    Arg::new(alloc, "orders")
-        .long("orders")
-        .value_name("FILE")
-        .help("A file that gets the lines crash and up as it grows; standard input if not said")
-}
-
-/// The words of the server and its export.
-fn with_server<'a>(alloc: Global, command: Command<'a>) -> Result<Command<'a>, AllocError> {
-    command
-        .arg(number(alloc, "port", MOST_PORT, "The server's port of NFS").required(true))?
-        .arg(number(alloc, "mount", MOST_PORT, "The server's port of MOUNT").required(true))?
-        .arg(host_option(alloc))?
-        .arg(wanted(alloc, "export", "PATH", "The export, as MOUNT names it"))?
-        .arg(flag(alloc, "empty", "Refuses an export that holds anything"))?
-        .arg(flag(
-            alloc,
-            "strict",
-            "Judges the types and sizes in attributes too",
-        ))
-}
-
-/// The words of the clients.
-fn with_clients<'a>(alloc: Global, command: Command<'a>) -> Result<Command<'a>, AllocError> {
-    command
-        .arg(any_number(
-            alloc,
-            "seed",
-            u64::MAX,
-            "What the calls follow from, 0 if not said",
-        ))?
-        .arg(number(
-            alloc,
-            "clients",
-            MOST_CLIENTS,
-            "How many clients call, 4 if not said",
-        ))?
-        .arg(number(
-            alloc,
-            "calls",
-            MOST,
-            "How many calls each makes in an era, 1000 if not said",
-        ))?
-        .arg(number(
-            alloc,
-            "seconds",
-            MOST,
-            "After how many seconds an era's calls end",
-        ))?
-        .arg(number(
-            alloc,
-            "depth",
-            MOST_CLIENTS,
-            "How many calls of a client are on their way, 4 if not said",
-        ))?
-        .arg(mix_option(alloc))?
-        .arg(number(
-            alloc,
-            "least-page",
-            MOST_PAGE,
-            "The least bytes that a page of a list is asked for, if small ones are answered wrongly",
-        ))?
-        .arg(any_number(
-            alloc,
-            "uid",
-            MOST_NUMBER,
-            "The user of the calls, 0 if not said",
-        ))?
-        .arg(any_number(
-            alloc,
-            "gid",
-            MOST_NUMBER,
-            "The group of the calls, 0 if not said",
-        ))
-}
-
-/// The words of the crashes.
-fn with_crashes<'a>(alloc: Global, command: Command<'a>) -> Result<Command<'a>, AllocError> {
-    command
-        .arg(any_number(
-            alloc,
-            "rounds",
-            MOST_ROUNDS,
-            "How many crashes there are, 0 if not said",
-        ))?
-        .arg(orders_option(alloc))?
-        .arg(number(
-            alloc,
-            "order-seconds",
-            MOST,
-            "How long an order in a file may take, 600 if not said",
-        ))?
-        .arg(number(
-            alloc,
-            "up-seconds",
-            MOST,
-            "How long the server may take to come up, 60 if not said",
-        ))
-}
-
-/// The words of the limits, and of what is printed.
-fn with_limits<'a>(alloc: Global, command: Command<'a>) -> Result<Command<'a>, AllocError> {
-    command
-        .arg(number(
-            alloc,
-            "reply-seconds",
-            MOST,
-            "How long a reply may take, 30 if not said",
-        ))?
-        .arg(number(
-            alloc,
-            "at-least",
-            MOST,
-            "How many judged calls have to be answered; a yes wants 100, or a tenth of --calls, if not said",
-        ))?
-        .arg(number(
-            alloc,
-            "search-seconds",
-            MOST,
-            "How long the history may be judged, 60 if not said",
-        ))?
-        .arg(number(
-            alloc,
-            "states",
-            MOST,
-            "How many states may be kept at once meanwhile, 10000 if not said",
-        ))?
-        .arg(wanted(
-            alloc,
-            "out",
-            "FOLDER",
-            "The folder to make for the history and the reports",
-        ))?
-        .arg(flag(alloc, "json", "Prints one object of JSON"))?
-        .arg(flag(alloc, "quiet", "Tells nothing on standard error"))
-}
-
-/// The grammar of the words after `test`.
-pub fn test_command<'a>(alloc: Global) -> Result<Command<'a>, AllocError> {
-    let command = Command::new(alloc, "test").about(
-        "Drives a server with clients over crashes, and says what became of it",
-    );
-    let command = with_server(alloc, command)?;
-    let command = with_clients(alloc, command)?;
-    let command = with_crashes(alloc, command)?;
-    with_limits(alloc, command)
-}
 
 /// The mix that a word names.
 pub(crate) fn mix_of(word: &str) -> Option<Mix> {

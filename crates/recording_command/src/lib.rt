@@ -17,6 +17,4 @@ mod watching;
 pub use part::{Part, part_path};
 pub use runtime::RecordingRuntime;
 pub use tap::run_tap;
-pub use tap_words::{
-    EndWords, RootWords, TapRequest, host_address, number_option, tap_command, tap_request,
-};
+pub use tap_words::{EndWords, RootWords, TapRequest, host_address, tap_request};

@@ -17,4 +17,4 @@ pub use recorded::{Counts, RunTexts};
 pub use running::{run, run_text};
 pub use server_connection;
 pub use serving::serve;
-pub use words::{RunRequest, ServeRequest, run_command, run_request, serve_command, serve_request};
+pub use words::{RunRequest, ServeRequest, run_request, serve_request};

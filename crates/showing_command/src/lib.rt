@@ -13,4 +13,4 @@ mod words;
 pub use judging_commands;
 pub use looking::{LookFault, look_of};
 pub use showing::{show_bytes, show_judged};
-pub use words::{ShowRequest, show_command, show_request};
+pub use words::{ShowRequest, show_request};
