@@ -4,8 +4,9 @@
 A row of TABLE (bench/merges.txt if none is named) is `INTO: CRATE=FOLDER ..`, or `INTO new TEXT: ..` where INTO isn't there yet and TEXT is the first line
 of its src/lib.rt. The modules of CRATE go to src/FOLDER/ of INTO, its lib.rt to src/FOLDER.rt, and INTO hands on what CRATE did. Files of specs/ and the
 lemmas of proofs/ stay flat; one whose name INTO has already gets CRATE's name before it. What names a module, a definition or a lemma is written anew in
-all crates, wrong bodies among them, and so are crates.txt and doors; README pages are put together. Pages of docs/ and scripts of bench/ aren't touched:
-what they name of a crate that is gone is listed. Look with check_imports.py then.
+all crates, wrong bodies among them, and so are crates.txt and doors; README pages are put together. In docs/ and README pages the crate's name becomes
+INTO's; where both have a row of one table numbers are added, and what the rows say is joined. The other lines that named a crate that is gone are listed, to
+be read, and those of bench/. Look with check_imports.py and check_docs.py then.
 """
 import os
 import re
@@ -147,6 +148,7 @@ class House:
         ours, theirs = self.path(merge.into, "README.md"), self.path(merge.crate, "README.md")
         text = re.sub(r"(?m)^#", "##", read(theirs))
         text = re.sub(rf"\A## `{merge.crate}`", f"## `{merge.folder}`", text)
+        text = re.sub(r"(?<![\w/])src/([\w/]+)\.rt", lambda it: f"src/{merge.folder}.rt" if it[1] == "lib" else f"src/{merge.folder}/{it[1]}.rt", text)
         write(ours, read(ours).rstrip("\n") + "\n\n" + text)
         os.remove(theirs)
 
@@ -259,6 +261,28 @@ class House:
         self.rewrite(merge)
         self.hand_on(merge)
 
+    # Pages
+
+    def pages(self) -> list:
+        docs = [path for path in files_below(f"{self.top}/docs") if path.endswith(".md")]
+        return docs + [f"{self.top}/README.md", f"{self.top}/CONTRIBUTING.md"] + [self.path(crate, "README.md") for crate in self.crates()]
+
+    def rename_in_pages(self, merges: list) -> None:
+        for path in self.pages():
+            text = read(path)
+            new = "\n".join(with_rows_joined(text.split("\n"), merges))
+            for merge in merges:
+                new = re.sub(rf"crates/{merge.crate}/", f"crates/{merge.into}/", new)
+                new = re.sub(rf"`{merge.crate}`(?!\*\*)", f"`{merge.into}`", new)
+                new = re.sub(rf"`{merge.crate}`\*\*", f"`{merge.into}`, {merge.folder}**", new)
+                new = re.sub(rf"`{merge.crate}::", f"`{merge.into}::", new)
+                new = re.sub(rf"`{merge.into}`, `{merge.into}`", f"`{merge.into}`", new)
+            if new != text:
+                write(path, new)
+                for number, (line, before) in enumerate(zip(new.split("\n"), text.split("\n")), 1):
+                    if line != before and not line.startswith("|") and len(new.split("\n")) == len(text.split("\n")):
+                        print(f"{os.path.relpath(path, self.top)}:{number}: {line.strip()[:150]}")
+
     def sort_lines(self) -> None:
         """A crate stands after those that it uses."""
         again = True
@@ -274,6 +298,43 @@ class House:
     def end(self) -> None:
         self.sort_lines()
         write(f"{self.top}/crates.txt", "\n".join(self.lines))
+
+
+def with_rows_joined(lines: list, merges: list) -> list:
+    """The lines of a page, in whose tables the row of a crate that is gone has become part of the other's."""
+    lines = list(lines)
+    for merge in merges:
+        for at, line in enumerate(lines):
+            if not line.startswith(f"| `{merge.crate}` |"):
+                continue
+            first = at
+            while first > 0 and lines[first - 1].startswith("|"):
+                first -= 1
+            last = at
+            while last + 1 < len(lines) and lines[last + 1].startswith("|"):
+                last += 1
+            other = next((it for it in range(first, last + 1) if lines[it].startswith(f"| `{merge.into}` |")), None)
+            cells = [cell.strip() for cell in line.strip("|").split("|")]
+            if other is None or cells[1:] and "Files" in lines[first]:
+                lines[at] = line.replace(f"| `{merge.crate}` |", f"| `{merge.into}` |", 1)
+                continue
+            theirs = [cell.strip() for cell in lines[other].strip("|").split("|")]
+            joined = [theirs[0]] + [joined_cell(one, two, merge.folder) for one, two in zip(theirs[1:], cells[1:])]
+            lines[other] = "| " + " | ".join(joined) + " |"
+            lines[at] = None
+        lines = [line for line in lines if line is not None]
+    return lines
+
+
+def joined_cell(ours: str, theirs: str, folder: str) -> str:
+    numbers = re.fullmatch(r"(\d+)(.*)", ours), re.fullmatch(r"(\d+)(.*)", theirs)
+    if all(numbers):
+        return str(int(numbers[0][1]) + int(numbers[1][1])) + (numbers[0][2] or numbers[1][2])
+    if ours == theirs:
+        return ours
+    if len(theirs) < 30:
+        return f"{ours}; {folder} {theirs}"
+    return f"{ours}; `{folder}/`: {theirs}"
 
 
 def tidy(text: str) -> str:
@@ -317,22 +378,21 @@ def main() -> int:
         return 2
     top = os.path.abspath(sys.argv[1])
     table = sys.argv[2] if len(sys.argv) == 3 else os.path.join(os.path.dirname(os.path.abspath(__file__)), "merges.txt")
-    house, gone = House(top), []
+    house, done = House(top), []
     for into, text, parts in merges_of(read(table)):
         if text:
             house.begin(into, text, house.row(parts[0][0]))
         for crate, folder in parts:
-            house.run(Merge(crate, into, folder))
-            gone.append(crate)
+            done.append(Merge(crate, into, folder))
+            house.run(done[-1])
     house.end()
-    word = re.compile(r"(?<![\w/])(" + "|".join(gone) + r")(?![\w])") if gone else None
-    for folder in ("docs", "bench", ".", "crates"):
-        paths = files_below(f"{top}/{folder}") if folder in ("docs", "bench") else [f"{top}/README.md"] if folder == "." else [house.path(it, "README.md") for it in house.crates()]
-        for path in paths:
-            if path.endswith((".md", ".py", ".sh", ".txt")) and os.path.isfile(path):
-                for number, line in enumerate(read(path).split("\n"), 1):
-                    if word and word.search(line):
-                        print(f"{os.path.relpath(path, top)}:{number}: {', '.join(sorted(set(word.findall(line))))}")
+    house.rename_in_pages([merge for merge in done])
+    word = re.compile(r"(?<![\w/])(" + "|".join(merge.crate for merge in done) + r")(?![\w])") if done else None
+    for path in files_below(f"{top}/bench"):
+        if path.endswith((".md", ".py", ".sh")) and word:
+            for number, line in enumerate(read(path).split("\n"), 1):
+                if word.search(line):
+                    print(f"{os.path.relpath(path, top)}:{number}: {', '.join(sorted(set(word.findall(line))))}")
     return 0
 
 
