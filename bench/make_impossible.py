@@ -333,7 +333,16 @@ def one_of_many(count, data=b""):
     return it
 
 
+def unanswered_call_by_an_empty_handle():
+    """A CREATE by a handle of no bytes is never answered, and one by a handle that no reply gave is stale: the first never came to be."""
+    it = History()
+    it.call(create(b"", b"a"))
+    it.exchange(create(FILE, b"a"), word(STALE) + NO_WCC)
+    return it
+
+
 RIGHT = {
+    "unanswered_call_by_an_empty_handle": unanswered_call_by_an_empty_handle(),
     "removed_file_brought_back": removed_file_brought_back(),
     "one_of_sixty_files": one_of_many(60),
     "one_of_seventy_files": one_of_many(70),

@@ -1,5 +1,5 @@
 mod SpanLaws
 mod Lasting
 mod Walking
-mod TwoVerifiers
+mod ShownTwice
 mod Named

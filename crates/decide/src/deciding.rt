@@ -60,7 +60,13 @@ fn if_witness(
     }
 }
 
-/// The certificate of a state, if it is a witness.
+/// Whether a certificate binds a handle of no bytes, which its text can't name (docs/FORMATS.md).
+fn binds_no_bytes(certificate: &Certificate) -> bool {
+    let mut binds = certificate.binds.as_slice().iter();
+    binds.any(|bind| bind.handle.as_slice().is_empty())
+}
+
+/// The certificate of a state, if it is a witness that a text can say.
 fn accepted(
     alloc: Global,
     history: &History,
@@ -69,6 +75,9 @@ fn accepted(
     ensures { IfOk result (λ found. IfSome found (IsWitness history.now.known)) }
 {
     let certificate = certificate_of(alloc, state, history.eras())?;
+    if binds_no_bytes(&certificate) {
+        return Ok(None);
+    }
     if_witness(alloc, history, certificate)
 }
 

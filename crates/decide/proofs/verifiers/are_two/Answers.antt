@@ -1,5 +1,5 @@
 use Rattle.std.proofs.Common.{◌≡◌, ◌≢◌, rules}
-use Rattle.decide.proofs.TwoVerifiers.{two_shown}
+use Rattle.decide.proofs.ShownTwice.{two_shown}
 use Rattle.decide.specs.Verifiers.{IsShownIn}
 use Rattle.decide.proofs.verifiers.are_two.Goals as goal
 

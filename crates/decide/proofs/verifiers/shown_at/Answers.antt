@@ -1,6 +1,6 @@
 use Rattle.std.proofs.Common.{◌≡◌, Some, rules}
 use Rattle.nfs_history.specs.Precedence.{call_at}
-use Rattle.decide.proofs.TwoVerifiers.{shown_if}
+use Rattle.decide.proofs.ShownTwice.{shown_if}
 use Rattle.decide.proofs.verifiers.shown_at.Goals as goal
 
 pub returns-in-Some : goal.returns-in-Some
