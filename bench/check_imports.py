@@ -6,7 +6,8 @@ file has to be there and to have each name that is asked of it. Of specs.declare
 to be in src/. A path by a door (`pub use low;` in src/, `pub use Rattle.low.specs as low_specs` in specs/Lib.antt, the same of proofs/) is followed to
 the crate that it leads to, over any number of doors. The kit's libraries are left out. Also whether the crate's line in crates.txt lists that crate, whether the crate's files name each library
 that the line lists, whether Lib.antt names each file, whether each module of src/ has its `mod`, and whether the text of each edit stands once in its
-file. Prints what isn't so, and exits with 1 then.
+file; and whether a crate's root has an item named as a module of it, or a file of proofs/ named as a type that the root hands on, which a check refuses once
+its libraries are there. Prints what isn't so, and exits with 1 then.
 """
 import os
 import re
@@ -220,6 +221,13 @@ for crate in deps:
                     source, rest = module(crate, words)
                     if rest and not has(source, rest[0]) and not any(rest[0].startswith(word) for word in re.findall(r"\bfor (\w+)", source)):
                         wrong.append(f"{crate}/proofs/{words[0]}: no such module or item at the root")
+    # what rattle makes modules of
+    root = read(f"{base}/src/lib.rt") or read(f"{base}/src/main.rt")
+    items = set(re.findall(r"(?m)^pub (?:const )?(?:fn|struct|enum|const|static|type|trait) (\w+)", root))
+    for use in re.findall(r"(?ms)^pub use (.*?);$", root):
+        items.update(part.split(" as ")[-1].split("::")[-1].strip() for part in use[use.find("{") + 1:].rstrip("}").split(",") if part.strip())
+    wrong += [f"{crate}/src: the root has a module and an item {name}" for name in items & set(re.findall(r"(?m)^(?:pub )?mod (\w+);", root))]
+    wrong += [f"{crate}/proofs/{name}.antt: the root hands on a type of that name" for name in items if os.path.isfile(f"{base}/proofs/{name}.antt")]
 edits = 0
 for folder, folders, files in os.walk(f"{top}/crates"):
     folders[:] = [name for name in folders if name != "out"]

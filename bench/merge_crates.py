@@ -167,6 +167,8 @@ class House:
         for use in re.findall(rf"(?ms)^pub use crate::{merge.folder}::.*?;\n", text):
             given += [name for name in names_of(use.rstrip("\n")) if name not in given]
             text = text.replace(use, "")
+        if merge.folder in given:
+            sys.exit(f"{merge.crate} hands on {merge.folder}: a folder needs another name than an item beside it")
         taken = set(ITEMS.findall(text)) | {name for use in uses_of(text) for name in names_of(use)}
         for name in given:
             if name in taken:
@@ -238,7 +240,8 @@ class House:
     def run(self, merge: Merge) -> None:
         merge.specs, merge.proofs = self.renamed(merge, "specs"), self.renamed(merge, "proofs")
         merge.doors = set(re.findall(r"(?m)^pub use (\w+);$", read(self.path(merge.crate, "src", "lib.rt"))))
-        if re.search(rf"(?m)^(?:pub )?mod {merge.folder};", read(self.path(merge.into, "src", "lib.rt"))) or merge.folder in self.crates():
+        others = [crate for crate in self.crates() if crate != merge.crate]
+        if re.search(rf"(?m)^(?:pub )?mod {merge.folder};", read(self.path(merge.into, "src", "lib.rt"))) or merge.folder in others:
             sys.exit(f"{merge.into} has a module {merge.folder}, or it is a crate")
         self.move_sources(merge)
         self.move_flat(merge, "specs", merge.specs)
