@@ -22,6 +22,8 @@ abbrev pub with_handles : Bindings → List (List ℕ × ℕ) → Option Binding
 with_handles known [] = Some known
 with_handles known (pair ∷ pairs) = option_and_then (λ more. with_handles more pairs) (with_handle known pair)
 
+-- ---- for the prover
+
 -- whether each pair is one of a handle and the object that it names
 abbrev pub are_bound : Bindings → List (List ℕ × ℕ) → Bool
 are_bound binds pairs = list_all (λ pair. is_bound binds pair.0 pair.1) pairs

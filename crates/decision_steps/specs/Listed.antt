@@ -1,4 +1,4 @@
--- Believed.
+-- For the prover.
 -- handles and their objects, as they lie in memory
 use Rattle.std.specs.Prelude.{ℕ, List, map}
 use Rattle.decision_steps.specs.declared.given.GivenHandle.{GivenHandle}

@@ -1,4 +1,4 @@
--- For the prover, and for callers.
+-- For the prover.
 -- States in which handles that aren't bound don't name what exists: a call failed on them (a form of this project's own).
 use Rattle.std.specs.Prelude.{◌≡◌, ◌⊎◌, ℕ, List, Some}
 use Rattle.nfs3_types.specs.declared.calls.NfsCall.{NfsCall}

@@ -1,4 +1,4 @@
--- For the prover, and for callers.
+-- For the prover.
 -- Calls that name a handle which isn't bound yet: a plan has it name some object, which may be one that exists (a form of this project's own).
 use Rattle.std.specs.Prelude.{◌≡◌, ◌⊎◌, ℕ, ◌≤◌, Bool, List, Some, None, IsSome, Contains}
 use Rattle.nfs3_types.specs.declared.calls.NfsCall.{NfsCall}

@@ -1,4 +1,4 @@
--- For the prover.
+-- For the prover, and for callers.
 -- The status of a night whose files are written, or not (words of this project's own).
 use Rattle.std.specs.Prelude.{ℕ, Bool, true, false}
 use Rattle.night_eras.specs.night_verdict_specs.declared.verdict.NightVerdict.{NightVerdict}

@@ -1,4 +1,4 @@
--- Believed.
+-- For the prover, and for callers.
 -- what stands where after a move, by paths
 use Rattle.std.specs.Prelude.{◌≡◌, ◌++◌, Option, None}
 use Rattle.tree_nodes.specs.declared.node.Node.{Node}

@@ -1,4 +1,4 @@
--- Believed.
+-- For the prover, and for callers.
 -- taking a change of a tree back
 use Rattle.std.specs.Prelude.{◌≡◌, ◌<◌, ℕ, true, List, [], ◌∷◌, ◌++◌, Option, Some, None}
 use Rattle.std.specs.FinMap as map

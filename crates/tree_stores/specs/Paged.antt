@@ -1,4 +1,4 @@
--- Believed.
+-- For the prover, and for callers.
 -- The bytes of a file by pages, as a function of their places, and the list of those below the file's size.
 use Rattle.std.specs.Prelude.{ℕ, ◌+◌, ◌-◌, ◌/◌, ◌%◌, ◌≡◌, ◌≤◌, ◌==◌, ◌&&◌, nat_le, nat_lt, cond, List, [], ◌∷◌, map, take, length, slice_index, unwrap_or}
 use Rattle.std.specs.List.{range_with_len}

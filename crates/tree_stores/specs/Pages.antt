@@ -1,4 +1,4 @@
--- For the prover.
+-- For the prover, and for callers.
 -- slots by pages, and pages by blocks
 use Rattle.std.specs.Prelude.{◌≡◌, ℕ, zero, suc, ◌+◌, ◌/◌, ◌%◌, Bool, false, leb, List, [], ◌∷◌, ◌++◌, length, map, get_or, Option, Some, None}
 use Rattle.tree_stores.specs.declared.slots.slot.Slot.{Slot}

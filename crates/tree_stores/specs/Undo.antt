@@ -1,4 +1,4 @@
--- Believed.
+-- For the prover, and for callers.
 -- what an undo value says of the file after a change and ahead of it
 use Rattle.std.specs.Prelude.{ℕ, ◌≡◌, ◌≤◌, List, length, slice_index}
 use Rattle.nfs3_types.specs.Limits.{file_limit}
