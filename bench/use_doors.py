@@ -4,7 +4,7 @@
 The kit walks each path down from a library, so a crate's line shouldn't list a library that another one of its line can hand on (a door: `pub use low;` in
 src/lib.rt, `pub use Rattle.low.specs as low_specs` in specs/Lib.antt, the same of proofs/). It picks the edge whose leaving out saves most visits, again and again, until there are
 at most N (20,000), and writes what the crates name of it by the door. An edge stays where `unfolding(..)` or `using(..)` names a file of the library. Look with check_imports.py then.
-Doors over doors cost a prover more memory than they save rt time (docs/PROVING.md): look at what the crates above take.
+Doors over doors cost the prover memory (docs/PROVING.md): take few edges, and look at what the crates above need then.
 """
 import argparse
 import functools
