@@ -1,3 +1,4 @@
+mod Alike
 mod SpanLaws
 mod Lasting
 mod Walking

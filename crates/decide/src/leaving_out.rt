@@ -50,6 +50,13 @@ impl<'m, 'h> Machine for LeavingOut<'m, 'h> {
 
     type Reason = Why;
 
+    // Its states are compared by their numbers alone.
+    ghost Origin = { Unit {0} };
+
+    ghost origin = { λ _. tt };
+
+    ghost itself = { λ _. tt };
+
     // It speaks of no plan.
     ghost Plan = { ⊥ };
 
@@ -86,6 +93,18 @@ impl<'m, 'h> Machine for LeavingOut<'m, 'h> {
 
     fn forget(&self, state: WalkState, n: u64) -> WalkState {
         self.machine.forget(state, n)
+    }
+
+    fn is_worn(&self, state: &WalkState) -> bool {
+        self.machine.is_worn(state)
+    }
+
+    fn renew(&self, _like: &WalkState, state: WalkState) -> Result<WalkState, Stop<Why>> {
+        self.machine.renew_first(state)
+    }
+
+    fn renew_first(&self, state: WalkState) -> Result<WalkState, Stop<Why>> {
+        self.machine.renew_first(state)
     }
 
     fn is_same(&self, state: &WalkState, other: &WalkState) -> bool {

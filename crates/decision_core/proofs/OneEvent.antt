@@ -7,7 +7,7 @@ use Rattle.decision_core.specs.declared.deciding.Event.{Event}
 use Rattle.decision_core.specs.declared.deciding.Event.TheVariants.{Called, Answered, AtOnce, Passed}
 use Rattle.decision_core.specs.Times.{Times, IsAmong, IsUnanswered, IsOpen}
 use Rattle.decision_core.specs.Decide.{IsTold, IsCompletion, Covers, IsWitness}
-use Rattle.decision_core.specs.States.{also, Holds}
+use Rattle.decision_core.specs.States.{also, HasFor, Holds}
 use Rattle.decision_core.specs.Layers.{IsAnswering, Completes, ExtendsAll, ForgetsAll, SettlesAll}
 use Rattle.decision_core.specs.Events.{StandsAt, Tells, answered_by, AreWaiting, IsWithout, IsAnswerStep, IsEventStep, HasStateBehind}
 use Rattle.decision_core.proofs.Orders.{all_of_each}
@@ -246,6 +246,16 @@ module _ (times : Times) (events : List Event) (tells : Tells times events) wher
         (λ plan. covers_passed placed (Next plan) (told plan) times (first plan) k (Held plan k before) (Held plan (k + 1) after) (silent_passed k at)
             (still_held plan k before after (silent_passed k at) is.0) (kept.0 plan)),
         subst (AreWaiting times (k + 1)) (sym is.1) (waiting_passed k waiting at kept.1),
+      )
+
+      -- states that stand for what these stand for
+      pub keeps_renewed : (k : ℕ) (waiting : List ℕ) (before after : List State) → ((s : State) → Contains before s → HasFor StandsFor after s) → Keeps k waiting before → Keeps k waiting after
+      keeps_renewed k waiting before after has kept = (
+        (λ plan order witness.
+            let w = kept.0 plan order witness in
+            let other = has w.1.0 w.1.1 in
+            (w.0, (other.0, other.1, other.2 plan (answered_by times k) w.0 w.1.2), w.2)),
+        kept.1,
       )
 
 -- a state is left where one settles each of some

@@ -1,9 +1,19 @@
 -- What loops over states and calls keep.
-use Rattle.std.proofs.Common.{◌≡◌, ◌⊎◌, inl, inr, ℕ, zero, suc, ◌+◌, ◌<◌, ◌≤◌, Bool, true, false, List, [], ◌∷◌, ◌++◌, length, take, get_or, Contains, refl, sym, subst, ◌∙◌, arith}
+use Rattle.std.proofs.Common.{◌≡◌, ◌⊎◌, inl, inr, ℕ, zero, suc, ◌+◌, ◌<◌, ◌≤◌, Bool, true, false, List, [], ◌∷◌, ◌++◌, Option, Some, length, take, get_or, Contains, refl, sym, ap, subst, ◌∙◌, arith}
 use Rattle.std.specs.List.{AllByRecursion}
-use Rattle.std.proofs.lemmas.List.{take_more, take_all}
-use Rattle.decision_core.specs.States.{also, HasFor, Holds, Forgets, HasStep, HasSteps, Settles}
+use Rattle.std.proofs.lemmas.List.{take_more, take_all, length-append}
+use Rattle.std.proofs.lemmas.List.Elements.{All-from_recursion, All-contains, Contains-append_left, Contains-append_right}
+use Rattle.decision_core.specs.States.{ComeOf, first_origin, also, HasFor, Holds, Forgets, HasStep, HasSteps, Settles}
 use Rattle.decision_core.specs.Layers.{Grows, HasEither, IsPutInto, HasPlacing, HasPlacings, IsSortedInto, ForgetsAll}
+
+-- nothing comes of anything
+pub none_come : {Origin State : Type 0} (origin : State → Origin) (of : Option Origin) (states : List State) → states ≡ [] → ComeOf origin of states
+none_come origin of states none = subst (ComeOf origin of) (sym none) tt
+
+-- what comes of anything comes of what its first one does
+pub first_comes : {Origin State : Type 0} (origin : State → Origin) (of : Option Origin) (states : List State) → ComeOf origin of states → ComeOf origin (first_origin origin states) states
+first_comes origin of [] come = tt
+first_comes origin of (s ∷ states) come = subst (λ o. ComeOf origin o (s ∷ states)) (sym come.0) come
 
 -- of each of these it holds, or it is among what is left
 abbrev pub DoneOrLeft : {State : Type 0} → (State → Type 0) → List State → List State → Type 0
@@ -32,7 +42,25 @@ module _ {State : Type 0} where
   done_all P states left is done s there =
       elim (done s there) [ inl p ↦ p | inr in_left ↦ absurd (none_there s (subst (λ l. Contains l s) is in_left)) ]
 
+-- one state more
+pub grows_by_one : {State : Type 0} (old new : List State) (state : State) → new ≡ old ++ state ∷ [] → Grows old new
+grows_by_one old new state is s there = subst (λ l. Contains l s) (sym is) (Contains-append_left old (state ∷ []) s there)
+
+pub one_is_there : {State : Type 0} (old new : List State) (state : State) → new ≡ old ++ state ∷ [] → Contains new state
+one_is_there old new state is = subst (λ l. Contains l state) (sym is) (Contains-append_right old (state ∷ []) state (zero, omega arith, refl))
+
+pub one_longer : {State : Type 0} (old new : List State) (state : State) → new ≡ old ++ state ∷ [] → length new ≡ length old + 1
+one_longer old new state is = ap length is ∙ length-append old (state ∷ [])
+
 module _ {X : Type 0} where
+  -- what holds of all of a list holds of what is among them
+  pub all_among : (P : X → Type 0) (xs ys : List X) → ((x : X) → Contains ys x → Contains xs x) → AllByRecursion P xs → AllByRecursion P ys
+  all_among P xs [] there all = tt
+  all_among P xs (y ∷ ys) there all = (
+    All-contains P xs y (All-from_recursion P xs all) (there y (zero, omega arith, refl)),
+    all_among P xs ys (λ x in_ys. there x (suc in_ys.0, omega (arith, in_ys.1), in_ys.2)) all,
+  )
+
   pub all_push : (P : X → Type 0) (xs : List X) (x : X) → AllByRecursion P xs → P x → AllByRecursion P (xs ++ x ∷ [])
   all_push P [] x all here = (here, tt)
   all_push P (y ∷ xs) x all here = (all.0, all_push P xs x all.1 here)

@@ -1,13 +1,22 @@
 -- Believed.
 -- The states of a walk: each stands for points of plans, and may have forgotten of some calls whether they are placed there (a form
 -- of this project's own).
-use Rattle.std.specs.Prelude.{◌≡◌, ◌==◌, ◌||◌, ℕ, Bool, false, List, Contains}
+use Rattle.std.specs.Prelude.{◌≡◌, ◌==◌, ◌||◌, ℕ, Bool, false, List, [], ◌∷◌, Option, Some, None, Contains}
 use Rattle.std.specs.List.{AllByRecursion}
 use Rattle.decision_core.specs.Decide.{MayStandFor}
 
 -- the calls that may be forgotten, and this one
 abbrev pub also : (ℕ → Bool) → ℕ → ℕ → Bool
 also gone n m = gone m || (m == n)
+
+-- all of these states come of this one
+abbrev pub ComeOf : {Origin State : Type 0} → (State → Origin) → Option Origin → List State → Type 0
+ComeOf origin of states = AllByRecursion (λ s. Some (origin s) ≡ of) states
+
+-- what the first of these states comes of
+abbrev pub first_origin : {Origin State : Type 0} → (State → Origin) → List State → Option Origin
+first_origin origin [] = None
+first_origin origin (s ∷ states) = Some (origin s)
 
 module _ {Plan Point State : Type 0} (StandsFor : Plan → (ℕ → Bool) → Point → State → Type 0) where
   -- the second state stands for all that the first stands for
@@ -17,6 +26,10 @@ module _ {Plan Point State : Type 0} (StandsFor : Plan → (ℕ → Bool) → Po
   -- one of the states does so
   abbrev pub HasFor : List State → State → Type 0
   HasFor states state = (other : State) × Contains states other × Replaces state other
+
+  -- one of the second states stands for all that each of the first stands for
+  abbrev pub RenewsAll : List State → List State → Type 0
+  RenewsAll states after = (state : State) → Contains states state → HasFor after state
 
   -- one of the states stands for the point
   abbrev pub Holds : Plan → (ℕ → Bool) → List State → Point → Type 0

@@ -1,6 +1,7 @@
 //! The walk over the events of a history.
 
-ghost use Rattle.std.specs.Prelude.{◌≡◌, ◌++◌, ◌∷◌, ℕ, List, [], None, Contains, IfOk, IfSome};
+ghost use Rattle.std.specs.Prelude.{◌≡◌, Option, Some, ◌++◌, ◌∷◌, ℕ, List, [], None, Contains, length, IfOk, IfSome};
+ghost use Rattle.decision_core.specs.States.{ComeOf, RenewsAll, first_origin};
 ghost use Rattle.decision_core.specs.Times.{Times};
 ghost use Rattle.decision_core.specs.Decide.{IsWitness};
 ghost use Rattle.decision_core.specs.Events.{Tells, IsAdded, IsWithout, IsAnswerStep, IsEventStep, IsAnswer, HasStateBehind};
@@ -74,7 +75,8 @@ fn and_call<R: Drop>(alloc: Global, calls: &[u64], n: u64) -> Result<Vec<u64>, S
 
 /// The states from the last to the first. The last have more calls placed, so they may stand for the first ones too.
 fn later_first<S>(states: Vec<S>) -> Vec<S>
-    ensures { (state : S) → Contains states.items state → Contains result.items state }
+    ensures has { (state : S) → Contains states.items state → Contains result.items state }
+    ensures only { (state : S) → Contains result.items state → Contains states.items state }
 {
     let mut states = states;
     states.reverse();
@@ -91,7 +93,10 @@ fn take_answer<M: Machine, W: Watch>(
     most: usize,
     watch: &mut W,
 ) -> Result<(Vec<M::State>, Vec<u64>), Stop<M::Reason>>
-    ensures { IfOk result (λ pair. IsAnswerStep (M.StandsFor machine.now) (M.placed machine.now) (M.Next machine.now) n waiting.items pair.1.items states.items pair.0.items) }
+    ghost of: { Option M.Origin }
+    requires { ComeOf M.origin of states.items }
+    ensures step { IfOk result (λ pair. IsAnswerStep (M.StandsFor machine.now) (M.placed machine.now) (M.Next machine.now) n waiting.items pair.1.items states.items pair.0.items) }
+    ensures origin { IfOk result (λ pair. ComeOf M.origin of pair.0.items) }
 {
     let left = others(alloc, waiting.as_slice(), n)?;
     let calls = and_call(alloc, left.as_slice(), n)?;
@@ -110,7 +115,10 @@ fn take_event<M: Machine, W: Watch>(
     most: usize,
     watch: &mut W,
 ) -> Result<(Vec<M::State>, Vec<u64>), Stop<M::Reason>>
-    ensures { IfOk result (λ pair. IsEventStep (M.StandsFor machine.now) (M.placed machine.now) (M.Next machine.now) event waiting.items pair.1.items states.items pair.0.items) }
+    ghost of: { Option M.Origin }
+    requires { ComeOf M.origin of states.items }
+    ensures step { IfOk result (λ pair. IsEventStep (M.StandsFor machine.now) (M.placed machine.now) (M.Next machine.now) event waiting.items pair.1.items states.items pair.0.items) }
+    ensures origin { IfOk result (λ pair. ComeOf M.origin of pair.0.items) }
 {
     match event {
         Event::Called(n) => {
@@ -143,8 +151,74 @@ fn call_unexplained<S>(event: Event, states: &[S]) -> Option<u64>
     }
 }
 
+/// Whether one of these states is worn.
+fn is_one_worn<M: Machine>(machine: &M, states: &[M::State]) -> bool {
+    for state in states {
+        if machine.is_worn(state) {
+            return true;
+        }
+    }
+    false
+}
+
+/// Puts a state there.
+fn put_renewed<S: Drop, R: Drop>(after: &mut Vec<S>, state: S) -> Result<(), Stop<R>>
+    ensures { IfOk result (λ _. after.new.items ≡ after.old.items ++ state ∷ []) }
+{
+    if after.push(state).is_err() {
+        return Err(Stop::NoMemory);
+    }
+    Ok(())
+}
+
+/// These states, as ones that come of another one.
+fn renewed_all<M: Machine>(
+    alloc: Global,
+    machine: &M,
+    first: &M::State,
+    states: Vec<M::State>,
+) -> Result<Vec<M::State>, Stop<M::Reason>>
+    requires { ComeOf M.origin (Some (M.origin first.now)) states.items }
+    ensures has { IfOk result (λ after. RenewsAll (M.StandsFor machine.now) states.items after.items) }
+    ensures many { IfOk result (λ after. length after.items ≡ length states.items) }
+    ensures origin { IfOk result (λ after. ComeOf M.origin (Some (M.itself first.now)) after.items) }
+{
+    let mut after = Vec::new(alloc);
+    for state in states {
+        let renewed = machine.renew(first, state)?;
+        put_renewed(&mut after, renewed)?;
+    }
+    Ok(after)
+}
+
+/// The states, which come of one of them where one is worn.
+fn renewed<M: Machine>(
+    alloc: Global,
+    machine: &M,
+    states: Vec<M::State>,
+) -> Result<Vec<M::State>, Stop<M::Reason>>
+    ghost of: { Option M.Origin }
+    requires { ComeOf M.origin of states.items }
+    ensures has { IfOk result (λ after. RenewsAll (M.StandsFor machine.now) states.items after.items) }
+    ensures many { IfOk result (λ after. length after.items ≡ length states.items) }
+    ensures origin { IfOk result (λ after. ComeOf M.origin (first_origin M.origin after.items) after.items) }
+{
+    if !is_one_worn(machine, states.as_slice()) {
+        return Ok(states);
+    }
+    let mut states = states;
+    let Some(first) = states.pop() else {
+        return Ok(states);
+    };
+    let mut after = renewed_all(alloc, machine, &first, states)?;
+    let renewed = machine.renew_first(first)?;
+    put_renewed(&mut after, renewed)?;
+    Ok(after)
+}
+
 /// Walks the events with states that stand for all that a plan can have come to, of which there may be so many at once. It reports the first
 /// answer that leaves none: then no order of the calls is a witness, under any plan. Nothing is said where states are left.
+#[tactic(auto, using(crate::proofs::Sets::first_comes))]
 pub fn decide<M: Machine, W: Watch>(
     alloc: Global,
     machine: &M,
@@ -171,7 +245,7 @@ pub fn decide<M: Machine, W: Watch>(
             });
         }
         watch.see(index, after.len());
-        states = after;
+        states = renewed(alloc, machine, after)?;
         waiting = left;
     }
     Ok(Walked::Left(states))

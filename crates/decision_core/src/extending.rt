@@ -1,6 +1,7 @@
 //! One step of the walk: at the answer of a call its states become all that come of a list of open calls that ends in it.
 
-ghost use Rattle.std.specs.Prelude.{◌≡◌, ◌∷◌, [], Contains, IfOk};
+ghost use Rattle.std.specs.Prelude.{◌≡◌, Option, Some, ◌∷◌, [], Contains, IfOk};
+ghost use Rattle.decision_core.specs.States.{ComeOf};
 ghost use Rattle.decision_core.specs.Layers.{Grows, IsPutInto, HasPlacings, HasAllPlacings, IsSortedInto, IsSortedOut, ExtendsAll, ForgetsAll, SettlesAll};
 
 use crate::machine::{Machine, Stop, Watch};
@@ -16,8 +17,13 @@ fn sort_into<M: Machine>(
     without: &mut States<M::State>,
     most: usize,
 ) -> Result<(), Stop<M::Reason>>
-    ensures { IfOk result (λ _. (Grows with.old.items.items with.new.items.items × Grows without.old.items.items without.new.items.items)
+    ghost of: { Option M.Origin }
+    requires state { Some (M.origin state) ≡ of }
+    requires with { ComeOf M.origin of with.old.items.items }
+    requires without { ComeOf M.origin of without.old.items.items }
+    ensures sorted { IfOk result (λ _. (Grows with.old.items.items with.new.items.items × Grows without.old.items.items without.new.items.items)
         × IsSortedInto (M.StandsFor machine.now) (M.placed machine.now) (M.Next machine.now) n with.new.items.items without.new.items.items state) }
+    ensures origin { IfOk result (λ _. ComeOf M.origin of with.new.items.items × ComeOf M.origin of without.new.items.items) }
 {
     if machine.is_placed(&state, n) {
         put(machine, with, state, most)
@@ -35,7 +41,12 @@ fn sort_out<M: Machine>(
     without: &mut States<M::State>,
     most: usize,
 ) -> Result<(), Stop<M::Reason>>
-    ensures { IfOk result (λ _. IsSortedOut (M.StandsFor machine.now) (M.placed machine.now) (M.Next machine.now) n states.items with.new.items.items without.new.items.items) }
+    ghost of: { Option M.Origin }
+    requires states { ComeOf M.origin of states.items }
+    requires with { ComeOf M.origin of with.old.items.items }
+    requires without { ComeOf M.origin of without.old.items.items }
+    ensures sorted { IfOk result (λ _. IsSortedOut (M.StandsFor machine.now) (M.placed machine.now) (M.Next machine.now) n states.items with.new.items.items without.new.items.items) }
+    ensures origin { IfOk result (λ _. ComeOf M.origin of with.new.items.items × ComeOf M.origin of without.new.items.items) }
 {
     for state in states {
         sort_into(machine, state, n, with, without, most)?;
@@ -53,8 +64,13 @@ fn put_settled<M: Machine>(
     without: &mut States<M::State>,
     most: usize,
 ) -> Result<(), Stop<M::Reason>>
-    ensures { IfOk result (λ _. (Grows with.old.items.items with.new.items.items × Grows without.old.items.items without.new.items.items)
+    ghost of: { Option M.Origin }
+    requires state { Some (M.origin state) ≡ of }
+    requires with { ComeOf M.origin of with.old.items.items }
+    requires without { ComeOf M.origin of without.old.items.items }
+    ensures put { IfOk result (λ _. (Grows with.old.items.items with.new.items.items × Grows without.old.items.items without.new.items.items)
         × IsPutInto (M.StandsFor machine.now) (M.placed machine.now) (M.Next machine.now) calls.now n with.new.items.items without.new.items.items state) }
+    ensures origin { IfOk result (λ _. ComeOf M.origin of with.new.items.items × ComeOf M.origin of without.new.items.items) }
 {
     let settled = machine.settle(state, calls)?;
     sort_into(machine, settled, n, with, without, most)?;
@@ -71,8 +87,13 @@ fn put_all<M: Machine>(
     without: &mut States<M::State>,
     most: usize,
 ) -> Result<(), Stop<M::Reason>>
-    ensures { IfOk result (λ _. (Grows with.old.items.items with.new.items.items × Grows without.old.items.items without.new.items.items)
+    ghost of: { Option M.Origin }
+    requires states { ComeOf M.origin of states.items }
+    requires with { ComeOf M.origin of with.old.items.items }
+    requires without { ComeOf M.origin of without.old.items.items }
+    ensures put { IfOk result (λ _. (Grows with.old.items.items with.new.items.items × Grows without.old.items.items without.new.items.items)
         × ((s : M.State) → Contains states.items s → IsPutInto (M.StandsFor machine.now) (M.placed machine.now) (M.Next machine.now) calls.now n with.new.items.items without.new.items.items s)) }
+    ensures origin { IfOk result (λ _. ComeOf M.origin of with.new.items.items × ComeOf M.origin of without.new.items.items) }
 {
     for state in states {
         put_settled(machine, state, calls, n, with, without, most)?;
@@ -91,8 +112,13 @@ fn place_calls<M: Machine, W: Watch>(
     most: usize,
     watch: &mut W,
 ) -> Result<(), Stop<M::Reason>>
-    ensures { IfOk result (λ _. (Grows with.old.items.items with.new.items.items × Grows without.old.items.items without.new.items.items)
+    ghost of: { Option M.Origin }
+    requires state { Some (M.origin state.now) ≡ of }
+    requires with { ComeOf M.origin of with.old.items.items }
+    requires without { ComeOf M.origin of without.old.items.items }
+    ensures placings { IfOk result (λ _. (Grows with.old.items.items with.new.items.items × Grows without.old.items.items without.new.items.items)
         × HasPlacings (M.StandsFor machine.now) (M.placed machine.now) (M.Next machine.now) calls.now n with.new.items.items without.new.items.items calls.now state.now) }
+    ensures origin { IfOk result (λ _. ComeOf M.origin of with.new.items.items × ComeOf M.origin of without.new.items.items) }
 {
     if watch.is_over() {
         return Err(Stop::Ended);
@@ -113,8 +139,13 @@ fn place_in_all<M: Machine, W: Watch>(
     most: usize,
     watch: &mut W,
 ) -> Result<(), Stop<M::Reason>>
-    ensures { IfOk result (λ _. (Grows with.old.items.items with.new.items.items × Grows without.old.items.items without.new.items.items)
+    ghost of: { Option M.Origin }
+    requires each { ComeOf M.origin of each.now }
+    requires with { ComeOf M.origin of with.old.items.items }
+    requires without { ComeOf M.origin of without.old.items.items }
+    ensures placings { IfOk result (λ _. (Grows with.old.items.items with.new.items.items × Grows without.old.items.items without.new.items.items)
         × HasAllPlacings (M.StandsFor machine.now) (M.placed machine.now) (M.Next machine.now) calls.now n with.new.items.items without.new.items.items each.now) }
+    ensures origin { IfOk result (λ _. ComeOf M.origin of with.new.items.items × ComeOf M.origin of without.new.items.items) }
 {
     for state in each {
         place_calls(machine, state, calls, n, with, without, most, watch)?;
@@ -124,6 +155,7 @@ fn place_in_all<M: Machine, W: Watch>(
 
 /// What the states become at the answer of call n: each in which it is placed, and all that come of a list of open calls that ends
 /// in it. Open calls are passed, and n.
+#[tactic(auto, using(crate::proofs::Sets::none_come))]
 pub(crate) fn extend<M: Machine, W: Watch>(
     alloc: Global,
     machine: &M,
@@ -133,7 +165,10 @@ pub(crate) fn extend<M: Machine, W: Watch>(
     most: usize,
     watch: &mut W,
 ) -> Result<Vec<M::State>, Stop<M::Reason>>
-    ensures { IfOk result (λ after. ExtendsAll (M.StandsFor machine.now) (M.placed machine.now) (M.Next machine.now) calls.now n states.items after.items) }
+    ghost of: { Option M.Origin }
+    requires { ComeOf M.origin of states.items }
+    ensures extends { IfOk result (λ after. ExtendsAll (M.StandsFor machine.now) (M.placed machine.now) (M.Next machine.now) calls.now n states.items after.items) }
+    ensures origin { IfOk result (λ after. ComeOf M.origin of after.items) }
 {
     let mut found = no_states(alloc);
     let mut layer = no_states(alloc);
@@ -170,7 +205,10 @@ pub(crate) fn forget_in_all<M: Machine>(
     n: u64,
     most: usize,
 ) -> Result<Vec<M::State>, Stop<M::Reason>>
-    ensures { IfOk result (λ after. ForgetsAll (M.StandsFor machine.now) (M.placed machine.now) (M.Next machine.now) n states.items after.items) }
+    ghost of: { Option M.Origin }
+    requires { ComeOf M.origin of states.items }
+    ensures forgets { IfOk result (λ after. ForgetsAll (M.StandsFor machine.now) (M.placed machine.now) (M.Next machine.now) n states.items after.items) }
+    ensures origin { IfOk result (λ after. ComeOf M.origin of after.items) }
 {
     let mut left = no_states(alloc);
     for state in states {
@@ -187,7 +225,10 @@ pub(crate) fn settle_all<M: Machine>(
     n: u64,
     most: usize,
 ) -> Result<Vec<M::State>, Stop<M::Reason>>
-    ensures { IfOk result (λ after. SettlesAll (M.StandsFor machine.now) (M.placed machine.now) (M.Next machine.now) (n ∷ []) states.items after.items) }
+    ghost of: { Option M.Origin }
+    requires { ComeOf M.origin of states.items }
+    ensures settles { IfOk result (λ after. SettlesAll (M.StandsFor machine.now) (M.placed machine.now) (M.Next machine.now) (n ∷ []) states.items after.items) }
+    ensures origin { IfOk result (λ after. ComeOf M.origin of after.items) }
 {
     let calls = [n];
     let mut settled = no_states(alloc);

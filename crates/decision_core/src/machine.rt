@@ -1,8 +1,8 @@
 //! What a walk asks of a machine.
 
-ghost use Rattle.std.specs.Prelude.{◌≡◌, ℕ, Bool, false, IfOk, IsTrue};
+ghost use Rattle.std.specs.Prelude.{◌≡◌, Some, ℕ, Bool, false, IfOk, IsTrue};
 ghost use Rattle.decision_core.specs.Decide.{IsTold};
-ghost use Rattle.decision_core.specs.States.{Replaces, Forgets, TellsPlaced, HasSteps, Settles};
+ghost use Rattle.decision_core.specs.States.{Replaces, Forgets, TellsPlaced, HasSteps, Settles, ComeOf};
 
 use std::alloc::AllocError;
 
@@ -47,6 +47,15 @@ pub trait Machine {
     /// Why the machine doesn't decide a step.
     type Reason: Drop;
 
+    // What states have in common that can be told apart by what changed since.
+    ghost Origin: { Type 0 };
+
+    // What a state comes of.
+    ghost origin: { Self.State → Origin };
+
+    // What comes of a state itself.
+    ghost itself: { Self.State → Origin };
+
     // What a plan fixes and the walk leaves open.
     ghost Plan: { Type 0 };
 
@@ -79,19 +88,41 @@ pub trait Machine {
         state: &Self::State,
         calls: &[u64],
     ) -> Result<Vec<Self::State>, Stop<Self::Reason>>
-        ensures { IfOk result (λ states. HasSteps (StandsFor self.now) (placed self.now) (Next self.now) states.items calls.now state.now) };
+        ensures steps { IfOk result (λ states. HasSteps (StandsFor self.now) (placed self.now) (Next self.now) states.items calls.now state.now) }
+        ensures origin { IfOk result (λ states. ComeOf origin (Some (origin state.now)) states.items) };
 
     /// The state, in which those of these calls are placed that may as well be placed at once: whatever a plan goes on with, it goes on
     /// with after them.
     fn settle(&self, state: Self::State, calls: &[u64]) -> Result<Self::State, Stop<Self::Reason>>
-        ensures { IfOk result (Settles (StandsFor self.now) (placed self.now) (Next self.now) calls.now state) };
+        ensures settles { IfOk result (Settles (StandsFor self.now) (placed self.now) (Next self.now) calls.now state) }
+        ensures origin { IfOk result (λ after. origin after ≡ origin state) };
 
     /// The state, which need not know of this call any more whether it is placed. It isn't asked again.
     fn forget(&self, state: Self::State, n: u64) -> Self::State
-        ensures { Forgets (StandsFor self.now) n state result };
+        ensures forgets { Forgets (StandsFor self.now) n state result }
+        ensures origin { origin result ≡ origin state };
 
-    /// Whether the second state stands for all that the first stands for.
+    /// Whether so much changed since what a state comes of that it had better come of something else.
+    fn is_worn(&self, state: &Self::State) -> bool;
+
+    /// The state, as one that comes of another one. Both came of the same.
+    fn renew(
+        &self,
+        like: &Self::State,
+        state: Self::State,
+    ) -> Result<Self::State, Stop<Self::Reason>>
+        requires { origin state ≡ origin like.now }
+        ensures replaces { IfOk result (λ after. Replaces (StandsFor self.now) state after) }
+        ensures origin { IfOk result (λ after. origin after ≡ itself like.now) };
+
+    /// The state, as one that comes of itself.
+    fn renew_first(&self, state: Self::State) -> Result<Self::State, Stop<Self::Reason>>
+        ensures replaces { IfOk result (Replaces (StandsFor self.now) state) }
+        ensures origin { IfOk result (λ after. origin after ≡ itself state) };
+
+    /// Whether the second state stands for all that the first stands for. Both come of the same.
     fn is_same(&self, state: &Self::State, other: &Self::State) -> bool
+        requires { origin state.now ≡ origin other.now }
         ensures { IsTrue result → Replaces (StandsFor self.now) state.now other.now };
 
     /// A number that is the same of states that are the same. Where it isn't, more states are kept than need be.

@@ -96,6 +96,12 @@ impl Machine for RegisterMachine {
 
     type Reason = ();
 
+    ghost Origin = { Unit {0} };
+
+    ghost origin = { λ _. tt };
+
+    ghost itself = { λ _. tt };
+
     ghost Plan = { Unit {0} };
 
     ghost Point = { RegisterState };
@@ -130,6 +136,18 @@ impl Machine for RegisterMachine {
 
     fn forget(&self, state: Register, _n: u64) -> Register {
         state
+    }
+
+    fn is_worn(&self, _state: &Register) -> bool {
+        false
+    }
+
+    fn renew(&self, _like: &Register, state: Register) -> Result<Register, Stop<()>> {
+        Ok(state)
+    }
+
+    fn renew_first(&self, state: Register) -> Result<Register, Stop<()>> {
+        Ok(state)
     }
 
     fn is_same(&self, state: &Register, other: &Register) -> bool {

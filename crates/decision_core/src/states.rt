@@ -1,7 +1,7 @@
 //! States of a walk, of which no two are the same.
 
-ghost use Rattle.std.specs.Prelude.{◌≡◌, Contains, IfOk, IsTrue};
-ghost use Rattle.decision_core.specs.States.{HasFor};
+ghost use Rattle.std.specs.Prelude.{◌≡◌, Some, [], Contains, IfOk, IsTrue};
+ghost use Rattle.decision_core.specs.States.{HasFor, ComeOf};
 ghost use Rattle.decision_core.specs.Layers.{Grows};
 
 use crate::machine::{Machine, Stop};
@@ -20,7 +20,9 @@ pub(crate) struct States<S> {
 }
 
 /// No states.
-pub(crate) fn no_states<S: Drop>(alloc: Global) -> States<S> {
+pub(crate) fn no_states<S: Drop>(alloc: Global) -> States<S>
+    ensures { result.items.items ≡ [] }
+{
     States {
         items: Vec::new(alloc),
         latest: BTreeMap::new(alloc),
@@ -30,6 +32,7 @@ pub(crate) fn no_states<S: Drop>(alloc: Global) -> States<S> {
 
 /// Whether a state is there that is the same.
 fn has_same<M: Machine>(machine: &M, states: &States<M::State>, state: &M::State, hash: u64) -> bool
+    requires { ComeOf M.origin (Some (M.origin state.now)) states.now.items.items }
     ensures { IsTrue result → HasFor (M.StandsFor machine.now) states.now.items.items state.now }
 {
     let mut at = states.latest.get(&hash).copied();
@@ -61,7 +64,9 @@ pub(crate) fn put<M: Machine>(
     state: M::State,
     most: usize,
 ) -> Result<(), Stop<M::Reason>>
-    ensures { IfOk result (λ _. Grows states.old.items.items states.new.items.items × HasFor (M.StandsFor machine.now) states.new.items.items state) }
+    requires { ComeOf M.origin (Some (M.origin state)) states.old.items.items }
+    ensures has { IfOk result (λ _. Grows states.old.items.items states.new.items.items × HasFor (M.StandsFor machine.now) states.new.items.items state) }
+    ensures origin { IfOk result (λ _. ComeOf M.origin (Some (M.origin state)) states.new.items.items) }
 {
     let hash = machine.hash(&state);
     if has_same(machine, states, &state, hash) {

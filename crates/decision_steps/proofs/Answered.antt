@@ -69,7 +69,7 @@ module _ (profile : Profile) (known plan : Bindings) (tree after : Tree) (number
 
 -- so it is what placing comes to
 pub kept_placed : (profile : Profile) (state next : Standing) (number : ℕ) (call : NfsCall) (outcome : Outcome) → is_failure outcome ≡ true → next.binds ≡ state.binds
-    → under profile state.binds state.tree number call outcome ≡ Some next.tree → placed_in profile state number call outcome ≡ Some next
-kept_placed profile state next number call outcome fails binds stepped =
+    → under profile state.binds state.tree number call outcome ≡ Some next.tree → next.origin ≡ state.origin → placed_in profile state number call outcome ≡ Some next
+kept_placed profile state next number call outcome fails binds stepped origin =
     after_is profile state next number call outcome (ap (with_handles state.binds) (failure_given state.binds state.tree number call outcome fails) ∙ ap Some (sym binds))
-    (ap (λ (b : Bindings). under profile b state.tree number call outcome) binds ∙ stepped)
+    (ap (λ (b : Bindings). under profile b state.tree number call outcome) binds ∙ stepped) origin

@@ -6,4 +6,5 @@ pub mod Steps
 pub mod Covering
 pub mod Unknown
 pub mod Placed
+pub mod Differences
 pub mod Answered

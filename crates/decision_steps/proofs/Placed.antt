@@ -8,6 +8,7 @@ use Rattle.std.specs.Cmp.Lexicographic.{bytes_decides}
 use Rattle.nfs3_types.specs.declared.calls.NfsCall.{NfsCall}
 use Rattle.nfs3_types.specs.declared.replies.Outcome.{Outcome}
 use Rattle.tree_starts.specs.declared.profile.Profile.{Profile}
+use Rattle.tree_nodes.specs.Tree.{Tree}
 use Rattle.tree_nodes.proofs.Chains.{chained, mapped}
 use Rattle.tree_handles.specs.Binding.{Bindings, same_bytes, object_of, is_bound}
 use Rattle.file_tree.specs.Setting.{under}
@@ -116,12 +117,12 @@ pub record IsAfter (profile : Profile) (state next : Standing) (number : ℕ) (c
   pub binds : with_handles state.binds (given state.binds state.tree number call outcome) ≡ Some next.binds
   pub tree : under profile next.binds state.tree number call outcome ≡ Some next.tree
 
-is_after : (profile : Profile) (state next : Standing) (number : ℕ) (call : NfsCall) (outcome : Outcome) → placed_in profile state number call outcome ≡ Some next
+pub is_after : (profile : Profile) (state next : Standing) (number : ℕ) (call : NfsCall) (outcome : Outcome) → placed_in profile state number call outcome ≡ Some next
     → IsAfter profile state next number call outcome
 is_after profile state next number call outcome e =
-    let found = chained (λ (b : Bindings). option_map {U = Standing} (λ t. record { tree = t; binds = b }) (under profile b state.tree number call outcome))
+    let found = chained (λ (b : Bindings). option_map {U = Standing} (λ t. record { tree = t; binds = b; origin = state.origin }) (under profile b state.tree number call outcome))
     (with_handles state.binds (given state.binds state.tree number call outcome)) next e in
-    let leads = mapped {B = Standing} (λ t. record { tree = t; binds = found.0 }) (under profile found.0 state.tree number call outcome) next found.2 in
+    let leads = mapped {B = Standing} (λ t. record { tree = t; binds = found.0; origin = state.origin }) (under profile found.0 state.tree number call outcome) next found.2 in
     let binds : found.0 ≡ next.binds = ap (λ (s : Standing). s.binds) leads.2 in
     let tree : leads.0 ≡ next.tree = ap (λ (s : Standing). s.tree) leads.2 in
     record {
@@ -129,12 +130,16 @@ is_after profile state next number call outcome e =
       tree = ap (λ (b : Bindings). under profile b state.tree number call outcome) (sym binds) ∙ leads.1 ∙ ap Some tree;
     }
 
+abbrev with_origin : Standing → Tree × Bindings → Standing
+with_origin state origin = record state { origin = origin }
+
 pub after_is : (profile : Profile) (state next : Standing) (number : ℕ) (call : NfsCall) (outcome : Outcome)
-    → with_handles state.binds (given state.binds state.tree number call outcome) ≡ Some next.binds → under profile next.binds state.tree number call outcome ≡ Some next.tree
+    → with_handles state.binds (given state.binds state.tree number call outcome) ≡ Some next.binds → under profile next.binds state.tree number call outcome ≡ Some next.tree → next.origin ≡ state.origin
     → placed_in profile state number call outcome ≡ Some next
-after_is profile state next number call outcome binds tree =
-    ap (option_and_then (λ (b : Bindings). option_map {U = Standing} (λ t. record { tree = t; binds = b }) (under profile b state.tree number call outcome))) binds
-    ∙ ap (option_map {U = Standing} (λ t. record { tree = t; binds = next.binds })) tree
+after_is profile state next number call outcome binds tree origin =
+    ap (option_and_then (λ (b : Bindings). option_map {U = Standing} (λ t. record { tree = t; binds = b; origin = state.origin }) (under profile b state.tree number call outcome))) binds
+    ∙ ap (option_map {U = Standing} (λ t. record { tree = t; binds = next.binds; origin = state.origin })) tree
+    ∙ ap (λ (o : Tree × Bindings). Some (with_origin next o)) (sym origin)
 
 pub handles_stay_bound : HandlesStayBound
 handles_stay_bound profile state next number call outcome e =
@@ -143,8 +148,8 @@ handles_stay_bound profile state next number call outcome e =
 pub plans_are_covered : PlansAreCovered
 plans_are_covered profile state plan after number call outcome agrees knows leads =
     let follows = follows profile state.binds plan state.tree after number call outcome agrees knows leads in
-    let next : Standing = record { tree = after; binds = follows.more } in
-    (next, after_is profile state next number call outcome follows.is follows.leads, refl, follows.agrees)
+    let next : Standing = record { tree = after; binds = follows.more; origin = state.origin } in
+    (next, after_is profile state next number call outcome follows.is follows.leads refl, refl, follows.agrees)
 
 pub states_are_of_plans : StatesAreOfPlans
 states_are_of_plans profile state next plan number call outcome knows e agrees =

@@ -5,3 +5,4 @@ pub mod Listed
 pub mod Standing
 pub mod Placing
 pub mod FaultText
+pub mod Differing

@@ -17,7 +17,7 @@ use Rattle.decision_steps.specs.Known.{AgreesWith, NamesMore, knows_handles}
 -- the state after a call, by the handles that are bound and those that the reply gives, where there is one
 abbrev pub placed_in : Profile → Standing → ℕ → NfsCall → Outcome → Option Standing
 placed_in profile state number call outcome =
-    option_and_then (λ binds. option_map (λ tree. record { tree = tree; binds = binds }) (under profile binds state.tree number call outcome))
+    option_and_then (λ binds. option_map (λ tree. record { tree = tree; binds = binds; origin = state.origin }) (under profile binds state.tree number call outcome))
     (with_handles state.binds (given state.binds state.tree number call outcome))
 
 -- the answer covers a plan's binding of all handles, by which the call leads from the state's tree to this one: the state after the call

@@ -10,6 +10,8 @@ use Rattle.tree_handles.specs.Binding.{Bindings}
 pub record Standing : Type 0 where
   pub tree : Tree
   pub binds : Bindings
+  -- the tree and the handles that it is compared by, which say nothing of what it stands for
+  pub origin : Tree × Bindings
 
 -- ---- for the prover: how these are told apart
 
@@ -21,4 +23,6 @@ bindings_code =
     code_by (List ℕ × List (List ℕ × ℕ)) (coded× (coded_list coded_ℕ) (coded_list (coded× (coded_list coded_ℕ) coded_ℕ))) (λ b. (b.root, b.pairs)) (λ p. record { root = p.0; pairs = p.1 }) (λ _. refl)
 
 abbrev pub standing_code : Coded Standing
-standing_code = code_by (Tree × Bindings) (coded× tree_code bindings_code) (λ s. (s.tree, s.binds)) (λ p. record { tree = p.0; binds = p.1 }) (λ _. refl)
+standing_code =
+    code_by (Tree × (Bindings × (Tree × Bindings))) (coded× tree_code (coded× bindings_code (coded× tree_code bindings_code))) (λ s. (s.tree, (s.binds, s.origin))) (λ p. record { tree = p.0; binds = p.1.0; origin = p.1.1 })
+    (λ _. refl)

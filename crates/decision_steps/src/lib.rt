@@ -3,6 +3,7 @@
 
 mod asked;
 mod binding;
+mod difference;
 mod fault;
 mod given;
 mod law;

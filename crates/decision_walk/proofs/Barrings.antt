@@ -1,13 +1,12 @@
 -- which objects handles that aren't bound don't name
-use Rattle.std.proofs.Common.{◌≡◌, ◌⊎◌, inl, inr, ℕ, zero, suc, ◌<◌, List, [], ◌∷◌, ◌++◌, length, get_or, Some, None, sym, ap, subst, ◌∙◌, arith}
+use Rattle.std.proofs.Common.{◌≡◌, ℕ, zero, suc, ◌<◌, List, [], ◌∷◌, ◌++◌, length, get_or, Some, None, sym, ap, subst, ◌∙◌, arith}
 use Rattle.std.specs.Prelude.{IsSome, option_and_then}
 use Rattle.std.specs.List.{AllByRecursion}
 use Rattle.nfs3_types.specs.declared.calls.NfsCall.{NfsCall}
 use Rattle.nfs_history.specs.declared.knowing.KnownCalls.{KnownCalls}
 use Rattle.tree_nodes.specs.Tree.{entry_of}
-use Rattle.tree_handles.specs.Binding.{Bindings, object_of}
+use Rattle.tree_handles.specs.Binding.{object_of}
 use Rattle.decision_core.proofs.Sets.{all_push}
-use Rattle.decision_steps.specs.Known.{NamesMore}
 use Rattle.decision_walk.specs.declared.bars.Bar.{Bar}
 use Rattle.decision_walk.specs.View.{WalkView}
 use Rattle.decision_walk.specs.Opening.{call_of_history}

@@ -176,7 +176,7 @@ module _ (known : KnownCalls) (marks : List Bool) where
   some_is a b e = cc
 
   -- the call of a WRITE
-  write_is : (call : NfsCall) (write : WriteArguments) → write_in call ≡ Some write → call ≡ calls.Write write
+  pub write_is : (call : NfsCall) (write : WriteArguments) → write_in call ≡ Some write → call ≡ calls.Write write
   write_is (calls.GetAttr object) write is = absurd (cc)
   write_is (calls.SetAttr call) write is = absurd (cc)
   write_is (calls.Lookup place) write is = absurd (cc)

@@ -11,6 +11,7 @@ mod Calls
 mod Sameness
 mod Taking
 mod Guesses
+mod Origins
 mod Barrings
 mod StepLaws
 mod SettleLaws

@@ -1,20 +1,23 @@
--- where a walk begins, and what a state forgets
-use Rattle.std.proofs.Common.{◌≡◌, ◌≢◌, inl, inr, ℕ, ◌≤◌, Bool, true, false, cond, List, [], ◌∷◌, None, refl, sym, ap, ◌∙◌, subst, eq-eqb, arith}
-use Rattle.std.specs.Prelude.{◌==◌, ◌||◌, not, filter}
+-- where a walk begins, what a state forgets, and what it is compared by
+use Rattle.std.proofs.Common.{◌≡◌, ◌≢◌, inl, inr, ℕ, ◌≤◌, Bool, true, false, cond, List, [], ◌∷◌, Option, Some, None, refl, sym, ap, ◌∙◌, subst, eq-eqb, arith}
+use Rattle.std.specs.Prelude.{◌==◌, ◌||◌, not, filter, option_map}
 use Rattle.std.proofs.lemmas.Bool.{eqb-true, ne_eqb, or_parts, or_cases, true≢false, le-ltb}
 use Rattle.nfs_history.specs.declared.knowing.KnownCalls.{KnownCalls}
 use Rattle.certificate.specs.declared.plan.Certificate.{Certificate}
 use Rattle.witness_check.specs.Run.{base_of}
+use Rattle.tree_nodes.specs.Tree.{Tree}
+use Rattle.tree_handles.specs.Binding.{Bindings}
 use Rattle.decision_core.specs.Eras.{is_placed}
-use Rattle.decision_core.specs.States.{also}
+use Rattle.decision_core.specs.States.{also, Replaces}
 use Rattle.decision_steps.specs.Known.{AgreesWith}
 use Rattle.decision_law.specs.Laws.{binds_of}
 use Rattle.decision_law.specs.Machine.{Point, first_point}
 use Rattle.decision_law.specs.Times.{era_of_number}
-use Rattle.decision_walk.specs.View.{WalkView}
+use Rattle.decision_walk.specs.View.{KeptView, WalkView}
 use Rattle.decision_walk.specs.Bars.{AreBarred}
 use Rattle.decision_walk.specs.Opening.{HasWritten, HasWrittenBase}
 use Rattle.decision_walk.specs.Standing.{has_call, is_of_earlier, EndsBy, IsAt}
+use Rattle.decision_walk.specs.Placings.{renewed_kept, renewed}
 use Rattle.decision_walk.proofs.Resolutions.{none_written}
 
 module _ (known : KnownCalls) (marks : List Bool) where
@@ -61,3 +64,24 @@ module _ (known : KnownCalls) (marks : List Bool) where
     of_kept : (m : ℕ) → also gone n m ≡ false → (is_of_earlier known state.past m || has_call (filter (λ k. not (k == n)) state.placed) m) ≡ is_placed point m
     of_kept m kept = let parts = or_parts (gone m) (m == n) kept in
         ap (λ b. is_of_earlier known state.past m || b) (has_other state.placed n m (λ same. true≢false (sym (eq-eqb m n same) ∙ parts.1))) ∙ at.placed m parts.0
+
+  -- what a state is compared by says nothing of what it stands for
+  base_renewed : (binds : Bindings) (counts : ℕ → ℕ) (origin : Tree × Bindings) (base : Option KeptView) (other : Option Tree) → HasWrittenBase known binds counts base other
+      → HasWrittenBase known binds counts (option_map (renewed_kept origin) base) other
+  base_renewed binds counts origin None None has = has
+  base_renewed binds counts origin None (Some other) has = absurd has
+  base_renewed binds counts origin (Some kept) None has = absurd has
+  base_renewed binds counts origin (Some kept) (Some other) has = has
+
+  pub renewed_stands : (state : WalkView) (origin : Tree × Bindings) → Replaces (IsAt known marks) state (renewed state origin)
+  renewed_stands state origin plan gone point at = record {
+    counts = at.counts;
+    binds = at.binds;
+    era = at.era;
+    past = at.past;
+    tree = at.tree;
+    base = λ early. base_renewed (binds_of known plan) at.counts origin state.base point.base (at.base early);
+    placed = at.placed;
+    answered = at.answered;
+    barred = at.barred;
+  }

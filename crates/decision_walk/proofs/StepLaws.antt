@@ -1,8 +1,7 @@
 -- the parts of a step put together
-use Rattle.std.proofs.Common.{◌≡◌, inl, inr, ℕ, ◌+◌, ◌≤◌, Bool, true, List, [], ◌∷◌, Option, Some, None, Result, Ok, Err, IfOk, ◌++◌, refl, sym, ◌∙◌, subst, arith}
+use Rattle.std.proofs.Common.{◌≡◌, inl, inr, ℕ, ◌+◌, ◌≤◌, Bool, true, List, Option, Some, None, Result, Ok, Err, IfOk, sym, ◌∙◌, subst, arith}
 use Rattle.std.specs.Prelude.{Contains}
 use Rattle.std.proofs.lemmas.Bool.{cases_order}
-use Rattle.std.proofs.lemmas.List.Elements.{Contains-append_left, Contains-append_right}
 use Rattle.nfs3_types.specs.declared.calls.NfsCall.{NfsCall}
 use Rattle.nfs3_types.specs.declared.replies.Outcome.{Outcome}
 use Rattle.nfs3_types.specs.declared.replies.Outcome.TheVariants.{Taken}
@@ -16,18 +15,6 @@ use Rattle.decision_steps.specs.Standing.{Standing}
 use Rattle.decision_walk.specs.declared.open_writes.OpenWrite.{OpenWrite}
 use Rattle.decision_walk.specs.View.{WalkView}
 use Rattle.decision_walk.specs.Placings.{kept_of, child_of, CoversPoints, HasChildren, HasPlaced, HasCounts, HasTaken, HasAllOf, MayNotLose}
-
-pub grows_self : (states : List WalkView) → Grows states states
-grows_self states s there = there
-
-pub grows_on : (one two three : List WalkView) → Grows one two → Grows two three → Grows one three
-grows_on one two three first second s there = second s (first s there)
-
-pub pushed : (old new : List WalkView) (child : WalkView) → new ≡ old ++ child ∷ [] → Grows old new × Contains new child
-pushed old new child is = (
-  (λ s there. subst (λ l. Contains l s) (sym is) (Contains-append_left old (child ∷ []) s there)),
-  subst (λ l. Contains l child) (sym is) (Contains-append_right old (child ∷ []) child (0, omega arith, refl)),
-)
 
 -- what is said of a call's answer, said in other words
 pub if_ok : {A E : Type 0} (r : Result A E) (P Q : A → Type 0) → ((x : A) → P x → Q x) → IfOk r P → IfOk r Q

@@ -35,7 +35,7 @@ bytes_brought call = None
 
 -- the tree of a state, with the WRITEs that are open in it
 abbrev pub kept_of : WalkView → KeptView
-kept_of state = record { tree = state.tree; writes = state.writes }
+kept_of state = record { tree = state.tree; writes = state.writes; origin = state.origin }
 
 -- the state in which a call is placed, which led to this tree, with these open WRITEs, and these handles, with this base
 abbrev pub child_of : WalkView → Standing → List OpenWrite → Option KeptView → ℕ → WalkView
@@ -49,6 +49,7 @@ child_of state next writes base n = record {
   placed = state.placed ++ n ∷ [];
   answered_to = state.answered_to;
   barred = state.barred;
+  origin = next.origin;
 }
 
 -- the state in which a crash came with this number
@@ -63,6 +64,7 @@ crashed state n = record {
   placed = state.placed ++ n ∷ [];
   answered_to = state.answered_to;
   barred = state.barred;
+  origin = state.origin;
 }
 
 -- the state with other trees, and other WRITEs that are open in them
@@ -71,10 +73,17 @@ with_trees state kept base = record state { tree = kept.tree; writes = kept.writ
 
 -- the state in which an open WRITE wrote no fewer and no more bytes than these
 abbrev pub narrowed_kept : ℕ → ℕ → ℕ → KeptView → KeptView
-narrowed_kept call least most kept = record { tree = kept.tree; writes = map (narrowed_write call least most) kept.writes }
+narrowed_kept call least most kept = record { tree = kept.tree; writes = map (narrowed_write call least most) kept.writes; origin = kept.origin }
 
 abbrev pub narrowed : WalkView → ℕ → ℕ → ℕ → WalkView
 narrowed state call least most = with_trees state (narrowed_kept call least most (kept_of state)) (option_map (narrowed_kept call least most) state.base)
+
+-- the state, compared by something else
+abbrev pub renewed_kept : Tree × Bindings → KeptView → KeptView
+renewed_kept origin kept = record kept { origin = origin }
+
+abbrev pub renewed : WalkView → Tree × Bindings → WalkView
+renewed state origin = record state { base = option_map (renewed_kept origin) state.base; origin = origin }
 
 -- a call that came out so comes to the file of no open WRITE, whatever the handles name that aren't bound yet
 abbrev pub IsApart : WalkView → NfsCall → Outcome → Type 0

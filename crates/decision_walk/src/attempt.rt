@@ -1,6 +1,6 @@
 //! A call that is tried in a state.
 
-ghost use Rattle.std.specs.Prelude.{◌≡◌, IfOk, Some};
+ghost use Rattle.std.specs.Prelude.{◌≡◌, IfOk, IfSome, Some};
 ghost use Rattle.certificate.specs.Plan.{call_of};
 ghost use Rattle.decision_walk.specs.Placings.{CoversPlans};
 
@@ -22,7 +22,8 @@ impl<'h> HistoryMachine<'h> {
         call: &NfsCall,
         outcome: &Outcome,
     ) -> Result<Option<State>, Stop<Why>>
-        ensures { IfOk result (λ found. CoversPlans self.now.history.now.known state.now (call_of place) call.now outcome.now found) }
+        ensures covers { IfOk result (λ found. CoversPlans self.now.history.now.known state.now (call_of place) call.now outcome.now found) }
+        ensures origin { IfOk result (λ found. IfSome found (λ next. next.origin ≡ state.now.origin)) }
     {
         let number = place.number();
         let Some(object) = self.object_made(number) else {

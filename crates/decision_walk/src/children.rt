@@ -1,8 +1,8 @@
 //! The states that come of placing a call.
 
-ghost use Rattle.std.specs.Prelude.{◌≡◌, false, Contains, IfOk, IsTrue};
+ghost use Rattle.std.specs.Prelude.{◌≡◌, false, Contains, IfOk, IfSome, IsTrue};
 ghost use Rattle.certificate.specs.Plan.{call_of};
-ghost use Rattle.decision_core.specs.Layers.{Grows};
+ghost use Rattle.decision_walk.specs.View.{Adds};
 ghost use Rattle.decision_walk.specs.Placings.{child_of, CoversPoints, HasChildren, HasPlaced, IsMissing, MayNotLose, MakesNoneOpen};
 
 use crate::call_lists::{has_call, is_marked};
@@ -20,7 +20,7 @@ use nfs3_types::{NfsCall, Outcome};
 
 /// Puts a state there.
 pub(crate) fn put_state(states: &mut Vec<WalkState>, state: WalkState) -> Result<(), Stop<Why>>
-    ensures { IfOk result (λ _. Grows states.old.items states.new.items × Contains states.new.items state) }
+    ensures { IfOk result (λ _. Adds state.origin states.old.items states.new.items × Contains states.new.items state) }
 {
     if states.push(state).is_err() {
         return Err(Stop::NoMemory);
@@ -37,7 +37,9 @@ fn put_child(
     writes: &[OpenWrite],
     base: Option<KeptTree>,
 ) -> Result<(), Stop<Why>>
-    ensures { IfOk result (λ _. Grows states.old.items states.new.items
+    requires next { next.now.origin ≡ state.now.origin }
+    requires base { IfSome base (λ b. b.origin ≡ state.now.origin) }
+    ensures { IfOk result (λ _. Adds state.now.origin states.old.items states.new.items
         × Contains states.new.items (child_of state.now next.now writes.now base (call_of place))) }
 {
     put_state(states, state.child(place, next, writes, base)?)
@@ -96,7 +98,8 @@ impl<'h> HistoryMachine<'h> {
         next: &State,
         writes: &[OpenWrite],
     ) -> Result<(), Stop<Why>>
-        ensures { IfOk result (λ _. Grows states.old.items states.new.items × HasChildren self.now.history.now.known self.now.marks.items states.new.items state.now (call_of place) next.now writes.now) }
+        requires { next.now.origin ≡ state.now.origin }
+        ensures { IfOk result (λ _. Adds state.now.origin states.old.items states.new.items × HasChildren self.now.history.now.known self.now.marks.items states.new.items state.now (call_of place) next.now writes.now) }
     {
         put_child(states, state, place, next, writes, state.copy_base()?)?;
         if state.base.is_some() {
@@ -120,7 +123,8 @@ impl<'h> HistoryMachine<'h> {
         call: &NfsCall,
         outcome: &Outcome,
     ) -> Result<Option<State>, Stop<Why>>
-        ensures { IfOk result (λ found. CoversPoints self.now.history.now.known self.now.marks.items state.now (call_of place) call.now outcome.now found) }
+        ensures covers { IfOk result (λ found. CoversPoints self.now.history.now.known self.now.marks.items state.now (call_of place) call.now outcome.now found) }
+        ensures origin { IfOk result (λ found. IfSome found (λ next. next.origin ≡ state.now.origin)) }
     {
         let n = place.number();
         if self.write_touched(state, n, call, outcome)?.is_some() || self.makes_open(state, n) {
@@ -148,7 +152,7 @@ impl<'h> HistoryMachine<'h> {
         call: &NfsCall,
         outcome: &Outcome,
     ) -> Result<(), Stop<Why>>
-        ensures { IfOk result (λ _. Grows states.old.items states.new.items × HasPlaced self.now.history.now.known self.now.marks.items states.new.items state.now (call_of place) call.now outcome.now) }
+        ensures { IfOk result (λ _. Adds state.now.origin states.old.items states.new.items × HasPlaced self.now.history.now.known self.now.marks.items states.new.items state.now (call_of place) call.now outcome.now) }
     {
         match self.try_apart(state, place, call, outcome)? {
             Some(next) => self.put_children(states, state, place, &next, state.writes.as_slice()),
@@ -165,7 +169,7 @@ impl<'h> HistoryMachine<'h> {
         call: &NfsCall,
         outcome: &Outcome,
     ) -> Result<(), Stop<Why>>
-        ensures { IfOk result (λ _. Grows states.old.items states.new.items × HasPlaced self.now.history.now.known self.now.marks.items states.new.items state.now (call_of place) call.now outcome.now) }
+        ensures { IfOk result (λ _. Adds state.now.origin states.old.items states.new.items × HasPlaced self.now.history.now.known self.now.marks.items states.new.items state.now (call_of place) call.now outcome.now) }
     {
         let n = place.number();
         let Some(one) = self.write_touched(state, n, call, outcome)? else {

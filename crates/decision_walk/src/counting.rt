@@ -4,8 +4,7 @@ ghost use Rattle.std.specs.Prelude.{◌≡◌, ◌⊎◌, ◌≤◌, ◌<◌, �
 ghost use Rattle.certificate.specs.Plan.{call_of};
 ghost use Rattle.tree_nodes.specs.Numbered.{IsNumbered};
 ghost use Rattle.tree_handles.specs.Binding.{object_of};
-ghost use Rattle.decision_core.specs.Layers.{Grows};
-ghost use Rattle.decision_walk.specs.View.{WalkView};
+ghost use Rattle.decision_walk.specs.View.{WalkView, Adds};
 ghost use Rattle.decision_walk.specs.Opening.{write_in, call_of_history, write_of, open_at, IsWithin};
 ghost use Rattle.decision_walk.specs.Placings.{HasPlaced, HasPlacedFor, HasTaken, HasTakenFor, IsApart, IsResolution, DoesNotFit};
 ghost use Rattle.decision_walk.specs.Settling.{may_change};
@@ -137,7 +136,8 @@ impl<'h> HistoryMachine<'h> {
 
     /// A tree with its handles once a WRITE wrote so many bytes of this object's file.
     fn written(&self, stands: &State, one: OpenWrite, count: u32) -> Result<State, Stop<Why>>
-        ensures { IfOk result (λ next. HasWrote self.now.history.now.known one.call one.object count stands.now next) }
+        ensures wrote { IfOk result (λ next. HasWrote self.now.history.now.known one.call one.object count stands.now next) }
+        ensures origin { IfOk result (λ next. next.origin ≡ stands.now.origin) }
     {
         let (Some(call), Some(object)) = (self.judged(one.call), self.object_made(one.call)) else {
             return Err(way_lost());
@@ -165,7 +165,8 @@ impl<'h> HistoryMachine<'h> {
         one: OpenWrite,
         count: u32,
     ) -> Result<KeptTree, Stop<Why>>
-        ensures { IfOk result (λ kept. IsResolvedTo self.now.history.now.known one.call count (record { tree = stands.now.tree; writes = writes.now }) kept) }
+        ensures resolved { IfOk result (λ kept. IsResolvedTo self.now.history.now.known one.call count (record { tree = stands.now.tree; writes = writes.now; origin = stands.now.origin }) kept) }
+        ensures origin { IfOk result (λ kept. kept.origin ≡ stands.now.origin) }
     {
         let Some(other) = open_at(writes, one.object) else {
             return Ok(KeptTree {
@@ -192,7 +193,8 @@ impl<'h> HistoryMachine<'h> {
         one: OpenWrite,
         count: u32,
     ) -> Result<Option<KeptTree>, Stop<Why>>
-        ensures { IfOk result (IsBaseResolvedTo self.now.history.now.known one.call count state.now.base) }
+        ensures resolved { IfOk result (IsBaseResolvedTo self.now.history.now.known one.call count state.now.base) }
+        ensures origin { IfOk result (λ base. IfSome base (λ b. b.origin ≡ state.now.origin)) }
     {
         match &state.base {
             Some(base) => {
@@ -210,7 +212,8 @@ impl<'h> HistoryMachine<'h> {
         one: OpenWrite,
         count: u32,
     ) -> Result<WalkState, Stop<Why>>
-        ensures { IfOk result (IsResolution self.now.history.now.known self.now.marks.items state.now one.call count) }
+        ensures resolved { IfOk result (IsResolution self.now.history.now.known self.now.marks.items state.now one.call count) }
+        ensures origin { IfOk result (λ after. after.origin ≡ state.now.origin) }
     {
         let kept = self.resolved_in(&state.stands, state.writes.as_slice(), one, count)?;
         let base = self.resolved_base(state, one, count)?;
@@ -227,7 +230,7 @@ impl<'h> HistoryMachine<'h> {
         call: &NfsCall,
         outcome: &Outcome,
     ) -> Result<(), Stop<Why>>
-        ensures { IfOk result (λ _. Grows states.old.items states.new.items
+        ensures { IfOk result (λ _. Adds state.now.origin states.old.items states.new.items
             × HasPlacedFor self.now.history.now.known self.now.marks.items states.new.items state.now written.0.call written.1 (call_of place) call.now outcome.now) }
     {
         let (one, count) = written;
@@ -246,7 +249,7 @@ impl<'h> HistoryMachine<'h> {
         outcome: &Outcome,
     ) -> Result<(), Stop<Why>>
         requires found { open_at state.now.writes one.object ≡ Some one }
-        ensures { IfOk result (λ _. Grows states.old.items states.new.items × HasPlaced self.now.history.now.known self.now.marks.items states.new.items state.now (call_of place) call.now outcome.now) }
+        ensures { IfOk result (λ _. Adds state.now.origin states.old.items states.new.items × HasPlaced self.now.history.now.known self.now.marks.items states.new.items state.now (call_of place) call.now outcome.now) }
     {
         for more in 0..counts_of(one, MOST_CHANGED)? {
             let written = (one, one.least + more);
@@ -305,7 +308,7 @@ impl<'h> HistoryMachine<'h> {
     ) -> Result<(), Stop<Why>>
         requires found { open_at state.now.writes one.object ≡ Some one }
         requires looks { may_change call.now ≡ false }
-        ensures { IfOk result (λ _. Grows states.old.items states.new.items × HasPlaced self.now.history.now.known self.now.marks.items states.new.items state.now (call_of place) call.now outcome.now) }
+        ensures { IfOk result (λ _. Adds state.now.origin states.old.items states.new.items × HasPlaced self.now.history.now.known self.now.marks.items states.new.items state.now (call_of place) call.now outcome.now) }
     {
         let counts = self.counts_that_fit(state, one, place, call, outcome)?;
         if counts.most < counts.least {
@@ -365,7 +368,7 @@ impl<'h> HistoryMachine<'h> {
         call: &NfsCall,
     ) -> Result<(), Stop<Why>>
         requires call { call_of_history self.now.history.now.known n ≡ Some call.now }
-        ensures { IfOk result (λ _. Grows states.old.items states.new.items × HasTaken self.now.history.now.known self.now.marks.items states.new.items state.now n call.now) }
+        ensures { IfOk result (λ _. Adds state.now.origin states.old.items states.new.items × HasTaken self.now.history.now.known self.now.marks.items states.new.items state.now n call.now) }
     {
         let Some(one) = self.opened(state, n) else {
             return Err(way_lost());
@@ -388,7 +391,7 @@ impl<'h> HistoryMachine<'h> {
         call: &NfsCall,
     ) -> Result<(), Stop<Why>>
         requires call { call_of_history self.now.history.now.known n ≡ Some call.now }
-        ensures { IfOk result (λ _. Grows states.old.items states.new.items
+        ensures { IfOk result (λ _. Adds state.now.origin states.old.items states.new.items
             × HasTakenFor self.now.history.now.known self.now.marks.items states.new.items state.now written.0.call written.1 n call.now) }
     {
         let (one, count) = written;
@@ -407,7 +410,7 @@ impl<'h> HistoryMachine<'h> {
     ) -> Result<(), Stop<Why>>
         requires call { call_of_history self.now.history.now.known n ≡ Some call.now }
         requires found { open_at state.now.writes one.object ≡ Some one }
-        ensures { IfOk result (λ _. Grows states.old.items states.new.items × HasTaken self.now.history.now.known self.now.marks.items states.new.items state.now n call.now) }
+        ensures { IfOk result (λ _. Adds state.now.origin states.old.items states.new.items × HasTaken self.now.history.now.known self.now.marks.items states.new.items state.now n call.now) }
     {
         for more in 0..counts_of(one, MOST_CHANGED)? {
             let written = (one, one.least + more);
@@ -425,7 +428,7 @@ impl<'h> HistoryMachine<'h> {
         call: &NfsCall,
     ) -> Result<bool, Stop<Why>>
         requires call { call_of_history self.now.history.now.known n ≡ Some call.now }
-        ensures { IfOk result (λ placed. Grows states.old.items states.new.items
+        ensures { IfOk result (λ placed. Adds state.now.origin states.old.items states.new.items
             × (IsTrue placed → HasTaken self.now.history.now.known self.now.marks.items states.new.items state.now n call.now)) }
     {
         let Some(one) = self.opened(state, n) else {

@@ -1,9 +1,11 @@
 //! Steps of a walk that goes on where it isn't decided what a call may lead to: only to find where a certificate may be.
 
-ghost use Rattle.std.specs.Prelude.{◌≡◌, None, IfSome, option_copied};
+ghost use Rattle.std.specs.Prelude.{◌≡◌, None, IfOk, IfSome, option_copied};
 ghost use Rattle.tree_handles.specs.Binding.{object_of};
+ghost use Rattle.decision_walk.specs.View.{AllOf, Adds};
 ghost use Rattle.decision_walk.specs.Opening.{call_of_history};
 
+use crate::children::put_state;
 use crate::machine::HistoryMachine;
 use crate::stepping::bytes_brought;
 use crate::walk_state::WalkState;
@@ -27,7 +29,10 @@ impl<'h> HistoryMachine<'h> {
     }
 
     /// The states in which a call, a WRITE without a reply, wrote all its bytes.
-    pub fn step_whole(&self, state: &WalkState, n: u64) -> Result<Vec<WalkState>, Stop<Why>> {
+    #[tactic(auto, using(crate::proofs::Origins::none_of))]
+    pub fn step_whole(&self, state: &WalkState, n: u64) -> Result<Vec<WalkState>, Stop<Why>>
+        ensures { IfOk result (λ states. AllOf state.now.origin states.items) }
+    {
         let mut states = Vec::new(self.alloc);
         if state.era == 0 || self.history.eras() < state.era {
             return Ok(states);
@@ -65,9 +70,33 @@ impl<'h> HistoryMachine<'h> {
         }
     }
 
+    /// Puts the state there in which a handle that isn't bound names this object, where it stands and no bound handle names it.
+    fn put_guessed(
+        &self,
+        states: &mut Vec<WalkState>,
+        state: &WalkState,
+        handle: &FileHandle,
+        object: u64,
+    ) -> Result<(), Stop<Why>>
+        requires { object_of state.now.binds handle.now ≡ None }
+        ensures { IfOk result (λ _. Adds state.now.origin states.old.items states.new.items) }
+    {
+        if state.stands.tree().nodes().node(object).is_none() {
+            return Ok(());
+        }
+        if state.stands.binds().names(object) {
+            return Ok(());
+        }
+        let guessed = state.with_guess(self.alloc, handle, object)?;
+        put_state(states, guessed)
+    }
+
     /// The states in which the first handle that a call names and that isn't bound names some object that stands and that no other bound
     /// handle names.
-    pub fn guesses(&self, state: &WalkState, n: u64) -> Result<Vec<WalkState>, Stop<Why>> {
+    #[tactic(auto, using(crate::proofs::Origins::none_of))]
+    pub fn guesses(&self, state: &WalkState, n: u64) -> Result<Vec<WalkState>, Stop<Why>>
+        ensures { IfOk result (λ states. AllOf state.now.origin states.items) }
+    {
         let mut states = Vec::new(self.alloc);
         let Some(handle) = self.unknown_handle(state, n) else {
             return Ok(states);
@@ -75,14 +104,8 @@ impl<'h> HistoryMachine<'h> {
         let Some(last) = self.object_made(n) else {
             return Ok(states);
         };
-        let tree = state.stands.tree();
-        let binds = state.stands.binds();
         for object in 1..last {
-            if tree.nodes().node(object).is_some() && !binds.names(object) {
-                states.reserve(1)?;
-                let guessed = state.with_guess(self.alloc, handle, object)?;
-                states.push(guessed).unwrap();
-            }
+            self.put_guessed(&mut states, state, handle, object)?;
         }
         Ok(states)
     }

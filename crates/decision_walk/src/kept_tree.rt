@@ -1,7 +1,7 @@
 //! A tree to which a crash goes back, with the WRITEs that are open in it.
 
 ghost use Rattle.std.specs.Prelude.{◌≡◌, IfOk};
-ghost use Rattle.decision_walk.specs.Placings.{narrowed_kept};
+ghost use Rattle.decision_walk.specs.Placings.{narrowed_kept, renewed_kept};
 
 use crate::open_writes::{OpenWrite, narrowed_writes};
 use decision_steps::State;
@@ -34,7 +34,7 @@ impl Model for KeptTree {
 
     ghost coded = { kept_code };
 
-    ghost view = { λ k. record { tree = k.stands.tree; writes = k.writes.items } };
+    ghost view = { λ k. record { tree = k.stands.tree; writes = k.writes.items; origin = k.stands.origin } };
 }
 
 impl KeptTree {
@@ -57,6 +57,18 @@ impl KeptTree {
             alloc: self.alloc,
             stands: self.stands.copy()?,
             writes: narrowed_writes(self.alloc, self.writes.as_slice(), call, least, most)?,
+        })
+    }
+
+    /// The same, compared by this state. Both were compared by the same.
+    pub(crate) fn renewed(&self, like: &State) -> Result<KeptTree, AllocError>
+        requires { self.now.origin ≡ like.now.origin }
+        ensures { IfOk result (λ after. after ≡ renewed_kept (like.now.tree, like.now.binds) self.now) }
+    {
+        Ok(KeptTree {
+            alloc: self.alloc,
+            stands: self.stands.renewed(like)?,
+            writes: Vec::from_slice(self.alloc, self.writes.as_slice())?,
         })
     }
 }

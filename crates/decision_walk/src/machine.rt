@@ -5,6 +5,7 @@ ghost use Rattle.certificate.specs.declared.plan.Certificate.{Certificate};
 ghost use Rattle.decision_core.specs.Eras.{EraState, is_placed};
 ghost use Rattle.decision_core.proofs.ErasWalk.{eras_told};
 ghost use Rattle.tree_nodes.specs.Tree.{Tree};
+ghost use Rattle.tree_handles.specs.Binding.{Bindings};
 ghost use Rattle.decision_law.specs.Laws.{binds_of};
 ghost use Rattle.decision_law.specs.Machine.{Changes, Next, first_point};
 ghost use Rattle.decision_walk.specs.Standing.{IsAt, hints_of, numbers_of};
@@ -55,6 +56,12 @@ impl<'h> Machine for HistoryMachine<'h> {
 
     type Reason = Why;
 
+    ghost Origin = { Tree × Bindings };
+
+    ghost origin = { λ s. s.origin };
+
+    ghost itself = { λ s. (s.tree, s.binds) };
+
     ghost Plan = { Certificate };
 
     ghost Point = { EraState Tree };
@@ -90,6 +97,19 @@ impl<'h> Machine for HistoryMachine<'h> {
     fn forget(&self, state: WalkState, n: u64) -> WalkState {
         let answered_to = self.answered_with(state.answered_to, n);
         state.without_call(n, answered_to)
+    }
+
+    fn is_worn(&self, state: &WalkState) -> bool {
+        state.is_worn()
+    }
+
+    fn renew(&self, like: &WalkState, state: WalkState) -> Result<WalkState, Stop<Why>> {
+        Ok(state.renewed(&like.stands)?)
+    }
+
+    fn renew_first(&self, state: WalkState) -> Result<WalkState, Stop<Why>> {
+        let like = state.stands.copy()?;
+        Ok(state.renewed(&like)?)
     }
 
     fn is_same(&self, state: &WalkState, other: &WalkState) -> bool {

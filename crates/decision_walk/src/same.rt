@@ -77,8 +77,9 @@ impl<'h> HistoryMachine<'h> {
         left.is_empty()
     }
 
-    /// Whether a crash goes back to the same tree, with the same WRITEs open, but for some that may have written nothing.
+    /// Whether a crash goes back to the same tree, with the same WRITEs open, but for some that may have written nothing. Both are compared by the same.
     fn has_base_of(&self, state: &WalkState, other: &WalkState) -> bool
+        requires { state.now.origin ≡ other.now.origin }
         ensures { IsTrue result → HasBaseOf self.now.history.now.known other.now.binds state.now other.now.base }
     {
         match (&state.base, &other.base) {
@@ -95,8 +96,9 @@ impl<'h> HistoryMachine<'h> {
         }
     }
 
-    /// Whether the second state stands for all that the first stands for.
+    /// Whether the second state stands for all that the first stands for. Both are compared by the same.
     pub(crate) fn is_covered(&self, state: &WalkState, other: &WalkState) -> bool
+        requires { state.now.origin ≡ other.now.origin }
         ensures { IsTrue result → Replaces (IsAt self.now.history.now.known self.now.marks.items) state.now other.now }
     {
         if state.era != other.era || state.past != other.past {

@@ -93,7 +93,8 @@ impl<'h> HistoryMachine<'h> {
 
     /// Places a call in a state, where it leaves the tree as it is and fits now.
     fn settle_one(&self, state: WalkState, n: u64) -> Result<WalkState, Stop<Why>>
-        ensures { IfOk result (SettlesAt self.now.history.now.known self.now.marks.items (n ∷ []) state) }
+        ensures settles { IfOk result (SettlesAt self.now.history.now.known self.now.marks.items (n ∷ []) state) }
+        ensures origin { IfOk result (λ after. after.origin ≡ state.origin) }
     {
         let Some(recorded) = self.settling(&state, n) else {
             return Ok(state);
@@ -107,7 +108,8 @@ impl<'h> HistoryMachine<'h> {
 
     /// The same for each of these calls.
     fn settle_each(&self, state: WalkState, calls: &[u64]) -> Result<WalkState, Stop<Why>>
-        ensures { IfOk result (SettlesAt self.now.history.now.known self.now.marks.items calls.now state) }
+        ensures settles { IfOk result (SettlesAt self.now.history.now.known self.now.marks.items calls.now state) }
+        ensures origin { IfOk result (λ after. after.origin ≡ state.origin) }
     {
         let mut state = state;
         for call in calls {
@@ -132,7 +134,8 @@ impl<'h> HistoryMachine<'h> {
         state: WalkState,
         calls: &[u64],
     ) -> Result<WalkState, Stop<Why>>
-        ensures { IfOk result (SettlesAt self.now.history.now.known self.now.marks.items calls.now state) }
+        ensures settles { IfOk result (SettlesAt self.now.history.now.known self.now.marks.items calls.now state) }
+        ensures origin { IfOk result (λ after. after.origin ≡ state.origin) }
     {
         if state.past < state.era {
             self.settle_each(state.with_past_done(self), calls)

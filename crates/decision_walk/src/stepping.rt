@@ -3,7 +3,7 @@
 ghost use Rattle.std.specs.Prelude.{◌≡◌, ◌<◌, ◌≤◌, IfOk, Some, length};
 ghost use Rattle.nfs_history.specs.Precedence.{call_at};
 ghost use Rattle.nfs3_types.specs.declared.replies.Outcome.{Outcome};
-ghost use Rattle.decision_core.specs.Layers.{Grows};
+ghost use Rattle.decision_walk.specs.View.{Adds, AllOf};
 ghost use Rattle.decision_walk.specs.Opening.{call_of_history};
 ghost use Rattle.decision_walk.specs.Placings.{bytes_brought, HasPlaced, HasCounts, HasTaken, HasAllOf, HasStepOf, HasStepsOf};
 
@@ -40,7 +40,7 @@ impl<'h> HistoryMachine<'h> {
         call: &NfsCall,
         counts: u32,
     ) -> Result<(), Stop<Why>>
-        ensures { IfOk result (λ _. Grows states.old.items states.new.items × HasCounts self.now.history.now.known self.now.marks.items states.new.items state.now n call.now counts) }
+        ensures { IfOk result (λ _. Adds state.now.origin states.old.items states.new.items × HasCounts self.now.history.now.known self.now.marks.items states.new.items state.now n call.now counts) }
     {
         for count in 0..counts {
             let outcome = Outcome::Taken(Some(count));
@@ -61,7 +61,7 @@ impl<'h> HistoryMachine<'h> {
     ) -> Result<(), Stop<Why>>
         requires history { call_of_history self.now.history.now.known n ≡ Some call.now }
         requires brought { bytes_brought call.now ≡ Some brought }
-        ensures { IfOk result (λ _. Grows states.old.items states.new.items × HasTaken self.now.history.now.known self.now.marks.items states.new.items state.now n call.now) }
+        ensures { IfOk result (λ _. Adds state.now.origin states.old.items states.new.items × HasTaken self.now.history.now.known self.now.marks.items states.new.items state.now n call.now) }
     {
         if self.place_open(states, state, n, call)? {
             return Ok(());
@@ -84,7 +84,7 @@ impl<'h> HistoryMachine<'h> {
         call: &NfsCall,
     ) -> Result<(), Stop<Why>>
         requires { call_of_history self.now.history.now.known n ≡ Some call.now }
-        ensures { IfOk result (λ _. Grows states.old.items states.new.items × HasTaken self.now.history.now.known self.now.marks.items states.new.items state.now n call.now) }
+        ensures { IfOk result (λ _. Adds state.now.origin states.old.items states.new.items × HasTaken self.now.history.now.known self.now.marks.items states.new.items state.now n call.now) }
     {
         if !may_change(call) {
             return Ok(());
@@ -109,7 +109,7 @@ impl<'h> HistoryMachine<'h> {
         call: &NfsCall,
     ) -> Result<(), Stop<Why>>
         requires { call_of_history self.now.history.now.known n ≡ Some call.now }
-        ensures { IfOk result (λ _. Grows states.old.items states.new.items
+        ensures { IfOk result (λ _. Adds state.now.origin states.old.items states.new.items
             × ((outcome : Outcome) → recorded.now.outcome ≡ Some outcome → HasPlaced self.now.history.now.known self.now.marks.items states.new.items state.now n call.now outcome)) }
     {
         match &recorded.outcome {
@@ -130,7 +130,7 @@ impl<'h> HistoryMachine<'h> {
         recorded: &RecordedCall,
     ) -> Result<(), Stop<Why>>
         requires { call_at self.now.history.now.known.calls n ≡ Some recorded.now }
-        ensures { IfOk result (λ _. Grows states.old.items states.new.items × HasAllOf self.now.history.now.known self.now.marks.items states.new.items state.now n recorded.now) }
+        ensures { IfOk result (λ _. Adds state.now.origin states.old.items states.new.items × HasAllOf self.now.history.now.known self.now.marks.items states.new.items state.now n recorded.now) }
     {
         let Meaning::Judged(call) = &recorded.meaning else {
             return Ok(());
@@ -152,7 +152,7 @@ impl<'h> HistoryMachine<'h> {
         requires late { 0 < state.now.era }
         requires inside { state.now.era ≤ self.now.history.now.known.eras }
         requires call { n ≤ length self.now.history.now.known.calls }
-        ensures { IfOk result (λ _. Grows states.old.items states.new.items × HasStepOf self.now.history.now.known self.now.marks.items states.new.items n state.now) }
+        ensures { IfOk result (λ _. Adds state.now.origin states.old.items states.new.items × HasStepOf self.now.history.now.known self.now.marks.items states.new.items n state.now) }
     {
         let Some(recorded) = self.history.find_call(n) else {
             return Ok(());
@@ -171,7 +171,7 @@ impl<'h> HistoryMachine<'h> {
         n: u64,
     ) -> Result<(), Stop<Why>>
         requires { length self.now.history.now.known.calls < n }
-        ensures { IfOk result (λ _. Grows states.old.items states.new.items × HasStepOf self.now.history.now.known self.now.marks.items states.new.items n state.now) }
+        ensures { IfOk result (λ _. Adds state.now.origin states.old.items states.new.items × HasStepOf self.now.history.now.known self.now.marks.items states.new.items n state.now) }
     {
         if n - self.history.calls() != state.era {
             return Ok(());
@@ -195,7 +195,7 @@ impl<'h> HistoryMachine<'h> {
     ) -> Result<(), Stop<Why>>
         requires late { 0 < state.now.era }
         requires inside { state.now.era ≤ self.now.history.now.known.eras }
-        ensures { IfOk result (λ _. Grows states.old.items states.new.items × HasStepOf self.now.history.now.known self.now.marks.items states.new.items n state.now) }
+        ensures { IfOk result (λ _. Adds state.now.origin states.old.items states.new.items × HasStepOf self.now.history.now.known self.now.marks.items states.new.items n state.now) }
     {
         if self.is_told(state, n) {
             return Ok(());
@@ -207,8 +207,10 @@ impl<'h> HistoryMachine<'h> {
     }
 
     /// The states to which each of these calls and crashes may lead that isn't placed.
+    #[tactic(auto, using(crate::proofs::Origins::none_of))]
     pub fn step_calls(&self, state: &WalkState, calls: &[u64]) -> Result<Vec<WalkState>, Stop<Why>>
-        ensures { IfOk result (λ states. HasStepsOf self.now.history.now.known self.now.marks.items states.items calls.now state.now) }
+        ensures steps { IfOk result (λ states. HasStepsOf self.now.history.now.known self.now.marks.items states.items calls.now state.now) }
+        ensures origin { IfOk result (λ states. AllOf state.now.origin states.items) }
     {
         if state.era == 0 || self.history.eras() < state.era {
             return Err(way_lost());

@@ -3,8 +3,8 @@
 ghost use Rattle.std.specs.Prelude.{◌≡◌, ℕ, List, true, Some, None, IfOk, IsTrue};
 ghost use Rattle.std.specs.List.{AllByRecursion};
 ghost use Rattle.certificate.specs.Plan.{call_of};
-ghost use Rattle.decision_core.specs.Layers.{Grows};
 ghost use Rattle.decision_steps.specs.Known.{is_failure, knows_handles};
+ghost use Rattle.decision_walk.specs.View.{AllOf, Adds, AddsFrom};
 ghost use Rattle.decision_walk.specs.Opening.{call_of_history};
 ghost use Rattle.decision_walk.specs.Placings.{bytes_brought, HasPlaced, HasTaken};
 ghost use Rattle.decision_walk.specs.Guessing.{HasNamesMore, HasGuess, HasGuesses, HasGuessesOf};
@@ -95,7 +95,7 @@ impl<'h> HistoryMachine<'h> {
         object: u64,
     ) -> Result<(), Stop<Why>>
         requires { object_of state.now.binds handle.now ≡ None }
-        ensures { IfOk result (λ _. Grows states.old.items states.new.items × HasGuess self.now.history.now.known states.new.items state.now handle.now object) }
+        ensures { IfOk result (λ _. Adds state.now.origin states.old.items states.new.items × HasGuess self.now.history.now.known states.new.items state.now handle.now object) }
     {
         if self.is_barred(state, handle, object) {
             return Ok(());
@@ -112,7 +112,7 @@ impl<'h> HistoryMachine<'h> {
         n: u64,
         handle: &FileHandle,
     ) -> Result<(), Stop<Why>>
-        ensures { IfOk result (λ _. Grows states.old.items states.new.items × HasGuessesOf self.now.history.now.known states.new.items state.now handle.now) }
+        ensures { IfOk result (λ _. Adds state.now.origin states.old.items states.new.items × HasGuessesOf self.now.history.now.known states.new.items state.now handle.now) }
     {
         if state.stands.binds().object(handle.as_slice()).is_some() {
             return Ok(());
@@ -135,7 +135,7 @@ impl<'h> HistoryMachine<'h> {
         n: u64,
         call: &NfsCall,
     ) -> Result<(), Stop<Why>>
-        ensures { IfOk result (λ _. Grows states.old.items states.new.items
+        ensures { IfOk result (λ _. Adds state.now.origin states.old.items states.new.items
             × ((handle : List ℕ) → second_handle call.now ≡ Some handle → HasGuessesOf self.now.history.now.known states.new.items state.now handle)) }
     {
         match second_handle(call) {
@@ -151,7 +151,8 @@ impl<'h> HistoryMachine<'h> {
         n: u64,
         call: &NfsCall,
     ) -> Result<Vec<WalkState>, Stop<Why>>
-        ensures { IfOk result (λ guesses. HasGuesses self.now.history.now.known self.now.marks.items guesses.items state.now call.now) }
+        ensures guesses { IfOk result (λ guesses. HasGuesses self.now.history.now.known self.now.marks.items guesses.items state.now call.now) }
+        ensures origin { IfOk result (λ guesses. AllOf state.now.origin guesses.items) }
     {
         let mut guesses = Vec::new(self.alloc);
         self.put_guesses(&mut guesses, state, n, first_handle(call))?;
@@ -168,7 +169,7 @@ impl<'h> HistoryMachine<'h> {
         call: &NfsCall,
         outcome: &Outcome,
     ) -> Result<(), Stop<Why>>
-        ensures { IfOk result (λ _. Grows states.old.items states.new.items
+        ensures { IfOk result (λ _. AddsFrom guesses.now states.old.items states.new.items
             × AllByRecursion (λ guess. HasPlaced self.now.history.now.known self.now.marks.items states.new.items guess (call_of place) call.now outcome.now) guesses.now) }
     {
         for guess in guesses {
@@ -186,7 +187,7 @@ impl<'h> HistoryMachine<'h> {
         call: &NfsCall,
         outcome: &Outcome,
     ) -> Result<(), Stop<Why>>
-        ensures { IfOk result (λ _. Grows states.old.items states.new.items × HasPlaced self.now.history.now.known self.now.marks.items states.new.items state.now (call_of place) call.now outcome.now) }
+        ensures { IfOk result (λ _. Adds state.now.origin states.old.items states.new.items × HasPlaced self.now.history.now.known self.now.marks.items states.new.items state.now (call_of place) call.now outcome.now) }
     {
         let n = place.number();
         if !self.asks_for_handle(state, n, call, outcome)? {
@@ -205,7 +206,7 @@ impl<'h> HistoryMachine<'h> {
         call: &NfsCall,
         outcome: &Outcome,
     ) -> Result<(), Stop<Why>>
-        ensures { IfOk result (λ _. Grows states.old.items states.new.items
+        ensures { IfOk result (λ _. AddsFrom guesses.now states.old.items states.new.items
             × AllByRecursion (λ guess. HasPlaced self.now.history.now.known self.now.marks.items states.new.items guess (call_of place) call.now outcome.now) guesses.now) }
     {
         for guess in guesses {
@@ -224,7 +225,7 @@ impl<'h> HistoryMachine<'h> {
         outcome: &Outcome,
     ) -> Result<(), Stop<Why>>
         requires { HasNamesMore self.now.history.now.known self.now.marks.items state.now (call_of place) call.now outcome.now }
-        ensures { IfOk result (λ _. Grows states.old.items states.new.items × HasPlaced self.now.history.now.known self.now.marks.items states.new.items state.now (call_of place) call.now outcome.now) }
+        ensures { IfOk result (λ _. Adds state.now.origin states.old.items states.new.items × HasPlaced self.now.history.now.known self.now.marks.items states.new.items state.now (call_of place) call.now outcome.now) }
     {
         let guesses = self.all_guesses(state, place.number(), call)?;
         self.place_in_guesses_again(states, guesses.as_slice(), place, call, outcome)
@@ -240,7 +241,7 @@ impl<'h> HistoryMachine<'h> {
         outcome: &Outcome,
     ) -> Result<(), Stop<Why>>
         requires { call_of_history self.now.history.now.known (call_of place) ≡ Some call.now }
-        ensures { IfOk result (λ _. Grows states.old.items states.new.items × HasPlaced self.now.history.now.known self.now.marks.items states.new.items state.now (call_of place) call.now outcome.now) }
+        ensures { IfOk result (λ _. Adds state.now.origin states.old.items states.new.items × HasPlaced self.now.history.now.known self.now.marks.items states.new.items state.now (call_of place) call.now outcome.now) }
     {
         let n = place.number();
         let guesses = self.all_guesses(state, n, call)?;
@@ -260,7 +261,7 @@ impl<'h> HistoryMachine<'h> {
         outcome: &Outcome,
     ) -> Result<(), Stop<Why>>
         requires { call_of_history self.now.history.now.known (call_of place) ≡ Some call.now }
-        ensures { IfOk result (λ _. Grows states.old.items states.new.items × HasPlaced self.now.history.now.known self.now.marks.items states.new.items state.now (call_of place) call.now outcome.now) }
+        ensures { IfOk result (λ _. Adds state.now.origin states.old.items states.new.items × HasPlaced self.now.history.now.known self.now.marks.items states.new.items state.now (call_of place) call.now outcome.now) }
     {
         if knows_handles(state.stands.binds(), call) {
             return self.place_as(states, state, place, call, outcome);
@@ -285,7 +286,7 @@ impl<'h> HistoryMachine<'h> {
     ) -> Result<(), Stop<Why>>
         requires history { call_of_history self.now.history.now.known n ≡ Some call.now }
         requires brought { bytes_brought call.now ≡ Some brought }
-        ensures { IfOk result (λ _. Grows states.old.items states.new.items
+        ensures { IfOk result (λ _. AddsFrom guesses.now states.old.items states.new.items
             × AllByRecursion (λ guess. HasTaken self.now.history.now.known self.now.marks.items states.new.items guess n call.now) guesses.now) }
     {
         for guess in guesses {
@@ -305,7 +306,7 @@ impl<'h> HistoryMachine<'h> {
     ) -> Result<(), Stop<Why>>
         requires history { call_of_history self.now.history.now.known n ≡ Some call.now }
         requires brought { bytes_brought call.now ≡ Some brought }
-        ensures { IfOk result (λ _. Grows states.old.items states.new.items × HasTaken self.now.history.now.known self.now.marks.items states.new.items state.now n call.now) }
+        ensures { IfOk result (λ _. Adds state.now.origin states.old.items states.new.items × HasTaken self.now.history.now.known self.now.marks.items states.new.items state.now n call.now) }
     {
         if knows_handles(state.stands.binds(), call) {
             return self.take_write(states, state, n, call, brought);

@@ -1,9 +1,9 @@
 //! A state of a walk: the tree that the calls have led to, and the handles that are bound.
 
-ghost use Rattle.std.specs.Prelude.{◌≡◌, ◌==◌, ◌+◌, ◌++◌, [], ◌∷◌, None, not, filter, Some, IfOk};
+ghost use Rattle.std.specs.Prelude.{◌≡◌, ◌==◌, ◌+◌, ◌++◌, [], ◌∷◌, None, not, filter, Some, IfOk, IfSome};
 ghost use Rattle.certificate.specs.Plan.{call_of};
 ghost use Rattle.tree_handles.specs.Binding.{Bindings, object_of};
-ghost use Rattle.decision_walk.specs.Placings.{kept_of, child_of, crashed, with_trees, narrowed, narrowed_kept};
+ghost use Rattle.decision_walk.specs.Placings.{kept_of, child_of, crashed, with_trees, narrowed, narrowed_kept, renewed, renewed_kept};
 ghost use Rattle.decision_walk.specs.Settling.{settled, past_done};
 ghost use Rattle.decision_steps.specs.Known.{AgreesWith};
 
@@ -18,7 +18,7 @@ use nfs3_types::FileHandle;
 use std::alloc::{AllocError, Global};
 use std::marker::Model;
 
-/// A state: the tree with the handles that are bound, and the tree to which a crash would go back.
+/// A state: the tree with the handles that are bound, and the tree to which a crash would go back. Both are compared by the same.
 pub struct WalkState {
     pub(crate) alloc: Global,
     pub(crate) stands: State,
@@ -64,6 +64,7 @@ impl Drop for WalkState {
 }
 
 impl Model for WalkState {
+    ghost use Rattle.std.specs.Prelude.{◌≡◌, IfSome};
     ghost use Rattle.decision_walk.specs.View.{WalkView, view_code};
 
     ghost Value = { WalkView };
@@ -80,7 +81,10 @@ impl Model for WalkState {
       placed = s.placed.items;
       answered_to = s.answered_to;
       barred = s.barred.items;
+      origin = s.stands.origin;
     } };
+
+    ghost invariant = { λ s. IfSome s.base (λ b. b.origin ≡ s.stands.origin) };
 }
 
 impl WalkState {
@@ -88,7 +92,7 @@ impl WalkState {
 
     /// The state before any call.
     pub(crate) fn opening(alloc: Global, stands: State) -> WalkState
-        ensures { result ≡ record { tree = stands.tree; writes = []; binds = stands.binds; base = None; era = 1; past = 0; placed = []; answered_to = 0; barred = [] } }
+        ensures { result ≡ record { tree = stands.tree; writes = []; binds = stands.binds; base = None; era = 1; past = 0; placed = []; answered_to = 0; barred = []; origin = stands.origin } }
     {
         WalkState {
             alloc,
@@ -120,7 +124,8 @@ impl WalkState {
 
     /// The base, for another state.
     pub(crate) fn copy_base(&self) -> Result<Option<KeptTree>, AllocError>
-        ensures { IfOk result (λ base. base ≡ self.now.base) }
+        ensures same { IfOk result (λ base. base ≡ self.now.base) }
+        ensures origin { IfOk result (λ base. IfSome base (λ b. b.origin ≡ self.now.origin)) }
     {
         match &self.base {
             Some(base) => Ok(Some(base.copy()?)),
@@ -133,6 +138,13 @@ impl WalkState {
         ensures { IfOk result (λ writes. writes.items ≡ self.now.writes) }
     {
         Vec::from_slice(self.alloc, self.writes.as_slice())
+    }
+
+    /// The calls that are placed, for another state.
+    fn copy_placed(&self) -> Result<Vec<u64>, AllocError>
+        ensures { IfOk result (λ placed. placed.items ≡ self.now.placed) }
+    {
+        Vec::from_slice(self.alloc, self.placed.as_slice())
     }
 
     /// The bars, for another state.
@@ -195,6 +207,8 @@ impl WalkState {
         writes: &[OpenWrite],
         base: Option<KeptTree>,
     ) -> Result<WalkState, AllocError>
+        requires next { next.now.origin ≡ self.now.origin }
+        requires base { IfSome base (λ b. b.origin ≡ self.now.origin) }
         ensures { IfOk result (λ child. child ≡ child_of self.now next.now writes.now base (call_of place)) }
     {
         let deeds = self.deeds_and(place, base.is_some())?;
@@ -220,6 +234,8 @@ impl WalkState {
         call: u64,
         count: u32,
     ) -> Result<WalkState, AllocError>
+        requires kept { kept.origin ≡ self.now.origin }
+        requires base { IfSome base (λ b. b.origin ≡ self.now.origin) }
         ensures { IfOk result (λ after. after ≡ with_trees self.now kept base) }
     {
         let mut deeds = self.deeds.copy()?;
@@ -232,7 +248,7 @@ impl WalkState {
             base,
             era: self.era,
             past: self.past,
-            placed: self.placed.clone()?,
+            placed: self.copy_placed()?,
             answered_to: self.answered_to,
             barred: self.copy_bars()?,
             deeds,
@@ -246,7 +262,8 @@ impl WalkState {
         least: u32,
         most: u32,
     ) -> Result<Option<KeptTree>, AllocError>
-        ensures { IfOk result (λ base. base ≡ option_map (narrowed_kept call least most) self.now.base) }
+        ensures narrowed { IfOk result (λ base. base ≡ option_map (narrowed_kept call least most) self.now.base) }
+        ensures origin { IfOk result (λ base. IfSome base (λ b. b.origin ≡ self.now.origin)) }
     {
         match &self.base {
             Some(base) => Ok(Some(base.narrowed(call, least, most)?)),
@@ -265,7 +282,7 @@ impl WalkState {
             base: self.narrowed_base(call, least, most)?,
             era: self.era,
             past: self.past,
-            placed: self.placed.clone()?,
+            placed: self.copy_placed()?,
             answered_to: self.answered_to,
             barred: self.copy_bars()?,
             deeds: self.deeds.copy()?,
@@ -290,7 +307,7 @@ impl WalkState {
             base: self.copy_base()?,
             era: self.era,
             past: self.past,
-            placed: self.placed.clone()?,
+            placed: self.copy_placed()?,
             answered_to: self.answered_to,
             barred: self.copy_bars()?,
             deeds: self.deeds.copy()?,
@@ -308,7 +325,7 @@ impl WalkState {
             base: self.copy_base()?,
             era: self.era,
             past: self.past,
-            placed: self.placed.clone()?,
+            placed: self.copy_placed()?,
             answered_to: self.answered_to,
             barred,
             deeds: self.deeds.copy()?,
@@ -317,7 +334,8 @@ impl WalkState {
 
     /// What the era's crash goes back to.
     fn gone_back(&self) -> Result<KeptTree, AllocError>
-        ensures { IfOk result (λ back. back ≡ unwrap_or self.now.base (kept_of self.now)) }
+        ensures back { IfOk result (λ back. back ≡ unwrap_or self.now.base (kept_of self.now)) }
+        ensures origin { IfOk result (λ back. back.origin ≡ self.now.origin) }
     {
         match &self.base {
             Some(base) => base.copy(),
@@ -438,6 +456,72 @@ impl WalkState {
             answered_to,
             barred,
             deeds,
+        }
+    }
+
+    /// What the era's crash goes back to, compared by this state. Both were compared by the same.
+    fn renewed_base(&self, like: &State) -> Result<Option<KeptTree>, AllocError>
+        requires { self.now.origin ≡ like.now.origin }
+        ensures renewed { IfOk result (λ base. base ≡ option_map (renewed_kept (like.now.tree, like.now.binds)) self.now.base) }
+        ensures origin { IfOk result (λ base. IfSome base (λ b. b.origin ≡ (like.now.tree, like.now.binds))) }
+    {
+        match &self.base {
+            Some(base) => Ok(Some(base.renewed(like)?)),
+            None => Ok(None),
+        }
+    }
+
+    /// The state with the same trees and handles, in these forms.
+    fn with_parts(self, stands: State, base: Option<KeptTree>) -> WalkState
+        requires { IfSome base (λ b. b.origin ≡ stands.origin) }
+        ensures { result ≡ record self { tree = stands.tree; binds = stands.binds; base = base; origin = stands.origin } }
+    {
+        let WalkState {
+            alloc,
+            stands: earlier,
+            writes,
+            base: earlier_base,
+            era,
+            past,
+            placed,
+            answered_to,
+            barred,
+            deeds,
+        } = self;
+        drop(earlier);
+        drop(earlier_base);
+        WalkState {
+            alloc,
+            stands,
+            writes,
+            base,
+            era,
+            past,
+            placed,
+            answered_to,
+            barred,
+            deeds,
+        }
+    }
+
+    /// The same state, compared by this one. Both were compared by the same.
+    pub(crate) fn renewed(self, like: &State) -> Result<WalkState, AllocError>
+        requires { self.origin ≡ like.now.origin }
+        ensures { IfOk result (λ after. after ≡ renewed self (like.now.tree, like.now.binds)) }
+    {
+        let stands = self.stands.renewed(like)?;
+        let base = self.renewed_base(like)?;
+        Ok(self.with_parts(stands, base))
+    }
+
+    /// Whether so much differs from what the state is compared by that it had better be compared by something else.
+    pub(crate) fn is_worn(&self) -> bool {
+        if self.stands.is_worn() {
+            return true;
+        }
+        match &self.base {
+            Some(base) => base.stands.is_worn(),
+            None => false,
         }
     }
 

@@ -11,3 +11,4 @@ pub mod Setting
 pub mod Judging
 pub mod StartTree
 pub mod Built
+pub mod Touching

@@ -1,8 +1,9 @@
 //! The file tree, stepped by the calls of a history and taken back.
 
-ghost use Rattle.std.specs.Prelude.{◌≡◌, ◌↔◌, Some, None, Err, OnOk, OnErr, IfOk, IsTrue, option_map, unwrap_or};
+ghost use Rattle.std.specs.Prelude.{◌≡◌, ◌↔◌, Some, None, Err, OnOk, OnErr, IfOk, IfSome, IsTrue, option_map, unwrap_or};
 ghost use Rattle.replay_law.specs.declared.replay.StepFault.TheVariants.{NotAllowed};
 ghost use Rattle.tree_nodes.specs.Tree.{opening};
+ghost use Rattle.tree_nodes.specs.Spots.{AreOthersSame};
 ghost use Rattle.tree_nodes.specs.Undo.{TakesBack, held_nodes};
 ghost use Rattle.file_tree.specs.Allows.{AllowsSuccess};
 ghost use Rattle.file_tree.specs.Change.{Change};
@@ -11,6 +12,7 @@ ghost use Rattle.file_tree.specs.Judging.{change_under};
 ghost use Rattle.file_tree.specs.Setting.{under};
 ghost use Rattle.file_tree.specs.StartTree.{start_tree};
 ghost use Rattle.file_tree.specs.Success.{changed};
+ghost use Rattle.file_tree.specs.Touching.{touched_by, OnlyTouched};
 ghost use Rattle.tree_nodes.specs.Printed.{tree_text, IsPrintable};
 ghost use Rattle.tree_nodes.specs.Unprinted.{same_text};
 
@@ -61,8 +63,12 @@ impl Model for FileTree {
     ghost view = { λ t. t.nodes };
 }
 
-/// The objects that a change touches.
-fn touched(nodes: &Nodes, plan: &ObjectChange<'_>) -> (Option<u64>, Option<u64>) {
+/// The objects that a change touches: the one that it makes, writes, takes away or moves, and the one whose name it takes.
+type Touched = (Option<u64>, Option<u64>);
+
+fn touched(nodes: &Nodes, plan: &ObjectChange<'_>) -> Touched
+    ensures { result ≡ touched_by nodes.now plan.now }
+{
     match plan {
         ObjectChange::Keep => (None, None),
         ObjectChange::Make { node, .. } => (Some(node.object), None),
@@ -78,7 +84,7 @@ fn touched(nodes: &Nodes, plan: &ObjectChange<'_>) -> (Option<u64>, Option<u64>)
 }
 
 /// A number of two objects.
-fn number_of(nodes: &Nodes, (one, other): (Option<u64>, Option<u64>)) -> u64 {
+fn number_of(nodes: &Nodes, (one, other): Touched) -> u64 {
     let mut number: u64 = 0;
     if let Some(object) = one {
         number = number.wrapping_add(nodes.number_of(object));
@@ -94,6 +100,7 @@ impl FileTree {
     fn carry_out(&mut self, plan: ObjectChange<'_>) -> Result<Undo, AllocError>
         requires { (change : Change) × Does self.old plan change }
         ensures next { OnOk result ((change : Change) → Does self.old plan.entry change → self.new ≡ changed self.old change) }
+        ensures spots { OnOk result (OnlyTouched (touched_by self.old plan.entry) self.new self.old) }
         ensures undo { IfOk result (λ undo. TakesBack undo self.new self.old) }
         ensures err { OnErr result (self.new ≡ self.old) }
     {
@@ -189,9 +196,10 @@ impl FileTree {
 
 impl FileTree {
     /// A copy of the tree, in which a change was made.
-    fn with_change(&self, plan: ObjectChange<'_>) -> Result<FileTree, AllocError>
+    fn with_change(&self, plan: ObjectChange<'_>) -> Result<(FileTree, Touched), AllocError>
         requires { (change : Change) × Does self.now plan change }
-        ensures { IfOk result (λ next. (change : Change) → Does self.now plan.entry change → next ≡ changed self.now change) }
+        ensures next { IfOk result (λ next. (change : Change) → Does self.now plan.entry change → next.0 ≡ changed self.now change) }
+        ensures touched { IfOk result (λ next. OnlyTouched next.1 next.0 self.now) }
     {
         let touched = touched(&self.nodes, &plan);
         let before = number_of(&self.nodes, touched);
@@ -203,7 +211,7 @@ impl FileTree {
         drop(next.carry_out(plan)?);
         let after = number_of(&next.nodes, touched);
         next.number = next.number.wrapping_sub(before).wrapping_add(after);
-        Ok(next)
+        Ok((next, touched))
     }
 
     /// The tree in which what a call with its outcome makes of it is done, where the profile lets it; none, where that is nothing.
@@ -214,8 +222,9 @@ impl FileTree {
         number: u64,
         call: &NfsCall,
         outcome: &Outcome,
-    ) -> Result<Option<FileTree>, StepFault>
-        ensures next { IfOk result (λ next. option_map (changed self.now) (change_under profile binds.now self.now number call.now outcome.now) ≡ Some (unwrap_or next self.now)) }
+    ) -> Result<Option<(FileTree, Touched)>, StepFault>
+        ensures next { IfOk result (λ next. option_map (changed self.now) (change_under profile binds.now self.now number call.now outcome.now) ≡ Some (unwrap_or (option_map (λ n. n.0) next) self.now)) }
+        ensures touched { IfOk result (λ next. IfSome next (λ n. OnlyTouched n.1 n.0 self.now)) }
         ensures not_allowed { result ≡ Err NotAllowed → change_under profile binds.now self.now number call.now outcome.now ≡ None }
     {
         let view = View {
@@ -230,7 +239,7 @@ impl FileTree {
     }
 
     /// The tree after a call with its outcome, which leaves this one as it is; none, where it is the same. What both have in common they
-    /// share. What the call makes, if anything, is the object of this number.
+    /// share. What the call makes, if anything, is the object of this number. Beside it stand the objects that the call touched.
     ///
     /// `Err(NotAllowed)`: the call can't have come out so in this tree. `Err(NoMemory)` says nothing of the call.
     pub fn after(
@@ -240,8 +249,9 @@ impl FileTree {
         number: u64,
         call: &NfsCall,
         outcome: &Outcome,
-    ) -> Result<Option<FileTree>, StepFault>
-        ensures next { IfOk result (λ next. under profile binds.now self.now number call.now outcome.now ≡ Some (unwrap_or next self.now)) }
+    ) -> Result<Option<(FileTree, Touched)>, StepFault>
+        ensures next { IfOk result (λ next. under profile binds.now self.now number call.now outcome.now ≡ Some (unwrap_or (option_map (λ n. n.0) next) self.now)) }
+        ensures touched { IfOk result (λ next. IfSome next (λ n. OnlyTouched n.1 n.0 self.now)) }
         ensures not_allowed { result ≡ Err NotAllowed → under profile binds.now self.now number call.now outcome.now ≡ None }
     {
         self.planned(profile, binds, number, call, outcome)
@@ -250,6 +260,13 @@ impl FileTree {
     /// A number that is the same of trees that are the same, where `after` led to both from one tree.
     pub fn number(&self) -> u64 {
         self.number
+    }
+
+    /// Whether both are the same, where they differ in no other objects than these and those.
+    pub fn is_same_at(&self, other: &FileTree, objects: &[u64], others: &[u64]) -> bool
+        ensures { IsTrue result → AreOthersSame objects.now others.now self.now other.now → self.now ≡ other.now }
+    {
+        self.number == other.number && self.nodes.is_same_at(&other.nodes, objects, others)
     }
 
     /// Whether both are the same.

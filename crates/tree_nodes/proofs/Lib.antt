@@ -33,3 +33,4 @@ pub mod Prints
 pub mod Rooted
 pub mod Below
 pub mod Alike
+pub mod Spots

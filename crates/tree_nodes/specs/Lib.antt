@@ -2,6 +2,7 @@ pub mod Tree
 pub mod Files
 pub mod Printed
 pub mod Sound
+pub mod Spots
 pub mod Unprinted
 pub mod Moved
 pub mod Place

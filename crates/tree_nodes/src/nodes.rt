@@ -17,6 +17,7 @@ ghost use Rattle.tree_nodes.specs.Place.{node_in, AreNamesIn, object_above, are_
 ghost use Rattle.tree_nodes.specs.Numbered.{IsNumbered};
 ghost use Rattle.tree_nodes.specs.Printed.{entry_text, tree_text, EntryFits, IsPrintable};
 ghost use Rattle.tree_nodes.specs.Paths.{paths_of, LiesIn};
+ghost use Rattle.tree_nodes.specs.Spots.{spot_of, AreOthersSame, OthersStay};
 ghost use Rattle.std.specs.List.{flat_map};
 ghost use Rattle.std.specs.BTreeMap.{get, IsOrdered};
 ghost use Rattle.tree_nodes.specs.Undo.{TakesBack};
@@ -26,7 +27,7 @@ use crate::lift::lift;
 use crate::node::Node;
 use crate::print::{put_entry, put_word};
 use crate::ranks::{Ranks, TOP};
-use crate::same::{entry_number, same_entries};
+use crate::same::{entry_number, same_entries, same_object, same_objects};
 use crate::table::{
     Edit, Entry, child, entry_in, is_bare, lists_all, look_below, names_of, node_at, objects_of,
     parent_of, place_of, root_alone,
@@ -109,6 +110,23 @@ impl Nodes {
         ensures { IsTrue result → self.now ≡ other.now }
     {
         same_entries(&self.entries, &other.entries)
+    }
+
+    /// Whether an object lies in both trees in the same place, and is the same, or is in neither.
+    pub fn has_spot_of(&self, other: &Nodes, object: u64) -> bool
+        ensures { IsTrue result → spot_of self.now object ≡ spot_of other.now object }
+    {
+        same_object(&self.entries, &other.entries, object)
+    }
+
+    /// Whether two trees are the same, where they differ in no other objects than these and those.
+    pub fn is_same_at(&self, other: &Nodes, objects: &[u64], others: &[u64]) -> bool
+        ensures { IsTrue result → AreOthersSame objects.now others.now self.now other.now → self.now ≡ other.now }
+    {
+        if !same_objects(&self.entries, &other.entries, objects) {
+            return false;
+        }
+        same_objects(&self.entries, &other.entries, others)
     }
 
     /// A number of an object: of its own number, of the directory that it lies in, its name there, its type and what it holds. It is the
@@ -258,6 +276,7 @@ impl Nodes {
         requires room { map.len self.old < node_limit }
         requires short { length name.now < 2 ^ 32 }
         ensures ok { OnOk result ((e : Names × Node) → entry_of self.old directory ≡ Some e → self.new ≡ map.insert self.old (e.0 ++ name.now ∷ []) node) }
+        ensures spots { OnOk result (OthersStay node.object self.new self.old) }
         ensures undo { IfOk result (λ undo. TakesBack undo self.new self.old) }
         ensures err { OnErr result (self.new ≡ self.old) }
     {
@@ -275,6 +294,7 @@ impl Nodes {
         requires isnt_root { (e : Names × Node) → entry_of self.old object ≡ Some e → e.0 ≡ [] → ⊥ }
         requires bare { (e : Names × Node) → entry_of self.old object ≡ Some e → is_bare self.old e.0 ≡ true }
         ensures ok { OnOk result ((e : Names × Node) → entry_of self.old object ≡ Some e → self.new ≡ map.remove self.old e.0) }
+        ensures spots { OnOk result (OthersStay object self.new self.old) }
         ensures undo { IfOk result (λ undo. TakesBack undo self.new self.old) }
         ensures err { OnErr result (self.new ≡ self.old) }
     {
@@ -287,6 +307,7 @@ impl Nodes {
         requires file { (e : Names × Node) × (file : File) × (entry_of self.old object ≡ Some e) × (e.1.content ≡ contents.File file) }
         ensures ok { OnOk result ((e : Names × Node) (file : File) → entry_of self.old object ≡ Some e → e.1.content ≡ contents.File file
             → self.new ≡ map.insert self.old e.0 (file_node object (written file.bytes offset added.now) file.verifier)) }
+        ensures spots { OnOk result (OthersStay object self.new self.old) }
         ensures undo { IfOk result (λ undo. TakesBack undo self.new self.old) }
         ensures err { OnErr result (self.new ≡ self.old) }
     {
@@ -299,6 +320,7 @@ impl Nodes {
         requires file { (e : Names × Node) × (file : File) × (entry_of self.old object ≡ Some e) × (e.1.content ≡ contents.File file) }
         ensures ok { OnOk result ((e : Names × Node) (file : File) → entry_of self.old object ≡ Some e → e.1.content ≡ contents.File file
             → self.new ≡ map.insert self.old e.0 (file_node object (resized file.bytes size) file.verifier)) }
+        ensures spots { OnOk result (OthersStay object self.new self.old) }
         ensures undo { IfOk result (λ undo. TakesBack undo self.new self.old) }
         ensures err { OnErr result (self.new ≡ self.old) }
     {
@@ -314,6 +336,8 @@ impl Nodes {
         requires short { length name.now < 2 ^ 32 }
         ensures ok { OnOk result ((e f : Names × Node) → entry_of self.old object ≡ Some e → entry_of self.old directory ≡ Some f
             → self.new ≡ moved self.old e.0 (f.0 ++ name.now ∷ [])) }
+        ensures spots { OnOk result ((other : ℕ) → (other ≡ object → ⊥) → ((node : Node) → node_in self.old directory name.now ≡ Some node → other ≡ node.object → ⊥)
+            → spot_of self.new other ≡ spot_of self.old other) }
         ensures undo { IfOk result (λ undo. TakesBack undo self.new self.old) }
         ensures err { OnErr result (self.new ≡ self.old) }
     {

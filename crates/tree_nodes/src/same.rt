@@ -1,6 +1,6 @@
 //! Whether two tables hold the same, and numbers of what they hold.
 
-ghost use Rattle.std.specs.Prelude.{◌≡◌, ℕ, true, IsTrue, Decides};
+ghost use Rattle.std.specs.Prelude.{◌≡◌, ℕ, true, All, IsTrue, Decides};
 ghost use Rattle.tree_nodes.specs.Table.{placed, held};
 
 use crate::node::{Content, File};
@@ -85,6 +85,29 @@ pub(crate) fn same_entries(one: &Slots<Entry>, other: &Slots<Entry>) -> bool
         None => true,
         Some(_) => false,
     }
+}
+
+/// Whether an object lies in the same place, and is the same, or is in neither.
+pub(crate) fn same_object(one: &Slots<Entry>, other: &Slots<Entry>, object: u64) -> bool
+    ensures { IsTrue result → held one.now object ≡ held other.now object }
+{
+    match (one.get(object), other.get(object)) {
+        (None, None) => true,
+        (Some(ours), Some(theirs)) => same_entry(object, ours, object, theirs),
+        _ => false,
+    }
+}
+
+/// Whether each of these objects does.
+pub(crate) fn same_objects(one: &Slots<Entry>, other: &Slots<Entry>, objects: &[u64]) -> bool
+    ensures { IsTrue result → All (λ object. held one.now object ≡ held other.now object) objects.now }
+{
+    for object in objects {
+        if !same_object(one, other, *object) {
+            return false;
+        }
+    }
+    true
 }
 
 /// A number of bytes that come after others.

@@ -1,6 +1,6 @@
-use Rattle.std.proofs.Common.{rules, ◌≡◌, [], ◌∷◌, arith}
+use Rattle.std.proofs.Common.{rules, ◌≡◌, [], ◌∷◌, subst, arith}
 use Rattle.std.proofs.lemmas.List.{nil_from_length}
-use Rattle.decision_core.specs.States.{HasFor, Forgets}
+use Rattle.decision_core.specs.States.{ComeOf, HasFor, Forgets}
 use Rattle.decision_core.specs.Layers.{Grows}
 use Rattle.decision_core.proofs.Sets.{done_step, done_all, HasForgotten, forgotten_by, forgotten_grows, forgets_all}
 use Rattle.decision_core.proofs.extending.forget_in_all.Goals as goal
@@ -10,13 +10,17 @@ loop-state-preserved g c =
     let left : c.loop-state.state-iterator.rest.items ≡ c.in-Some.state ∷ c.next.new.self.rest.items = search rules in
     let p : Grows c.loop-state.left.items.items c.put.new.states.items.items × HasFor (g.M.Machine.StandsFor c.args.machine.now) c.put.new.states.items.items c.forget.result = search rules in
     let forgets : Forgets (g.M.Machine.StandsFor c.args.machine.now) c.args.n c.in-Some.state c.forget.result = search rules in
-    done_step (HasForgotten (g.M.Machine.StandsFor c.args.machine.now) c.args.n c.loop-state.left.items.items) (HasForgotten (g.M.Machine.StandsFor c.args.machine.now) c.args.n c.put.new.states.items.items)
-    c.args.states.items c.in-Some.state c.next.new.self.rest.items c.loop-state.state-iterator.rest.items left
-    (λ s has. forgotten_grows (g.M.Machine.StandsFor c.args.machine.now) c.args.n c.loop-state.left.items.items c.put.new.states.items.items s p.0 has)
-    (forgotten_by (g.M.Machine.StandsFor c.args.machine.now) c.args.n c.put.new.states.items.items c.in-Some.state c.forget.result forgets p.1) c.loop-state.invariant
+    let o : ComeOf (g.M.Machine.origin) g.of c.put.new.states.items.items = search rules in
+    let rest : ComeOf (g.M.Machine.origin) g.of (c.in-Some.state ∷ c.next.new.self.rest.items) = subst (ComeOf (g.M.Machine.origin) g.of) left c.loop-state.invariant.1.0 in (
+      done_step (HasForgotten (g.M.Machine.StandsFor c.args.machine.now) c.args.n c.loop-state.left.items.items) (HasForgotten (g.M.Machine.StandsFor c.args.machine.now) c.args.n c.put.new.states.items.items)
+          c.args.states.items c.in-Some.state c.next.new.self.rest.items c.loop-state.state-iterator.rest.items left
+          (λ s has. forgotten_grows (g.M.Machine.StandsFor c.args.machine.now) c.args.n c.loop-state.left.items.items c.put.new.states.items.items s p.0 has)
+          (forgotten_by (g.M.Machine.StandsFor c.args.machine.now) c.args.n c.put.new.states.items.items c.in-Some.state c.forget.result forgets p.1) c.loop-state.invariant.0,
+      (rest.1, o),
+    )
 
-pub returns : goal.returns
-returns g c =
+pub returns-clause-forgets : goal.returns-clause-forgets
+returns-clause-forgets g c =
     let left : c.loop-state.state-iterator.rest.items ≡ [] = nil_from_length _ (omega (arith, c.in-None.ensures.steps.0, c.loop-state.state-iterator.rest.ok)) in
     forgets_all (g.M.Machine.StandsFor c.args.machine.now) (g.M.Machine.placed c.args.machine.now) (g.M.Machine.Next c.args.machine.now) c.args.n c.args.states.items c.loop-state.left.items.items
-    (done_all (HasForgotten (g.M.Machine.StandsFor c.args.machine.now) c.args.n c.loop-state.left.items.items) c.args.states.items c.loop-state.state-iterator.rest.items left c.loop-state.invariant)
+    (done_all (HasForgotten (g.M.Machine.StandsFor c.args.machine.now) c.args.n c.loop-state.left.items.items) c.args.states.items c.loop-state.state-iterator.rest.items left c.loop-state.invariant.0)

@@ -1,4 +1,5 @@
 use Rattle.std.proofs.Common.{rules, ◌≡◌, ℕ, ◌+◌, ◌<◌, length, take, get_or, Bool, List, subst}
+use Rattle.decision_core.specs.States.{ComeOf}
 use Rattle.decision_core.specs.Layers.{Grows, HasPlacings, HasAllPlacings}
 use Rattle.decision_core.proofs.Sets.{one_more, placings_grow}
 use Rattle.decision_core.proofs.extending.place_in_all.Goals as goal
@@ -23,6 +24,7 @@ pub loop-state-preserved : goal.loop-state-preserved
 loop-state-preserved g c =
     let p : (Grows c.loop-state.with.items.items c.place_calls.new.with.items.items × Grows c.loop-state.without.items.items c.place_calls.new.without.items.items)
     × HasPlacings (g.M.Machine.StandsFor c.args.machine.now) (g.M.Machine.placed c.args.machine.now) (g.M.Machine.Next c.args.machine.now) c.args.calls.now c.args.n c.place_calls.new.with.items.items c.place_calls.new.without.items.items c.args.calls.now c.state-item.result = search rules in
-    more (g.M.Machine.StandsFor c.args.machine.now) (g.M.Machine.placed c.args.machine.now) (g.M.Machine.Next c.args.machine.now) c.args.calls.now c.args.n c.args.with.now.items.items c.loop-state.with.items.items
+    let o : ComeOf (g.M.Machine.origin) g.of c.place_calls.new.with.items.items × ComeOf (g.M.Machine.origin) g.of c.place_calls.new.without.items.items = search rules in
+    let m = more (g.M.Machine.StandsFor c.args.machine.now) (g.M.Machine.placed c.args.machine.now) (g.M.Machine.Next c.args.machine.now) c.args.calls.now c.args.n c.args.with.now.items.items c.loop-state.with.items.items
     c.place_calls.new.with.items.items c.args.without.now.items.items c.loop-state.without.items.items c.place_calls.new.without.items.items c.args.each.now c.loop-state.state-index c.state-item.result
-    c.loop-state-test.true c.state-item.is p c.loop-state.invariant.0 c.loop-state.invariant.1
+    c.loop-state-test.true c.state-item.is p c.loop-state.invariant.0 c.loop-state.invariant.1 in (m.0, m.1, o)

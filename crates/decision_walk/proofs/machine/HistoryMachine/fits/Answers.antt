@@ -12,5 +12,5 @@ returns c = λ no.
     let call = c.args.call.now in
     let outcome = c.args.outcome.now in
     let after = c.in_ok-resolved.resolved in
-    let none = subst (CoversPoints known marks after n call outcome) (none_is c.in_ok-found.found (search rules)) c.in_ok-found.ensures in
-    fits_not known marks [] c.args.state.now n call c.args.written.0.call c.args.written.1 after c.in_ok-resolved.ensures outcome none
+    let none = subst (CoversPoints known marks after n call outcome) (none_is c.in_ok-found.found (search rules)) c.in_ok-found.ensures.covers in
+    fits_not known marks [] c.args.state.now n call c.args.written.0.call c.args.written.1 after c.in_ok-resolved.ensures.resolved outcome none

@@ -2,7 +2,7 @@ use Rattle.std.proofs.Common.{ℕ, List, arith}
 use Rattle.decision_walk.specs.View.{WalkView}
 use Rattle.decision_walk.specs.Placings.{HasTakenFor}
 use Rattle.decision_walk.proofs.CountingLaws.{next_count, taken_for_kept, each_taken}
-use Rattle.decision_walk.proofs.StepLaws.{grows_on}
+use Rattle.decision_walk.proofs.Origins.{adds_on}
 use Rattle.decision_walk.proofs.machine.HistoryMachine.open_over.Goals as goal
 
 pub loop-more-preserved : goal.loop-more-preserved
@@ -13,8 +13,8 @@ loop-more-preserved c =
     let old = c.loop-more.states.items in
     let new = c.put_opened_after.new.states.items in
     let P : List WalkView → ℕ → Type 0 = λ states count. HasTakenFor known marks states state c.args.one.call count c.args.n c.args.call.now in (
-      grows_on c.args.states.now.items old new c.loop-more.invariant.0 c.in_ok-put_opened_after.ensures.0,
-      next_count P old new c.args.one.least c.loop-more.more (λ k has. taken_for_kept known marks new state c.args.n c.args.call.now old c.args.one.call k c.in_ok-put_opened_after.ensures.0 has) c.loop-more.invariant.1 c.in_ok-put_opened_after.ensures.1,
+      adds_on state.origin c.args.states.now.items old new c.loop-more.invariant.0 c.in_ok-put_opened_after.ensures.0,
+      next_count P old new c.args.one.least c.loop-more.more (λ k has. taken_for_kept known marks new state c.args.n c.args.call.now old c.args.one.call k c.in_ok-put_opened_after.ensures.0.0 has) c.loop-more.invariant.1 c.in_ok-put_opened_after.ensures.1,
     )
 
 pub returns : goal.returns

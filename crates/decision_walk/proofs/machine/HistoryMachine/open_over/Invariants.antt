@@ -1,9 +1,9 @@
 use Rattle.std.proofs.Common.{ℕ, ◌+◌, ◌<◌}
-use Rattle.decision_core.specs.Layers.{Grows}
 use Rattle.decision_walk.specs.Placings.{HasTakenFor}
+use Rattle.decision_walk.specs.View.{Adds}
 use Rattle.decision_walk.proofs.machine.HistoryMachine.open_over.Given as goal
 
 -- each count so far was tried
 abbrev pub invariant-loop-more : goal.invariant-loop-more
-invariant-loop-more l = Grows l.fn.states.items l.states.items
+invariant-loop-more l = Adds l.state.origin l.fn.states.items l.states.items
     × ((j : ℕ) → j < l.more → HasTakenFor l.self.history.now.known l.self.marks.items l.states.items l.state l.one.call (l.one.least + j) l.n l.call)

@@ -1,12 +1,12 @@
-use Rattle.std.proofs.Common.{IfOk, List, rules, subst, ◌≡◌}
+use Rattle.std.proofs.Common.{List, rules, subst, ◌≡◌}
 use Rattle.std.specs.List.{AllByRecursion}
 use Rattle.certificate.specs.Plan.{call_of}
-use Rattle.decision_core.specs.Layers.{Grows}
-use Rattle.decision_walk.specs.View.{WalkView}
+use Rattle.decision_walk.specs.View.{WalkView, AllOf, Adds, AddsFrom}
 use Rattle.decision_walk.specs.Placings.{HasPlaced}
 use Rattle.decision_walk.specs.Guessing.{HasNamesMore, HasGuesses}
 use Rattle.decision_walk.proofs.Guesses.{placed_in_guesses}
 use Rattle.decision_walk.proofs.StepLaws.{if_ok}
+use Rattle.decision_walk.proofs.Origins.{adds_all_from}
 use Rattle.decision_walk.proofs.machine.HistoryMachine.place_once_guessed.Goals as goal
 
 pub returns : goal.returns
@@ -21,7 +21,8 @@ returns c =
     let new = c.place_in_guesses.new.states.items in
     let guesses = c.as_slice.result.now in
     let same : c.in_ok-guesses.guesses.items ≡ guesses = search rules in
+    let of : AllOf state.origin guesses = subst (AllOf state.origin) same c.in_ok-guesses.ensures.origin in
     let number : c.number-n.result ≡ n = c.number-n.ensures in
     let more : HasNamesMore known marks state n call outcome = subst (λ k. HasNamesMore known marks state k call outcome) number (c.in_ok-asks_for_handle.ensures (search rules)) in
-    if_ok c.place_in_guesses.result (λ _. Grows old new × AllByRecursion (λ guess. HasPlaced known marks new guess n call outcome) guesses) (λ _. Grows old new × HasPlaced known marks new state n call outcome)
-    (λ _ found. (found.0, placed_in_guesses known marks new guesses state n call outcome more (subst (λ (list : List WalkView). HasGuesses known marks list state call) same c.in_ok-guesses.ensures) found.1)) c.place_in_guesses.ensures
+    if_ok c.place_in_guesses.result (λ _. AddsFrom guesses old new × AllByRecursion (λ guess. HasPlaced known marks new guess n call outcome) guesses) (λ _. Adds state.origin old new × HasPlaced known marks new state n call outcome)
+    (λ _ found. (adds_all_from state.origin guesses old new of found.0, placed_in_guesses known marks new guesses state n call outcome more (subst (λ (list : List WalkView). HasGuesses known marks list state call) same c.in_ok-guesses.ensures.guesses) found.1)) c.place_in_guesses.ensures

@@ -3,12 +3,12 @@ use Rattle.std.specs.Prelude.{IsSome, Contains}
 use Rattle.tree_nodes.specs.Tree.{Tree, entry_of}
 use Rattle.decision_core.proofs.Sets.{one_more, all_gone_over}
 use Rattle.decision_walk.specs.Guessing.{HasGuess}
-use Rattle.decision_walk.proofs.Guesses.{guess_grows, each_guessed, no_guess_wanted}
-use Rattle.decision_walk.proofs.StepLaws.{grows_self, grows_on}
+use Rattle.decision_walk.proofs.Guesses.{guess_grows, each_guessed}
+use Rattle.decision_walk.proofs.Origins.{adds_nothing, adds_on}
 use Rattle.decision_walk.proofs.machine.HistoryMachine.put_guesses.Goals as goal
 
 pub loop-object-init : goal.loop-object-init
-loop-object-init c = (grows_self c.args.states.now.items, tt)
+loop-object-init c = (adds_nothing c.args.state.now.origin c.args.states.now.items, tt)
 
 pub loop-object-preserved : goal.loop-object-preserved
 loop-object-preserved c =
@@ -17,9 +17,9 @@ loop-object-preserved c =
     let handle = c.args.handle.now in
     let old = c.loop-object.states.items in
     let new = c.put_guess.new.states.items in (
-      grows_on c.args.states.now.items old new c.loop-object.invariant.0 c.in_ok-put_guess.ensures.0,
+      adds_on state.origin c.args.states.now.items old new c.loop-object.invariant.0 c.in_ok-put_guess.ensures.0,
       one_more (HasGuess known old state handle) (HasGuess known new state handle) c.deref-object-items.result.now c.loop-object.object-index 0 c.loop-object-test.true
-          (guess_grows known old new state handle c.in_ok-put_guess.ensures.0) c.loop-object.invariant.1 c.in_ok-put_guess.ensures.1,
+          (guess_grows known old new state handle c.in_ok-put_guess.ensures.0.0) c.loop-object.invariant.1 c.in_ok-put_guess.ensures.1,
     )
 
 pub returns : goal.returns

@@ -1,10 +1,10 @@
 use Rattle.std.proofs.Common.{◌≡◌, None, IfOk, subst, rules}
-use Rattle.decision_core.specs.Layers.{Grows}
 use Rattle.decision_walk.specs.Opening.{open_at, IsInserted}
 use Rattle.decision_walk.specs.Placings.{HasChildren, HasTaken}
 use Rattle.decision_walk.specs.Resolving.{CanOpen, IsNowhereOpen}
 use Rattle.decision_walk.proofs.CountingLaws.{opens_take}
 use Rattle.decision_walk.proofs.StepLaws.{if_ok}
+use Rattle.decision_walk.specs.View.{Adds}
 use Rattle.decision_walk.proofs.machine.HistoryMachine.put_opened.Goals as goal
 
 pub returns : goal.returns
@@ -26,7 +26,7 @@ returns c =
     let before : c.as_slice-2.result.now ≡ state.writes = search rules in
     let inserted : IsInserted one state.writes writes = subst (λ ws. IsInserted one ws writes) before c.in_ok-writes.ensures in
     let after : c.as_slice-3.result.now ≡ writes = search rules in
-    let put : IfOk c.put_children.result (λ _. Grows old new × HasChildren known marks new state n next writes) =
-    subst (λ ws. IfOk c.put_children.result (λ _. Grows old new × HasChildren known marks new state n next ws)) after c.put_children.ensures in
-    if_ok c.put_children.result (λ _. Grows old new × HasChildren known marks new state n next writes) (λ _. Grows old new × HasTaken known marks new state n c.args.call.now)
+    let put : IfOk c.put_children.result (λ _. Adds state.origin old new × HasChildren known marks new state n next writes) =
+    subst (λ ws. IfOk c.put_children.result (λ _. Adds state.origin old new × HasChildren known marks new state n next ws)) after c.put_children.ensures in
+    if_ok c.put_children.result (λ _. Adds state.origin old new × HasChildren known marks new state n next writes) (λ _. Adds state.origin old new × HasTaken known marks new state n c.args.call.now)
     (λ _ found. (found.0, opens_take known marks new state n c.args.call.now one next writes c.requires.call can tree binds none nowhere inserted found.1)) put

@@ -5,8 +5,8 @@ use Rattle.decision_steps.specs.Placing.{Covers}
 use Rattle.decision_walk.proofs.Attempts.{placed_covers, refused_covers}
 use Rattle.decision_walk.proofs.machine.HistoryMachine.try_call.Goals as goal
 
-pub returns-in-Ok : goal.returns-in-Ok
-returns-in-Ok c =
+pub returns-in-Ok-clause-covers : goal.returns-in-Ok-clause-covers
+returns-in-Ok-clause-covers c =
     let known = c.args.self.now.history.now.known in
     let stands = c.state.inside.stands in
     let tree : c.args.state.now.tree ≡ stands.tree = search rules in
@@ -15,8 +15,8 @@ returns-in-Ok c =
     placed_covers known c.args.state.now stands tree binds (call_of c.args.place) c.in-Some.object made c.profile-profile.result c.profile-profile.ensures c.args.call.now c.args.outcome.now c.in-Ok.next
     c.in-Ok.ensures.covers
 
-pub returns-in-Err-NotLegal : goal.returns-in-Err-NotLegal
-returns-in-Err-NotLegal c =
+pub returns-in-Err-NotLegal-clause-covers : goal.returns-in-Err-NotLegal-clause-covers
+returns-in-Err-NotLegal-clause-covers c =
     let known = c.args.self.now.history.now.known in
     let stands = c.state.inside.stands in
     let tree : c.args.state.now.tree ≡ stands.tree = search rules in

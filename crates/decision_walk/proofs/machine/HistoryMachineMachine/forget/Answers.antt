@@ -4,8 +4,8 @@ use Rattle.decision_walk.specs.Standing.{IsAt}
 use Rattle.decision_walk.proofs.MachineLaws.{forgets}
 use Rattle.decision_walk.proofs.machine.HistoryMachineMachine.forget.Goals as goal
 
-pub returns : goal.returns
-returns c =
+pub returns-clause-forgets : goal.returns-clause-forgets
+returns-clause-forgets c =
     let known = c.args.self.now.history.now.known in
     let marks = c.args.self.now.marks.items in
     let later : c.args.state.answered_to ≤ c.answered_with-answered_to.result = search rules in

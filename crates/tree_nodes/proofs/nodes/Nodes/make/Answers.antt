@@ -9,6 +9,8 @@ use Rattle.tree_nodes.proofs.Methods.{good_at, held_where, new_where, by_outcome
 use Rattle.tree_nodes.specs.Table.{child, held}
 use Rattle.tree_nodes.specs.Ranks.{rank_of, IsRankedBut}
 use Rattle.tree_nodes.proofs.Ranking.{add_ranked, new_rank, same_ranked, all_ranked}
+use Rattle.tree_nodes.specs.Spots.{spot_of}
+use Rattle.tree_nodes.proofs.Spots.{spots_kept}
 use Rattle.tree_nodes.proofs.nodes.Nodes.make.Goals as goal
 
 pub make-made-requires-clause-stands : goal.make-made-requires-clause-stands
@@ -76,3 +78,14 @@ returns-clause-err c =
     let good = good_at c.self.inside.entries c.self.inside.shown c.args.self.now c.self.view_is c.self.invariant.table in
     let n = c.make-made.new.entries in
     on_err_weaker c.make-made.result (λ same. one_tree n _ c.args.self.now (assumption c) (unchanged c.self.inside.entries c.args.self.now good n same).agrees) c.make-made.ensures.err
+
+pub returns-clause-spots : goal.returns-clause-spots
+returns-clause-spots c =
+    let m = c.self.inside.entries in
+    let good = good_at m c.self.inside.shown c.args.self.now c.self.view_is c.self.invariant.table in
+    let n = c.make-made.new.entries in
+    let e = value_of _ c.requires.stands in
+    on_ok c.make-made.result (λ undo. IsMade c.args.directory c.args.name.now c.args.node undo m n) _ c.make-made.ensures.ok (λ undo change other apart.
+    let made = made_good m c.args.self.now good n c.args.directory c.args.name.now c.args.node undo e.0 e.1 c.requires.free c.requires.new c.requires.room change in
+    let new = map.insert c.args.self.now (e.0.0 ++ c.args.name.now ∷ []) c.args.node in
+    ap (λ z. spot_of z other) (one_tree n _ new (assumption c) made.agrees) ∙ spots_kept m n c.args.self.now new good made other (change.adds.kept other apart))

@@ -1,3 +1,4 @@
+use Rattle.std.proofs.Common.{ap, ◌∙◌}
 use Rattle.std.proofs.lemmas.Result.{on_err_weaker}
 use Rattle.std.specs.FinMap as map
 use Rattle.tree_nodes.specs.Shown.{Shown}
@@ -10,6 +11,8 @@ use Rattle.tree_nodes.proofs.Chains.{value_of}
 use Rattle.tree_nodes.proofs.Methods.{good_at, cut_stands, bare_where, by_outcome, on_ok, one_tree, undo_clause, unchanged, removed_good, removed_back}
 use Rattle.tree_nodes.specs.Ranks.{rank_of}
 use Rattle.tree_nodes.proofs.Ranking.{cut_ranked, same_ranked}
+use Rattle.tree_nodes.specs.Spots.{spot_of}
+use Rattle.tree_nodes.proofs.Spots.{spots_kept}
 use Rattle.tree_nodes.proofs.nodes.Nodes.remove.Goals as goal
 
 pub remove-requires-clause-stands : goal.remove-requires-clause-stands
@@ -75,3 +78,15 @@ returns-clause-err c =
     let good = good_at m c.self.inside.shown c.args.self.now c.self.view_is c.self.invariant.table in
     let n = c.remove.new.entries in
     on_err_weaker c.remove.result (λ same. one_tree n _ c.args.self.now (assumption c) (unchanged m c.args.self.now good n same).agrees) c.remove.ensures.err
+
+pub returns-clause-spots : goal.returns-clause-spots
+returns-clause-spots c =
+    let m = c.self.inside.entries in
+    let good = good_at m c.self.inside.shown c.args.self.now c.self.view_is c.self.invariant.table in
+    let n = c.remove.new.entries in
+    let e = value_of _ c.requires.stands in
+    let root = isnt_zero c.args.self.now (is_numbered c.args.self.now (child m) (held m) good.table.tree good.agrees) c.args.object c.requires.stands c.requires.isnt_root in
+    on_ok c.remove.result (λ undo. IsRemoved c.args.object undo m n) _ c.remove.ensures.ok (λ undo change other apart.
+    let removed = removed_good m c.args.self.now good n c.args.object undo e.0 e.1 root (c.requires.bare e.0 e.1) change in
+    let new = map.remove c.args.self.now e.0.0 in
+    ap (λ z. spot_of z other) (one_tree n _ new (assumption c) removed.agrees) ∙ spots_kept m n c.args.self.now new good removed other (change.cuts.kept other apart))

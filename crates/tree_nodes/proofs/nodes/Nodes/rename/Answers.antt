@@ -6,9 +6,12 @@ use Rattle.tree_nodes.specs.Moved.{moved}
 use Rattle.tree_nodes.specs.Results.{IsMoved}
 use Rattle.tree_nodes.proofs.Chains.{value_of}
 use Rattle.tree_nodes.proofs.Methods.{good_at, held_where, rename_stands, rename_displaced, rename_bare, by_outcome, on_ok, one_tree, undo_clause, unchanged, moved_good, moved_back}
-use Rattle.tree_nodes.specs.Table.{held}
+use Rattle.tree_nodes.specs.Table.{child, held}
 use Rattle.tree_nodes.specs.Ranks.{rank_of, IsRankedBut}
 use Rattle.tree_nodes.proofs.Ranking.{moved_ranked, same_ranked, all_ranked}
+use Rattle.tree_nodes.specs.Spots.{spot_of}
+use Rattle.tree_nodes.proofs.Spots.{spots_kept}
+use Rattle.tree_nodes.proofs.Spots.{named_node}
 use Rattle.tree_nodes.proofs.nodes.Nodes.rename.Goals as goal
 
 pub rename-moved-requires-clause-stands : goal.rename-moved-requires-clause-stands
@@ -96,3 +99,17 @@ returns-clause-err c =
     let good = good_at c.self.inside.entries c.self.inside.shown c.args.self.now c.self.view_is c.self.invariant.table in
     let n = c.rename-moved.new.entries in
     on_err_weaker c.rename-moved.result (λ same. one_tree n _ c.args.self.now (assumption c) (unchanged c.self.inside.entries c.args.self.now good n same).agrees) c.rename-moved.ensures.err
+
+pub returns-clause-spots : goal.returns-clause-spots
+returns-clause-spots c =
+    let m = c.self.inside.entries in
+    let good = good_at m c.self.inside.shown c.args.self.now c.self.view_is c.self.invariant.table in
+    let n = c.rename-moved.new.entries in
+    let e = value_of _ c.requires.stands in
+    let f = value_of _ c.requires.directory in
+    on_ok c.rename-moved.result (λ undo. IsMoved c.args.object c.args.directory c.args.name.now undo m n) _ c.rename-moved.ensures.ok (λ undo change other apart beside.
+    let there = moved_good m c.args.self.now good n c.args.object c.args.directory c.args.name.now undo e.0 f.0 e.1 f.1 (c.requires.outside e.0 f.0 e.1 f.1) (c.requires.bare f.0 f.1) change in
+    let new = moved c.args.self.now e.0.0 (f.0.0 ++ c.args.name.now ∷ []) in
+    ap (λ z. spot_of z other) (one_tree n _ new (assumption c) there.agrees)
+    ∙ spots_kept m n c.args.self.now new good there other
+    (change.renamed.kept other apart (λ leads. let at = named_node c.args.self.now (child m) (held m) good.table.tree good.agrees c.args.directory c.args.name.now other leads in beside at.0 at.1 (sym at.2))))

@@ -1,3 +1,4 @@
+use Rattle.std.proofs.Common.{ap, ◌∙◌}
 use Rattle.std.proofs.lemmas.Result.{on_err_weaker}
 use Rattle.std.specs.FinMap as map
 use Rattle.tree_nodes.specs.Shown.{Shown}
@@ -10,6 +11,8 @@ use Rattle.tree_nodes.proofs.Methods.{good_at, file_where, by_outcome, on_ok, on
 use Rattle.tree_nodes.specs.Table.{child, held}
 use Rattle.tree_nodes.specs.Ranks.{rank_of}
 use Rattle.tree_nodes.proofs.Ranking.{set_ranked, same_ranked}
+use Rattle.tree_nodes.specs.Spots.{spot_of}
+use Rattle.tree_nodes.proofs.Spots.{spots_kept}
 use Rattle.tree_nodes.proofs.nodes.Nodes.write.Goals as goal
 
 pub edit-requires-clause-file : goal.edit-requires-clause-file
@@ -58,3 +61,14 @@ returns-clause-err c =
     let good = good_at c.self.inside.entries c.self.inside.shown c.args.self.now c.self.view_is c.self.invariant.table in
     let n = c.edit.new.entries in
     on_err_weaker c.edit.result (λ same. one_tree n _ c.args.self.now (assumption c) (unchanged c.self.inside.entries c.args.self.now good n same).agrees) c.edit.ensures.err
+
+pub returns-clause-spots : goal.returns-clause-spots
+returns-clause-spots c =
+    let m = c.self.inside.entries in
+    let good = good_at m c.self.inside.shown c.args.self.now c.self.view_is c.self.invariant.table in
+    let n = c.edit.new.entries in
+    let h = file_where m c.args.self.now good c.args.object c.requires.file in
+    on_ok c.edit.result (λ undo. IsEdited c.args.object (Write c.args.offset c.args.added) undo m n) _ c.edit.ensures.ok (λ undo change other apart.
+    let made = edited_good m c.args.self.now good n c.args.object (Write c.args.offset c.args.added) undo c.requires.file.0 c.requires.file.1 c.requires.file.2 c.requires.file.3 change in
+    let new = map.insert c.args.self.now c.requires.file.0.0 (file_node c.args.object (written c.requires.file.1.bytes c.args.offset c.args.added.now) c.requires.file.1.verifier) in
+    ap (λ z. spot_of z other) (one_tree n _ new (assumption c) made.agrees) ∙ spots_kept m n c.args.self.now new good made other ((change.sets h.0 h.1 h.2 h.3).kept other apart))
