@@ -22,6 +22,10 @@ use nfs_history::History;
 use std::alloc::{AllocError, Global};
 use witness_check::{Verdict, check};
 
+/// How many states the quick walk may have at first. In most histories of right servers it has a few, so with more of them a certificate is looked
+/// for otherwise before it goes on.
+const FEW_STATES: usize = 2_000;
+
 /// Why a walk says nothing.
 fn decision_of(stop: Stop<Why>) -> Decision
     ensures { (known : KnownCalls) → Says known result }
@@ -225,19 +229,40 @@ fn found_quickly<W: Watch>(
     }
 }
 
-/// What the watch brings after a quick walk, if it is a witness.
-fn brought<W: WalksWatch>(
+/// What a watch brings, if it is a witness.
+fn if_brought(
     alloc: Global,
     history: &History,
-    watch: &mut W,
-    gave_up: bool,
+    brought: Option<Certificate>,
 ) -> Result<Option<Certificate>, AllocError>
     ensures { IfOk result (λ found. IfSome found (IsWitness history.now.known)) }
 {
-    match watch.next_walk(gave_up)? {
+    match brought {
         Some(certificate) => if_witness(alloc, history, certificate),
         None => Ok(None),
     }
+}
+
+/// A witness by a quick walk, with few states at first, then with as many as there may be; and whether it gave up.
+fn sought_quickly<W: WalksWatch>(
+    alloc: Global,
+    history: &History,
+    machine: &HistoryMachine<'_>,
+    events: &[Event],
+    most: usize,
+    watch: &mut W,
+) -> Result<(Option<Certificate>, bool), AllocError>
+    ensures { IfOk result (λ found. IfSome found.0 (IsWitness history.now.known)) }
+{
+    let few = most.min(FEW_STATES);
+    let (found, gave_up) = found_quickly(alloc, history, machine, events, few, watch)?;
+    if found.is_some() || !gave_up || few == most || watch.is_over() {
+        return Ok((found, gave_up));
+    }
+    if let Some(found) = if_brought(alloc, history, watch.again()?)? {
+        return Ok((Some(found), false));
+    }
+    found_quickly(alloc, history, machine, events, most, watch)
 }
 
 /// A witness by a quick walk, or else one that the watch brings.
@@ -251,10 +276,10 @@ fn sought<W: WalksWatch>(
 ) -> Result<Option<Certificate>, AllocError>
     ensures { IfOk result (λ found. IfSome found (IsWitness history.now.known)) }
 {
-    let (found, gave_up) = found_quickly(alloc, history, machine, events, most, watch)?;
+    let (found, gave_up) = sought_quickly(alloc, history, machine, events, most, watch)?;
     match found {
         Some(found) => Ok(Some(found)),
-        None => brought(alloc, history, watch, gave_up),
+        None => if_brought(alloc, history, watch.next_walk(gave_up)?),
     }
 }
 
@@ -284,6 +309,10 @@ fn decided<W: WalksWatch>(
 
 /// Sees how far a decision has come, and may end its walks. Nothing that is said depends on it.
 pub trait WalksWatch: Watch {
+    /// Takes note that the quick walk came to more states than it is given at first, and that it begins anew with as many as there may be. It may
+    /// bring a certificate that it found otherwise; that one is judged.
+    fn again(&mut self) -> Result<Option<Certificate>, AllocError>;
+
     /// Takes note that the quick walk found nothing, and that the walk over all that may be comes next. Where the quick walk gave up, it may bring a
     /// certificate that it found otherwise; that one is judged.
     fn next_walk(&mut self, gave_up: bool) -> Result<Option<Certificate>, AllocError>;

@@ -1,5 +1,5 @@
-//! A decision within so many seconds: a quick walk for a certificate for half of them at most, sweeps for one where that gave up, and a walk over all that may be
-//! to their end.
+//! A decision within so many seconds: a quick walk for a certificate for half of them at most, sweeps for one where it came to many states or gave up, and a walk
+//! over all that may be to their end.
 
 ghost use Rattle.decide.specs.Decision.{Says};
 
@@ -20,6 +20,9 @@ const QUICK_PARTS: u32 = 2;
 
 /// In how many parts, of which sweeps get one.
 const SWEPT_PARTS: u32 = 8;
+
+/// In how many parts, of which sweeps get one before the quick walk has all the states that there may be.
+const EARLY_PARTS: u32 = 32;
 
 /// How many sweeps are made at most.
 const SWEEPS: u64 = 16;
@@ -61,6 +64,11 @@ struct PartOfTime<'r, R> {
 }
 
 impl<'r, R: Clock + Eprint> PartOfTime<'r, R> {
+    /// How many milliseconds there are.
+    fn given(&self) -> u128 {
+        u128::from(self.effort.seconds).saturating_mul(1_000)
+    }
+
     /// How many milliseconds are gone, if there is a clock.
     fn gone(&self) -> Option<u128> {
         let start = self.start?;
@@ -90,9 +98,8 @@ impl<'r, R: Clock + Eprint> PartOfTime<'r, R> {
 impl<'r, R: Clock + Eprint> Watch for PartOfTime<'r, R> {
     /// Without a clock it is.
     fn is_over(&mut self) -> bool {
-        let given = u128::from(self.effort.seconds).saturating_mul(1_000);
         match self.gone() {
-            Some(gone) => gone.saturating_mul(u128::from(self.parts)) >= given,
+            Some(gone) => gone.saturating_mul(u128::from(self.parts)) >= self.given(),
             None => true,
         }
     }
@@ -144,17 +151,30 @@ fn swept<R: Clock + AllocGlobal>(
     plan_of(alloc, &problem, SWEEPS, &mut watch)
 }
 
+impl<'r, R: Clock + Eprint + AllocGlobal> PartOfTime<'r, R> {
+    /// Takes note that another walk begins.
+    fn begin_walk(&mut self) {
+        self.earlier = self.reached.or_further(self.earlier);
+        self.reached = Reached::none();
+    }
+}
+
 impl<'r, R: Clock + Eprint + AllocGlobal> WalksWatch for PartOfTime<'r, R> {
+    fn again(&mut self) -> Result<Option<Certificate>, AllocError> {
+        self.begin_walk();
+        let given = self.given() / u128::from(EARLY_PARTS);
+        swept(self.rt, self.history, given)
+    }
+
     /// Sweeps are for histories in which more calls are on their way at once than a quick walk has states for.
     fn next_walk(&mut self, gave_up: bool) -> Result<Option<Certificate>, AllocError> {
         self.parts = 1;
-        self.earlier = self.reached;
-        self.reached = Reached::none();
+        self.begin_walk();
         if !gave_up {
             return Ok(None);
         }
-        let given = u128::from(self.effort.seconds).saturating_mul(1_000);
-        swept(self.rt, self.history, given / u128::from(SWEPT_PARTS))
+        let given = self.given() / u128::from(SWEPT_PARTS);
+        swept(self.rt, self.history, given)
     }
 }
 

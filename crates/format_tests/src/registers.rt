@@ -39,6 +39,10 @@ impl Watch for FewSteps {
 }
 
 impl WalksWatch for FewSteps {
+    fn again(&mut self) -> Result<Option<Certificate>, AllocError> {
+        Ok(None)
+    }
+
     fn next_walk(&mut self, _gave_up: bool) -> Result<Option<Certificate>, AllocError> {
         Ok(None)
     }

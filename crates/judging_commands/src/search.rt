@@ -49,6 +49,10 @@ impl<'g, G: SearchGate> Watch for GateWatch<'g, G> {
 }
 
 impl<'g, G: SearchGate> WalksWatch for GateWatch<'g, G> {
+    fn again(&mut self) -> Result<Option<Certificate>, AllocError> {
+        Ok(None)
+    }
+
     /// Sweeps were made before.
     fn next_walk(&mut self, _gave_up: bool) -> Result<Option<Certificate>, AllocError> {
         Ok(None)
